@@ -1,0 +1,189 @@
+-- What a line spells is read back from it.
+use Rattle.std.proofs.Common.{◌≡◌, ℕ, suc, zero, ◌<◌, ◌^◌, Bool, true, false, cond, not, ◌&&◌, ◌||◌, List, [], ◌∷◌, ◌++◌, map, take, Some, None, refl, ap, ◌∙◌, sym, arith}
+use Rattle.std.specs.Prelude.{◌==◌, nat_lt, decimal}
+use Rattle.std.specs.Option.{option_map, option_and_then}
+use Rattle.std.specs.List.{list_all}
+use Rattle.std.specs.Str.{bytes_eq}
+use Rattle.std.proofs.lemmas.Bool.Decides.{nat_tests}
+use Rattle.std.proofs.lemmas.Slice.Eq.{bytes_eq-Decides}
+use Rattle.vyrd_base.specs.declared.subject.Subject.{Subject}
+use Rattle.vyrd_base.specs.declared.subject.Subject.TheVariants.{Multiset, Cache, Tree}
+use Rattle.vyrd_base.specs.declared.subject.Method.{Method}
+use Rattle.vyrd_base.specs.declared.subject.Method.TheVariants.{MsInsert, MsInsertPair, MsDelete, MsLookup, CaWrite, CaFlush, CaEvict, CaRead, TrInsert, TrDelete, TrLookup}
+use Rattle.vyrd_base.specs.declared.subject.Args.{Args}
+use Rattle.vyrd_base.specs.declared.log.Kind.{Kind}
+use Rattle.vyrd_base.specs.declared.log.Kind.TheVariants.{Call, Return, Write, Commit, BlockOpen, BlockClose, BlockCommit}
+use Rattle.vyrd_base.specs.declared.log.Entry.{Entry}
+use Rattle.vyrd_base.specs.Subjects.{arity_of, are_padded, subject_of, same_subject}
+use Rattle.vyrd_base.specs.Spelling.{spaced, method_name, arg_fields, kind_fields, entry_line, end_line, is_kind_of, is_entry_of}
+use Rattle.vyrd_base.specs.Lines.{fields_of, number_of, args_from, guessed_kind, guessed_entry, entry_in}
+use Rattle.vyrd_base.proofs.SplitLaws.{lacks, all_lack, both_true, first_true, second_true, split-join, lacks-join, decimal_lacks, no_space, no_line_feed, number_of_decimal, bytes_same}
+
+below_32 : (n : ℕ) → nat_lt n (2 ^ 32) ≡ true → n < 2 ^ 64
+below_32 n e = grind (arith, nat_tests)
+
+below_64 : (n : ℕ) → nat_lt n (2 ^ 64) ≡ true → n < 2 ^ 64
+below_64 n e = grind (arith, nat_tests)
+
+or_false : (a b : Bool) → (a || b) ≡ true → b ≡ false → a ≡ true
+or_false true b e f = refl
+or_false false b e f = cc
+
+zero_if : (n : ℕ) → (n == 0) ≡ true → n ≡ 0
+zero_if n e = grind (arith, nat_tests)
+
+-- the numbers of a call, in their ranges
+record Small (args : Args) : Type 0 where
+  a : args.a < 2 ^ 64
+  b : args.b < 2 ^ 64
+  c : args.c < 2 ^ 64
+
+args_1 : (args : Args) → are_padded 1 args ≡ true → Small args → args_from (decimal args.a ∷ []) ≡ args
+args_1 args e small =
+    let b_is : args.b ≡ 0 = zero_if args.b (or_false _ _ (first_true _ _ e) refl) in
+    let c_is : args.c ≡ 0 = zero_if args.c (or_false _ _ (second_true (args.b == 0 || nat_lt 1 1) _ e) refl) in
+    λ i. record { a = number_of_decimal args.a small.a i; b = sym b_is i; c = sym c_is i }
+
+args_2 : (args : Args) → are_padded 2 args ≡ true → Small args → args_from (decimal args.a ∷ decimal args.b ∷ []) ≡ args
+args_2 args e small =
+    let c_is : args.c ≡ 0 = zero_if args.c (or_false _ _ (second_true (args.b == 0 || nat_lt 1 2) _ e) refl) in
+    λ i. record { a = number_of_decimal args.a small.a i; b = number_of_decimal args.b small.b i; c = sym c_is i }
+
+args_3 : (args : Args) → Small args → args_from (decimal args.a ∷ decimal args.b ∷ decimal args.c ∷ []) ≡ args
+args_3 args small = λ i. record { a = number_of_decimal args.a small.a i; b = number_of_decimal args.b small.b i; c = number_of_decimal args.c small.c i }
+
+-- what the range test of a call says
+module _ (same padded : Bool) (args : Args) (e : (same && padded && nat_lt args.a (2 ^ 32) && nat_lt args.b (2 ^ 32) && nat_lt args.c (2 ^ 32)) ≡ true) where
+  small_of : Small args
+  small_of = record {
+    a = below_32 args.a (second_true (same && padded) _ (first_true _ _ (first_true _ _ e)));
+    b = below_32 args.b (second_true (same && padded && nat_lt args.a (2 ^ 32)) _ (first_true _ _ e));
+    c = below_32 args.c (second_true (same && padded && nat_lt args.a (2 ^ 32) && nat_lt args.b (2 ^ 32)) _ e);
+  }
+
+  padded_of : padded ≡ true
+  padded_of = second_true same _ (first_true _ _ (first_true _ _ (first_true _ _ e)))
+
+-- a call is guessed right
+call_guess : (subject : Subject) (method : Method) (args : Args) → is_kind_of subject (Call method args) ≡ true
+    → guessed_kind subject (kind_fields (Call method args)) ≡ Some (Call method args)
+call_guess Multiset MsInsert args e = ap (λ x. Some (Call MsInsert x)) (args_1 args (padded_of true _ args e) (small_of true _ args e))
+call_guess Multiset MsInsertPair args e = ap (λ x. Some (Call MsInsertPair x)) (args_2 args (padded_of true _ args e) (small_of true _ args e))
+call_guess Multiset MsDelete args e = ap (λ x. Some (Call MsDelete x)) (args_1 args (padded_of true _ args e) (small_of true _ args e))
+call_guess Multiset MsLookup args e = ap (λ x. Some (Call MsLookup x)) (args_1 args (padded_of true _ args e) (small_of true _ args e))
+call_guess Cache CaWrite args e = ap (λ x. Some (Call CaWrite x)) (args_3 args (small_of true (are_padded 3 args) args e))
+call_guess Cache CaFlush args e = ap (λ x. Some (Call CaFlush x)) (args_1 args (padded_of true _ args e) (small_of true _ args e))
+call_guess Cache CaEvict args e = ap (λ x. Some (Call CaEvict x)) (args_1 args (padded_of true _ args e) (small_of true _ args e))
+call_guess Cache CaRead args e = ap (λ x. Some (Call CaRead x)) (args_1 args (padded_of true _ args e) (small_of true _ args e))
+call_guess Tree TrInsert args e = ap (λ x. Some (Call TrInsert x)) (args_2 args (padded_of true _ args e) (small_of true _ args e))
+call_guess Tree TrDelete args e = ap (λ x. Some (Call TrDelete x)) (args_1 args (padded_of true _ args e) (small_of true _ args e))
+call_guess Tree TrLookup args e = ap (λ x. Some (Call TrLookup x)) (args_1 args (padded_of true _ args e) (small_of true _ args e))
+call_guess _ _ args e = cc
+
+kind_guess : (subject : Subject) (kind : Kind) → is_kind_of subject kind ≡ true → guessed_kind subject (kind_fields kind) ≡ Some kind
+kind_guess subject (Call method args) e = call_guess subject method args e
+kind_guess subject (Return reply) e = ap (λ r. Some (Return r)) (number_of_decimal reply (below_64 reply e))
+kind_guess subject (Write word value) e =
+    let w = number_of_decimal word (below_32 word (first_true _ _ e)) in
+    let v = number_of_decimal value (below_64 value (second_true (nat_lt word (2 ^ 32)) _ e)) in
+    λ i. Some (Write (w i) (v i))
+kind_guess subject Commit e = refl
+kind_guess subject BlockOpen e = refl
+kind_guess subject BlockClose e = refl
+kind_guess subject BlockCommit e = refl
+
+-- a field that has neither a space nor a line feed
+abbrev pub is_plain_field : List ℕ → Bool
+is_plain_field field = lacks 32 field && lacks 10 field
+
+pub plain_number : (n : ℕ) → n < 2 ^ 64 → is_plain_field (decimal n) ≡ true
+plain_number n small = both_true _ _ (decimal_lacks 32 n no_space small) (decimal_lacks 10 n no_line_feed small)
+
+pub plain_spaces : (fields : List (List ℕ)) → list_all is_plain_field fields ≡ true → all_lack 32 fields ≡ true
+plain_spaces [] e = refl
+plain_spaces (field ∷ fields) e = both_true _ _ (first_true _ _ (first_true _ _ e)) (plain_spaces fields (second_true (is_plain_field field) _ e))
+
+pub plain_line_feeds : (fields : List (List ℕ)) → list_all is_plain_field fields ≡ true → all_lack 10 fields ≡ true
+plain_line_feeds [] e = refl
+plain_line_feeds (field ∷ fields) e = both_true _ _ (second_true (lacks 32 field) _ (first_true _ _ e)) (plain_line_feeds fields (second_true (is_plain_field field) _ e))
+
+plain_name : (method : Method) → is_plain_field (method_name method) ≡ true
+plain_name MsInsert = refl
+plain_name MsInsertPair = refl
+plain_name MsDelete = refl
+plain_name MsLookup = refl
+plain_name CaWrite = refl
+plain_name CaFlush = refl
+plain_name CaEvict = refl
+plain_name CaRead = refl
+plain_name TrInsert = refl
+plain_name TrDelete = refl
+plain_name TrLookup = refl
+
+plain_take : (n : ℕ) (numbers : List ℕ) → list_all is_plain_field (map decimal numbers) ≡ true → list_all is_plain_field (map decimal (take n numbers)) ≡ true
+plain_take zero numbers e = refl
+plain_take (suc n) [] e = refl
+plain_take (suc n) (x ∷ numbers) e = both_true _ _ (first_true _ _ e) (plain_take n numbers (second_true (is_plain_field (decimal x)) _ e))
+
+plain_args : (method : Method) (args : Args) → Small args → list_all is_plain_field (arg_fields method args) ≡ true
+plain_args method args small = plain_take (arity_of method) (args.a ∷ args.b ∷ args.c ∷ [])
+    (both_true _ _ (plain_number args.a small.a) (both_true _ _ (plain_number args.b small.b) (both_true _ _ (plain_number args.c small.c) refl)))
+
+plain_kind : (subject : Subject) (kind : Kind) → is_kind_of subject kind ≡ true → list_all is_plain_field (kind_fields kind) ≡ true
+plain_kind subject (Call method args) e =
+    both_true _ _ (plain_name method) (plain_args method args (small_of (same_subject (subject_of method) subject) (are_padded (arity_of method) args) args e))
+plain_kind subject (Return reply) e = both_true _ _ (plain_number reply (below_64 reply e)) refl
+plain_kind subject (Write word value) e =
+    both_true _ _ (plain_number word (below_32 word (first_true _ _ e))) (both_true _ _ (plain_number value (below_64 value (second_true (nat_lt word (2 ^ 32)) _ e))) refl)
+plain_kind subject Commit e = refl
+plain_kind subject BlockOpen e = refl
+plain_kind subject BlockClose e = refl
+plain_kind subject BlockCommit e = refl
+
+plain_entry : (subject : Subject) (e : Entry) → is_entry_of subject e ≡ true → list_all is_plain_field (decimal e.caller ∷ kind_fields e.kind) ≡ true
+plain_entry subject e is =
+    both_true _ _ (plain_number e.caller (below_32 e.caller (first_true _ _ is))) (plain_kind subject e.kind (second_true (nat_lt e.caller (2 ^ 32)) _ is))
+
+-- an entry's line is one line
+pub entry_line_whole : (subject : Subject) (e : Entry) → is_entry_of subject e ≡ true → lacks 10 (entry_line e) ≡ true
+entry_line_whole subject e is = lacks-join 10 32 (decimal e.caller) (kind_fields e.kind) refl (plain_line_feeds (decimal e.caller ∷ kind_fields e.kind) (plain_entry subject e is))
+
+-- an entry is read back from its line
+pub entry_in-entry_line : (subject : Subject) (e : Entry) → is_entry_of subject e ≡ true → entry_in subject (entry_line e) ≡ Some e
+unfolding entry_in
+entry_in-entry_line subject e is =
+    let fields : fields_of (entry_line e) ≡ decimal e.caller ∷ kind_fields e.kind =
+    split-join 32 (decimal e.caller) (kind_fields e.kind) (plain_spaces (decimal e.caller ∷ kind_fields e.kind) (plain_entry subject e is)) in
+    let guess : guessed_entry subject (fields_of (entry_line e)) ≡ Some e =
+    ap (guessed_entry subject) fields
+    ∙ ap (option_map (λ kind. record { caller = number_of (decimal e.caller); kind = kind })) (kind_guess subject e.kind (second_true (nat_lt e.caller (2 ^ 32)) _ is))
+    ∙ ap (λ c. Some (record { caller = c; kind = e.kind })) (number_of_decimal e.caller (below_32 e.caller (first_true _ _ is))) in
+    ap (option_and_then (λ x. cond (is_entry_of subject x && bytes_eq (entry_line x) (entry_line e)) (Some x) None)) guess
+    ∙ ap (λ b. cond b (Some e) None) (both_true _ _ is (bytes_same (entry_line e)))
+
+-- a list with a space isn't the line `end`
+spaced_isnt_end : (xs ys : List ℕ) → lacks 32 (xs ++ 32 ∷ ys) ≡ false
+spaced_isnt_end [] ys = refl
+spaced_isnt_end (x ∷ xs) ys = and_false (not (x == 32)) _ (spaced_isnt_end xs ys)
+  where
+    and_false : (a b : Bool) → b ≡ false → (a && b) ≡ false
+    and_false true b e = e
+    and_false false b e = refl
+
+kind_spaced : (start : List ℕ) (kind : Kind) → (rest : List ℕ) × (spaced (start ∷ kind_fields kind) ≡ start ++ 32 ∷ rest)
+kind_spaced start (Call method args) = (_, refl)
+kind_spaced start (Return reply) = (_, refl)
+kind_spaced start (Write word value) = (_, refl)
+kind_spaced start Commit = (_, refl)
+kind_spaced start BlockOpen = (_, refl)
+kind_spaced start BlockClose = (_, refl)
+kind_spaced start BlockCommit = (_, refl)
+
+pub entry_line_isnt_end : (e : Entry) → bytes_eq (entry_line e) end_line ≡ false
+entry_line_isnt_end e = by_test (bytes_eq (entry_line e) end_line) refl
+  where
+    by_test : (b : Bool) → bytes_eq (entry_line e) end_line ≡ b → b ≡ false
+    by_test true same =
+        let line = kind_spaced (decimal e.caller) e.kind in
+        ap (lacks 32) (sym ((bytes_eq-Decides (entry_line e) end_line).0 same)) ∙ ap (lacks 32) line.1 ∙ spaced_isnt_end (decimal e.caller) line.0
+    by_test false same = refl

@@ -1,0 +1,43 @@
+-- How the places of a list, and the first answer in it, grow with the list.
+use Rattle.std.proofs.Common.{◌≡◌, ℕ, zero, suc, ◌+◌, List, [], ◌∷◌, ◌++◌, map, Option, Some, None, refl, ap, ◌∙◌, sym, arith}
+use Rattle.std.specs.Option.{option_or}
+use Rattle.vyrd_base.specs.Places.{Place, places_after, first_answer, newest_first_onto, newest_first, numbers_from, numbers_below}
+
+-- a place with more after it
+abbrev pub with_later : {A : Type 0} → List A → Place A → Place A
+with_later more place = record { earlier = place.earlier; here = place.here; later = place.later ++ more }
+
+pub first_answer-append : {A B : Type 0} (f : A → Option B) (xs ys : List A) → first_answer f (xs ++ ys) ≡ option_or (first_answer f xs) (first_answer f ys)
+first_answer-append f [] ys = refl
+first_answer-append f (x ∷ xs) ys = elim (f x) as (λ o. option_or o (first_answer f (xs ++ ys)) ≡ option_or (option_or o (first_answer f xs)) (first_answer f ys)) [
+  | None ↦ first_answer-append f xs ys
+  | Some b ↦ refl
+]
+
+pub first_answer-map : {A B C : Type 0} (f : B → Option C) (g : A → B) (xs : List A) → first_answer f (map g xs) ≡ first_answer (λ x. f (g x)) xs
+first_answer-map f g [] = refl
+first_answer-map f g (x ∷ xs) = ap (option_or (f (g x))) (first_answer-map f g xs)
+
+pub places_after-append : {A : Type 0} (earlier xs ys : List A)
+    → places_after earlier (xs ++ ys) ≡ map (with_later ys) (places_after earlier xs) ++ places_after (newest_first_onto earlier xs) ys
+places_after-append earlier [] ys = refl
+places_after-append earlier (x ∷ xs) ys = ap (λ rest. record { earlier = earlier; here = x; later = xs ++ ys } ∷ rest) (places_after-append (x ∷ earlier) xs ys)
+
+pub newest_first_onto-append : {A : Type 0} (earlier xs ys : List A) → newest_first_onto earlier (xs ++ ys) ≡ newest_first_onto (newest_first_onto earlier xs) ys
+newest_first_onto-append earlier [] ys = refl
+newest_first_onto-append earlier (x ∷ xs) ys = newest_first_onto-append (x ∷ earlier) xs ys
+
+-- one more at the end is the newest
+pub newest_first-push : {A : Type 0} (xs : List A) (x : A) → newest_first (xs ++ x ∷ []) ≡ x ∷ newest_first xs
+newest_first-push xs x = newest_first_onto-append [] xs (x ∷ [])
+
+-- one number more
+pub numbers_from-push : (k n : ℕ) → numbers_from k (n + 1) ≡ numbers_from k n ++ (k + n) ∷ []
+numbers_from-push k zero = let e : k + 0 ≡ k = omega arith in ap (λ x. x ∷ []) (sym e)
+numbers_from-push k (suc n) =
+    let one : suc n + 1 ≡ suc (n + 1) = omega arith in
+    let at : k + 1 + n ≡ k + suc n = omega arith in
+    ap (numbers_from k) one ∙ ap (λ xs. k ∷ xs) (numbers_from-push (k + 1) n ∙ ap (λ x. numbers_from (k + 1) n ++ x ∷ []) at)
+
+pub numbers_below-push : (n : ℕ) → numbers_below (n + 1) ≡ numbers_below n ++ n ∷ []
+numbers_below-push n = let e : 0 + n ≡ n = omega arith in numbers_from-push 0 n ∙ ap (λ x. numbers_from 0 n ++ x ∷ []) e

@@ -1,0 +1,174 @@
+-- Where the text of a whole input stops, and the verdict about it by its stop.
+use Rattle.std.proofs.Common.{◌≡◌, ℕ, ◌+◌, ◌<◌, Bool, true, false, cond, ◌&&◌, List, [], ◌∷◌, length, Option, Some, None, Result, Ok, Err, refl, ap, ◌∙◌, sym, arith}
+use Rattle.std.specs.Prelude.{◌==◌, nat_lt, unwrap_or, option_map, option_and_then}
+use Rattle.std.specs.Option.{option_or, option_map_or}
+use Rattle.std.specs.List.{slice_split}
+use Rattle.std.specs.Str.{bytes_eq}
+use Rattle.std.proofs.lemmas.Bool.Decides.{nat_tests}
+use Rattle.vyrd_base.specs.declared.header.Header.{Header}
+use Rattle.vyrd_base.specs.declared.subject.Subject.{Subject}
+use Rattle.vyrd_base.specs.declared.log.Entry.{Entry}
+use Rattle.vyrd_base.specs.declared.verdict.Rule.{Rule}
+use Rattle.vyrd_base.specs.declared.verdict.Rule.TheVariants.{TooManyLines, BadHeader, BadEntry, NoLineFeed, NoEnd}
+use Rattle.vyrd_base.specs.declared.verdict.Stop.TheVariants.{End, Text}
+use Rattle.vyrd_base.specs.declared.verdict.Verdict.TheVariants.{Malformed}
+use Rattle.vyrd_base.specs.Shape.{◌breaks◌, first_broken}
+use Rattle.vyrd_base.specs.Spelling.{end_line}
+use Rattle.vyrd_base.specs.Lines.{entry_in, header_in}
+use Rattle.vyrd_base.specs.Reading.{Reading, TextFault, has_any, fault_on, stopped, ended, unfinished_rule, after_end_rule, entry_before, lines_read, header_before, text_read, reading}
+use Rattle.vyrd_base.specs.Verdicts.{verdict_so_far, end_verdict, accepted, verdict, verdict_at}
+use Rattle.vyrd_base.specs.TextVerdicts.{entries_verdict, known_verdict, text_verdict, stop_of}
+use Rattle.vyrd_base.proofs.ReadingGrows.{input_of, some_parts}
+
+-- Where the lines from line n on stop: a fault behind `end` is two lines after the last entry, any other on the line after it.
+-- Without `end` there is one.
+pub record Stops (n : ℕ) (read : Reading) : Type 0 where
+  pub behind_end : read.ended ≡ true → (f : TextFault) → read.fault ≡ Some f → f.line ≡ n + length read.entries + 1
+  pub at_fault : read.ended ≡ false → (f : TextFault) × (read.fault ≡ Some f) × (f.line ≡ n + length read.entries)
+
+stops_at : (n : ℕ) (rule : Rule) → Stops n (stopped n (Some rule))
+stops_at n rule = record { behind_end = λ is f e. cc; at_fault = λ is. (record { line = n; rule = rule }, refl, omega arith) }
+
+fault_line : (n : ℕ) (o : Option Rule) (f : TextFault) → fault_on n o ≡ Some f → f.line ≡ n
+fault_line n None f e = cc
+fault_line n (Some rule) f e = cc
+
+stops_after_end : (n : ℕ) (o : Option Rule) → Stops n (ended (n + 1) o)
+stops_after_end n o = record {
+  behind_end = λ is f e. fault_line (n + 1) o f e ∙ omega arith;
+  at_fault = λ is. cc;
+}
+
+-- what stands after the last line feed of a whole input is always at fault
+stops_unfinished : (max n : ℕ) (bad : Rule) (rest : List ℕ) → Stops n (stopped n (unfinished_rule (input_of max true) n bad rest))
+stops_unfinished max n bad rest = by_tests (has_any rest && nat_lt max n) (nat_lt 64 (length rest)) (has_any rest && true)
+  where
+    by_tests : (past long some : Bool) → Stops n (stopped n (first_broken ((past breaks TooManyLines) ∷ (long breaks bad) ∷ (some breaks NoLineFeed) ∷ (true breaks NoEnd) ∷ [])))
+    by_tests true long some = stops_at n TooManyLines
+    by_tests false true some = stops_at n bad
+    by_tests false false true = stops_at n NoLineFeed
+    by_tests false false false = stops_at n NoEnd
+
+stops_with_entry : (n : ℕ) (o : Option Entry) (read : Reading) → Stops (n + 1) read → Stops n (entry_before n o read)
+stops_with_entry n None read s = stops_at n BadEntry
+stops_with_entry n (Some e) read s = record {
+  behind_end = λ is f at. s.behind_end is f at ∙ omega arith;
+  at_fault = λ is. let found = s.at_fault is in (found.0, found.1, found.2 ∙ omega arith);
+}
+
+lines_stop : (max : ℕ) (subject : Subject) (n : ℕ) (line : List ℕ) (lines : List (List ℕ)) → Stops n (lines_read (input_of max true) subject n (line ∷ lines))
+lines_stop max subject n rest [] = stops_unfinished max n BadEntry rest
+lines_stop max subject n line (next ∷ lines) =
+    by_tests (lines_stop max subject (n + 1) next lines) (nat_lt max n) (bytes_eq line end_line)
+  where
+    by_tests : Stops (n + 1) (lines_read (input_of max true) subject (n + 1) (next ∷ lines)) → (past is_end : Bool) → Stops n (cond past (stopped n (Some TooManyLines))
+        (cond is_end (ended (n + 1) (after_end_rule (input_of max true) (n + 1) next lines)) (entry_before n (entry_in subject line) (lines_read (input_of max true) subject (n + 1) (next ∷ lines)))))
+    by_tests s true is_end = stops_at n TooManyLines
+    by_tests s false true = stops_after_end n (after_end_rule (input_of max true) (n + 1) next lines)
+    by_tests s false false = stops_with_entry n (entry_in subject line) (lines_read (input_of max true) subject (n + 1) (next ∷ lines)) s
+
+-- Where a whole text stops: after a header as its lines do, and without one at a fault and with no entry.
+pub data TextStops (read : Reading) : Type 0 where
+  headed : (h : Header) → read.header ≡ Some h → Stops 2 read → TextStops read
+  headless : (f : TextFault) → read.header ≡ None → read.fault ≡ Some f → TextStops read
+
+stops_without : (max : ℕ) (rest : List ℕ) → TextStops (stopped 1 (unfinished_rule (input_of max true) 1 BadHeader rest))
+stops_without max rest = let found = (stops_unfinished max 1 BadHeader rest).at_fault refl in headless found.0 refl found.1
+
+text_stop : (max : ℕ) (parts : List (List ℕ)) → 0 < length parts → TextStops (text_read (input_of max true) parts)
+text_stop max [] some = absurd (omega arith)
+text_stop max (rest ∷ []) some = stops_without max rest
+text_stop max (line ∷ next ∷ lines) some = by_header (header_in line)
+  where
+    by_header : (r : Result Header Rule)
+        → TextStops (elim r as (λ _. Reading) [ Ok h ↦ header_before h (lines_read (input_of max true) h.subject 2 (next ∷ lines)) | Err rule ↦ stopped 1 (Some rule) ])
+    by_header (Ok h) = let s = lines_stop max h.subject 2 next lines in headed h refl (record { behind_end = s.behind_end; at_fault = s.at_fault })
+    by_header (Err rule) = headless (record { line = 1; rule = rule }) refl refl
+
+pub reading_stops : (max : ℕ) (bytes : List ℕ) → TextStops (reading (input_of max true) bytes)
+unfolding reading
+reading_stops max bytes = text_stop max (slice_split (λ b. b == 10) bytes) (some_parts (λ b. b == 10) bytes)
+
+or_none : {A : Type 0} (o : Option A) → option_or o None ≡ o
+or_none None = refl
+or_none (Some a) = refl
+
+unwrap_or-or_some : {A : Type 0} (o : Option A) (a d : A) → unwrap_or (option_or o (Some a)) d ≡ unwrap_or o a
+unwrap_or-or_some None a d = refl
+unwrap_or-or_some (Some x) a d = refl
+
+-- whether a fault stands behind an `end`
+is_behind : (line n : ℕ) → line ≡ 2 + n + 1 → (line == n + 3) ≡ true
+is_behind line n e = grind (arith, nat_tests)
+
+isnt_behind : (line n : ℕ) → line ≡ 2 + n → (line == n + 3) ≡ false
+isnt_behind line n e = grind (arith, nat_tests)
+
+by_stop : (h : Header) (entries : List Entry) (is_ended : Bool) (fault : Option TextFault)
+    → (is_ended ≡ true → (f : TextFault) → fault ≡ Some f → f.line ≡ 2 + length entries + 1)
+    → (is_ended ≡ false → (f : TextFault) × (fault ≡ Some f) × (f.line ≡ 2 + length entries))
+    → unwrap_or (option_or (option_or (verdict_so_far h entries) (cond is_ended (end_verdict h entries) None)) (option_map (λ f. Malformed f.line f.rule) fault)) (accepted entries)
+    ≡ verdict_at h entries (option_map_or (λ f. Text f.line f.rule) fault End)
+unfolding verdict_at verdict
+by_stop h entries true None behind at = ap (λ o. unwrap_or o (accepted entries)) (or_none (option_or (verdict_so_far h entries) (end_verdict h entries)))
+by_stop h entries true (Some f) behind at =
+    unwrap_or-or_some (option_or (verdict_so_far h entries) (end_verdict h entries)) (Malformed f.line f.rule) (accepted entries)
+    ∙ ap (λ b. unwrap_or (option_or (verdict_so_far h entries) (cond b (end_verdict h entries) None)) (Malformed f.line f.rule)) (sym (is_behind f.line (length entries) (behind refl f refl)))
+by_stop h entries false None behind at = let found = at refl in absurd (none_is_some found.1)
+  where
+    none_is_some : {f : TextFault} → None ≡ Some f → ⊥
+    none_is_some e = cc
+by_stop h entries false (Some f) behind at =
+    let found = at refl in
+    let same : found.0 ≡ f = the_same found.1 in
+    let line : f.line ≡ 2 + length entries = ap (λ g. g.line) (sym same) ∙ found.2 in
+    unwrap_or-or_some (option_or (verdict_so_far h entries) None) (Malformed f.line f.rule) (accepted entries)
+    ∙ ap (λ b. unwrap_or (option_or (verdict_so_far h entries) (cond b (end_verdict h entries) None)) (Malformed f.line f.rule)) (sym (isnt_behind f.line (length entries) line))
+  where
+    the_same : {g : TextFault} → Some f ≡ Some g → g ≡ f
+    the_same e = cc
+
+with_header : (read : Reading) (h : Header) → read.header ≡ Some h → Stops 2 read
+    → unwrap_or (known_verdict read) (accepted read.entries) ≡ verdict_at h read.entries (stop_of read)
+with_header read h has s =
+    ap (λ o. unwrap_or (option_or (option_and_then (entries_verdict read) o) (option_map (λ f. Malformed f.line f.rule) read.fault)) (accepted read.entries)) has
+    ∙ by_stop h read.entries read.ended read.fault s.behind_end s.at_fault
+
+without_header : (read : Reading) (f : TextFault) → read.header ≡ None → read.fault ≡ Some f
+    → unwrap_or (known_verdict read) (accepted read.entries) ≡ Malformed f.line f.rule
+without_header read f none at =
+    ap (λ o. unwrap_or (option_or (option_and_then (entries_verdict read) o) (option_map (λ g. Malformed g.line g.rule) read.fault)) (accepted read.entries)) none
+    ∙ ap (λ o. unwrap_or (option_map (λ g. Malformed g.line g.rule) o) (accepted read.entries)) at
+
+-- The verdict about a whole input: with a header that of its entries and of how they stop, and else its fault of text.
+pub text_verdict-by_stop : (max : ℕ) (bytes : List ℕ) (h : Header) → (reading (input_of max true) bytes).header ≡ Some h
+    → text_verdict max bytes ≡ verdict_at h (reading (input_of max true) bytes).entries (stop_of (reading (input_of max true) bytes))
+unfolding text_verdict
+text_verdict-by_stop max bytes h has = by_cases (reading_stops max bytes)
+  where
+    read : Reading
+    read = reading (input_of max true) bytes
+
+    by_cases : TextStops read → unwrap_or (known_verdict read) (accepted read.entries) ≡ verdict_at h read.entries (stop_of read)
+    by_cases (headed g is s) = with_header read h has s
+    by_cases (headless f none at) = absurd (none_is_some (sym none ∙ has))
+      where
+        none_is_some : None ≡ Some h → ⊥
+        none_is_some e = cc
+
+pub text_verdict-no_header : (max : ℕ) (bytes : List ℕ) (f : TextFault) → (reading (input_of max true) bytes).header ≡ None
+    → (reading (input_of max true) bytes).fault ≡ Some f → text_verdict max bytes ≡ Malformed f.line f.rule
+unfolding text_verdict
+text_verdict-no_header max bytes f none at = without_header (reading (input_of max true) bytes) f none at
+
+-- a whole text without a header has a fault
+pub headless_has_fault : (max : ℕ) (bytes : List ℕ) → (reading (input_of max true) bytes).header ≡ None
+    → (f : TextFault) × ((reading (input_of max true) bytes).fault ≡ Some f)
+headless_has_fault max bytes none = by_cases (reading_stops max bytes)
+  where
+    by_cases : TextStops (reading (input_of max true) bytes) → (f : TextFault) × ((reading (input_of max true) bytes).fault ≡ Some f)
+    by_cases (headed h is s) = absurd (none_is_some (sym none ∙ is))
+      where
+        none_is_some : None ≡ Some h → ⊥
+        none_is_some e = cc
+    by_cases (headless f absent at) = (f, at)

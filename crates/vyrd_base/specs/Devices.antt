@@ -1,0 +1,42 @@
+-- What a call of a source or of a sink may do to what stands behind it. Bytes that a device doesn't tell are None.
+use Rattle.std.specs.Prelude.{◌≡◌, ◌⊎◌, ℕ, ◌-◌, ◌^◌, ◌<◌, ◌≤◌, Bool, List, [], ◌++◌, length, take, Option, option_map, IfSome, if◌then◌else◌}
+
+-- a count of faults has risen: it is greater than before, or it stands at its last value
+abbrev pub HasRisen : ℕ → ℕ → Type 0
+HasRisen before now = (before < now) ⊎ (now ≡ 2 ^ 64 - 1)
+
+-- The source has given n bytes: they are the next ones of what was still to come, and stand at the front of the buffer.
+-- A source that tells its bytes goes on telling them.
+pub record Gives (before : Option (List ℕ)) (n : ℕ) (buffer : List ℕ) (after : Option (List ℕ)) : Type 0 where
+  pub within : n ≤ length buffer
+  pub bytes : before ≡ option_map (λ rest. take n buffer ++ rest) after
+
+-- where the bytes are told, none is left
+abbrev pub IsAtEnd : Option (List ℕ) → Type 0
+IsAtEnd rest = IfSome rest (λ bytes. bytes ≡ [])
+
+-- the sink has taken the first n bytes of the piece, one at least, after those that it had
+pub record Takes (before : Option (List ℕ)) (n : ℕ) (piece : List ℕ) (after : Option (List ℕ)) : Type 0 where
+  pub some : 0 < n
+  pub within : n ≤ length piece
+  pub bytes : after ≡ option_map (λ taken. taken ++ take n piece) before
+
+-- what is known of a source in memory
+pub record SourceState : Type 0 where
+  -- the bytes that it will still give
+  pub rest : List ℕ
+  pub faults : ℕ
+  -- whether none of its calls is made to fail
+  pub is_sure : Bool
+
+-- what is known of a sink in memory
+pub record SinkState : Type 0 where
+  -- the bytes that it has taken, and how many it takes in all
+  pub taken : List ℕ
+  pub room : ℕ
+  pub faults : ℕ
+  pub is_sure : Bool
+
+-- how many bytes more the sink is known to take
+abbrev pub sure_room_of : SinkState → ℕ
+sure_room_of sink = if sink.is_sure then sink.room - length sink.taken else 0

@@ -1,0 +1,14 @@
+-- The limits of a header: version 1, a size from 1 to 1,024, and from 1 to 64 callers.
+use Rattle.std.specs.Prelude.{ℕ, Bool, ◌&&◌, ◌==◌, nat_le}
+
+-- the one version that there is
+abbrev pub is_known_version : ℕ → Bool
+is_known_version version = version == 1
+
+-- whether the size is from 1 to 1,024, and the callers are from 1 to 64
+abbrev pub is_sized : ℕ → ℕ → Bool
+is_sized size callers = nat_le 1 size && nat_le size 1024 && nat_le 1 callers && nat_le callers 64
+
+-- whether a header may have this version, this size and this number of callers
+abbrev pub is_within : ℕ → ℕ → ℕ → Bool
+is_within version size callers = is_known_version version && is_sized size callers

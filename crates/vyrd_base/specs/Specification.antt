@@ -1,0 +1,56 @@
+-- The specification: which replies a mutator may give in a state and which state comes next, and what an observer answers.
+-- A state is what it shows. For the multiset the amount of a value is its multiplicity, for the cache that of a chunk is
+-- hi * 2^32 + lo, so that a chunk with the pair (0, 0) isn't there, and for the tree that of a key is 2^32 plus its value.
+use Rattle.std.specs.Prelude.{ℕ, zero, suc, Bool, ◌+◌, ◌-◌, ◌*◌, ◌^◌, ◌==◌, not, [], Option, Some, None, if◌then◌else◌}
+use Rattle.std.specs.Bool.{then_some}
+use Rattle.vyrd_base.specs.declared.subject.Method.{Method}
+use Rattle.vyrd_base.specs.declared.subject.Method.TheVariants.{MsInsert, MsInsertPair, MsDelete, MsLookup, CaWrite, CaFlush, CaEvict, CaRead, TrInsert, TrDelete, TrLookup}
+use Rattle.vyrd_base.specs.declared.subject.Args.{Args}
+use Rattle.vyrd_base.specs.Amounts.{Amounts, amount_of, with_amount, plus_amount}
+
+-- nothing is there
+abbrev pub start : Amounts
+start = []
+
+-- whether a key is there: its amount isn't 0
+abbrev pub is_present : Amounts → ℕ → Bool
+is_present state key = not (amount_of state key == 0)
+
+-- what the replies 0, 1 and 2 lead to; every other reply is refused
+abbrev pub by_reply : ℕ → Option Amounts → Option Amounts → Option Amounts → Option Amounts
+by_reply zero at_0 at_1 at_2 = at_0
+by_reply (suc zero) at_0 at_1 at_2 = at_1
+by_reply (suc (suc zero)) at_0 at_1 at_2 = at_2
+by_reply _ at_0 at_1 at_2 = None
+
+-- The state after a call of the method with this reply, or none where the reply is refused. An insert may always give up with
+-- the reply 0 and change nothing. An observer has no next state: it never commits.
+abbrev pub next_state : Method → Args → ℕ → Amounts → Option Amounts
+next_state MsInsert args reply state = by_reply reply (Some state) (Some (plus_amount state args.a 1)) None
+next_state MsInsertPair args reply state =
+    by_reply reply (Some state) (Some (plus_amount (plus_amount state args.a 1) args.b 1)) None
+next_state MsDelete args reply state = by_reply reply
+    (then_some (not (is_present state args.a)) state)
+    (then_some (is_present state args.a) (with_amount state args.a (amount_of state args.a - 1)))
+    None
+next_state CaWrite args reply state = by_reply reply None (Some (with_amount state args.a (args.c * 2 ^ 32 + args.b))) None
+next_state CaFlush args reply state = by_reply reply None (Some state) None
+next_state CaEvict args reply state = by_reply reply None (Some state) None
+next_state TrInsert args reply state = by_reply reply
+    (Some state)
+    (then_some (not (is_present state args.a)) (with_amount state args.a (2 ^ 32 + args.b)))
+    (then_some (is_present state args.a) (with_amount state args.a (2 ^ 32 + args.b)))
+next_state TrDelete args reply state = by_reply reply
+    (then_some (not (is_present state args.a)) state)
+    (then_some (is_present state args.a) (with_amount state args.a 0))
+    None
+next_state MsLookup args reply state = None
+next_state CaRead args reply state = None
+next_state TrLookup args reply state = None
+
+-- what an observer answers in a state: whether the value is there, the chunk's pair, or the key's value plus 1 and else 0
+abbrev pub answer_in : Amounts → Method → Args → ℕ
+answer_in state MsLookup args = if is_present state args.a then 1 else 0
+answer_in state CaRead args = amount_of state args.a
+answer_in state TrLookup args = if is_present state args.a then amount_of state args.a - 2 ^ 32 + 1 else 0
+answer_in state _ args = 0

@@ -1,0 +1,49 @@
+//! The numbered calls of a device in memory, some of which are made to fail.
+
+ghost use Rattle.std.specs.Prelude.{◌≡◌, ◌-◌, ◌<◌, ◌≤◌, ◌^◌, [], false, IfOk, vec_len};
+ghost use Rattle.vyrd_base.specs.Devices.{HasRisen};
+
+use crate::device::Failed;
+use std::alloc::{AllocError, Global};
+
+/// Counts the calls from 1 on, and the faults. Both counts stay at 2^64 - 1.
+#[derive(Debug, Drop)]
+pub(crate) struct Calls {
+    pub(crate) failing: Vec<u64>,
+    pub(crate) faults: u64,
+    made: u64,
+}
+
+impl Calls {
+    /// No call was made yet, and those with these numbers will fail.
+    pub(crate) fn new(alloc: Global, failing: &[u64]) -> Result<Calls, AllocError>
+        ensures failing { IfOk result (λ c. c.failing.items ≡ failing.now) }
+        ensures faults { IfOk result (λ c. c.faults ≡ 0) }
+    {
+        Ok(Calls {
+            failing: Vec::from_slice(alloc, failing)?,
+            faults: 0,
+            made: 0,
+        })
+    }
+
+    /// Begins the next call, and says whether it fails.
+    pub(crate) fn next_fails(&mut self) -> bool
+        ensures named { self.old.failing.items ≡ [] → result ≡ false }
+        ensures failing { self.new.failing.items ≡ self.old.failing.items }
+        ensures faults { self.new.faults ≡ self.old.faults }
+    {
+        self.made = self.made.saturating_add(1);
+        self.failing.contains(&self.made)
+    }
+
+    /// Counts a fault.
+    pub(crate) fn fault(&mut self) -> Failed
+        ensures failing { self.new.failing.items ≡ self.old.failing.items }
+        ensures later { self.old.faults ≤ self.new.faults }
+        ensures risen { HasRisen self.old.faults self.new.faults }
+    {
+        self.faults = self.faults.saturating_add(1);
+        Failed
+    }
+}

@@ -1,0 +1,103 @@
+//! The header of a log: its limits, and what follows from its numbers.
+
+ghost use Rattle.std.specs.Prelude.{◌≡◌, ◌↔◌, ◌==◌, ◌&&◌, ℕ, IsTrue, IfSome, IsSome};
+ghost use Rattle.vyrd_base.specs.Limits.{is_within};
+ghost use Rattle.vyrd_base.specs.Subjects.{subject_of, same_subject, are_args};
+
+use crate::subject::{Args, Method, Subject};
+
+/// The header of a log: what is watched, how large it is, and how many callers it has. Its numbers are within the limits.
+#[derive(Clone, Copy, Debug, PartialEq, Eq)]
+pub struct Header {
+    version: u32,
+    subject: Subject,
+    size: u32,
+    callers: u32,
+    ghost within: { IsTrue (is_within version size callers) },
+}
+
+impl Header {
+    /// The header with these numbers, where they are within the limits: the version is 1, the size is from 1 to 1,024, and
+    /// there are 1 to 64 callers.
+    pub fn new(version: u32, subject: Subject, size: u32, callers: u32) -> Option<Header>
+        ensures within { IsSome result ↔ IsTrue (is_within version size callers) }
+        ensures version { IfSome result (λ h. h.version ≡ version) }
+        ensures subject { IfSome result (λ h. h.subject ≡ subject) }
+        ensures size { IfSome result (λ h. h.size ≡ size) }
+        ensures callers { IfSome result (λ h. h.callers ≡ callers) }
+    {
+        if version == 1 && 1 <= size && size <= 1024 && 1 <= callers && callers <= 64 {
+            Some(Header {
+                version,
+                subject,
+                size,
+                callers,
+            })
+        } else {
+            None
+        }
+    }
+
+    /// The version of the log's rules, which is 1.
+    pub fn version(&self) -> u32
+        ensures { result ≡ self.now.version }
+    {
+        self.version
+    }
+
+    /// The data structure that is watched.
+    pub fn subject(&self) -> Subject
+        ensures { result ≡ self.now.subject }
+    {
+        self.subject
+    }
+
+    /// The size of the subject: buckets of 4 slots, chunks or nodes, from 1 to 1,024.
+    pub fn size(&self) -> u32
+        ensures { result ≡ self.now.size }
+    {
+        self.size
+    }
+
+    /// How many callers there are, from 1 to 64. A caller is a number below this one.
+    pub fn callers(&self) -> u32
+        ensures { result ≡ self.now.callers }
+    {
+        self.callers
+    }
+}
+
+impl Header {
+    ghost use Rattle.vyrd_base.specs.Layout.{plain_words, lock_words};
+
+    /// How many plain words there are. They are the cells from 0 on.
+    pub fn plain_words(&self) -> u32
+        ensures { result ≡ plain_words self.now }
+    {
+        match self.subject {
+            Subject::Multiset => 8 * self.size,
+            Subject::Cache => 5 * self.size,
+            Subject::Tree => 12 * self.size + 2,
+        }
+    }
+
+    /// How many locks there are. They are the cells after the plain words.
+    pub fn lock_words(&self) -> u32
+        ensures { result ≡ lock_words self.now }
+    {
+        match self.subject {
+            Subject::Multiset | Subject::Cache => self.size,
+            Subject::Tree => self.size + 2,
+        }
+    }
+
+    /// Whether a log with this header may call the method with these arguments: the method is of the header's subject,
+    /// a chunk's number is below the size, and arguments that the method doesn't have are 0.
+    pub fn fits(&self, method: Method, args: Args) -> bool
+        ensures { result ≡ (same_subject (subject_of method) self.now.subject && are_args self.now.size method args) }
+    {
+        method.subject() == self.subject
+            && args.are_padded(method.arity())
+            && (!method.takes_chunk() || args.a < self.size)
+    }
+}

@@ -1,0 +1,110 @@
+//! Laws of the definitions. Each function does nothing: its contract is the law.
+
+ghost use Rattle.std.specs.Prelude.{◌≢◌, ◌≡◌, ◌+◌, ◌≤◌, ◌<◌, ℕ, true, length, ◌==◌, if◌then◌else◌, List, [], ◌∷◌, ◌++◌, Some, None, false, slice_set};
+ghost use Rattle.std.specs.Option.{option_or};
+ghost use Rattle.vyrd_base.specs.declared.header.Header.{Header};
+ghost use Rattle.vyrd_base.specs.declared.log.Entry.{Entry};
+ghost use Rattle.vyrd_base.specs.declared.log.Kind.TheVariants.{Write};
+ghost use Rattle.vyrd_base.specs.declared.verdict.Verdict.{Verdict};
+ghost use Rattle.vyrd_base.specs.declared.verdict.Verdict.TheVariants.{Malformed};
+ghost use Rattle.vyrd_base.specs.Places.{newest_first};
+ghost use Rattle.vyrd_base.specs.Callers.{has_block};
+ghost use Rattle.vyrd_base.specs.Shape.{broken_rule};
+ghost use Rattle.vyrd_base.specs.Front.{front, first_break, unless_broken};
+ghost use Rattle.vyrd_base.specs.Layout.{plain_words};
+ghost use Rattle.vyrd_base.specs.Words.{words_after};
+ghost use Rattle.std.specs.List.{AllByRecursion};
+ghost use Rattle.vyrd_base.specs.Spelling.{log_text, is_entry_of};
+ghost use Rattle.vyrd_base.specs.Reading.{Input, TextFault, reading};
+ghost use Rattle.vyrd_base.specs.Histories.{cells_of, is_legal, log_of, words_of_history};
+ghost use Rattle.vyrd_base.specs.Amounts.{Amounts, IsAmounts, amount_of, with_amount, first_difference};
+ghost use Rattle.vyrd_base.specs.declared.history.Stamped.{Stamped};
+ghost use Rattle.vyrd_base.specs.TextVerdicts.{text_verdict, text_verdict_so_far, stop_of};
+ghost use Rattle.vyrd_base.specs.Verdicts.{verdict_so_far, verdict, verdict_at, is_call_open};
+
+/// One more entry is in the front where no rule is broken before it and it breaks none itself.
+#[tactic(auto, using(crate::proofs::Answers::front_laws))]
+pub fn front_grows()
+    ensures { (h : Header) (es : List Entry) (e : Entry) →
+        front h (es ++ e ∷ []) ≡ front h es ++ unless_broken (option_or (first_break h es) (broken_rule h (newest_first es) e)) (e ∷ []) }
+{}
+
+/// A verdict that stands stands for good.
+#[tactic(auto, using(crate::proofs::Answers::verdict_laws))]
+pub fn verdict_lasts()
+    ensures so_far { (h : Header) (es more : List Entry) (v : Verdict) →
+        verdict_so_far h es ≡ Some v → verdict_so_far h (es ++ more) ≡ Some v }
+    ensures whole { (h : Header) (es more : List Entry) (v : Verdict) →
+        verdict_so_far h es ≡ Some v → verdict h (es ++ more) ≡ v }
+{}
+
+/// A write outside a block changes its own word alone.
+#[tactic(auto, using(crate::proofs::Answers::word_laws))]
+pub fn write_changes_its_word()
+    ensures { (h : Header) (earlier : List Entry) (c w v : ℕ) → has_block c earlier ≡ false → w < plain_words h →
+        words_after h (record { caller = c; kind = Write w v } ∷ earlier) ≡ slice_set (words_after h earlier) w v }
+{}
+
+/// The text of a log is read as that log, and has its verdict.
+#[tactic(auto, using(crate::proofs::Answers::text_laws))]
+pub fn text_is_read()
+    ensures read { (input : Input) (h : Header) (es : List Entry) →
+        length es + 2 ≤ input.max_lines → AllByRecursion (λ e. is_entry_of h.subject e ≡ true) es →
+        reading input (log_text h es) ≡ record { header = Some h; entries = es; ended = true; fault = None } }
+    ensures judged { (max : ℕ) (h : Header) (es : List Entry) →
+        length es + 2 ≤ max → AllByRecursion (λ e. is_entry_of h.subject e ≡ true) es →
+        text_verdict max (log_text h es) ≡ verdict h es }
+{}
+
+/// The words that the log of a legal history leaves are the words of the history, once every call has returned.
+#[tactic(auto, using(crate::proofs::Answers::history_laws))]
+pub fn words_of_a_history()
+    ensures { (h : Header) (history : List Stamped) → is_legal (cells_of h) history ≡ true → first_break h (log_of history) ≡ None →
+        is_call_open h (newest_first (log_of history)) ≡ false →
+        words_after h (newest_first (log_of history)) ≡ words_of_history h history }
+{}
+
+/// Amounts by key behave as a map in which a key that isn't there has the amount 0.
+#[tactic(auto, using(crate::proofs::Answers::amount_laws))]
+pub fn amounts_are_a_map()
+    ensures read { (s : Amounts) (k a q : ℕ) → amount_of (with_amount s k a) q ≡ (if q == k then a else amount_of s q) }
+    ensures kept { (s : Amounts) (k a : ℕ) → IsAmounts s → IsAmounts (with_amount s k a) }
+    ensures same { (s t : Amounts) → IsAmounts s → IsAmounts t → ((q : ℕ) → amount_of s q ≡ amount_of t q) → s ≡ t }
+{}
+
+/// A verdict about bytes that stands stands for all longer bytes, and is their verdict as a whole.
+#[tactic(auto, using(crate::proofs::Answers::byte_laws))]
+pub fn text_verdict_lasts()
+    ensures so_far { (max : ℕ) (bytes more : List ℕ) (v : Verdict) → 1 ≤ max →
+        text_verdict_so_far max bytes ≡ Some v → text_verdict_so_far max (bytes ++ more) ≡ Some v }
+    ensures whole { (max : ℕ) (bytes more : List ℕ) (v : Verdict) → 1 ≤ max →
+        text_verdict_so_far max bytes ≡ Some v → text_verdict max (bytes ++ more) ≡ v }
+{}
+
+/// The verdict about a whole input is that of its entries and of how its text stops, where it has a header; and else it
+/// is the fault of its text.
+#[tactic(auto, using(crate::proofs::Answers::stop_laws))]
+pub fn verdict_by_its_stop()
+    ensures headed { (max : ℕ) (bytes : List ℕ) (h : Header) →
+        (reading (record { max_lines = max; is_whole = true }) bytes).header ≡ Some h →
+        text_verdict max bytes ≡ verdict_at h (reading (record { max_lines = max; is_whole = true }) bytes).entries
+        (stop_of (reading (record { max_lines = max; is_whole = true }) bytes)) }
+    ensures headless { (max : ℕ) (bytes : List ℕ) (fault : TextFault) →
+        (reading (record { max_lines = max; is_whole = true }) bytes).header ≡ None →
+        (reading (record { max_lines = max; is_whole = true }) bytes).fault ≡ Some fault →
+        text_verdict max bytes ≡ Malformed fault.line fault.rule }
+{}
+
+/// What is read to its `end` without a fault is the text of a log.
+pub fn read_text_is_a_log()
+    ensures { (input : Input) (bytes : List ℕ) → (reading input bytes).ended ≡ true → (reading input bytes).fault ≡ None →
+        (h : Header) × ((reading input bytes).header ≡ Some h) × (bytes ≡ log_text h (reading input bytes).entries)
+        × AllByRecursion (λ e. is_entry_of h.subject e ≡ true) (reading input bytes).entries }
+{}
+
+/// The first difference of two sides is the least key at which their amounts differ.
+pub fn least_difference()
+    ensures none { (a b : Amounts) → first_difference a b ≡ None → (q : ℕ) → amount_of a q ≡ amount_of b q }
+    ensures some { (a b : Amounts) (k : ℕ) → first_difference a b ≡ Some k →
+        (amount_of a k ≢ amount_of b k) × ((q : ℕ) → q < k → amount_of a q ≡ amount_of b q) }
+{}

@@ -1,0 +1,57 @@
+//! The plain data of a log and of its verdict, the devices at the program's edge, and every definition of judging.
+//!
+//! A log tells of a concurrent run: who called what, which words were written, and where each call took effect. A log is
+//! a `Header` and a list of entries, and the central type is `Entry`: one caller and what it did. The answer about a log
+//! is a `Verdict`. The crate decides nothing itself. It says, once and for all other crates, which verdict a log has,
+//! and its own calls meet the same definitions: a header's numbers, amounts by key, and what devices give and take.
+//!
+//! What stands in `src/`:
+//!
+//! - `Header`, `Subject`, `Method`, `Args`: what is watched, and what may be called;
+//! - `Entry`, `Kind`: the lines of a log; `Stamped`, `Did`: the events of a run, of which a log shows a part;
+//! - `Verdict`, `Rule`, `Why`, `Stop`: the answer, and how a text stops;
+//! - `View`, `AmountMap`: what a state or the words show, as amounts by key, to be read or to be changed;
+//! - `Source`, `Sink`, `Gate`: where bytes come from and go to, and what a live run asks. Each has a device in memory
+//!   whose calls can be made to fail, or one over std's readers and writers.
+//!
+//! What stands in `specs/`, one file a notion: the limits of a header (`Limits`, `Subjects`, `Layout`), the places of a
+//! list (`Places`), what a caller is in the middle of (`Callers`), the rules of shape and the well-formed front (`Shape`,
+//! `Front`), the words (`Words`), what they show (`Views`, `TreeView`, `Amounts`), the specification (`Specification`),
+//! commit order and its states (`Commits`), the faults (`Faults`), the verdict (`Verdicts`), the text of a log and what
+//! its bytes say (`Spelling`, `Lines`, `Reading`), the verdict about bytes and its line (`TextVerdicts`, `VerdictText`),
+//! histories (`Histories`), words that represent a state (`Standing`, `Trees`), and devices (`Devices`).
+//!
+//! A definition alone claims nothing. So each law of the definitions is a clause of an empty function in `laws`, and
+//! small cases are worked out in `worked`, as lists of entries, and in `worked_text`, from the bytes of a log to the
+//! bytes of the answer.
+#![tactic(auto)]
+
+mod amount_map;
+mod calls;
+mod device;
+mod header;
+mod history;
+pub mod laws;
+mod log;
+mod memory_sink;
+mod memory_source;
+mod streams;
+mod subject;
+#[cfg(test)]
+mod tests;
+mod verdict;
+mod view;
+pub mod worked;
+pub mod worked_text;
+
+pub use amount_map::AmountMap;
+pub use device::{Failed, Gate, OpenGate, Sink, Source};
+pub use header::Header;
+pub use history::{Did, Stamped};
+pub use log::{Entry, Kind};
+pub use memory_sink::MemorySink;
+pub use memory_source::MemorySource;
+pub use streams::{StdSink, StdSource};
+pub use subject::{Args, Method, Subject};
+pub use verdict::{Rule, Stop, Verdict, Why};
+pub use view::View;

@@ -1,0 +1,85 @@
+//! A sink in memory.
+
+ghost use Rattle.std.specs.Prelude.{◌≡◌, ◌==◌, ◌<◌, ◌≤◌, true, [], length, Some, IfOk, vec_len};
+ghost use Rattle.vyrd_base.specs.Devices.{sure_room_of};
+
+use crate::calls::Calls;
+use crate::device::{Failed, Sink};
+use std::alloc::{AllocError, Global};
+use std::marker::Model;
+
+/// A sink that keeps what it takes in memory, in writes that can be cut short and made to fail.
+#[derive(Debug, Drop)]
+pub struct MemorySink {
+    taken: Vec<u8>,
+    room: usize,
+    cut: usize,
+    calls: Calls,
+}
+
+impl Model for MemorySink {
+    ghost use Rattle.std.specs.Prelude.{◌==◌, ◌<◌, ◌≤◌, length, vec_capacity};
+    ghost use Rattle.vyrd_base.specs.Devices.{SinkState};
+
+    ghost Value = { SinkState };
+
+    ghost view = { λ s. record {
+      taken = s.taken.items;
+      room = s.room;
+      faults = s.calls.faults;
+      is_sure = length s.calls.failing.items == 0;
+    } };
+
+    ghost invariant = { λ s. (length s.taken.items ≤ s.room) × (s.room ≤ vec_capacity s.taken) × (0 < s.cut) };
+}
+
+impl MemorySink {
+    /// A sink that takes at most `room` bytes in all and at most `cut` in each write. Writes are numbered from 1 to
+    /// 2^64 - 1, which every later write keeps as its number. Those named in `failing` fail, and so does one that finds
+    /// no room left. `cut` is at least 1. All of its memory is taken here, and a write
+    /// takes none. Want of memory is the one error.
+    pub fn new(
+        alloc: Global,
+        room: usize,
+        cut: usize,
+        failing: &[u64],
+    ) -> Result<MemorySink, AllocError>
+        requires { 0 < cut }
+        ensures taken { IfOk result (λ s. s.taken ≡ []) }
+        ensures room { IfOk result (λ s. s.room ≡ room) }
+        ensures faults { IfOk result (λ s. s.faults ≡ 0) }
+        ensures sure { IfOk result (λ s. s.is_sure ≡ (length failing.now == 0)) }
+    {
+        Ok(MemorySink {
+            taken: Vec::with_capacity(alloc, room)?,
+            room,
+            cut,
+            calls: Calls::new(alloc, failing)?,
+        })
+    }
+
+    /// The bytes that it has taken.
+    pub fn taken(&self) -> &[u8]
+        ensures { result.now ≡ self.now.taken }
+    {
+        &self.taken
+    }
+}
+
+impl Sink for MemorySink {
+    ghost taken = { λ s. Some s.taken };
+
+    ghost faults = { λ s. s.faults };
+
+    ghost sure_room = { sure_room_of };
+
+    fn write(&mut self, piece: &[u8]) -> Result<usize, Failed> {
+        let left = self.room - self.taken.len();
+        if self.calls.next_fails() || left == 0 {
+            return Err(self.calls.fault());
+        }
+        let n = piece.len().min(self.cut).min(left);
+        self.taken.extend_from_slice(&piece[..n]).unwrap();
+        Ok(n)
+    }
+}

@@ -1,0 +1,92 @@
+//! A source and a sink over std's reader and writer. As devices they tell no bytes; each passes on what its stream says.
+
+ghost use Rattle.std.specs.Prelude.{◌≡◌, ◌≤◌, false, None, IfOk, OnErr};
+ghost use Rattle.std.specs.Io.KnownBytes.{ReadConsumes, WriteAppends};
+ghost use Rattle.vyrd_base.specs.Devices.{HasRisen, Gives, Takes};
+
+use crate::device::{Failed, Sink, Source};
+use std::io::{Read, Write};
+
+/// A source over a reader. What its bytes are is the reader's word.
+#[derive(Debug, Drop)]
+pub struct StdSource<R> {
+    /// The reader.
+    pub inner: R,
+    faults: u64,
+}
+
+impl<R> StdSource<R> {
+    /// A source of what the reader gives, with no fault counted yet.
+    pub fn new(inner: R) -> StdSource<R>
+        ensures inner { result.inner ≡ inner }
+        ensures faults { result.faults ≡ 0 }
+    {
+        StdSource { inner, faults: 0 }
+    }
+}
+
+impl<R: Read> Source for StdSource<R> {
+    ghost rest = { λ _. None };
+
+    ghost faults = { λ s. s.faults };
+
+    ghost is_sure = { λ _. false };
+
+    /// Where the reader tells its bytes, they are what is given.
+    fn read(&mut self, buf: &mut [u8]) -> Result<usize, Failed>
+        ensures given { IfOk result (λ n. Gives None n buf.new None) }
+        ensures counted { self.old.faults ≤ self.new.faults }
+        ensures cause { OnErr result (HasRisen self.old.faults self.new.faults) }
+        ensures passed { ReadConsumes (R.remaining self.old.inner) (R.remaining self.new.inner) result buf.new }
+    {
+        match self.inner.read(buf) {
+            Ok(n) => Ok(n),
+            Err(_) => {
+                self.faults = self.faults.saturating_add(1);
+                Err(Failed)
+            }
+        }
+    }
+}
+
+/// A sink over a writer. What becomes of its bytes is the writer's word.
+#[derive(Debug, Drop)]
+pub struct StdSink<W> {
+    /// The writer.
+    pub inner: W,
+    faults: u64,
+}
+
+impl<W> StdSink<W> {
+    /// A sink that passes bytes on to the writer, with no fault counted yet.
+    pub fn new(inner: W) -> StdSink<W>
+        ensures inner { result.inner ≡ inner }
+        ensures faults { result.faults ≡ 0 }
+    {
+        StdSink { inner, faults: 0 }
+    }
+}
+
+impl<W: Write> Sink for StdSink<W> {
+    ghost taken = { λ _. None };
+
+    ghost faults = { λ s. s.faults };
+
+    ghost sure_room = { λ _. 0 };
+
+    /// A writer that takes no byte has failed. Where the writer tells its bytes, what is taken is added to them.
+    fn write(&mut self, piece: &[u8]) -> Result<usize, Failed>
+        ensures taken { IfOk result (λ n. Takes None n piece.now None) }
+        ensures counted { self.old.faults ≤ self.new.faults }
+        ensures cause { OnErr result (HasRisen self.old.faults self.new.faults) }
+        ensures passed { WriteAppends (W.contents self.old.inner) (W.contents self.new.inner) result piece.now }
+    {
+        match self.inner.write(piece) {
+            Ok(n) if n > 0 => Ok(n),
+            _ => {
+                self.faults = self.faults.saturating_add(1);
+                Err(Failed)
+            }
+        }
+    }
+}

@@ -1,0 +1,140 @@
+//! Values from outside: the limits of a header, its words and methods at one header a subject, and devices call by call.
+
+use crate::{
+    AmountMap, Args, Failed, Gate, Header, MemorySink, MemorySource, Method, OpenGate, Sink,
+    Source, StdSink, StdSource, Subject, View,
+};
+use std::io::Cursor;
+use std::test::Fail;
+
+#[test]
+fn limits_of_the_header(rt: HostRuntime) {
+    let table = [
+        ((1, 1, 1), true),
+        ((1, 1024, 64), true),
+        ((0, 1, 1), false),
+        ((2, 1, 1), false),
+        ((1, 0, 1), false),
+        ((1, 1025, 1), false),
+        ((1, 1, 0), false),
+        ((1, 1, 65), false),
+    ];
+    for ((version, size, callers), want) in table {
+        let header = Header::new(version, Subject::Tree, size, callers);
+        assert_eq!(rt; header.is_some(), want, "{version} {size} {callers}");
+    }
+}
+
+#[test]
+fn numbers_of_the_header(rt: HostRuntime) -> Result<(), Fail> {
+    let table = [
+        (Subject::Multiset, 24, 3),
+        (Subject::Cache, 15, 3),
+        (Subject::Tree, 38, 5),
+    ];
+    for (subject, plain, locks) in table {
+        let header = Header::new(1, subject, 3, 2).ok_or("a header")?;
+        assert_eq!(rt; header.plain_words(), plain, "{subject:?}");
+        assert_eq!(rt; header.lock_words(), locks, "{subject:?}");
+        assert_eq!(rt;
+            (header.version(), header.size(), header.callers()),
+            (1, 3, 2)
+        );
+        assert_eq!(rt; header.subject(), subject);
+    }
+    Ok(())
+}
+
+#[test]
+fn methods_that_fit(rt: HostRuntime) -> Result<(), Fail> {
+    let table = [
+        (Subject::Multiset, Method::MsInsert, (9, 0, 0), true),
+        (Subject::Multiset, Method::MsInsertPair, (9, 8, 0), true),
+        (Subject::Multiset, Method::MsInsert, (9, 8, 0), false),
+        (Subject::Multiset, Method::TrInsert, (9, 8, 0), false),
+        (Subject::Cache, Method::CaWrite, (2, 8, 7), true),
+        (Subject::Cache, Method::CaWrite, (3, 8, 7), false),
+        (Subject::Cache, Method::CaRead, (2, 0, 1), false),
+        (Subject::Tree, Method::TrInsert, (9, 8, 0), true),
+        (Subject::Tree, Method::TrInsert, (9, 8, 7), false),
+        (Subject::Tree, Method::TrLookup, (9, 0, 0), true),
+    ];
+    for (subject, method, (a, b, c), want) in table {
+        let header = Header::new(1, subject, 3, 2).ok_or("a header")?;
+        let fits = header.fits(method, Args { a, b, c });
+        assert_eq!(rt; fits, want, "{subject:?} {method:?} {a} {b} {c}");
+    }
+    Ok(())
+}
+
+#[test]
+fn amounts_by_key(rt: HostRuntime) -> Result<(), Fail> {
+    let mut map = AmountMap::new(rt.alloc());
+    map.add(7, 2)?;
+    map.set(5, 1)?;
+    map.set(9, 4)?;
+    map.remove(9);
+    assert_eq!(rt; map.amount(9), 0);
+    assert_eq!(rt; map.amount(7), 2);
+    map.take_one(7);
+    let mut view = View::new(rt.alloc());
+    view.push(5, 1)?;
+    view.push(7, 1)?;
+    assert_eq!(rt; view.pairs(), [(5, 1), (7, 1)].as_slice());
+    assert_eq!(rt; map.view(rt.alloc())?.pairs(), view.pairs());
+    Ok(())
+}
+
+#[test]
+fn read_that_fails(rt: HostRuntime) -> Result<(), Fail> {
+    let mut source = MemorySource::new(rt.alloc(), &[1, 2, 3, 4, 5], 2, &[2])?;
+    let mut all = Vec::new(rt.alloc());
+    for want in [Ok(2), Err(Failed), Ok(2), Ok(1), Ok(0), Ok(0)] {
+        let mut buf = [0; 4];
+        let got = source.read(&mut buf);
+        assert_eq!(rt; got, want);
+        if let Ok(n) = got {
+            all.extend_from_slice(&buf[..n])?;
+        }
+    }
+    assert_eq!(rt; all.as_slice(), [1, 2, 3, 4, 5].as_slice());
+    Ok(())
+}
+
+#[test]
+fn write_that_fails(rt: HostRuntime) -> Result<(), Fail> {
+    let mut sink = MemorySink::new(rt.alloc(), 5, 3, &[2])?;
+    assert_eq!(rt; sink.write(&[1, 2, 3, 4, 5]), Ok(3));
+    assert_eq!(rt; sink.write(&[4, 5]), Err(Failed));
+    assert_eq!(rt; sink.write(&[4, 5, 6]), Ok(2));
+    assert_eq!(rt; sink.write(&[6]), Err(Failed));
+    assert_eq!(rt; sink.taken(), [1, 2, 3, 4, 5].as_slice());
+    Ok(())
+}
+
+#[test]
+fn readers_and_writers(rt: HostRuntime) -> Result<(), Fail> {
+    let mut source = StdSource::new([1, 2, 3].as_slice());
+    let mut buf = [0; 2];
+    assert_eq!(rt; source.read(&mut buf), Ok(2));
+    assert_eq!(rt; buf, [1, 2]);
+    assert_eq!(rt; source.read(&mut buf), Ok(1));
+    assert_eq!(rt; buf, [3, 2]);
+    assert_eq!(rt; source.read(&mut buf), Ok(0));
+
+    let mut kept = Vec::new(rt.alloc());
+    let mut sink = StdSink::new(&mut kept);
+    assert_eq!(rt; sink.write(&[1, 2]), Ok(2));
+    assert_eq!(rt; kept.as_slice(), [1, 2].as_slice());
+
+    // A writer that takes no byte: its two places are full.
+    let mut full = StdSink::new(Cursor::new([0; 2]));
+    assert_eq!(rt; full.write(&[1, 2, 3]), Ok(2));
+    assert_eq!(rt; full.write(&[3]), Err(Failed));
+    Ok(())
+}
+
+#[test]
+fn open_gate(rt: HostRuntime) {
+    assert!(rt; OpenGate.may_start(0, 0) && OpenGate.may_start(63, u64::MAX));
+}

@@ -1,0 +1,67 @@
+//! Verdicts of small logs, words and histories, worked out by the definitions. Each function does nothing: its contract
+//! has the cases.
+
+ghost use Rattle.std.specs.Prelude.{◌≡◌, ◌+◌, ◌^◌, [], ◌∷◌, ◌++◌, replicate, true, false};
+ghost use Rattle.vyrd_base.specs.Verdicts.{verdict};
+ghost use Rattle.vyrd_base.specs.Standing.{state_of_words};
+ghost use Rattle.vyrd_base.specs.Histories.{is_legal, log_of, cells_of};
+ghost use Rattle.vyrd_base.specs.declared.history.Did.TheVariants.{Took, Gave};
+ghost use Rattle.vyrd_base.specs.SampleWords.{multiset_of_2, cache_of_1, tree_of_4, two_leaves, lookup_events, event};
+ghost use Rattle.vyrd_base.specs.Samples.{alone, two, two_on_cache, inserted, claimed, deleted, looked_up, too_early, beside_block, no_block, raced, waits, stray, torn, insert, lookup, return};
+ghost use Rattle.vyrd_base.specs.declared.verdict.Verdict.TheVariants.{Accepted, Violation, Malformed};
+ghost use Rattle.vyrd_base.specs.declared.verdict.Why.TheVariants.{Reply, View, Observer};
+ghost use Rattle.vyrd_base.specs.declared.verdict.Rule.TheVariants.{BlockRaced, CallOpen, ValueRange, WordRange, CallerRange};
+
+/// Logs that keep the rules and refine the specification.
+#[tactic(auto, unfolding(crate::proofs::Opened::opened))]
+pub fn accepted_logs()
+    ensures empty { verdict alone [] ≡ Accepted 0 0 0 }
+    ensures in_a_block { verdict alone inserted ≡ Accepted 7 1 0 }
+    ensures absent { verdict alone (deleted 0) ≡ Accepted 3 1 0 }
+    ensures before_or_after { verdict two (looked_up 0) ≡ Accepted 9 1 1 }
+    ensures after { verdict two (looked_up 1) ≡ Accepted 9 1 1 }
+    ensures open_block_left_out { verdict two beside_block ≡ Accepted 10 2 0 }
+    ensures greatest_value { verdict alone (stray 7 9223372036854775807) ≡ Accepted 4 1 0 }
+{}
+
+/// Logs whose commits or observers violate the specification.
+#[tactic(auto, unfolding(crate::proofs::Opened::opened))]
+pub fn violations()
+    ensures nothing_done { verdict alone claimed ≡ Violation 3 (View 5) }
+    ensures refused { verdict alone (deleted 1) ≡ Violation 3 (Reply 1) }
+    ensures too_early { verdict two too_early ≡ Violation 6 (Observer 1) }
+    ensures in_between { verdict two no_block ≡ Violation 7 (View 5) }
+    ensures earlier_commit { verdict two (waits 1) ≡ Violation 3 (Reply 1) }
+    ensures observer { verdict two (waits 0) ≡ Violation 5 (Observer 7) }
+    ensures torn_write { verdict two_on_cache torn ≡ Violation 16 (View 0) }
+{}
+
+/// Logs that break a rule of shape.
+#[tactic(auto, unfolding(crate::proofs::Opened::opened))]
+pub fn malformed_logs()
+    ensures raced { verdict two raced ≡ Malformed 6 BlockRaced }
+    ensures open { verdict alone (lookup 0 5 ∷ []) ≡ Malformed 3 CallOpen }
+    ensures value { verdict alone (stray 7 9223372036854775808) ≡ Malformed 3 ValueRange }
+    ensures word { verdict alone (stray 8 9223372036854775807) ≡ Malformed 3 WordRange }
+    ensures caller { verdict alone (insert 1 5 ∷ []) ≡ Malformed 2 CallerRange }
+{}
+
+/// Words that stand for a state, and words that don't.
+#[tactic(auto, unfolding(crate::proofs::Opened::opened))]
+pub fn standing_words()
+    ensures valid_slot { state_of_words alone (2 ∷ 5 ∷ replicate 7 0) ≡ Some ((5, 1) ∷ []) }
+    ensures other_bucket { state_of_words multiset_of_2 (2 ∷ 5 ∷ replicate 16 0) ≡ None }
+    ensures clean_chunk { state_of_words cache_of_1 (1 ∷ 7 ∷ 0 ∷ 7 ∷ 0 ∷ 0 ∷ []) ≡ Some ((0, 7) ∷ []) }
+    ensures clean_but_other { state_of_words cache_of_1 (1 ∷ 7 ∷ 0 ∷ 8 ∷ 0 ∷ 0 ∷ []) ≡ None }
+    ensures empty_tree { state_of_words tree_of_4 (replicate 56 0) ≡ Some [] }
+    ensures tree { state_of_words tree_of_4 two_leaves
+        ≡ Some ((1, 4294967297) ∷ (2, 4294967298) ∷ (3, 4294967299) ∷ (4, 4294967300) ∷ (5, 4294967301) ∷ []) }
+{}
+
+/// A legal history and its log, and a history in which a lock is taken twice.
+#[tactic(auto, unfolding(crate::proofs::Opened::opened))]
+pub fn histories()
+    ensures legal { is_legal (cells_of alone) lookup_events ≡ true }
+    ensures log { log_of lookup_events ≡ lookup 0 5 ∷ return 0 0 ∷ [] }
+    ensures taken_twice { is_legal (cells_of two) (event 0 0 (Took 8) ∷ event 1 1 (Took 8) ∷ []) ≡ false }
+{}
