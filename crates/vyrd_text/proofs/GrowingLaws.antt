@@ -1,0 +1,45 @@
+-- What longer bytes say to a reader.
+use Rattle.std.proofs.Common.{◌≡◌, ℕ, ◌≤◌, true, false, List, [], ◌++◌, Option, Some, None, refl, ap, sym, ◌∙◌}
+use Rattle.std.proofs.lemmas.List.{append-nil}
+use Rattle.vyrd_base.specs.declared.log.Entry.{Entry}
+use Rattle.vyrd_base.specs.declared.header.Header.{Header}
+use Rattle.vyrd_base.specs.Reading.{Reading, TextFault, reading}
+use Rattle.vyrd_base.proofs.ReadingGrows.{TextGrown, reading_grows}
+use Rattle.vyrd_text.specs.Readers.{ReaderState, HasRead, so_far, whole}
+use Rattle.vyrd_text.proofs.ReadLaws.{faulty_fed, fed_read}
+
+module _ (r : ReaderState) (bytes more : List ℕ) (low : 1 ≤ r.max_lines) where
+  abbrev old : Reading
+  old = reading (so_far r) bytes
+
+  abbrev new : Reading
+  new = reading (so_far r) (bytes ++ more)
+
+  grown : TextGrown old new
+  grown = reading_grows r.max_lines false bytes more low
+
+  pub header_lasts : (h : Header) → old.header ≡ Some h → new.header ≡ Some h
+  header_lasts h e = grown.header h e
+
+  pub fault_lasts : (f : TextFault) → old.fault ≡ Some f → new ≡ old
+  fault_lasts f e = grown.grown.fault f e
+
+  pub fault_lasts_whole : (f : TextFault) → old.fault ≡ Some f → reading (whole r) (bytes ++ more) ≡ old
+  fault_lasts_whole f e = (reading_grows r.max_lines true bytes more low).grown.fault f e
+
+  pub entries_last : (found : List Entry) × (new.entries ≡ old.entries ++ found)
+  entries_last = by_fault old.fault refl
+    where
+      by_fault : (o : Option TextFault) → old.fault ≡ o → (found : List Entry) × (new.entries ≡ old.entries ++ found)
+      by_fault None e = grown.grown.entries e
+      by_fault (Some f) e = ([], ap (λ read. read.entries) (grown.grown.fault f e) ∙ sym (append-nil old.entries))
+
+  pub end_lasts : old.ended ≡ true → new.ended ≡ true
+  end_lasts is = by_fault old.fault refl
+    where
+      by_fault : (o : Option TextFault) → old.fault ≡ o → new.ended ≡ true
+      by_fault None e = (grown.grown.ended e is).1
+      by_fault (Some f) e = ap (λ read. read.ended) (grown.grown.fault f e) ∙ is
+
+  pub still_read : (f : TextFault) → r.fault ≡ Some f → HasRead r bytes → HasRead r (bytes ++ more)
+  still_read f e has = fed_read r r bytes more [] [] has (faulty_fed r f more [] low e)

@@ -1,0 +1,160 @@
+-- The first line has one reading.
+use Rattle.std.proofs.Common.{◌≡◌, ℕ, ◌<◌, ◌^◌, Bool, true, false, cond, ◌&&◌, List, [], ◌∷◌, ◌++◌, Option, Some, None, Err, refl, ap, sym, ◌∙◌, arith}
+use Rattle.std.specs.Prelude.{◌==◌, nat_lt, nat_le, codes, decimal, ok_or}
+use Rattle.std.specs.List.{slice_split, list_all}
+use Rattle.std.specs.Str.{bytes_eq}
+use Rattle.std.proofs.lemmas.List.{append_cancel_left}
+use Rattle.std.proofs.lemmas.Bool.Decides.{nat_tests}
+use Rattle.std.proofs.lemmas.Slice.Eq.{bytes_eq-Decides}
+use Rattle.std.proofs.Math.Bool.{Bool-set}
+use Rattle.vyrd_base.specs.declared.header.Header.{Header}
+use Rattle.vyrd_base.specs.declared.subject.Subject.{Subject}
+use Rattle.vyrd_base.specs.declared.subject.Subject.TheVariants.{Multiset, Cache, Tree}
+use Rattle.vyrd_base.specs.declared.verdict.Rule.TheVariants.{BadHeader, UnknownVersion}
+use Rattle.vyrd_base.specs.Limits.{is_sized, is_within}
+use Rattle.vyrd_base.specs.Spelling.{header_line, subject_name}
+use Rattle.vyrd_base.specs.Lines.{fields_of, number_of, subject_called, header_if, header_of, header_spelled, header_from, header_in}
+use Rattle.vyrd_base.proofs.SplitLaws.{lacks, both_true, first_true, second_true, split_at, split-join, number_of_decimal, bytes_same}
+use Rattle.vyrd_base.proofs.LineLaws.{is_plain_field, plain_number, plain_spaces}
+use Rattle.vyrd_text.specs.Spelled.{AreLimitsRead, AreNumbersRead}
+use Rattle.vyrd_text.proofs.PartLaws.{is_below, below, one_before_space}
+
+small_number : (n most : ℕ) → most < 2 ^ 32 → nat_le n most ≡ true → n < 2 ^ 32
+small_number n most m e = grind (arith, nat_tests)
+
+pub small_size : (size callers : ℕ) → is_sized size callers ≡ true → size < 2 ^ 32
+small_size size callers e = small_number size 1024 (omega arith) (second_true (nat_le 1 size) _ (first_true _ _ (first_true _ _ e)))
+
+pub small_callers : (size callers : ℕ) → is_sized size callers ≡ true → callers < 2 ^ 32
+small_callers size callers e = small_number callers 64 (omega arith) (second_true (nat_le 1 size && nat_le size 1024 && nat_le 1 callers) _ e)
+
+-- a size that no number of callers follows
+pub no_callers : (text : List ℕ) (m : ℕ) (r : List ℕ) → m < 2 ^ 64 → text ≡ decimal m ++ 32 ∷ r → ((n : ℕ) → n < 2 ^ 32 → r ≡ decimal n → ⊥) → AreLimitsRead text None
+no_callers text m r low e none size callers sized f =
+    let is = one_before_space m size r (decimal callers) low (let h = small_size size callers sized in omega (arith, h)) (sym e ∙ f) in
+    none callers (small_callers size callers sized) is.1
+
+-- numbers that aren't within the limits
+pub not_sized : (text : List ℕ) (m n : ℕ) (r : List ℕ) → m < 2 ^ 64 → n < 2 ^ 64 → text ≡ decimal m ++ 32 ∷ r → r ≡ decimal n → is_sized m n ≡ false → AreLimitsRead text None
+not_sized text m n r low small e f bad size callers sized g =
+    let s = small_size size callers sized in
+    let c = small_callers size callers sized in
+    let is = one_before_space m size r (decimal callers) low (omega (arith, s)) (sym e ∙ g) in
+    let same : n ≡ callers = number_same n callers small (omega (arith, c)) (sym f ∙ is.1) in
+    let both : true ≡ false = sym sized ∙ (λ i. is_sized (sym is.0 i) (sym same i)) ∙ bad in
+    cc
+  where
+    number_same : (a b : ℕ) → a < 2 ^ 64 → b < 2 ^ 64 → decimal a ≡ decimal b → a ≡ b
+    number_same a b l h e = sym (number_of_decimal a l) ∙ ap number_of e ∙ number_of_decimal b h
+
+plain_name : (subject : Subject) → lacks 32 (subject_name subject) ≡ true
+plain_name Multiset = refl
+plain_name Cache = refl
+plain_name Tree = refl
+
+-- the name before a space is one
+one_name : (a b : Subject) (r s : List ℕ) → subject_name a ++ 32 ∷ r ≡ subject_name b ++ 32 ∷ s → r ≡ s
+one_name a b r s e =
+    let parts : subject_name a ∷ slice_split (λ x. x == 32) r ≡ subject_name b ∷ slice_split (λ x. x == 32) s =
+    sym (split_at 32 (subject_name a) r (plain_name a)) ∙ ap (slice_split (λ x. x == 32)) e ∙ split_at 32 (subject_name b) s (plain_name b) in
+    let same : subject_name a ≡ subject_name b = cc in
+    let tails : 32 ∷ r ≡ 32 ∷ s = append_cancel_left (subject_name a) (32 ∷ r) (32 ∷ s) (e ∙ ap (λ t. t ++ 32 ∷ s) (sym same)) in
+    cc
+
+-- a version that no subject follows
+pub no_subject : (line r : List ℕ) (m : ℕ) (s : List ℕ) → m < 2 ^ 64 → line ≡ codes "vyrd " ++ r → r ≡ decimal m ++ 32 ∷ s
+    → ((subject : Subject) (rest : List ℕ) → s ≡ subject_name subject ++ 32 ∷ rest → ⊥) → AreNumbersRead line None
+no_subject line r m s low e f none version subject size callers small sized g =
+    let after = append_cancel_left (codes "vyrd ") r (decimal version ++ 32 ∷ (subject_name subject ++ 32 ∷ (decimal size ++ 32 ∷ decimal callers))) (sym e ∙ g) in
+    let is = one_before_space m version s (subject_name subject ++ 32 ∷ (decimal size ++ 32 ∷ decimal callers)) low (omega arith) (sym f ∙ after) in
+    none subject (decimal size ++ 32 ∷ decimal callers) is.1
+
+-- a subject that no limits follow
+pub no_limits : (line r : List ℕ) (m : ℕ) (s : List ℕ) (found : Subject) (t : List ℕ) → m < 2 ^ 64 → line ≡ codes "vyrd " ++ r → r ≡ decimal m ++ 32 ∷ s
+    → s ≡ subject_name found ++ 32 ∷ t → AreLimitsRead t None → AreNumbersRead line None
+no_limits line r m s found t low e f h none version subject size callers small sized g =
+    let after = append_cancel_left (codes "vyrd ") r (decimal version ++ 32 ∷ (subject_name subject ++ 32 ∷ (decimal size ++ 32 ∷ decimal callers))) (sym e ∙ g) in
+    let is = one_before_space m version s (subject_name subject ++ 32 ∷ (decimal size ++ 32 ∷ decimal callers)) low (omega arith) (sym f ∙ after) in
+    none size callers sized (one_name found subject t (decimal size ++ 32 ∷ decimal callers) (sym h ∙ is.1))
+
+subject_read : (subject : Subject) → subject_called (subject_name subject) ≡ Some subject
+subject_read Multiset = refl
+subject_read Cache = refl
+subject_read Tree = refl
+
+plain_subject : (subject : Subject) → is_plain_field (subject_name subject) ≡ true
+plain_subject Multiset = refl
+plain_subject Cache = refl
+plain_subject Tree = refl
+
+-- a line with a version, a subject and limits is read as that header, where the version is known
+pub header_known : (line : List ℕ) (version : ℕ) (subject : Subject) (size callers : ℕ) → AreNumbersRead line (Some (version, subject, size, callers))
+    → header_in line ≡ ok_or (header_of version subject size callers) UnknownVersion
+unfolding header_in
+header_known line version subject size callers is =
+    ap (λ l. header_from l (fields_of l)) is.2
+    ∙ ap (header_from text) fields
+    ∙ (λ i. header_spelled text (number_of_decimal version v i) (subject_read subject i) (number_of_decimal size s i) (number_of_decimal callers c i))
+    ∙ ap (λ b. cond b (ok_or (header_of version subject size callers) UnknownVersion) (Err BadHeader)) (both_true _ _ (both_true _ _ (is_below version (2 ^ 32) is.0) is.1) (bytes_same text))
+  where
+    text : List ℕ
+    text = header_line version subject size callers
+
+    v : version < 2 ^ 64
+    v = let h = is.0 in omega (arith, h)
+
+    s : size < 2 ^ 64
+    s = let h = small_size size callers is.1 in omega (arith, h)
+
+    c : callers < 2 ^ 64
+    c = let h = small_callers size callers is.1 in omega (arith, h)
+
+    parts : List (List ℕ)
+    parts = decimal version ∷ subject_name subject ∷ decimal size ∷ decimal callers ∷ []
+
+    plain : list_all is_plain_field (codes "vyrd" ∷ parts) ≡ true
+    plain = both_true _ _ (plain_number version v) (both_true _ _ (plain_subject subject) (both_true _ _ (plain_number size s) (both_true _ _ (plain_number callers c) refl)))
+
+    fields : fields_of text ≡ codes "vyrd" ∷ parts
+    fields = split-join 32 (codes "vyrd") parts (plain_spaces (codes "vyrd" ∷ parts) plain)
+
+-- a line without them is none
+spelled_none : (line : List ℕ) (version : ℕ) (subject : Option Subject) (size callers : ℕ) → AreNumbersRead line None → header_spelled line version subject size callers ≡ Err BadHeader
+spelled_none line version None size callers none = refl
+spelled_none line version (Some subject) size callers none = by_test (nat_lt version (2 ^ 32) && is_sized size callers && bytes_eq (header_line version subject size callers) line) refl
+  where
+    by_test : (b : Bool) → (nat_lt version (2 ^ 32) && is_sized size callers && bytes_eq (header_line version subject size callers) line) ≡ b
+        → cond b (ok_or (header_of version subject size callers) UnknownVersion) (Err BadHeader) ≡ Err BadHeader
+    by_test false e = refl
+    by_test true e =
+        let same = (bytes_eq-Decides (header_line version subject size callers) line).0 (second_true (nat_lt version (2 ^ 32) && is_sized size callers) _ e) in
+        absurd (none version subject size callers (below version (2 ^ 32) (first_true _ _ (first_true _ _ e))) (second_true (nat_lt version (2 ^ 32)) _ (first_true _ _ e)) (sym same))
+
+from_none : (line : List ℕ) (fields : List (List ℕ)) → AreNumbersRead line None → header_from line fields ≡ Err BadHeader
+from_none line [] none = refl
+from_none line (a ∷ []) none = refl
+from_none line (a ∷ b ∷ []) none = refl
+from_none line (a ∷ b ∷ c ∷ []) none = refl
+from_none line (a ∷ b ∷ c ∷ d ∷ []) none = refl
+from_none line (a ∷ b ∷ c ∷ d ∷ e ∷ more) none = spelled_none line (number_of b) (subject_called c) (number_of d) (number_of e) none
+
+pub header_unknown : (line : List ℕ) → AreNumbersRead line None → Err BadHeader ≡ header_in line
+unfolding header_in
+header_unknown line none = sym (from_none line (fields_of line) none)
+
+-- the header that was made is the one with the numbers
+made_if : (h : Header) (b : Bool) (e : is_within h.version h.size h.callers ≡ b) → b ≡ true → Some h ≡ header_if h.version h.subject h.size h.callers b e
+made_if h true e t = ap (λ w. Some (record { version = h.version; subject = h.subject; size = h.size; callers = h.callers; within = w })) (Bool-set _ _ h.within e)
+made_if h false e t = cc
+
+pub made : (version : ℕ) (subject : Subject) (size callers : ℕ) (h : Header) → h.version ≡ version → h.subject ≡ subject → h.size ≡ size → h.callers ≡ callers
+    → header_of version subject size callers ≡ Some h
+made version subject size callers h v s n c =
+    (λ i. header_of (sym v i) (sym s i) (sym n i) (sym c i)) ∙ sym (made_if h (is_within h.version h.size h.callers) refl h.within)
+
+not_made_if : (version : ℕ) (subject : Subject) (size callers : ℕ) (b : Bool) (e : is_within version size callers ≡ b) → ¬ (is_within version size callers ≡ true) → header_if version subject size callers b e ≡ None
+not_made_if version subject size callers true e no_header = absurd (no_header e)
+not_made_if version subject size callers false e no_header = refl
+
+pub not_made : (version : ℕ) (subject : Subject) (size callers : ℕ) → ¬ (is_within version size callers ≡ true) → header_of version subject size callers ≡ None
+not_made version subject size callers no_header = not_made_if version subject size callers (is_within version size callers) refl no_header

@@ -1,0 +1,11 @@
+pub mod NumberLaws
+pub mod PartLaws
+pub mod HeaderLaws
+pub mod ReaderLaws
+pub mod LineSteps
+pub mod RestSteps
+pub mod PieceLaws
+pub mod ReadLaws
+pub mod ViewLaws
+pub mod WrittenLaws
+pub mod GrowingLaws

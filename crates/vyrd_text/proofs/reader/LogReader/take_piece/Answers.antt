@@ -1,0 +1,27 @@
+use Rattle.std.proofs.Common.{[], ◌∷◌, ◌++◌, arith, ap, sym, ◌∙◌, subst, append_assoc}
+use Rattle.std.specs.Prelude.{◌==◌, count_by}
+use Rattle.std.specs.Option.{option_to_list}
+use Rattle.std.proofs.lemmas.List.{append-nil}
+use Rattle.vyrd_text.specs.Steps.{IsFed}
+use Rattle.vyrd_text.proofs.PieceLaws.{count_line}
+use Rattle.vyrd_text.proofs.ReadLaws.{fed_then}
+use Rattle.vyrd_text.proofs.reader.LogReader.take_piece.Goals as goal
+
+pub loop-line-preserved : goal.loop-line-preserved
+loop-line-preserved c =
+    let read = c.loop-line.invariant.0 in
+    let line = c.in-Some.line.now in
+    let after = c.in-Some.after.now in
+    let parts = c.in-Some.ensures.1 in (
+      read ++ (line ++ 10 ∷ []),
+      c.loop-line.invariant.1 ∙ ap (λ t. read ++ t) (parts ∙ sym (append_assoc line (10 ∷ []) after)) ∙ sym (append_assoc read (line ++ 10 ∷ []) after),
+      fed_then c.args.self.now c.loop-line.self c.take_line-entry.new.self read (line ++ 10 ∷ []) c.args.out.now.items c.loop-line.out.items c.put.new.out.items (option_to_list c.take_line-entry.result)
+          c.loop-line.invariant.2 c.take_line-entry.ensures c.put.ensures.items,
+      omega (arith, count_line line after, c.loop-line.invariant.3, c.put.ensures.len, c.put.ensures.capacity, ap (λ t. count_by (λ b. b == 10) t) parts),
+    )
+
+pub returns : goal.returns
+returns c =
+    subst (λ t. IsFed c.args.self.now t c.args.out.now.items c.loop-line.out.items c.take_unfinished.new.self) (sym c.loop-line.invariant.1)
+    (fed_then c.args.self.now c.loop-line.self c.take_unfinished.new.self c.loop-line.invariant.0 c.loop-line.rest.now c.args.out.now.items c.loop-line.out.items c.loop-line.out.items []
+    c.loop-line.invariant.2 c.take_unfinished.ensures (sym (append-nil c.loop-line.out.items)))

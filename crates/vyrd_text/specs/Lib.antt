@@ -1,0 +1,7 @@
+pub mod Fields
+pub mod Spelled
+pub mod Readers
+pub mod Steps
+pub mod ReaderView
+pub mod Answered
+pub mod Written

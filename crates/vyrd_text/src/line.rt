@@ -1,0 +1,210 @@
+//! One line: the entry that it spells.
+
+ghost use Rattle.std.specs.Prelude.{◌≡◌, ◌≤◌, ◌↔◌, ℕ, List, true, ◌∷◌, ◌++◌, codes, MatchOption, IsTrue};
+ghost use Rattle.vyrd_base.specs.declared.subject.Method.{Method};
+ghost use Rattle.vyrd_base.specs.declared.subject.Subject.{Subject};
+ghost use Rattle.vyrd_base.specs.Lines.{entry_in};
+ghost use Rattle.vyrd_base.specs.Spelling.{method_name};
+ghost use Rattle.vyrd_base.specs.Subjects.{subject_of, same_subject};
+ghost use Rattle.vyrd_text.specs.Spelled.{AreArgsRead, IsKindRead};
+
+use crate::number::{read_u32, read_u32_and_space, read_u64};
+use vyrd_base::{Args, Entry, Kind, Method, Subject};
+
+/// The entry of the subject that the bytes spell, without the line feed. None exactly where they spell none.
+///
+/// It looks at each byte a few times at most, and takes no memory.
+pub fn read_line(subject: Subject, line: &[u8]) -> Option<Entry>
+    ensures { result ≡ entry_in subject line.now }
+{
+    let (caller, rest) = read_u32_and_space(line)?;
+    let kind = read_kind(subject, rest)?;
+    Some(Entry { caller, kind })
+}
+
+/// What the text after the caller and a space says.
+fn read_kind(subject: Subject, text: &[u8]) -> Option<Kind>
+    ensures { IsKindRead subject text.now result }
+{
+    if let Some(rest) = after(text, b"write ") {
+        return read_write(rest);
+    }
+    if let Some(rest) = after(text, b"call ") {
+        return read_call(subject, rest);
+    }
+    if let Some(rest) = after(text, b"return ") {
+        return read_return(rest);
+    }
+    if is_word(text, b"commit") {
+        return Some(Kind::Commit);
+    }
+    if is_word(text, b"open") {
+        return Some(Kind::BlockOpen);
+    }
+    if is_word(text, b"close commit") {
+        return Some(Kind::BlockCommit);
+    }
+    if is_word(text, b"close") {
+        return Some(Kind::BlockClose);
+    }
+    None
+}
+
+/// The word and the value of a write.
+fn read_write(text: &[u8]) -> Option<Kind>
+    ensures { (subject : Subject) → IsKindRead subject (codes "write " ++ text.now) result }
+{
+    let (word, rest) = read_u32_and_space(text)?;
+    let value = read_u64(rest)?;
+    Some(Kind::Write(word, value))
+}
+
+/// The reply of a return.
+fn read_return(text: &[u8]) -> Option<Kind>
+    ensures { (subject : Subject) → IsKindRead subject (codes "return " ++ text.now) result }
+{
+    let reply = read_u64(text)?;
+    Some(Kind::Return(reply))
+}
+
+/// The method of the subject and its arguments.
+fn read_call(subject: Subject, text: &[u8]) -> Option<Kind>
+    ensures { IsKindRead subject (codes "call " ++ text.now) result }
+{
+    let (method, rest) = read_method(subject, text)?;
+    let args = read_args(method.arity(), rest)?;
+    Some(Kind::Call(method, args))
+}
+
+/// The method of the subject whose name stands before a space, and what stands after that space.
+fn read_method(subject: Subject, text: &[u8]) -> Option<(Method, &[u8])>
+    ensures { MatchOption result
+        ((method : Method) (rest : List ℕ) → same_subject (subject_of method) subject ≡ true → text.now ≡ method_name method ++ 32 ∷ rest → ⊥)
+        (λ r. (same_subject (subject_of r.0) subject ≡ true) × (text.now ≡ method_name r.0 ++ 32 ∷ r.1.now)) }
+{
+    match subject {
+        Subject::Multiset => read_multiset_method(text),
+        Subject::Cache => read_cache_method(text),
+        Subject::Tree => read_tree_method(text),
+    }
+}
+
+/// The method of a multiset before a space, and what stands after that space.
+fn read_multiset_method(text: &[u8]) -> Option<(Method, &[u8])>
+    ensures { MatchOption result
+        ((method : Method) (rest : List ℕ) → same_subject (subject_of method) Subject.Multiset ≡ true → text.now ≡ method_name method ++ 32 ∷ rest → ⊥)
+        (λ r. (same_subject (subject_of r.0) Subject.Multiset ≡ true) × (text.now ≡ method_name r.0 ++ 32 ∷ r.1.now)) }
+{
+    if let Some(rest) = after(text, b"insert ") {
+        return Some((Method::MsInsert, rest));
+    }
+    if let Some(rest) = after(text, b"delete ") {
+        return Some((Method::MsDelete, rest));
+    }
+    if let Some(rest) = after(text, b"lookup ") {
+        return Some((Method::MsLookup, rest));
+    }
+    if let Some(rest) = after(text, b"insert_pair ") {
+        return Some((Method::MsInsertPair, rest));
+    }
+    None
+}
+
+/// The method of a cache before a space, and what stands after that space.
+fn read_cache_method(text: &[u8]) -> Option<(Method, &[u8])>
+    ensures { MatchOption result
+        ((method : Method) (rest : List ℕ) → same_subject (subject_of method) Subject.Cache ≡ true → text.now ≡ method_name method ++ 32 ∷ rest → ⊥)
+        (λ r. (same_subject (subject_of r.0) Subject.Cache ≡ true) × (text.now ≡ method_name r.0 ++ 32 ∷ r.1.now)) }
+{
+    if let Some(rest) = after(text, b"read ") {
+        return Some((Method::CaRead, rest));
+    }
+    if let Some(rest) = after(text, b"write ") {
+        return Some((Method::CaWrite, rest));
+    }
+    if let Some(rest) = after(text, b"flush ") {
+        return Some((Method::CaFlush, rest));
+    }
+    if let Some(rest) = after(text, b"evict ") {
+        return Some((Method::CaEvict, rest));
+    }
+    None
+}
+
+/// The method of a tree before a space, and what stands after that space.
+fn read_tree_method(text: &[u8]) -> Option<(Method, &[u8])>
+    ensures { MatchOption result
+        ((method : Method) (rest : List ℕ) → same_subject (subject_of method) Subject.Tree ≡ true → text.now ≡ method_name method ++ 32 ∷ rest → ⊥)
+        (λ r. (same_subject (subject_of r.0) Subject.Tree ≡ true) × (text.now ≡ method_name r.0 ++ 32 ∷ r.1.now)) }
+{
+    if let Some(rest) = after(text, b"insert ") {
+        return Some((Method::TrInsert, rest));
+    }
+    if let Some(rest) = after(text, b"delete ") {
+        return Some((Method::TrDelete, rest));
+    }
+    if let Some(rest) = after(text, b"lookup ") {
+        return Some((Method::TrLookup, rest));
+    }
+    None
+}
+
+/// The arguments of a method that has `arity` of them.
+fn read_args(arity: u32, text: &[u8]) -> Option<Args>
+    requires { (1 ≤ arity) × (arity ≤ 3) }
+    ensures { AreArgsRead arity text.now result }
+{
+    match arity {
+        1 => read_one(text),
+        2 => read_two(text),
+        _ => read_three(text),
+    }
+}
+
+/// One argument.
+fn read_one(text: &[u8]) -> Option<Args>
+    ensures { AreArgsRead 1 text.now result }
+{
+    let a = read_u32(text)?;
+    Some(Args { a, b: 0, c: 0 })
+}
+
+/// Two arguments with a space between them.
+fn read_two(text: &[u8]) -> Option<Args>
+    ensures { AreArgsRead 2 text.now result }
+{
+    let (a, rest) = read_u32_and_space(text)?;
+    let b = read_u32(rest)?;
+    Some(Args { a, b, c: 0 })
+}
+
+/// Three arguments with a space between each two.
+fn read_three(text: &[u8]) -> Option<Args>
+    ensures { AreArgsRead 3 text.now result }
+{
+    let (a, rest) = read_u32_and_space(text)?;
+    let (b, rest) = read_u32_and_space(rest)?;
+    let c = read_u32(rest)?;
+    Some(Args { a, b, c })
+}
+
+/// What stands after the word, where the text begins with it.
+pub(crate) fn after<'a>(text: &'a [u8], word: &[u8]) -> Option<&'a [u8]>
+    ensures { MatchOption result ((rest : List ℕ) → text.now ≡ word.now ++ rest → ⊥) (λ rest. text.now ≡ word.now ++ rest.now) }
+{
+    if text.len() < word.len() {
+        return None;
+    }
+    let (front, rest) = text.split_at(word.len());
+    if front != word {
+        return None;
+    }
+    Some(rest)
+}
+
+/// Whether the text is the word.
+pub(crate) fn is_word(text: &[u8], word: &[u8]) -> bool
+    ensures { IsTrue result ↔ text.now ≡ word.now }
+{
+    text == word
+}

@@ -1,0 +1,182 @@
+//! The text of a log, written.
+
+ghost use Rattle.std.specs.Prelude.{◌≡◌, ◌+◌, ◌≤◌, ◌++◌, true, length, take, flat_map, OnOk, OnErr};
+ghost use Rattle.std.specs.List.{AllByRecursion};
+ghost use Rattle.vyrd_base.specs.declared.log.Kind.TheVariants.{Call};
+ghost use Rattle.vyrd_base.specs.Spelling.{log_text, entry_line, ended_line, header_line, method_name, subject_name};
+ghost use Rattle.vyrd_text.specs.Spelled.{args_text, kind_text};
+ghost use Rattle.vyrd_text.specs.Written.{is_padded, is_writable};
+
+use crate::line_buffer::LineBuffer;
+use std::alloc::AllocError;
+use vyrd_base::{Args, Entry, Header, Kind, Method, Subject};
+
+/// Appends the one spelling of the entry, without a line feed. A refusal leaves `out` unchanged.
+///
+/// Arguments that the method doesn't have are 0.
+pub fn write_line(entry: &Entry, out: &mut Vec<u8>) -> Result<(), AllocError>
+    requires { is_padded entry.now.kind ≡ true }
+    ensures ok { OnOk result (out.new.items ≡ out.old.items ++ entry_line entry.now) }
+    ensures err { OnErr result (out.new.items ≡ out.old.items) }
+{
+    let mut line = LineBuffer::new();
+    push_entry(*entry, &mut line);
+    out.extend_from_slice(line.as_slice())
+}
+
+/// Appends the text of the log. A refusal leaves `out` unchanged.
+///
+/// Each method is of the header's subject, and arguments that it doesn't have are 0. The time and the memory grow with the
+/// number of entries.
+pub fn write_log(header: Header, entries: &[Entry], out: &mut Vec<u8>) -> Result<(), AllocError>
+    requires { AllByRecursion (λ e. is_writable header.subject e ≡ true) entries.now }
+    ensures ok { OnOk result (out.new.items ≡ out.old.items ++ log_text header entries.now) }
+    ensures err { OnErr result (out.new.items ≡ out.old.items) }
+{
+    let start = out.len();
+    let written = append_log(header, entries, out);
+    if written.is_err() {
+        out.truncate(start);
+    }
+    written
+}
+
+/// Appends the text of the log, or a part of it where memory is wanting.
+fn append_log(header: Header, entries: &[Entry], out: &mut Vec<u8>) -> Result<(), AllocError>
+    ensures ok { OnOk result (out.new.items ≡ out.old.items ++ log_text header entries.now) }
+    ensures err { OnErr result (take (length out.old.items) out.new.items ≡ out.old.items) }
+{
+    append_header(header, out)?;
+    append_entries(entries, out)?;
+    out.extend_from_slice(b"end\n")
+}
+
+/// Appends the header's line. A refusal leaves `out` unchanged.
+fn append_header(header: Header, out: &mut Vec<u8>) -> Result<(), AllocError>
+    ensures ok { OnOk result (out.new.items ≡ out.old.items ++ ended_line (header_line header.version header.subject header.size header.callers)) }
+    ensures err { OnErr result (out.new.items ≡ out.old.items) }
+{
+    let mut line = LineBuffer::new();
+    line.push(b"vyrd ");
+    line.push_number(u64::from(header.version()));
+    line.push(b" ");
+    line.push(name_of_subject(header.subject()));
+    line.push(b" ");
+    line.push_number(u64::from(header.size()));
+    line.push(b" ");
+    line.push_number(u64::from(header.callers()));
+    line.push(b"\n");
+    out.extend_from_slice(line.as_slice())
+}
+
+/// Appends the entries' lines, or some of them where memory is wanting.
+fn append_entries(entries: &[Entry], out: &mut Vec<u8>) -> Result<(), AllocError>
+    ensures ok { OnOk result (out.new.items ≡ out.old.items ++ flat_map (λ e. ended_line (entry_line e)) entries.now) }
+    ensures err { OnErr result (take (length out.old.items) out.new.items ≡ out.old.items) }
+{
+    let mut line = LineBuffer::new();
+    for entry in entries {
+        line.clear();
+        push_entry(*entry, &mut line);
+        line.push(b"\n");
+        out.extend_from_slice(line.as_slice())?;
+    }
+    Ok(())
+}
+
+/// Puts the entry's spelling at the end of the line.
+fn push_entry(entry: Entry, line: &mut LineBuffer)
+    requires { length line.old ≡ 0 }
+    ensures text { line.new ≡ line.old ++ entry_line entry }
+    ensures len { length line.new ≤ 127 }
+{
+    line.push_number(u64::from(entry.caller));
+    line.push(b" ");
+    push_kind(entry.kind, line);
+}
+
+/// Puts what the entry says of its caller at the end of the line.
+fn push_kind(kind: Kind, line: &mut LineBuffer)
+    requires { length line.old ≤ 21 }
+    ensures text { line.new ≡ line.old ++ kind_text kind }
+    ensures len { length line.new ≤ length line.old + 100 }
+{
+    match kind {
+        Kind::Call(method, args) => push_call(method, args, line),
+        Kind::Return(reply) => {
+            line.push(b"return ");
+            line.push_number(reply);
+        }
+        Kind::Write(word, value) => {
+            line.push(b"write ");
+            line.push_number(u64::from(word));
+            line.push(b" ");
+            line.push_number(value);
+        }
+        Kind::Commit => line.push(b"commit"),
+        Kind::BlockOpen => line.push(b"open"),
+        Kind::BlockClose => line.push(b"close"),
+        Kind::BlockCommit => line.push(b"close commit"),
+    }
+}
+
+/// Puts a call at the end of the line.
+fn push_call(method: Method, args: Args, line: &mut LineBuffer)
+    requires { length line.old ≤ 21 }
+    ensures text { line.new ≡ line.old ++ kind_text (Call method args) }
+    ensures len { length line.new ≤ length line.old + 100 }
+{
+    line.push(b"call ");
+    line.push(name_of_method(method));
+    line.push(b" ");
+    push_args(method.arity(), args, line);
+}
+
+/// Puts the first `arity` arguments at the end of the line.
+fn push_args(arity: u32, args: Args, line: &mut LineBuffer)
+    requires count { (1 ≤ arity) × (arity ≤ 3) }
+    requires room { length line.old ≤ 42 }
+    ensures text { line.new ≡ line.old ++ args_text arity args }
+    ensures len { length line.new ≤ length line.old + 62 }
+{
+    line.push_number(u64::from(args.a));
+    if arity == 1 {
+        return;
+    }
+    line.push(b" ");
+    line.push_number(u64::from(args.b));
+    if arity == 2 {
+        return;
+    }
+    line.push(b" ");
+    line.push_number(u64::from(args.c));
+}
+
+/// The subject's name.
+fn name_of_subject(subject: Subject) -> &'static [u8]
+    ensures text { result.now ≡ subject_name subject }
+    ensures len { length result.now ≤ 8 }
+{
+    match subject {
+        Subject::Multiset => b"multiset",
+        Subject::Cache => b"cache",
+        Subject::Tree => b"tree",
+    }
+}
+
+/// The method's name.
+fn name_of_method(method: Method) -> &'static [u8]
+    ensures text { result.now ≡ method_name method }
+    ensures len { length result.now ≤ 11 }
+{
+    match method {
+        Method::MsInsert | Method::TrInsert => b"insert",
+        Method::MsInsertPair => b"insert_pair",
+        Method::MsDelete | Method::TrDelete => b"delete",
+        Method::MsLookup | Method::TrLookup => b"lookup",
+        Method::CaWrite => b"write",
+        Method::CaFlush => b"flush",
+        Method::CaEvict => b"evict",
+        Method::CaRead => b"read",
+    }
+}
