@@ -1,0 +1,328 @@
+-- How phases and holders go on with one more entry.
+use Rattle.std.proofs.Common.{◌≡◌, ◌≢◌, ℕ, suc, zero, ◌+◌, ◌-◌, ◌<◌, ◌≤◌, Bool, true, false, cond, not, ◌&&◌, ◌||◌, List, [], ◌∷◌, length, map, Option, Some, None, refl, ap, ◌∙◌, sym, subst, arith, get_or, set, slice_get, get_or-set_other, get_or-set_same}
+use Rattle.std.specs.Prelude.{◌==◌, unwrap_or, option_map, is_some, is_none, IfNone, replicate}
+use Rattle.std.specs.Option.{option_or, option_flatten}
+use Rattle.std.specs.Bool.{then_some}
+use Rattle.std.proofs.lemmas.Option.{get_or_from_slice_get}
+use Rattle.vyrd_base.specs.declared.verdict.Rule.TheVariants.{BlockRaced}
+use Rattle.std.specs.List.{list_any}
+use Rattle.std.proofs.lemmas.Bool.Decides.{nat_tests}
+use Rattle.vyrd_base.specs.declared.header.Header.{Header}
+use Rattle.vyrd_base.specs.declared.log.Kind.{Kind}
+use Rattle.vyrd_base.specs.declared.log.Kind.TheVariants.{Call, Return, Write, Commit, BlockOpen, BlockClose, BlockCommit}
+use Rattle.vyrd_base.specs.declared.log.Entry.{Entry}
+use Rattle.vyrd_base.specs.declared.verdict.Rule.{Rule}
+use Rattle.vyrd_base.specs.Places.{first_answer, numbers_from}
+use Rattle.vyrd_base.specs.Layout.{plain_words}
+use Rattle.vyrd_base.specs.Callers.{Called, by_caller, call_or_return, commit_or_call, open_or_close, write_or_open, open_call, has_block, holds_word}
+use Rattle.vyrd_base.specs.Shape.{broken_rule, is_held_by_other}
+use Rattle.vyrd_base.specs.Verdicts.{is_call_open}
+use Rattle.vyrd_base.proofs.BlockLaws.{entry, by_same, own_answer, other_answer, no_answer}
+use Rattle.vyrd_shape.specs.declared.phase.Phase.{Phase}
+use Rattle.vyrd_shape.specs.Phases.{phase_of}
+use Rattle.vyrd_shape.specs.Holding.{Holding, released, is_held_by_another, holders_after}
+use Rattle.vyrd_shape.specs.Following.{Kept, HasFollowed}
+use Rattle.vyrd_shape.proofs.ChainLaws.{at_most_set, released_at, released_own, released_other, released_le, differs, zeros}
+use Rattle.vyrd_shape.proofs.RuleLaws.{write_kept, open_kept}
+
+-- another caller's entry leaves a phase alone
+phase_of-other : (c d : ℕ) (kind : Kind) (earlier : List Entry) → (d == c) ≡ false → phase_of c (entry d kind ∷ earlier) ≡ phase_of c earlier
+phase_of-other c d kind earlier e =
+    let call = other_answer c d call_or_return kind earlier e in
+    let commit = other_answer c d commit_or_call kind earlier e in
+    let block = other_answer c d open_or_close kind earlier e in
+    λ i. record {
+      open_method = option_map (λ called. called.method) (option_flatten (call i));
+      committed = unwrap_or (commit i) false;
+      in_block = unwrap_or (block i) false;
+    }
+
+slice_get-set_same : {A : Type 0} (xs : List A) (i : ℕ) (x : A) → i < length xs → slice_get (set xs i x) i ≡ Some x
+slice_get-set_same [] i x h = absurd (omega arith)
+slice_get-set_same (y ∷ xs) zero x h = refl
+slice_get-set_same (y ∷ xs) (suc i) x h = slice_get-set_same xs i x (omega arith)
+
+slice_get-set_other : {A : Type 0} (xs : List A) (i j : ℕ) (x : A) → j ≢ i → slice_get (set xs i x) j ≡ slice_get xs j
+slice_get-set_other [] i j x h = refl
+slice_get-set_other (y ∷ xs) zero zero x h = absurd (h refl)
+slice_get-set_other (y ∷ xs) zero (suc j) x h = refl
+slice_get-set_other (y ∷ xs) (suc i) zero x h = refl
+slice_get-set_other (y ∷ xs) (suc i) (suc j) x h = slice_get-set_other xs i j x (λ e. h (ap suc e))
+
+flipped : (c d : ℕ) → (c == d) ≡ false → (d == c) ≡ false
+flipped c d e = grind (arith, nat_tests)
+
+-- a caller's phase goes on, and the others stay
+phases_next : (n : ℕ) (phases : List Phase) (earlier : List Entry) (c : ℕ) (kind : Kind) (next : Phase) → c < length phases
+    → next ≡ phase_of c (entry c kind ∷ earlier) → ((d : ℕ) → d < n → slice_get phases d ≡ Some (phase_of d earlier))
+    → (d : ℕ) → d < n → slice_get (set phases c next) d ≡ Some (phase_of d (entry c kind ∷ earlier))
+phases_next n phases earlier c kind next low is all = λ d low_d. by_same c d
+    (λ same. subst (λ x. slice_get (set phases c next) x ≡ Some (phase_of x (entry c kind ∷ earlier))) same (slice_get-set_same phases c next low ∙ ap Some is))
+    (λ other. slice_get-set_other phases c d next (differs c d (flipped c d other)) ∙ all d low_d ∙ ap Some (sym (phase_of-other d c kind earlier other)))
+
+-- what a caller holds after an entry that touches no block and not this word
+holds_quiet : (d c w : ℕ) (kind : Kind) (earlier : List Entry) → open_or_close kind ≡ None → write_or_open w kind ≡ None
+    → holds_word d w (entry c kind ∷ earlier) ≡ holds_word d w earlier
+holds_quiet d c w kind earlier edge word =
+    let block = no_answer d c open_or_close kind earlier edge in
+    let wrote = no_answer d c (write_or_open w) kind earlier word in
+    λ i. unwrap_or (block i) false && unwrap_or (wrote i) false
+
+-- after another caller's entry
+holds_other : (d c w : ℕ) (kind : Kind) (earlier : List Entry) → (c == d) ≡ false → holds_word d w (entry c kind ∷ earlier) ≡ holds_word d w earlier
+holds_other d c w kind earlier other =
+    let block = other_answer d c open_or_close kind earlier other in
+    let wrote = other_answer d c (write_or_open w) kind earlier other in
+    λ i. unwrap_or (block i) false && unwrap_or (wrote i) false
+
+-- and after its own
+holds_own : (c w : ℕ) (kind : Kind) (earlier : List Entry) → holds_word c w (entry c kind ∷ earlier)
+    ≡ (unwrap_or (option_or (open_or_close kind) (first_answer (by_caller c open_or_close) earlier)) false
+    && unwrap_or (option_or (write_or_open w kind) (first_answer (by_caller c (write_or_open w)) earlier)) false)
+holds_own c w kind earlier =
+    let block = own_answer c open_or_close kind earlier in
+    let wrote = own_answer c (write_or_open w) kind earlier in
+    λ i. unwrap_or (block i) false && unwrap_or (wrote i) false
+
+-- a word is held by whom its holder says
+abbrev pub Held : List ℕ → ℕ → ℕ → List Entry → Type 0
+Held by_word d w earlier = holds_word d w earlier ≡ (get_or by_word w 0 == d + 1)
+
+no_block_no_word : (c w : ℕ) (earlier : List Entry) → has_block c earlier ≡ false → holds_word c w earlier ≡ false
+no_block_no_word c w earlier e = ap (λ b. b && unwrap_or (first_answer (by_caller c (write_or_open w)) earlier) false) e
+
+held_open : (by_word : List ℕ) (c d w : ℕ) (earlier : List Entry) → has_block c earlier ≡ false → Held by_word d w earlier → Held by_word d w (entry c BlockOpen ∷ earlier)
+held_open by_word c d w earlier free was = by_same c d
+    (λ same. subst (λ x. Held by_word x w (entry c BlockOpen ∷ earlier)) same
+    (holds_own c w BlockOpen earlier ∙ sym (no_block_no_word c w earlier free) ∙ subst (λ x. Held by_word x w earlier) (sym same) was))
+    (λ other. holds_other d c w BlockOpen earlier other ∙ was)
+
+never_one : (g n : ℕ) → g ≢ 0 → (released g n == g) ≡ false
+never_one g n some = by_same n g
+    (λ same. ap (λ x. released g x == g) same ∙ ap (λ x. x == g) (released_own g) ∙ (let none : (0 == g) ≡ false = grind (arith, nat_tests) in none))
+    (λ other. ap (λ x. x == g) (released_other g n (differs g n other)) ∙ other)
+
+still_one : (g n h : ℕ) → h ≢ g → h ≢ 0 → (released g n == h) ≡ (n == h)
+still_one g n h other some = by_same n g
+    (λ same. ap (λ x. released g x == h) same ∙ ap (λ x. x == h) (released_own g) ∙ (let a : (0 == h) ≡ false = grind (arith, nat_tests) in let b : (n == h) ≡ false = grind (arith, nat_tests) in a ∙ sym b))
+    (λ apart. ap (λ x. x == h) (released_other g n (differs g n apart)))
+
+next_apart : (c d : ℕ) → (c == d) ≡ false → d + 1 ≢ c + 1
+next_apart c d other e = let same : d ≡ c = omega arith in let no_same : d ≢ c = grind (arith, nat_tests) in absurd (no_same same)
+
+held_end : (by_word : List ℕ) (c d w : ℕ) (kind : Kind) (earlier : List Entry) → open_or_close kind ≡ Some false
+    → Held by_word d w earlier → Held (map (released (c + 1)) by_word) d w (entry c kind ∷ earlier)
+held_end by_word c d w kind earlier edge was =
+    by_same c d
+    (λ same. subst (λ x. Held (map (released (c + 1)) by_word) x w (entry c kind ∷ earlier)) same
+    (holds_own c w kind earlier
+    ∙ ap (λ o. unwrap_or (option_or o (first_answer (by_caller c open_or_close) earlier)) false && unwrap_or (option_or (write_or_open w kind) (first_answer (by_caller c (write_or_open w)) earlier)) false) edge
+    ∙ sym (never_one (c + 1) (get_or by_word w 0) (λ e. absurd (omega arith)))
+    ∙ ap (λ x. x == c + 1) (sym (released_at (c + 1) by_word w))))
+    (λ other. holds_other d c w kind earlier other ∙ was
+    ∙ sym (still_one (c + 1) (get_or by_word w 0) (d + 1) (next_apart c d other) (λ e. absurd (omega arith)))
+    ∙ ap (λ x. x == d + 1) (sym (released_at (c + 1) by_word w)))
+
+-- the list after a write, by whether it is in a block and nobody held the word
+written : Bool → List ℕ → ℕ → ℕ → List ℕ
+written held by_word word c = cond held (set by_word word (c + 1)) by_word
+
+held_write_other : (by_word : List ℕ) (held : Bool) (c d w word value : ℕ) (earlier : List Entry) → (word == w) ≡ false
+    → Held by_word d w earlier → Held (written held by_word word c) d w (entry c (Write word value) ∷ earlier)
+unfolding written
+held_write_other by_word held c d w word value earlier other was =
+    holds_quiet d c w (Write word value) earlier refl (ap (λ b. cond b (Some true) None) other) ∙ was
+    ∙ ap (λ x. x == d + 1) (by_held held)
+  where
+    by_held : (b : Bool) → get_or by_word w 0 ≡ get_or (cond b (set by_word word (c + 1)) by_word) w 0
+    by_held true = sym (get_or-set_other by_word word w (c + 1) 0 (differs word w (flipped word w other)))
+    by_held false = refl
+
+-- the word itself, of a caller that isn't in a block
+held_write_out : (by_word : List ℕ) (c d w value : ℕ) (earlier : List Entry) → has_block c earlier ≡ false
+    → Held by_word d w earlier → Held by_word d w (entry c (Write w value) ∷ earlier)
+held_write_out by_word c d w value earlier out was = by_same c d
+    (λ same. subst (λ x. Held by_word x w (entry c (Write w value) ∷ earlier)) same
+    (holds_own c w (Write w value) earlier ∙ ap (λ b. b && unwrap_or (option_or (write_or_open w (Write w value)) (first_answer (by_caller c (write_or_open w)) earlier)) false) out
+    ∙ sym (no_block_no_word c w earlier out) ∙ subst (λ x. Held by_word x w earlier) (sym same) was))
+    (λ other. holds_other d c w (Write w value) earlier other ∙ was)
+
+now_holds : (c w value : ℕ) (earlier : List Entry) → has_block c earlier ≡ true → holds_word c w (entry c (Write w value) ∷ earlier) ≡ true
+now_holds c w value earlier inside =
+    let same : (w == w) ≡ true = grind (arith, nat_tests) in
+    holds_own c w (Write w value) earlier
+    ∙ (λ i. inside i && unwrap_or (option_or (cond (same i) (Some true) None) (first_answer (by_caller c (write_or_open w)) earlier)) false)
+
+-- the word itself, of a caller in a block, where nobody held the word
+held_write_free : (by_word : List ℕ) (c d w value : ℕ) (earlier : List Entry) → has_block c earlier ≡ true → w < length by_word → get_or by_word w 0 ≡ 0
+    → Held by_word d w earlier → Held (set by_word w (c + 1)) d w (entry c (Write w value) ∷ earlier)
+held_write_free by_word c d w value earlier inside low free was = by_same c d
+    (λ same. subst (λ x. Held (set by_word w (c + 1)) x w (entry c (Write w value) ∷ earlier)) same
+    (now_holds c w value earlier inside
+    ∙ (let here : (c + 1 == c + 1) ≡ true = grind (arith, nat_tests) in sym here)
+    ∙ ap (λ x. x == c + 1) (sym (get_or-set_same by_word w (c + 1) 0 low))))
+    (λ other. holds_other d c w (Write w value) earlier other ∙ was
+    ∙ ap (λ x. x == d + 1) free
+    ∙ (let apart : d ≢ c = differs c d (flipped c d other) in let a : (0 == d + 1) ≡ false = grind (arith, nat_tests) in let b : (c + 1 == d + 1) ≡ false = grind (arith, nat_tests) in a ∙ sym b)
+    ∙ ap (λ x. x == d + 1) (sym (get_or-set_same by_word w (c + 1) 0 low)))
+
+-- the word itself, of a caller in a block that holds it already
+held_write_again : (by_word : List ℕ) (c d w value : ℕ) (earlier : List Entry) → has_block c earlier ≡ true → get_or by_word w 0 ≡ c + 1
+    → Held by_word d w earlier → Held by_word d w (entry c (Write w value) ∷ earlier)
+held_write_again by_word c d w value earlier inside held was = by_same c d
+    (λ same. subst (λ x. Held by_word x w (entry c (Write w value) ∷ earlier)) same
+    (now_holds c w value earlier inside
+    ∙ (let here : (get_or by_word w 0 == c + 1) ≡ true = grind (arith, nat_tests) in sym here)))
+    (λ other. holds_other d c w (Write w value) earlier other ∙ was)
+
+-- nobody held the word, or its writer did
+whose : (callers : ℕ) (by_word : List ℕ) (c w : ℕ) (earlier : List Entry) → get_or by_word w 0 ≤ callers
+    → ((d : ℕ) → d < callers → Held by_word d w earlier)
+    → ((d : ℕ) → d < callers → (d == c) ≡ false → holds_word d w earlier ≡ false)
+    → (get_or by_word w 0 == 0) ≡ false → get_or by_word w 0 ≡ c + 1
+whose callers by_word c w earlier high was free some =
+    let more : get_or by_word w 0 ≢ 0 = grind (arith, nat_tests) in
+    by_same (get_or by_word w 0 - 1) c (λ same. omega arith)
+    (λ other.
+    let d = get_or by_word w 0 - 1 in
+    let held = was d (omega arith) in
+    let none = free d (omega arith) other in
+    let yet : (get_or by_word w 0 == d + 1) ≡ true = grind (arith, nat_tests) in
+    cc)
+
+not_zero : (n : ℕ) → (n == 0) ≡ true → n ≡ 0
+not_zero n e = grind (arith, nat_tests)
+
+-- what is known of the holders before the entry
+record Before (h : Header) (by_word : List ℕ) (c : ℕ) (kind : Kind) (earlier : List Entry) : Type 0 where
+  rules : broken_rule h earlier (entry c kind) ≡ None
+  words : length by_word ≡ plain_words h
+  high : (w : ℕ) → get_or by_word w 0 ≤ h.callers
+  was : (d w : ℕ) → d < h.callers → w < plain_words h → Held by_word d w earlier
+
+held_written : (h : Header) (by_word : List ℕ) (c d w value : ℕ) (earlier : List Entry) → Before h by_word c (Write w value) earlier
+    → d < h.callers → w < plain_words h → (inside free : Bool) → has_block c earlier ≡ inside → (get_or by_word w 0 == 0) ≡ free
+    → Held (cond (inside && free) (set by_word w (c + 1)) by_word) d w (entry c (Write w value) ∷ earlier)
+held_written h by_word c d w value earlier before low_d low false free e f = held_write_out by_word c d w value earlier e (before.was d w low_d low)
+held_written h by_word c d w value earlier before low_d low true true e f =
+    held_write_free by_word c d w value earlier e (omega (arith, before.words)) (not_zero (get_or by_word w 0) f) (before.was d w low_d low)
+held_written h by_word c d w value earlier before low_d low true false e f =
+    held_write_again by_word c d w value earlier e
+    (whose h.callers by_word c w earlier (before.high w) (λ x low_x. before.was x w low_x low) (write_kept h c w value earlier before.rules).not_raced f)
+    (before.was d w low_d low)
+
+held_next : (h : Header) (by_word : List ℕ) (c : ℕ) (kind : Kind) (earlier : List Entry) → Before h by_word c kind earlier
+    → (d w : ℕ) → d < h.callers → w < plain_words h → Held (holders_after by_word (has_block c earlier) c kind) d w (entry c kind ∷ earlier)
+unfolding written
+held_next h by_word c (Call method args) earlier before d w low_d low = holds_quiet d c w (Call method args) earlier refl refl ∙ before.was d w low_d low
+held_next h by_word c (Return reply) earlier before d w low_d low = holds_quiet d c w (Return reply) earlier refl refl ∙ before.was d w low_d low
+held_next h by_word c Commit earlier before d w low_d low = holds_quiet d c w Commit earlier refl refl ∙ before.was d w low_d low
+held_next h by_word c BlockOpen earlier before d w low_d low = held_open by_word c d w earlier (open_kept h c earlier before.rules).no_block (before.was d w low_d low)
+held_next h by_word c BlockClose earlier before d w low_d low = held_end by_word c d w BlockClose earlier refl (before.was d w low_d low)
+held_next h by_word c BlockCommit earlier before d w low_d low = held_end by_word c d w BlockCommit earlier refl (before.was d w low_d low)
+held_next h by_word c (Write word value) earlier before d w low_d low = by_same word w
+    (λ same. at_word d w low_d low same)
+    (λ other. elsewhere other)
+  where
+    at_word : (d w : ℕ) → d < h.callers → w < plain_words h → word ≡ w → Held (holders_after by_word (has_block c earlier) c (Write word value)) d w (entry c (Write word value) ∷ earlier)
+    at_word d w low_d low same =
+        subst (λ x. Held (holders_after by_word (has_block c earlier) c (Write word value)) d x (entry c (Write word value) ∷ earlier)) same
+        (held_written h by_word c d word value earlier before low_d (omega arith) (has_block c earlier) (get_or by_word word 0 == 0) refl refl)
+
+    elsewhere : (word == w) ≡ false → Held (holders_after by_word (has_block c earlier) c (Write word value)) d w (entry c (Write word value) ∷ earlier)
+    elsewhere other = held_write_other by_word (has_block c earlier && (get_or by_word word 0 == 0)) c d w word value earlier other (before.was d w low_d low)
+
+high_next : (by_word : List ℕ) (inside : Bool) (c n : ℕ) (kind : Kind) → c < n → ((w : ℕ) → get_or by_word w 0 ≤ n) → (w : ℕ) → get_or (holders_after by_word inside c kind) w 0 ≤ n
+high_next by_word inside c n (Call method args) low high w = high w
+high_next by_word inside c n (Return reply) low high w = high w
+high_next by_word inside c n Commit low high w = high w
+high_next by_word inside c n BlockOpen low high w = high w
+high_next by_word inside c n BlockClose low high w = let e = released_le (c + 1) (get_or by_word w 0) n (high w) in omega (arith, e, released_at (c + 1) by_word w)
+high_next by_word inside c n BlockCommit low high w = let e = released_le (c + 1) (get_or by_word w 0) n (high w) in omega (arith, e, released_at (c + 1) by_word w)
+high_next by_word inside c n (Write word value) low high w = elim (inside && (get_or by_word word 0 == 0)) as (λ b. get_or (cond b (set by_word word (c + 1)) by_word) w 0 ≤ n) [
+  | true ↦ at_most_set by_word word (c + 1) n high (omega arith) w
+  | false ↦ high w
+]
+
+-- one more entry that keeps the rules
+pub followed_next : (kept : Kept) (earlier : List Entry) (c : ℕ) (kind : Kind) (next : Phase)
+    → c < kept.header.callers → length kept.phases ≡ kept.header.callers → length kept.holders ≡ plain_words kept.header
+    → next ≡ phase_of c (entry c kind ∷ earlier) → broken_rule kept.header earlier (entry c kind) ≡ None → HasFollowed kept earlier
+    → HasFollowed (record { header = kept.header; phases = set kept.phases c next; holders = holders_after kept.holders (has_block c earlier) c kind }) (entry c kind ∷ earlier)
+followed_next kept earlier c kind next low phases words is rules followed =
+    let before : Before kept.header kept.holders c kind earlier = record { rules = rules; words = words; high = followed.callers; was = followed.holders } in
+    record {
+      phases = phases_next kept.header.callers kept.phases earlier c kind next (omega arith) is followed.phases;
+      holders = held_next kept.header kept.holders c kind earlier before;
+      callers = high_next kept.holders (has_block c earlier) c kept.header.callers kind low followed.callers;
+    }
+
+-- nothing has been followed
+starting : (n c : ℕ) (start : Phase) → c < n → slice_get (replicate n start) c ≡ Some start
+starting zero c start low = absurd (omega arith)
+starting (suc n) zero start low = refl
+starting (suc n) (suc c) start low = starting n c start (omega arith)
+
+pub followed_none : (h : Header) (start : Phase) (n : ℕ) → ((c : ℕ) → start ≡ phase_of c [])
+    → HasFollowed (record { header = h; phases = replicate h.callers start; holders = replicate n 0 }) []
+followed_none h start n is = record {
+  phases = λ c low. starting h.callers c start low ∙ ap Some (is c);
+  holders = λ c w low low_w. (let e : (0 == c + 1) ≡ false = grind (arith, nat_tests) in sym e) ∙ ap (λ x. x == c + 1) (sym (zeros n w));
+  callers = λ w. omega (arith, zeros n w);
+}
+
+-- a test of numbers that is the same at each
+same_any : (p q : ℕ → Bool) (k n : ℕ) → ((d : ℕ) → d < k + n → p d ≡ q d) → list_any p (numbers_from k n) ≡ list_any q (numbers_from k n)
+same_any p q k zero same = refl
+same_any p q k (suc n) same = λ i. same k (omega arith) i || same_any p q (k + 1) n (λ d low. same d (omega arith)) i
+
+-- whether another caller holds the word, by the definition and by the holders
+pub raced_is : (kept : Kept) (earlier : List Entry) (holding : Holding) (c w : ℕ) → holding.callers ≡ kept.header.callers → holding.by_word ≡ kept.holders
+    → w < plain_words kept.header → HasFollowed kept earlier → is_held_by_other kept.header c w earlier ≡ is_held_by_another holding c w
+raced_is kept earlier holding c w callers words low followed =
+    same_any (λ d. not (d == c) && holds_word d w earlier) (λ d. not (d == c) && (get_or kept.holders w 0 == d + 1)) 0 kept.header.callers
+    (λ d low_d. ap (λ b. not (d == c) && b) (followed.holders d w (omega arith) low))
+    ∙ (λ i. is_held_by_another (record { callers = sym callers i; by_word = sym words i }) c w)
+
+-- whether some execution is open, by the phases and by the definition
+open_is : (earlier : List Entry) (phases : List Phase) (k : ℕ) → ((i : ℕ) → i < length phases → slice_get phases i ≡ Some (phase_of (k + i) earlier))
+    → list_any (λ phase. is_some phase.open_method) phases ≡ list_any (λ c. is_some (open_call c earlier)) (numbers_from k (length phases))
+open_is earlier [] k all = refl
+open_is earlier (phase ∷ phases) k all =
+    let first : phase ≡ phase_of (k + 0) earlier = cc (all 0 (omega arith)) in
+    let here : phase ≡ phase_of k earlier = first ∙ ap (λ c. phase_of c earlier) (omega arith) in
+    let rest = open_is earlier phases (k + 1) (λ i low. all (suc i) (omega arith) ∙ ap (λ c. Some (phase_of c earlier)) (omega arith)) in
+    (λ i. is_some (here i).open_method || rest i) ∙ ap (λ b. b || list_any (λ c. is_some (open_call c earlier)) (numbers_from (k + 1) (length phases))) (is_some_map (open_call k earlier))
+  where
+    is_some_map : (o : Option Called) → is_some (option_map (λ called. called.method) o) ≡ is_some o
+    is_some_map None = refl
+    is_some_map (Some called) = refl
+
+pub call_open_is : (kept : Kept) (earlier : List Entry) → length kept.phases ≡ kept.header.callers → HasFollowed kept earlier
+    → list_any (λ phase. is_some phase.open_method) kept.phases ≡ is_call_open kept.header earlier
+call_open_is kept earlier size followed =
+    open_is earlier kept.phases 0 (λ i low. followed.phases i (omega arith) ∙ ap (λ c. Some (phase_of c earlier)) (omega arith))
+    ∙ ap (λ n. list_any (λ c. is_some (open_call c earlier)) (numbers_from 0 n)) size
+
+-- what was read is the phase
+pub phase_is : (phases : List Phase) (c : ℕ) (read phase : Phase) → read ≡ get_or phases c read → slice_get phases c ≡ Some phase → read ≡ phase
+phase_is phases c read phase e at = e ∙ get_or_from_slice_get phases c phase read at
+
+pub if_none : {A : Type 0} {P : Type 0} (o : Option A) → is_none o ≡ true → IfNone o P → P
+if_none None e p = p
+if_none (Some x) e p = cc
+
+-- the rule where a word is held by another caller, and where none of this is so
+pub raced_rule : (o : Option Rule) (raced : Bool) (rule : Option Rule) → is_none o ≡ true → raced ≡ true → option_or o (then_some raced BlockRaced) ≡ rule → Some BlockRaced ≡ rule
+raced_rule None true rule e f is = is
+raced_rule None false rule e f is = cc
+raced_rule (Some other) raced rule e f is = cc
+
+pub clear_rule : (o : Option Rule) (raced : Bool) (rule : Option Rule) → raced ≡ false → option_or o (then_some raced BlockRaced) ≡ rule → o ≡ rule
+clear_rule None true rule f is = cc
+clear_rule None false rule f is = is
+clear_rule (Some other) raced rule f is = is
+
+pub first_rule : (o : Option Rule) (raced : Bool) (rule : Option Rule) → is_none o ≡ false → option_or o (then_some raced BlockRaced) ≡ rule → o ≡ rule
+first_rule None raced rule e is = cc
+first_rule (Some other) raced rule e is = is

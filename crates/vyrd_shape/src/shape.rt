@@ -1,0 +1,152 @@
+//! The rules of shape, one entry at a time.
+
+ghost use Rattle.std.specs.Prelude.{◌≡◌, ℕ, ◌<◌, true, false, length, List, [], ◌∷◌, Some, None, is_some, IfOk, IfErr, IfNone, OnOk, OnErr, MatchResult};
+ghost use Rattle.std.specs.List.{list_any};
+ghost use Rattle.vyrd_base.specs.declared.log.Entry.{Entry};
+ghost use Rattle.vyrd_base.specs.Layout.{plain_words};
+ghost use Rattle.vyrd_base.specs.Shape.{broken_rule, checks_of, first_broken};
+ghost use Rattle.vyrd_base.specs.Verdicts.{is_call_open};
+ghost use Rattle.vyrd_shape.specs.Phases.{phase_of};
+ghost use Rattle.vyrd_shape.specs.Holding.{IsWordBelow};
+ghost use Rattle.vyrd_shape.specs.Following.{HasFollowed, IsInRange};
+
+use crate::holders::Holders;
+use crate::phase::Phase;
+use std::alloc::{AllocError, Global};
+use std::marker::Model;
+use vyrd_base::{Entry, Header, Kind, Rule};
+
+/// A rule of shape that an entry, or the end of the log, breaks.
+#[derive(Clone, Copy, Debug, PartialEq, Eq)]
+pub struct ShapeFault {
+    /// The first of the rules that is broken, in their order.
+    pub rule: Rule,
+}
+
+/// What the rules of shape need to know of the entries so far: for each caller what it is in the middle of, and for each word
+/// which caller's open block has written it.
+#[derive(Drop)]
+pub struct Shape {
+    header: Header,
+    /// By caller.
+    phases: Vec<Phase>,
+    holders: Holders,
+}
+
+impl Model for Shape {
+    ghost use Rattle.vyrd_shape.specs.Following.{Kept, IsComplete};
+
+    ghost Value = { Kept };
+
+    ghost view = { λ s. record { header = s.header; phases = s.phases.items; holders = s.holders.by_word } };
+
+    ghost invariant = { λ s. IsComplete s.header s.phases.items s.holders };
+}
+
+impl Shape {
+    /// A shape that has followed no entry. All of its memory is taken here, in proportion to the words and the callers.
+    pub fn new(alloc: Global, header: Header) -> Result<Shape, AllocError>
+        ensures followed { IfOk result (λ s. HasFollowed s []) }
+        ensures header { IfOk result (λ s. s.header ≡ header) }
+    {
+        Ok(Shape {
+            header,
+            phases: vec![in alloc; Phase::start(); header.callers() as usize]?,
+            holders: Holders::new(alloc, header.plain_words(), header.callers())?,
+        })
+    }
+
+    /// Follows one more entry, or says which rule it breaks first, and then the entry isn't followed. A block's end takes time
+    /// linear in the number of words that the block has written, and any other entry takes constant time. No memory is taken.
+    pub fn step(&mut self, entry: &Entry) -> Result<(), ShapeFault>
+        ensures ok { (earlier : List Entry) → HasFollowed self.old earlier → OnOk result ((broken_rule self.old.header earlier entry.now ≡ None) × HasFollowed self.new (entry.now ∷ earlier)) }
+        ensures fault { (earlier : List Entry) → HasFollowed self.old earlier → IfErr result (λ f. broken_rule self.old.header earlier entry.now ≡ Some f.rule) }
+        ensures refused { OnErr result (self.new ≡ self.old) }
+        ensures header { self.new.header ≡ self.old.header }
+    {
+        match self.broken_by(entry) {
+            Some(rule) => Err(ShapeFault { rule }),
+            None => {
+                self.follow(entry);
+                Ok(())
+            }
+        }
+    }
+
+    /// Whether the log may end here: no execution is open. Otherwise the fault is `CallOpen`. It takes time linear in the number
+    /// of callers.
+    pub fn end(&self) -> Result<(), ShapeFault>
+        ensures { (earlier : List Entry) → HasFollowed self.now earlier →
+            MatchResult result (λ _. is_call_open self.now.header earlier ≡ false) (λ f. (is_call_open self.now.header earlier ≡ true) × (f.rule ≡ Rule.CallOpen)) }
+    {
+        if is_any_open(&self.phases) {
+            Err(ShapeFault {
+                rule: Rule::CallOpen,
+            })
+        } else {
+            Ok(())
+        }
+    }
+
+    /// The first rule that the entry breaks.
+    fn broken_by(&self, entry: &Entry) -> Option<Rule>
+        ensures rule { (earlier : List Entry) → HasFollowed self.now earlier → result ≡ broken_rule self.now.header earlier entry.now }
+        ensures in_range { IfNone result (IsInRange self.now.header entry.now) }
+    {
+        if entry.caller >= self.header.callers() {
+            return Some(Rule::CallerRange);
+        }
+        let phase = self.phases[entry.caller as usize];
+        self.broken_in(phase, entry)
+    }
+
+    /// The first rule after that of the callers that the entry of a caller in this phase breaks.
+    fn broken_in(&self, phase: Phase, entry: &Entry) -> Option<Rule>
+        ensures rule { (earlier : List Entry) → HasFollowed self.now earlier → phase ≡ phase_of entry.now.caller earlier →
+            result ≡ first_broken (checks_of self.now.header earlier entry.now.caller entry.now.kind) }
+        ensures word { IfNone result (IsWordBelow (plain_words self.now.header) entry.now.kind) }
+    {
+        match entry.kind {
+            Kind::Call(method, args) => phase.call_rule(self.header, method, args),
+            Kind::Return(_) => phase.return_rule(),
+            Kind::Write(word, value) => self.broken_by_write(phase, entry.caller, word, value),
+            Kind::Commit => phase.commit_rule(),
+            Kind::BlockOpen => phase.open_rule(),
+            Kind::BlockClose => phase.close_rule(),
+            Kind::BlockCommit => phase.block_commit_rule(),
+        }
+    }
+
+    /// The first rule that a write breaks, of a caller in this phase.
+    fn broken_by_write(&self, phase: Phase, caller: u32, word: u32, value: u64) -> Option<Rule>
+        ensures rule { (earlier : List Entry) → HasFollowed self.now earlier → phase ≡ phase_of caller earlier →
+            result ≡ first_broken (checks_of self.now.header earlier caller (Kind.Write word value)) }
+        ensures word { IfNone result (word < plain_words self.now.header) }
+    {
+        let rule = phase.write_rule(self.header, word, value);
+        if rule.is_none() && self.holders.is_held_by_another(caller, word) {
+            Some(Rule::BlockRaced)
+        } else {
+            rule
+        }
+    }
+
+    /// Follows an entry that breaks no rule.
+    fn follow(&mut self, entry: &Entry)
+        requires { IsInRange self.old.header entry.now }
+        ensures followed { (earlier : List Entry) → HasFollowed self.old earlier → broken_rule self.old.header earlier entry.now ≡ None → HasFollowed self.new (entry.now ∷ earlier) }
+        ensures header { self.new.header ≡ self.old.header }
+    {
+        let place = entry.caller as usize;
+        let phase = self.phases[place];
+        self.holders.follow(phase.in_block, entry);
+        self.phases[place] = phase.after(entry.kind);
+    }
+}
+
+/// Whether one of the callers has an open execution.
+fn is_any_open(phases: &[Phase]) -> bool
+    ensures { result ≡ list_any (λ phase. is_some phase.open_method) phases.now }
+{
+    phases.iter().any(|phase| phase.open_method.is_some())
+}
