@@ -1,0 +1,2 @@
+pub mod AmountSteps
+pub mod StepLaws

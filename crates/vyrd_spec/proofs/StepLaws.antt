@@ -1,0 +1,178 @@
+-- What a step keeps of a state.
+use Rattle.std.proofs.Common.{◌≡◌, ℕ, zero, suc, ◌+◌, ◌-◌, ◌*◌, ◌^◌, ◌<◌, ◌≤◌, Bool, true, false, cond, not, Option, Some, None, refl, ap, ◌∙◌, sym, subst, arith}
+use Rattle.std.specs.Prelude.{◌==◌, ◌≢◌, IfSome}
+use Rattle.std.specs.Bool.{then_some}
+use Rattle.std.proofs.lemmas.Bool.Decides.{nat_tests}
+use Rattle.vyrd_base.specs.declared.subject.Subject.TheVariants.{Multiset, Cache, Tree}
+use Rattle.vyrd_base.specs.declared.subject.Method.{Method}
+use Rattle.vyrd_base.specs.declared.subject.Method.TheVariants.{MsInsert, MsInsertPair, MsDelete, MsLookup, CaWrite, CaFlush, CaEvict, CaRead, TrInsert, TrDelete, TrLookup}
+use Rattle.vyrd_base.specs.declared.subject.Args.{Args}
+use Rattle.vyrd_base.specs.Amounts.{Amounts, IsAmounts, amount_of, with_amount, plus_amount}
+use Rattle.vyrd_base.specs.Specification.{next_state, by_reply, is_present}
+use Rattle.vyrd_base.specs.Subjects.{subject_of}
+use Rattle.vyrd_base.proofs.AmountLaws.{amount_of-with_amount, IsAmounts-with_amount}
+use Rattle.vyrd_spec.specs.Bounds.{AllAmounts}
+use Rattle.vyrd_spec.proofs.AmountSteps.{equal_of}
+
+some_is : (s t : Amounts) → ◌≡◌ {A = Option Amounts} (Some s) (Some t) → s ≡ t
+some_is s t e = cc
+
+holds_at : (Q : Amounts → Type 0) (o : Option Amounts) (t : Amounts) → IfSome o Q → o ≡ Some t → Q t
+holds_at Q None t h e = cc
+holds_at Q (Some s) t h e = subst Q (some_is s t e) h
+
+-- what holds of each state that a reply may lead to holds of the one that it leads to
+by_replies : (Q : Amounts → Type 0) (reply : ℕ) (at_0 at_1 at_2 : Option Amounts) (t : Amounts)
+    → IfSome at_0 Q → IfSome at_1 Q → IfSome at_2 Q → by_reply reply at_0 at_1 at_2 ≡ Some t → Q t
+by_replies Q zero at_0 at_1 at_2 t h0 h1 h2 e = holds_at Q at_0 t h0 e
+by_replies Q (suc zero) at_0 at_1 at_2 t h0 h1 h2 e = holds_at Q at_1 t h1 e
+by_replies Q (suc (suc zero)) at_0 at_1 at_2 t h0 h1 h2 e = holds_at Q at_2 t h2 e
+by_replies Q (suc (suc (suc n))) at_0 at_1 at_2 t h0 h1 h2 e = cc
+
+where_allowed : (Q : Amounts → Type 0) (b : Bool) (s : Amounts) → Q s → IfSome (then_some b s) Q
+where_allowed Q true s h = h
+where_allowed Q false s h = tt
+
+-- a step leaves amounts
+pub next_state-formed : (method : Method) (args : Args) (reply : ℕ) (s t : Amounts) → IsAmounts s → next_state method args reply s ≡ Some t → IsAmounts t
+next_state-formed MsInsert args reply s t is = by_replies IsAmounts reply _ _ _ t is (IsAmounts-with_amount s args.a (amount_of s args.a + 1) is) tt
+next_state-formed MsInsertPair args reply s t is =
+    let one = IsAmounts-with_amount s args.a (amount_of s args.a + 1) is in
+    let first : Amounts = plus_amount s args.a 1 in
+    by_replies IsAmounts reply _ _ _ t is (IsAmounts-with_amount first args.b (amount_of first args.b + 1) one) tt
+next_state-formed MsDelete args reply s t is =
+    let less : Amounts = with_amount s args.a (amount_of s args.a - 1) in
+    by_replies IsAmounts reply _ _ _ t (where_allowed IsAmounts (not (is_present s args.a)) s is)
+    (where_allowed IsAmounts (is_present s args.a) less (IsAmounts-with_amount s args.a (amount_of s args.a - 1) is)) tt
+next_state-formed CaWrite args reply s t is = by_replies IsAmounts reply _ _ _ t tt (IsAmounts-with_amount s args.a (args.c * 2 ^ 32 + args.b) is) tt
+next_state-formed CaFlush args reply s t is = by_replies IsAmounts reply _ _ _ t tt is tt
+next_state-formed CaEvict args reply s t is = by_replies IsAmounts reply _ _ _ t tt is tt
+next_state-formed TrInsert args reply s t is =
+    let set : IsAmounts (with_amount s args.a (2 ^ 32 + args.b)) = IsAmounts-with_amount s args.a (2 ^ 32 + args.b) is in
+    by_replies IsAmounts reply _ _ _ t is (where_allowed IsAmounts (not (is_present s args.a)) _ set) (where_allowed IsAmounts (is_present s args.a) _ set)
+next_state-formed TrDelete args reply s t is =
+    by_replies IsAmounts reply _ _ _ t (where_allowed IsAmounts (not (is_present s args.a)) s is)
+    (where_allowed IsAmounts (is_present s args.a) (with_amount s args.a 0) (IsAmounts-with_amount s args.a 0 is)) tt
+next_state-formed MsLookup args reply s t is = λ e. cc
+next_state-formed CaRead args reply s t is = λ e. cc
+next_state-formed TrLookup args reply s t is = λ e. cc
+
+-- what holds of each key with its amount holds after a key gets an amount of which it holds
+pub AllAmounts-with_amount : (passes : ℕ → ℕ → Type 0) (s : Amounts) (k a : ℕ) → AllAmounts passes s → (a ≢ 0 → passes k a) → AllAmounts passes (with_amount s k a)
+AllAmounts-with_amount passes s k a all new =
+    λ q. by_key q (amount_of (with_amount s k a) q) (amount_of-with_amount s k a q) (q == k) refl
+  where
+    by_key : (q n : ℕ) → n ≡ cond (q == k) a (amount_of s q) → (b : Bool) → (q == k) ≡ b → n ≢ 0 → passes q n
+    by_key q n is true e some =
+        let given : n ≡ a = is ∙ ap (λ b. cond b a (amount_of s q)) e in
+        subst (λ m. passes q m) (sym given) (subst (λ x. passes x a) (sym (equal_of q k e)) (new (λ z. some (given ∙ z))))
+    by_key q n is false e some =
+        let kept : n ≡ amount_of s q = is ∙ ap (λ b. cond b a (amount_of s q)) e in
+        subst (λ m. passes q m) (sym kept) (all q (λ z. some (kept ∙ z)))
+
+pub AllAmounts-weaker : (P Q : ℕ → ℕ → Type 0) (s : Amounts) → ((k a : ℕ) → P k a → Q k a) → AllAmounts P s → AllAmounts Q s
+AllAmounts-weaker P Q s weaker all = λ q some. weaker q (amount_of s q) (all q some)
+
+-- values below 2^32, of each at most so many
+abbrev pub AreCounts : ℕ → Amounts → Type 0
+AreCounts most s = AllAmounts (λ value count. (value < 2 ^ 32) × (count ≤ most)) s
+
+isnt_zero : (n : ℕ) → (n == 0) ≡ false → n ≢ 0
+isnt_zero n e = grind (arith, nat_tests)
+
+is_zero : (n : ℕ) → (n == 0) ≡ true → n ≡ 0
+is_zero n e = grind (arith, nat_tests)
+
+pub count_at_most : (most : ℕ) (s : Amounts) (q : ℕ) → AreCounts most s → amount_of s q ≤ most
+count_at_most most s q all = by_zero (amount_of s q == 0) refl
+  where
+    by_zero : (b : Bool) → (amount_of s q == 0) ≡ b → amount_of s q ≤ most
+    by_zero true e = let none = is_zero (amount_of s q) e in omega (arith, none)
+    by_zero false e = (all q (isnt_zero (amount_of s q) e)).1
+
+weaker_counts : (m n : ℕ) (s : Amounts) → m ≤ n → AreCounts m s → AreCounts n s
+weaker_counts m n s le all = λ q some. let here = all q some in (here.0, omega (arith, here.1))
+
+one_more : (most : ℕ) (s : Amounts) (k : ℕ) → k < 2 ^ 32 → AreCounts most s → AreCounts (most + 1) (plus_amount s k 1)
+one_more most s k low all =
+    let at = count_at_most most s k all in
+    AllAmounts-with_amount (λ value count. (value < 2 ^ 32) × (count ≤ most + 1)) s k (amount_of s k + 1)
+    (weaker_counts most (most + 1) s (omega arith) all) (λ some. (low, omega (arith, at)))
+
+one_less : (most : ℕ) (s : Amounts) (k : ℕ) → AreCounts most s → AreCounts most (with_amount s k (amount_of s k - 1))
+one_less most s k all =
+    let at = count_at_most most s k all in
+    AllAmounts-with_amount (λ value count. (value < 2 ^ 32) × (count ≤ most)) s k (amount_of s k - 1) all
+    (λ some. let there : amount_of s k ≢ 0 = omega (arith, some) in ((all k there).0, omega (arith, at)))
+
+-- a step of the multiset adds two at most to each count
+pub next_state-counts : (made : ℕ) (method : Method) (args : Args) (reply : ℕ) (s t : Amounts) → subject_of method ≡ Multiset
+    → args.a < 2 ^ 32 → args.b < 2 ^ 32 → AreCounts (2 * made) s → next_state method args reply s ≡ Some t → AreCounts (2 * (made + 1)) t
+next_state-counts made MsInsert args reply s t of low low_b all =
+    let kept = weaker_counts (2 * made) (2 * (made + 1)) s (omega arith) all in
+    let more = weaker_counts (2 * made + 1) (2 * (made + 1)) (plus_amount s args.a 1) (omega arith) (one_more (2 * made) s args.a low all) in
+    by_replies (AreCounts (2 * (made + 1))) reply _ _ _ t kept more tt
+next_state-counts made MsInsertPair args reply s t of low low_b all =
+    let kept = weaker_counts (2 * made) (2 * (made + 1)) s (omega arith) all in
+    let more = one_more (2 * made + 1) (plus_amount s args.a 1) args.b low_b (one_more (2 * made) s args.a low all) in
+    let both = weaker_counts (2 * made + 1 + 1) (2 * (made + 1)) (plus_amount (plus_amount s args.a 1) args.b 1) (omega arith) more in
+    by_replies (AreCounts (2 * (made + 1))) reply _ _ _ t kept both tt
+next_state-counts made MsDelete args reply s t of low low_b all =
+    let Q : Amounts → Type 0 = AreCounts (2 * (made + 1)) in
+    let kept = weaker_counts (2 * made) (2 * (made + 1)) s (omega arith) all in
+    let less = one_less (2 * (made + 1)) s args.a kept in
+    by_replies Q reply _ _ _ t (where_allowed Q (not (is_present s args.a)) s kept) (where_allowed Q (is_present s args.a) _ less) tt
+next_state-counts made MsLookup args reply s t of low low_b all = λ e. cc
+next_state-counts made CaWrite args reply s t of low low_b all = cc
+next_state-counts made CaFlush args reply s t of low low_b all = cc
+next_state-counts made CaEvict args reply s t of low low_b all = cc
+next_state-counts made CaRead args reply s t of low low_b all = cc
+next_state-counts made TrInsert args reply s t of low low_b all = cc
+next_state-counts made TrDelete args reply s t of low low_b all = cc
+next_state-counts made TrLookup args reply s t of low low_b all = cc
+
+-- chunks and pairs
+abbrev pub ArePairs : Amounts → Type 0
+ArePairs s = AllAmounts (λ chunk pair. (chunk < 2 ^ 32) × (pair < 2 ^ 64)) s
+
+-- a step of the cache keeps the pairs in range
+pub next_state-pairs : (method : Method) (args : Args) (reply : ℕ) (s t : Amounts) → subject_of method ≡ Cache
+    → args.a < 2 ^ 32 → args.b < 2 ^ 32 → args.c < 2 ^ 32 → ArePairs s → next_state method args reply s ≡ Some t → ArePairs t
+next_state-pairs CaWrite args reply s t of low low_b low_c all =
+    by_replies ArePairs reply _ _ _ t tt
+    (AllAmounts-with_amount (λ chunk pair. (chunk < 2 ^ 32) × (pair < 2 ^ 64)) s args.a (args.c * 2 ^ 32 + args.b) all (λ some. (low, omega arith))) tt
+next_state-pairs CaFlush args reply s t of low low_b low_c all = by_replies ArePairs reply _ _ _ t tt all tt
+next_state-pairs CaEvict args reply s t of low low_b low_c all = by_replies ArePairs reply _ _ _ t tt all tt
+next_state-pairs CaRead args reply s t of low low_b low_c all = λ e. cc
+next_state-pairs MsInsert args reply s t of low low_b low_c all = cc
+next_state-pairs MsInsertPair args reply s t of low low_b low_c all = cc
+next_state-pairs MsDelete args reply s t of low low_b low_c all = cc
+next_state-pairs MsLookup args reply s t of low low_b low_c all = cc
+next_state-pairs TrInsert args reply s t of low low_b low_c all = cc
+next_state-pairs TrDelete args reply s t of low low_b low_c all = cc
+next_state-pairs TrLookup args reply s t of low low_b low_c all = cc
+
+-- keys, and values with 2^32 added
+abbrev pub AreValues : Amounts → Type 0
+AreValues s = AllAmounts (λ key amount. (key < 2 ^ 32) × (2 ^ 32 ≤ amount) × (amount < 2 ^ 33)) s
+
+-- a step of the tree keeps the values in range
+pub next_state-values : (method : Method) (args : Args) (reply : ℕ) (s t : Amounts) → subject_of method ≡ Tree
+    → args.a < 2 ^ 32 → args.b < 2 ^ 32 → AreValues s → next_state method args reply s ≡ Some t → AreValues t
+next_state-values TrInsert args reply s t of low low_b all =
+    let set : AreValues (with_amount s args.a (2 ^ 32 + args.b)) =
+    AllAmounts-with_amount (λ key amount. (key < 2 ^ 32) × (2 ^ 32 ≤ amount) × (amount < 2 ^ 33)) s args.a (2 ^ 32 + args.b) all (λ some. (low, omega arith, omega arith)) in
+    by_replies AreValues reply _ _ _ t all (where_allowed AreValues (not (is_present s args.a)) _ set) (where_allowed AreValues (is_present s args.a) _ set)
+next_state-values TrDelete args reply s t of low low_b all =
+    let gone : AreValues (with_amount s args.a 0) =
+    AllAmounts-with_amount (λ key amount. (key < 2 ^ 32) × (2 ^ 32 ≤ amount) × (amount < 2 ^ 33)) s args.a 0 all (λ some. absurd (some refl)) in
+    by_replies AreValues reply _ _ _ t (where_allowed AreValues (not (is_present s args.a)) s all) (where_allowed AreValues (is_present s args.a) _ gone) tt
+next_state-values TrLookup args reply s t of low low_b all = λ e. cc
+next_state-values MsInsert args reply s t of low low_b all = cc
+next_state-values MsInsertPair args reply s t of low low_b all = cc
+next_state-values MsDelete args reply s t of low low_b all = cc
+next_state-values MsLookup args reply s t of low low_b all = cc
+next_state-values CaWrite args reply s t of low low_b all = cc
+next_state-values CaFlush args reply s t of low low_b all = cc
+next_state-values CaEvict args reply s t of low low_b all = cc
+next_state-values CaRead args reply s t of low low_b all = cc

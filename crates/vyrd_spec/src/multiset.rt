@@ -1,0 +1,166 @@
+//! The specification of the multiset: how many there are of each value.
+
+ghost use Rattle.std.specs.Prelude.{◌≡◌, ◌≢◌, ◌+◌, ◌*◌, ◌<◌, ◌≤◌, ◌^◌, ◌-◌, ℕ, true, false, not, OnOk, OnErr, Some, None, Ok};
+ghost use Rattle.std.specs.Bool.{then_some};
+ghost use Rattle.vyrd_base.specs.declared.subject.Subject.TheVariants.{Multiset};
+ghost use Rattle.vyrd_base.specs.Amounts.{amount_of, with_amount, plus_amount, IsAmounts};
+ghost use Rattle.vyrd_base.specs.Specification.{next_state, by_reply, is_present};
+ghost use Rattle.vyrd_base.specs.Subjects.{subject_of, is_observer};
+ghost use Rattle.vyrd_spec.specs.Bounds.{AllAmounts, small_counts};
+ghost use Rattle.vyrd_base.specs.Formed.{IsAmounts-prop};
+
+use crate::spec::Spec;
+use std::alloc::{AllocError, Global};
+use vyrd_base::{AmountMap, Args, Header, Method, View};
+
+/// The specification of the multiset. The amount of a value is its multiplicity, which is at most twice the steps made.
+#[derive(Drop)]
+pub struct MultisetSpec {
+    header: Header,
+    made: u64,
+    amounts: AmountMap,
+    ghost few: { made ≤ 2 ^ 62 },
+    ghost formed: { IsAmounts amounts } by { IsAmounts-prop amounts },
+    ghost small: { AllAmounts (λ value count. (value < 2 ^ 32) × (count ≤ 2 * made)) amounts },
+}
+
+impl Spec for MultisetSpec {
+    ghost subject = { Multiset };
+
+    ghost state = { λ s. s.amounts };
+
+    ghost header_of = { λ s. s.header };
+
+    ghost made = { λ s. s.made };
+
+    ghost is_formed = { λ s. s.formed };
+
+    ghost is_small = { λ s. small_counts s.made s.amounts s.few s.small };
+
+    fn start(alloc: Global, header: Header) -> Result<Self, AllocError> {
+        Ok(MultisetSpec {
+            header,
+            made: 0,
+            amounts: AmountMap::new(alloc),
+        })
+    }
+
+    fn step(&mut self, method: Method, args: Args, reply: u64) -> Result<bool, AllocError> {
+        let allowed = next(&mut self.amounts, method, args, reply)?;
+        if allowed {
+            self.made += 1;
+        }
+        Ok(allowed)
+    }
+
+    fn answer(&self, _method: Method, args: Args) -> u64 {
+        u64::from(self.amounts.amount(u64::from(args.a)) != 0)
+    }
+
+    fn amount(&self, key: u64) -> u64 {
+        self.amounts.amount(key)
+    }
+
+    fn view(&self, alloc: Global) -> Result<View, AllocError> {
+        self.amounts.view(alloc)
+    }
+}
+
+/// Changes the multiplicities by a mutator's call with its reply, and says whether the reply is allowed.
+fn next(counts: &mut AmountMap, method: Method, args: Args, reply: u64) -> Result<bool, AllocError>
+    requires subject { subject_of method ≡ Multiset }
+    requires mutator { is_observer method ≡ false }
+    requires few { (value : ℕ) → amount_of counts.old value ≤ 2 ^ 63 }
+    ensures allowed { result ≡ Ok true → next_state method args reply counts.old ≡ Some counts.new }
+    ensures refused { result ≡ Ok false → next_state method args reply counts.old ≡ None }
+    ensures unchanged { result ≢ Ok true → counts.new ≡ counts.old }
+
+    // Arguments have 32 bits.
+    ensures numbers { (args.a < 2 ^ 32) × (args.b < 2 ^ 32) }
+{
+    let value = u64::from(args.a);
+    match method {
+        Method::MsInsert => insert(counts, value, reply),
+        Method::MsInsertPair => insert_pair(counts, value, u64::from(args.b), reply),
+        Method::MsDelete => Ok(delete(counts, value, reply)),
+        _ => unreachable!(),
+    }
+}
+
+/// An insert: reply 1 adds the value, and reply 0 changes nothing.
+fn insert(counts: &mut AmountMap, value: u64, reply: u64) -> Result<bool, AllocError>
+    requires few { amount_of counts.old value + 1 < 2 ^ 64 }
+    ensures allowed { result ≡ Ok true → by_reply reply (Some counts.old) (Some (plus_amount counts.old value 1)) None ≡ Some counts.new }
+    ensures refused { result ≡ Ok false → by_reply reply (Some counts.old) (Some (plus_amount counts.old value 1)) None ≡ None }
+    ensures unchanged { result ≢ Ok true → counts.new ≡ counts.old }
+{
+    match reply {
+        0 => Ok(true),
+        1 => {
+            counts.add(value, 1)?;
+            Ok(true)
+        }
+        _ => Ok(false),
+    }
+}
+
+/// An insert of two values, which may be equal: reply 1 adds both, and reply 0 changes nothing.
+fn insert_pair(
+    counts: &mut AmountMap,
+    first: u64,
+    second: u64,
+    reply: u64,
+) -> Result<bool, AllocError>
+    requires few { (value : ℕ) → amount_of counts.old value + 2 < 2 ^ 64 }
+    ensures allowed { result ≡ Ok true →
+        by_reply reply (Some counts.old) (Some (plus_amount (plus_amount counts.old first 1) second 1)) None ≡ Some counts.new }
+    ensures refused { result ≡ Ok false →
+        by_reply reply (Some counts.old) (Some (plus_amount (plus_amount counts.old first 1) second 1)) None ≡ None }
+    ensures unchanged { result ≢ Ok true → counts.new ≡ counts.old }
+{
+    match reply {
+        0 => Ok(true),
+        1 => {
+            add_both(counts, first, second)?;
+            Ok(true)
+        }
+        _ => Ok(false),
+    }
+}
+
+/// One more of each of two values. Where there is memory for the first alone, it is taken out again.
+fn add_both(counts: &mut AmountMap, first: u64, second: u64) -> Result<(), AllocError>
+    requires few { (value : ℕ) → amount_of counts.old value + 2 < 2 ^ 64 }
+    ensures ok { OnOk result (counts.new ≡ plus_amount (plus_amount counts.old first 1) second 1) }
+    ensures err { OnErr result (counts.new ≡ counts.old) }
+{
+    counts.add(first, 1)?;
+    match counts.add(second, 1) {
+        Ok(()) => Ok(()),
+        Err(refusal) => {
+            counts.take_one(first);
+            Err(refusal)
+        }
+    }
+}
+
+/// A delete: reply 1 takes one of a value that is there, and reply 0 says that it isn't there.
+fn delete(counts: &mut AmountMap, value: u64, reply: u64) -> bool
+    ensures allowed { result ≡ true → by_reply reply
+        (then_some (not (is_present counts.old value)) counts.old)
+        (then_some (is_present counts.old value) (with_amount counts.old value (amount_of counts.old value - 1))) None ≡ Some counts.new }
+    ensures refused { result ≡ false → by_reply reply
+        (then_some (not (is_present counts.old value)) counts.old)
+        (then_some (is_present counts.old value) (with_amount counts.old value (amount_of counts.old value - 1))) None ≡ None }
+    ensures unchanged { result ≡ false → counts.new ≡ counts.old }
+{
+    let present = counts.amount(value) != 0;
+    match reply {
+        0 => !present,
+        1 if present => {
+            counts.take_one(value);
+            true
+        }
+        _ => false,
+    }
+}

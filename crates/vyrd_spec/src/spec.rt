@@ -1,0 +1,71 @@
+//! What every specification offers.
+
+ghost use Rattle.std.specs.Prelude.{◌≡◌, ◌≢◌, ◌+◌, ◌<◌, ◌^◌, ℕ, true, false, IfOk, Some, None, Ok, []};
+ghost use Rattle.vyrd_base.specs.declared.header.Header.{Header};
+ghost use Rattle.vyrd_base.specs.declared.subject.Subject.{Subject};
+ghost use Rattle.vyrd_base.specs.Amounts.{Amounts, IsAmounts, amount_of};
+ghost use Rattle.vyrd_base.specs.Specification.{next_state, answer_in};
+ghost use Rattle.vyrd_base.specs.Subjects.{subject_of, is_observer, are_args};
+ghost use Rattle.vyrd_spec.specs.Bounds.{AllAmounts};
+
+use std::alloc::{AllocError, Global};
+use vyrd_base::{Args, Header, Method, View};
+
+/// The specification of one subject: a state that steps with each mutator, in the order of the commits.
+///
+/// Arguments are those that a well-formed call has: what the method doesn't take is 0, and a chunk's number is below the size.
+pub trait Spec: Sized + Drop {
+    // The subject whose specification the type is.
+    ghost subject: { Subject };
+
+    // The state, which is also what it shows.
+    ghost state: { Self → Amounts };
+
+    // The header that the value was made with.
+    ghost header_of: { Self → Header };
+
+    // How many steps were allowed since the start.
+    ghost made: { Self → ℕ };
+
+    /// The empty state. The header names the subject of the type.
+    fn start(alloc: Global, header: Header) -> Result<Self, AllocError>
+        requires subject { header.subject ≡ subject }
+        ensures state { IfOk result (λ s. state s ≡ []) }
+        ensures header { IfOk result (λ s. header_of s ≡ header) }
+        ensures made { IfOk result (λ s. made s ≡ 0) };
+
+    /// Makes a step with a mutator's call and its reply. `false` says that the reply isn't allowed in this state.
+    /// After `false`, and after want of memory, all is as it was. The cost is that of a look-up among the keys.
+    fn step(&mut self, method: Method, args: Args, reply: u64) -> Result<bool, AllocError>
+        requires subject { subject_of method ≡ subject }
+        requires args { are_args (header_of self.old).size method args ≡ true }
+        requires mutator { is_observer method ≡ false }
+        requires few { made self.old < 2 ^ 62 }
+        ensures allowed { result ≡ Ok true → next_state method args reply (state self.old) ≡ Some (state self.new) }
+        ensures refused { result ≡ Ok false → next_state method args reply (state self.old) ≡ None }
+        ensures unchanged { result ≢ Ok true → state self.new ≡ state self.old }
+        ensures header { header_of self.new ≡ header_of self.old }
+        ensures counted { result ≡ Ok true → made self.new ≡ made self.old + 1 }
+        ensures uncounted { result ≢ Ok true → made self.new ≡ made self.old };
+
+    /// What an observer answers in this state.
+    fn answer(&self, method: Method, args: Args) -> u64
+        requires subject { subject_of method ≡ subject }
+        requires args { are_args (header_of self.now).size method args ≡ true }
+        requires observer { is_observer method ≡ true }
+        ensures { result ≡ answer_in (state self.now) method args };
+
+    /// The amount of a key, 0 where the key isn't there.
+    fn amount(&self, key: u64) -> u64
+        ensures { result ≡ amount_of (state self.now) key };
+
+    /// The keys whose amount isn't 0, with their amounts. The cost is that of a push for each.
+    fn view(&self, alloc: Global) -> Result<View, AllocError>
+        ensures { IfOk result (λ v. v ≡ state self.now) };
+
+    // The keys of a state rise, and no amount is 0.
+    ghost is_formed: { (s : Self) → IsAmounts (state s) };
+
+    // A key that is there is below 2^32, and its amount is below 2^64.
+    ghost is_small: { (s : Self) → AllAmounts (λ key amount. (key < 2 ^ 32) × (amount < 2 ^ 64)) (state s) };
+}

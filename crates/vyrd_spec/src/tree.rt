@@ -1,0 +1,137 @@
+//! The specification of the tree: the value of each key.
+
+ghost use Rattle.std.specs.Prelude.{◌≡◌, ◌≢◌, ◌+◌, ◌<◌, ◌≤◌, ◌^◌, true, false, not, Some, None, Ok};
+ghost use Rattle.std.specs.Bool.{then_some};
+ghost use Rattle.vyrd_base.specs.declared.subject.Subject.TheVariants.{Tree};
+ghost use Rattle.vyrd_base.specs.Amounts.{with_amount, IsAmounts};
+ghost use Rattle.vyrd_base.specs.Specification.{next_state, by_reply, is_present};
+ghost use Rattle.vyrd_base.specs.Subjects.{subject_of, is_observer};
+ghost use Rattle.vyrd_spec.specs.Bounds.{AllAmounts, small_values};
+ghost use Rattle.vyrd_base.specs.Formed.{IsAmounts-prop};
+
+use crate::spec::Spec;
+use std::alloc::{AllocError, Global};
+use vyrd_base::{AmountMap, Args, Header, Method, View};
+
+/// What is added to a value, so that the amount of a key that is there is never 0.
+const PRESENT: u64 = 1 << 32;
+
+/// The specification of the tree. The amount of a key that is there is 2^32 plus its value.
+#[derive(Drop)]
+pub struct TreeSpec {
+    header: Header,
+    made: u64,
+    amounts: AmountMap,
+    ghost few: { made ≤ 2 ^ 62 },
+    ghost formed: { IsAmounts amounts } by { IsAmounts-prop amounts },
+    ghost small: { AllAmounts (λ key amount. (key < 2 ^ 32) × (2 ^ 32 ≤ amount) × (amount < 2 ^ 33)) amounts },
+}
+
+impl Spec for TreeSpec {
+    ghost subject = { Tree };
+
+    ghost state = { λ s. s.amounts };
+
+    ghost header_of = { λ s. s.header };
+
+    ghost made = { λ s. s.made };
+
+    ghost is_formed = { λ s. s.formed };
+
+    ghost is_small = { λ s. small_values s.amounts s.small };
+
+    fn start(alloc: Global, header: Header) -> Result<Self, AllocError> {
+        Ok(TreeSpec {
+            header,
+            made: 0,
+            amounts: AmountMap::new(alloc),
+        })
+    }
+
+    fn step(&mut self, method: Method, args: Args, reply: u64) -> Result<bool, AllocError> {
+        let allowed = next(&mut self.amounts, method, args, reply)?;
+        if allowed {
+            self.made += 1;
+        }
+        Ok(allowed)
+    }
+
+    fn answer(&self, _method: Method, args: Args) -> u64 {
+        let amount = self.amounts.amount(u64::from(args.a));
+        if amount == 0 { 0 } else { amount - PRESENT + 1 }
+    }
+
+    fn amount(&self, key: u64) -> u64 {
+        self.amounts.amount(key)
+    }
+
+    fn view(&self, alloc: Global) -> Result<View, AllocError> {
+        self.amounts.view(alloc)
+    }
+}
+
+/// Changes the values by a mutator's call with its reply, and says whether the reply is allowed.
+fn next(values: &mut AmountMap, method: Method, args: Args, reply: u64) -> Result<bool, AllocError>
+    requires subject { subject_of method ≡ Tree }
+    requires mutator { is_observer method ≡ false }
+    ensures allowed { result ≡ Ok true → next_state method args reply values.old ≡ Some values.new }
+    ensures refused { result ≡ Ok false → next_state method args reply values.old ≡ None }
+    ensures unchanged { result ≢ Ok true → values.new ≡ values.old }
+
+    // Arguments have 32 bits.
+    ensures numbers { (args.a < 2 ^ 32) × (args.b < 2 ^ 32) }
+{
+    let key = u64::from(args.a);
+    match method {
+        Method::TrInsert => insert(values, key, u64::from(args.b), reply),
+        Method::TrDelete => Ok(delete(values, key, reply)),
+        _ => unreachable!(),
+    }
+}
+
+/// An insert: reply 1 is for a key that was absent, reply 2 for one that was present, and both set its value. Reply 0 changes nothing.
+fn insert(values: &mut AmountMap, key: u64, value: u64, reply: u64) -> Result<bool, AllocError>
+    requires small { value < 2 ^ 32 }
+    ensures allowed { result ≡ Ok true → by_reply reply (Some values.old)
+        (then_some (not (is_present values.old key)) (with_amount values.old key (2 ^ 32 + value)))
+        (then_some (is_present values.old key) (with_amount values.old key (2 ^ 32 + value))) ≡ Some values.new }
+    ensures refused { result ≡ Ok false → by_reply reply (Some values.old)
+        (then_some (not (is_present values.old key)) (with_amount values.old key (2 ^ 32 + value)))
+        (then_some (is_present values.old key) (with_amount values.old key (2 ^ 32 + value))) ≡ None }
+    ensures unchanged { result ≢ Ok true → values.new ≡ values.old }
+{
+    let present = values.amount(key) != 0;
+    match reply {
+        0 => Ok(true),
+        1 if !present => {
+            values.set(key, PRESENT + value)?;
+            Ok(true)
+        }
+        2 if present => {
+            values.set(key, PRESENT + value)?;
+            Ok(true)
+        }
+        _ => Ok(false),
+    }
+}
+
+/// A delete: reply 1 takes out a key that is there, and reply 0 says that it isn't there.
+fn delete(values: &mut AmountMap, key: u64, reply: u64) -> bool
+    ensures allowed { result ≡ true → by_reply reply
+        (then_some (not (is_present values.old key)) values.old)
+        (then_some (is_present values.old key) (with_amount values.old key 0)) None ≡ Some values.new }
+    ensures refused { result ≡ false → by_reply reply
+        (then_some (not (is_present values.old key)) values.old)
+        (then_some (is_present values.old key) (with_amount values.old key 0)) None ≡ None }
+    ensures unchanged { result ≡ false → values.new ≡ values.old }
+{
+    let present = values.amount(key) != 0;
+    match reply {
+        0 => !present,
+        1 if present => {
+            values.remove(key);
+            true
+        }
+        _ => false,
+    }
+}
