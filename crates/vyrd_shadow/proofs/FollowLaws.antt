@@ -1,0 +1,256 @@
+-- How what is kept goes on with one more entry.
+use Rattle.std.proofs.Common.{◌≡◌, ℕ, suc, zero, ◌+◌, ◌<◌, Bool, true, false, cond, List, [], ◌∷◌, ◌++◌, length, map, Option, Some, None, refl, ap, ◌∙◌, sym, subst, arith, get_or, set, get_or-set_other, get_or-set_same}
+use Rattle.std.specs.Prelude.{◌==◌, unwrap_or, is_some, nat_eq, replicate}
+use Rattle.std.specs.Prelude.{Result, Ok, Err, OnOk}
+use Rattle.std.specs.Option.{option_or}
+use Rattle.std.proofs.lemmas.Bool.Decides.{nat_tests}
+use Rattle.std.proofs.lemmas.List.{length-replicate}
+use Rattle.indexmap.specs.IndexMap.{insert_entry}
+use Rattle.vyrd_base.specs.declared.header.Header.{Header}
+use Rattle.vyrd_base.specs.declared.subject.Method.{Method}
+use Rattle.vyrd_base.specs.declared.subject.Args.{Args}
+use Rattle.vyrd_base.specs.declared.log.Kind.{Kind}
+use Rattle.vyrd_base.specs.declared.log.Kind.TheVariants.{Call, Return, Write, Commit, BlockOpen, BlockClose, BlockCommit}
+use Rattle.vyrd_base.specs.declared.log.Entry.{Entry}
+use Rattle.vyrd_base.specs.Places.{first_answer, numbers_from, numbers_below}
+use Rattle.vyrd_base.specs.Layout.{plain_words}
+use Rattle.vyrd_base.specs.Callers.{by_caller, open_or_close, has_block}
+use Rattle.vyrd_base.specs.Words.{with_write, block_writes, effects_at, effects, given_to, value_after, words_after}
+use Rattle.vyrd_base.proofs.PlaceLaws.{first_answer-append}
+use Rattle.vyrd_base.proofs.WordLaws.{words_after-write}
+use Rattle.vyrd_base.proofs.BlockLaws.{entry, by_same, other_answer, no_answer, other_writes, own_block}
+use Rattle.vyrd_shadow.specs.Blocks.{with_writes, with_word, first_written}
+use Rattle.vyrd_shadow.specs.Following.{Kept, HasFollowed, is_open, kept_writes, words_of}
+use Rattle.vyrd_shadow.proofs.KeptWrites.{value_kept, words_kept, AllOnce, once_written, length-with_writes, value_with, differs}
+
+-- what a block keeps stands for the caller's entries
+pub record Own (c : ℕ) (block : Option (List (ℕ × ℕ))) (entries : List Entry) : Type 0 where
+  pub opened : is_some block ≡ has_block c entries
+  pub order : has_block c entries ≡ true → words_of (unwrap_or block []) ≡ first_written (block_writes c entries)
+  pub values : (w : ℕ) → has_block c entries ≡ true → first_answer (given_to w) (unwrap_or block []) ≡ first_answer (given_to w) (block_writes c entries)
+
+own_of : (kept : Kept) (earlier : List Entry) → HasFollowed kept earlier → (c : ℕ) → c < kept.header.callers → Own c (get_or kept.blocks c None) earlier
+own_of kept earlier followed c low = record {
+  opened = followed.blocks c low;
+  order = followed.order c low;
+  values = λ w. followed.values c w low;
+}
+
+-- words and blocks make what is kept
+followed_from : (kept : Kept) (earlier : List Entry) → kept.words ≡ words_after kept.header earlier → ((c : ℕ) → c < kept.header.callers → Own c (get_or kept.blocks c None) earlier) → HasFollowed kept earlier
+followed_from kept earlier words own = record {
+  words = words;
+  blocks = λ c low. (own c low).opened;
+  order = λ c low. (own c low).order;
+  values = λ c w low. (own c low).values w;
+}
+
+-- a block whose caller's notions are the same
+own_same : (c : ℕ) (block : Option (List (ℕ × ℕ))) (earlier later : List Entry) → has_block c later ≡ has_block c earlier → block_writes c later ≡ block_writes c earlier
+    → Own c block earlier → Own c block later
+own_same c block earlier later inside writes own = record {
+  opened = own.opened ∙ sym inside;
+  order = λ e. own.order (sym inside ∙ e) ∙ ap first_written (sym writes);
+  values = λ w e. own.values w (sym inside ∙ e) ∙ ap (first_answer (given_to w)) (sym writes);
+}
+
+-- another caller's entry
+own_other : (d c : ℕ) (kind : Kind) (block : Option (List (ℕ × ℕ))) (earlier : List Entry) → (c == d) ≡ false → Own d block earlier → Own d block (entry c kind ∷ earlier)
+own_other d c kind block earlier other own = own_same d block earlier (entry c kind ∷ earlier)
+    (ap (λ o. unwrap_or o false) (other_answer d c open_or_close kind earlier other)) (other_writes d c kind earlier other) own
+
+-- the caller's own block is replaced
+own_next : (n : ℕ) (blocks : List (Option (List (ℕ × ℕ)))) (earlier : List Entry) (c : ℕ) (kind : Kind) (block : Option (List (ℕ × ℕ))) → c < length blocks
+    → Own c block (entry c kind ∷ earlier) → ((d : ℕ) → d < n → Own d (get_or blocks d None) earlier)
+    → (d : ℕ) → d < n → Own d (get_or (set blocks c block) d None) (entry c kind ∷ earlier)
+own_next n blocks earlier c kind block low own all = λ d low_d. by_same c d
+    (λ same. subst (λ x. Own x (get_or (set blocks c block) x None) (entry c kind ∷ earlier)) same
+    (subst (λ b. Own c b (entry c kind ∷ earlier)) (sym (get_or-set_same blocks c block None low)) own))
+    (λ other. subst (λ b. Own d b (entry c kind ∷ earlier)) (sym (get_or-set_other blocks c d block None (differs c d other))) (own_other d c kind (get_or blocks d None) earlier other (all d low_d)))
+
+-- a closed block
+own_closed : (c : ℕ) (block : Option (List (ℕ × ℕ))) (entries : List Entry) → is_some block ≡ false → has_block c entries ≡ false → Own c block entries
+own_closed c block entries none out = record {
+  opened = none ∙ sym out;
+  order = λ e. cc;
+  values = λ w e. cc;
+}
+
+same_number : (c : ℕ) → (c == c) ≡ true
+same_number c = grind (arith, nat_tests)
+
+own_writes : (c : ℕ) (kind : Kind) (earlier : List Entry) → block_writes c (entry c kind ∷ earlier) ≡ with_write true kind (block_writes c earlier)
+own_writes c kind earlier = ap (λ b. with_write b kind (block_writes c earlier)) (same_number c)
+
+-- a write leaves blocks open or closed
+block_write : (d c word value : ℕ) (earlier : List Entry) → has_block d (entry c (Write word value) ∷ earlier) ≡ has_block d earlier
+block_write d c word value earlier = ap (λ o. unwrap_or o false) (no_answer d c open_or_close (Write word value) earlier refl)
+
+-- a write outside a block
+pub followed_through : (kept : Kept) (earlier : List Entry) (c word value : ℕ) (changed : List ℕ) → c < kept.header.callers → word < plain_words kept.header → is_open kept c ≡ false
+    → HasFollowed kept earlier → HasFollowed (record { header = kept.header; words = set kept.words word value; blocks = kept.blocks; changed = changed }) (entry c (Write word value) ∷ earlier)
+followed_through kept earlier c word value changed low low_w closed followed =
+    let out : has_block c earlier ≡ false = sym (followed.blocks c low) ∙ closed in
+    followed_from _ _
+    (ap (λ l. set l word value) followed.words ∙ sym (words_after-write kept.header earlier c word value out low_w))
+    (λ d low_d. by_same c d
+    (λ same. subst (λ x. Own x (get_or kept.blocks x None) (entry c (Write word value) ∷ earlier)) same
+    (own_closed c (get_or kept.blocks c None) (entry c (Write word value) ∷ earlier) closed (block_write c c word value earlier ∙ out)))
+    (λ other. own_other d c (Write word value) (get_or kept.blocks d None) earlier other (own_of kept earlier followed d low_d)))
+
+-- a write in a block doesn't count yet
+words_held : (h : Header) (earlier : List Entry) (c word value : ℕ) → has_block c earlier ≡ true → words_after h (entry c (Write word value) ∷ earlier) ≡ words_after h earlier
+unfolding words_after
+words_held h earlier c word value inside = ap (λ b. map (value_after (cond b [] ((word, value) ∷ []) ++ effects earlier)) (numbers_below (plain_words h))) inside
+
+own_kept : (c word value : ℕ) (block : Option (List (ℕ × ℕ))) (earlier : List Entry) → has_block c earlier ≡ true → Own c block earlier
+    → Own c (Some (insert_entry nat_eq (unwrap_or block []) word value)) (entry c (Write word value) ∷ earlier)
+own_kept c word value block earlier inside own = record {
+  opened = sym (block_write c c word value earlier ∙ inside);
+  order = λ e. words_kept word value (unwrap_or block []) ∙ ap (λ ws. with_word ws word) (own.order inside) ∙ ap first_written (sym (own_writes c (Write word value) earlier));
+  values = λ w e. value_kept w word value (unwrap_or block []) ∙ ap (option_or (given_to w (word, value))) (own.values w inside) ∙ ap (first_answer (given_to w)) (sym (own_writes c (Write word value) earlier));
+}
+
+pub followed_kept : (kept : Kept) (earlier : List Entry) (c word value : ℕ) → c < kept.header.callers → c < length kept.blocks → is_open kept c ≡ true
+    → HasFollowed kept earlier
+    → HasFollowed (record { header = kept.header; words = kept.words; blocks = set kept.blocks c (Some (insert_entry nat_eq (kept_writes kept c) word value)); changed = kept.changed }) (entry c (Write word value) ∷ earlier)
+followed_kept kept earlier c word value low low' opened followed =
+    let inside : has_block c earlier ≡ true = sym (followed.blocks c low) ∙ opened in
+    followed_from _ _
+    (followed.words ∙ sym (words_held kept.header earlier c word value inside))
+    (own_next kept.header.callers kept.blocks earlier c (Write word value) _ low' (own_kept c word value (get_or kept.blocks c None) earlier inside (own_of kept earlier followed c low)) (own_of kept earlier followed))
+
+-- a block is opened
+words_open : (h : Header) (earlier : List Entry) (c : ℕ) → words_after h (entry c BlockOpen ∷ earlier) ≡ words_after h earlier
+unfolding words_after
+words_open h earlier c = refl
+
+own_open : (c : ℕ) (earlier : List Entry) → Own c (Some []) (entry c BlockOpen ∷ earlier)
+own_open c earlier = record {
+  opened = sym (own_block c BlockOpen earlier);
+  order = λ e. ap first_written (sym (own_writes c BlockOpen earlier));
+  values = λ w e. ap (first_answer (given_to w)) (sym (own_writes c BlockOpen earlier));
+}
+
+pub followed_open : (kept : Kept) (earlier : List Entry) (c : ℕ) → c < length kept.blocks → HasFollowed kept earlier
+    → HasFollowed (record { header = kept.header; words = kept.words; blocks = set kept.blocks c (Some []); changed = kept.changed }) (entry c BlockOpen ∷ earlier)
+followed_open kept earlier c low followed =
+    followed_from _ _ (followed.words ∙ sym (words_open kept.header earlier c))
+    (own_next kept.header.callers kept.blocks earlier c BlockOpen (Some []) low (own_open c earlier) (own_of kept earlier followed))
+
+-- lists of numbers by their places
+is_map : (words : List ℕ) (f : ℕ → ℕ) (k n : ℕ) → length words ≡ n → ((i : ℕ) → i < n → get_or words i 0 ≡ f (k + i)) → words ≡ map f (numbers_from k n)
+is_map [] f k zero size all = refl
+is_map [] f k (suc n) size all = absurd (omega arith)
+is_map (x ∷ words) f k zero size all = absurd (omega arith)
+is_map (x ∷ words) f k (suc n) size all =
+    let first : x ≡ f k = all 0 (omega arith) ∙ ap f (omega arith) in
+    let rest = is_map words f (k + 1) n (omega arith) (λ i low. all (suc i) (omega arith) ∙ ap f (omega arith)) in
+    λ i. first i ∷ rest i
+
+at_map : (f : ℕ → ℕ) (k n i : ℕ) → i < n → get_or (map f (numbers_from k n)) i 0 ≡ f (k + i)
+at_map f k zero i low = absurd (omega arith)
+at_map f k (suc n) zero low = ap f (omega arith)
+at_map f k (suc n) (suc i) low = at_map f (k + 1) n i (omega arith) ∙ ap f (omega arith)
+
+-- a look-up in two lists of effects
+value_append : (first rest : List (ℕ × ℕ)) (w : ℕ) → value_after (first ++ rest) w ≡ unwrap_or (first_answer (given_to w) first) (value_after rest w)
+value_append first rest w = ap (λ o. unwrap_or o 0) (first_answer-append (given_to w) first rest)
+    ∙ elim (first_answer (given_to w) first) as (λ o. unwrap_or (option_or o (first_answer (given_to w) rest)) 0 ≡ unwrap_or o (unwrap_or (first_answer (given_to w) rest) 0)) [
+      | None ↦ refl
+      | Some v ↦ refl
+    ]
+
+-- a block's writes take effect
+words_close : (h : Header) (earlier : List Entry) (c : ℕ) (kind : Kind) (words : List ℕ) (writes : List (ℕ × ℕ)) → effects_at earlier c kind ≡ block_writes c earlier
+    → length words ≡ plain_words h → words ≡ words_after h earlier → AllOnce (words_of writes)
+    → ((w : ℕ) → first_answer (given_to w) writes ≡ first_answer (given_to w) (block_writes c earlier))
+    → with_writes words writes ≡ words_after h (entry c kind ∷ earlier)
+unfolding words_after
+words_close h earlier c kind words writes ends size is once values =
+    is_map (with_writes words writes) (value_after (effects_at earlier c kind ++ effects earlier)) 0 (plain_words h) (length-with_writes words writes ∙ size)
+    (λ i low.
+    let place : 0 + i ≡ i = omega arith in
+    let was : get_or words i 0 ≡ value_after (effects earlier) i
+    = ap (λ l. get_or l i 0) is ∙ at_map (value_after (effects earlier)) 0 (plain_words h) i low ∙ ap (value_after (effects earlier)) place in
+    value_with words writes i (omega arith) once
+    ∙ (λ j. unwrap_or (values i j) (was j))
+    ∙ sym (value_append (block_writes c earlier) (effects earlier) i)
+    ∙ ap (λ first. value_after (first ++ effects earlier) i) (sym ends)
+    ∙ ap (value_after (effects_at earlier c kind ++ effects earlier)) (sym place))
+
+-- a block ends, with a commit or without
+followed_end : (kept : Kept) (earlier : List Entry) (c : ℕ) (kind : Kind) (changed : List ℕ) → effects_at earlier c kind ≡ block_writes c earlier → open_or_close kind ≡ Some false
+    → c < kept.header.callers → c < length kept.blocks → length kept.words ≡ plain_words kept.header → is_open kept c ≡ true → HasFollowed kept earlier
+    → HasFollowed (record { header = kept.header; words = with_writes kept.words (kept_writes kept c); blocks = set kept.blocks c None; changed = changed }) (entry c kind ∷ earlier)
+followed_end kept earlier c kind changed ends edge low low' size opened followed =
+    let inside : has_block c earlier ≡ true = sym (followed.blocks c low) ∙ opened in
+    let once : AllOnce (words_of (kept_writes kept c)) = subst AllOnce (sym (followed.order c low inside)) (once_written (block_writes c earlier)) in
+    let out : has_block c (entry c kind ∷ earlier) ≡ false = own_block c kind earlier ∙ ap (λ o. unwrap_or (option_or o (first_answer (by_caller c open_or_close) earlier)) false) edge in
+    followed_from _ _
+    (words_close kept.header earlier c kind kept.words (kept_writes kept c) ends size followed.words once (λ w. followed.values c w low inside))
+    (own_next kept.header.callers kept.blocks earlier c kind None low' (own_closed c None (entry c kind ∷ earlier) refl out) (own_of kept earlier followed))
+
+pub followed_close : (kept : Kept) (earlier : List Entry) (c : ℕ) (changed : List ℕ)
+    → c < kept.header.callers → c < length kept.blocks → length kept.words ≡ plain_words kept.header → is_open kept c ≡ true → HasFollowed kept earlier
+    → HasFollowed (record { header = kept.header; words = with_writes kept.words (kept_writes kept c); blocks = set kept.blocks c None; changed = changed }) (entry c BlockClose ∷ earlier)
+followed_close kept earlier c changed = followed_end kept earlier c BlockClose changed refl refl
+
+pub followed_commit : (kept : Kept) (earlier : List Entry) (c : ℕ) (changed : List ℕ)
+    → c < kept.header.callers → c < length kept.blocks → length kept.words ≡ plain_words kept.header → is_open kept c ≡ true → HasFollowed kept earlier
+    → HasFollowed (record { header = kept.header; words = with_writes kept.words (kept_writes kept c); blocks = set kept.blocks c None; changed = changed }) (entry c BlockCommit ∷ earlier)
+followed_commit kept earlier c changed = followed_end kept earlier c BlockCommit changed refl refl
+
+-- an entry that is no write and touches no block
+followed_quiet : (kept : Kept) (earlier : List Entry) (c : ℕ) (kind : Kind) → words_after kept.header (entry c kind ∷ earlier) ≡ words_after kept.header earlier → open_or_close kind ≡ None
+    → ((b : Bool) (writes : List (ℕ × ℕ)) → with_write b kind writes ≡ writes) → HasFollowed kept earlier → HasFollowed kept (entry c kind ∷ earlier)
+followed_quiet kept earlier c kind words edge writes followed =
+    followed_from kept (entry c kind ∷ earlier) (followed.words ∙ sym words)
+    (λ d low. own_same d (get_or kept.blocks d None) earlier (entry c kind ∷ earlier)
+    (ap (λ o. unwrap_or o false) (no_answer d c open_or_close kind earlier edge)) (writes (c == d) (block_writes d earlier)) (own_of kept earlier followed d low))
+
+pub followed_call : (kept : Kept) (earlier : List Entry) (c : ℕ) (method : Method) (args : Args) → HasFollowed kept earlier → HasFollowed kept (entry c (Call method args) ∷ earlier)
+unfolding words_after
+followed_call kept earlier c method args = followed_quiet kept earlier c (Call method args) refl refl by_test
+  where
+    by_test : (b : Bool) (writes : List (ℕ × ℕ)) → with_write b (Call method args) writes ≡ writes
+    by_test true writes = refl
+    by_test false writes = refl
+
+pub followed_return : (kept : Kept) (earlier : List Entry) (c reply : ℕ) → HasFollowed kept earlier → HasFollowed kept (entry c (Return reply) ∷ earlier)
+unfolding words_after
+followed_return kept earlier c reply = followed_quiet kept earlier c (Return reply) refl refl by_test
+  where
+    by_test : (b : Bool) (writes : List (ℕ × ℕ)) → with_write b (Return reply) writes ≡ writes
+    by_test true writes = refl
+    by_test false writes = refl
+
+pub followed_lone_commit : (kept : Kept) (earlier : List Entry) (c : ℕ) → HasFollowed kept earlier → HasFollowed kept (entry c Commit ∷ earlier)
+unfolding words_after
+followed_lone_commit kept earlier c = followed_quiet kept earlier c Commit refl refl by_test
+  where
+    by_test : (b : Bool) (writes : List (ℕ × ℕ)) → with_write b Commit writes ≡ writes
+    by_test true writes = refl
+    by_test false writes = refl
+
+-- nothing has been followed
+zeros : (n i : ℕ) → get_or (replicate n zero) i zero ≡ zero
+zeros zero i = refl
+zeros (suc n) zero = refl
+zeros (suc n) (suc i) = zeros n i
+
+alike : (n c : ℕ) (block : Option (List (ℕ × ℕ))) → get_or (replicate n block) c block ≡ block
+alike zero c block = refl
+alike (suc n) zero block = refl
+alike (suc n) (suc c) block = alike n c block
+
+pub followed_none : (h : Header) (changed : List ℕ) → HasFollowed (record { header = h; words = replicate (plain_words h) 0; blocks = replicate h.callers None; changed = changed }) []
+unfolding words_after
+followed_none h changed = followed_from _ _
+    (is_map (replicate (plain_words h) 0) (value_after []) 0 (plain_words h) (length-replicate {A = ℕ} (plain_words h) 0) (λ i low. zeros (plain_words h) i))
+    (λ c low. own_closed c (get_or (replicate h.callers None) c None) [] (ap is_some (alike h.callers c None)) refl)
+
+-- what follows from an `Ok`
+pub on_ok : {T E P Q : Type 0} (r : Result T E) → OnOk r P → (P → Q) → OnOk r Q
+on_ok (Ok x) p f = f p
+on_ok (Err e) p f = p

@@ -1,0 +1,4 @@
+pub mod KeptWrites
+pub mod FollowLaws
+pub mod SoundLaws
+pub mod QuietLaws

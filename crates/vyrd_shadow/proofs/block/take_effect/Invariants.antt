@@ -1,0 +1,9 @@
+use Rattle.std.proofs.Common.{◌≡◌, length}
+use Rattle.vyrd_shadow.specs.Blocks.{with_writes, AreInRange}
+use Rattle.vyrd_shadow.proofs.block.take_effect.Given as goal
+
+abbrev pub invariant-loop-word : goal.invariant-loop-word
+invariant-loop-word l = record {
+  left : with_writes l.words l.word-iterator ≡ with_writes l.initial.words l.writes.entries;
+  in_range : AreInRange (length l.words) l.word-iterator;
+}

@@ -1,0 +1,110 @@
+//! What a caller's block keeps back.
+
+ghost use Rattle.std.specs.Prelude.{◌≡◌, ℕ, ◌+◌, ◌≤◌, Bool, true, List, [], ◌++◌, length, map, None, Some, IsSome, IfOk, OnOk, OnErr, is_some, is_none, unwrap_or, nat_eq, not, vec_len, vec_capacity, if◌then◌else◌};
+ghost use Rattle.std.specs.List.{list_any};
+ghost use Rattle.std.specs.Map.{keys_of};
+ghost use Rattle.indexmap.specs.IndexMap.{insert_entry};
+ghost use Rattle.vyrd_shadow.specs.Blocks.{with_writes, AreInRange};
+
+use indexmap::IndexMap;
+use std::alloc::{AllocError, Global};
+use std::marker::Model;
+
+/// A caller's block: nothing while it is closed, and while it is open the writes in it, each word once in the order of the first
+/// writes, with its last value.
+#[derive(Drop)]
+pub(crate) struct Block {
+    is_open: bool,
+    writes: IndexMap<u32, u64>,
+}
+
+impl Model for Block {
+    ghost use Rattle.std.specs.Prelude.{◌≡◌, ℕ, false, List, [], Option, Some, None, if◌then◌else◌};
+
+    ghost Value = { Option (List (ℕ × ℕ)) };
+
+    ghost view = { λ s. if s.is_open then Some s.writes.entries else None };
+
+    ghost invariant = { λ s. s.is_open ≡ false → s.writes.entries ≡ [] };
+}
+
+impl Block {
+    /// A closed block, which holds no memory.
+    pub fn new(alloc: Global) -> Block
+        ensures { result ≡ None }
+    {
+        Block {
+            is_open: false,
+            writes: IndexMap::new(alloc),
+        }
+    }
+
+    pub fn is_open(&self) -> bool
+        ensures { result ≡ is_some self.now }
+    {
+        self.is_open
+    }
+
+    /// How many words the block keeps.
+    pub fn len(&self) -> usize
+        ensures { result ≡ length (unwrap_or self.now []) }
+    {
+        self.writes.len()
+    }
+
+    /// The block is open and keeps nothing.
+    pub fn open(&mut self)
+        requires { self.old ≡ None }
+        ensures { self.new ≡ Some [] }
+    {
+        self.is_open = true;
+    }
+
+    /// Keeps a write, and says whether its word is new.
+    pub fn keep(&mut self, word: u32, value: u64) -> Result<bool, AllocError>
+        requires { is_some self.old ≡ true }
+        ensures ok { OnOk result (self.new ≡ Some (insert_entry nat_eq (unwrap_or self.old []) word value)) }
+        ensures err { OnErr result (self.new ≡ self.old) }
+        ensures more { IfOk result (λ more. length (unwrap_or self.new []) ≡ length (unwrap_or self.old []) + (if more then 1 else 0)) }
+    {
+        let before = self.writes.insert(word, value)?;
+        Ok(before.is_none())
+    }
+
+    /// The writes take effect in their order, and the block is closed.
+    pub fn end(&mut self, words: &mut [u64], changed: &mut Vec<u32>)
+        requires opened { is_some self.old ≡ true }
+        requires in_range { AreInRange (length words.old) (unwrap_or self.old []) }
+        requires room { vec_len changed.old + length (unwrap_or self.old []) ≤ vec_capacity changed.old }
+        ensures closed { self.new ≡ None }
+        ensures words { words.new ≡ with_writes words.old (unwrap_or self.old []) }
+        ensures changed { changed.new.items ≡ changed.old.items ++ keys_of (unwrap_or self.old []) }
+        ensures capacity { vec_capacity changed.old ≤ vec_capacity changed.new }
+    {
+        take_effect(words, &self.writes);
+        note(changed, &self.writes);
+        self.writes.clear();
+        self.is_open = false;
+    }
+}
+
+/// The writes take effect in their order.
+fn take_effect(words: &mut [u64], writes: &IndexMap<u32, u64>)
+    requires { AreInRange (length words.old) writes.now.entries }
+    ensures { words.new ≡ with_writes words.old writes.now.entries }
+{
+    for (word, value) in writes.iter() {
+        words[*word as usize] = *value;
+    }
+}
+
+/// Notes the words that the writes change.
+fn note(changed: &mut Vec<u32>, writes: &IndexMap<u32, u64>)
+    requires { vec_len changed.old + length writes.now.entries ≤ vec_capacity changed.old }
+    ensures items { changed.new.items ≡ changed.old.items ++ keys_of writes.now.entries }
+    ensures capacity { vec_capacity changed.old ≤ vec_capacity changed.new }
+{
+    for word in writes.keys() {
+        let _ = changed.push(*word);
+    }
+}

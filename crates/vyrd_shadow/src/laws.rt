@@ -1,0 +1,16 @@
+//! What a shadow needn't be told. Each function is empty, and its contract is a law.
+
+ghost use Rattle.std.specs.Prelude.{ℕ, List, ◌∷◌};
+ghost use Rattle.vyrd_base.specs.declared.subject.Method.{Method};
+ghost use Rattle.vyrd_base.specs.declared.subject.Args.{Args};
+ghost use Rattle.vyrd_base.specs.declared.log.Kind.TheVariants.{Call, Return, Commit};
+ghost use Rattle.vyrd_base.specs.declared.log.Entry.{Entry};
+ghost use Rattle.vyrd_shadow.specs.Following.{Kept, HasFollowed};
+
+/// A shadow that has followed some entries has followed one more call, return or lone commit too.
+#[tactic(auto, using(crate::proofs::QuietLaws::quiet_laws))]
+pub fn other_entries_leave_a_shadow()
+    ensures calls { (kept : Kept) (earlier : List Entry) (caller : ℕ) (method : Method) (args : Args) → HasFollowed kept earlier → HasFollowed kept (record { caller = caller; kind = Call method args } ∷ earlier) }
+    ensures returns { (kept : Kept) (earlier : List Entry) (caller reply : ℕ) → HasFollowed kept earlier → HasFollowed kept (record { caller = caller; kind = Return reply } ∷ earlier) }
+    ensures commits { (kept : Kept) (earlier : List Entry) (caller : ℕ) → HasFollowed kept earlier → HasFollowed kept (record { caller = caller; kind = Commit } ∷ earlier) }
+{}

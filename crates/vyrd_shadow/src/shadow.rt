@@ -1,0 +1,168 @@
+//! The words, and what open blocks keep back.
+
+ghost use Rattle.std.specs.Prelude.{◌≡◌, ℕ, ◌<◌, ◌^◌, true, false, List, [], ◌∷◌, ◌++◌, length, map, replicate, Some, None, IfOk, OnOk, OnErr, nat_eq, slice_index, slice_set, if◌then◌else◌};
+ghost use Rattle.std.specs.List.{All};
+ghost use Rattle.indexmap.specs.IndexMap.{insert_entry};
+ghost use Rattle.vyrd_base.specs.declared.log.Kind.TheVariants.{Write, BlockOpen, BlockClose, BlockCommit};
+ghost use Rattle.vyrd_base.specs.declared.log.Entry.{Entry};
+ghost use Rattle.vyrd_base.specs.Layout.{plain_words};
+ghost use Rattle.vyrd_shadow.specs.Blocks.{with_writes};
+ghost use Rattle.vyrd_shadow.specs.Following.{Kept, HasFollowed, is_open, kept_writes, words_of};
+
+use crate::block::Block;
+use std::alloc::{AllocError, Global};
+use std::marker::Model;
+use vyrd_base::Header;
+
+/// The plain words of a log after its writes so far, what open blocks keep back, and which words have changed.
+#[derive(Drop)]
+pub struct Shadow {
+    header: Header,
+    words: Vec<u64>,
+    /// By caller.
+    blocks: Vec<Block>,
+    changed: Vec<u32>,
+    /// How many words all blocks keep. Behind `changed` there is room for so many.
+    count: usize,
+}
+
+impl Model for Shadow {
+    ghost use Rattle.std.specs.Prelude.{vec_capacity};
+    ghost use Rattle.vyrd_shadow.specs.Blocks.{IsSound};
+    ghost use Rattle.vyrd_shadow.specs.Following.{Kept};
+
+    ghost Value = { Kept };
+
+    ghost view = { λ s. record { header = s.header; words = s.words.items; blocks = s.blocks.items; changed = s.changed.items } };
+
+    ghost invariant = { λ s. IsSound s.header s.words.items s.blocks.items s.changed.items s.count (vec_capacity s.changed) };
+}
+
+impl Shadow {
+    /// All words are 0, no block is open, and no word has changed. It takes memory in proportion to the words and the callers.
+    pub fn new(alloc: Global, header: Header) -> Result<Shadow, AllocError>
+        ensures followed { IfOk result (λ s. HasFollowed s []) }
+        ensures header { IfOk result (λ s. s.header ≡ header) }
+        ensures changed { IfOk result (λ s. s.changed ≡ []) }
+    {
+        Ok(Shadow {
+            header,
+            words: vec![in alloc; 0; header.plain_words() as usize]?,
+            blocks: closed_blocks(alloc, header.callers())?,
+            changed: Vec::new(alloc),
+            count: 0,
+        })
+    }
+
+    /// The caller writes the value to the word. In the caller's open block the write is kept back; otherwise it takes effect, and
+    /// the word has changed. Either takes constant time on average, and the room that the end of the block will want among the
+    /// changed words is made here. A write that is refused for want of memory leaves the shadow as it is.
+    pub fn write(&mut self, caller: u32, word: u32, value: u64) -> Result<(), AllocError>
+        requires caller { caller < self.old.header.callers }
+        requires word { word < plain_words self.old.header }
+        requires value { value < 2 ^ 63 }
+        ensures followed { (earlier : List Entry) → HasFollowed self.old earlier → OnOk result (HasFollowed self.new (record { caller = caller; kind = Write word value } ∷ earlier)) }
+        ensures changed { OnOk result (self.new.changed ≡ (if is_open self.old caller then self.old.changed else self.old.changed ++ word ∷ [])) }
+        ensures refused { OnErr result (self.new ≡ self.old) }
+        ensures header { self.new.header ≡ self.old.header }
+    {
+        if self.blocks[caller as usize].is_open() {
+            self.keep(caller, word, value)
+        } else {
+            self.write_through(word, value)
+        }
+    }
+
+    /// The caller opens a block.
+    pub fn open_block(&mut self, caller: u32)
+        requires caller { caller < self.old.header.callers }
+        requires closed { is_open self.old caller ≡ false }
+        ensures followed { (earlier : List Entry) → HasFollowed self.old earlier → HasFollowed self.new (record { caller = caller; kind = BlockOpen } ∷ earlier) }
+        ensures changed { self.new.changed ≡ self.old.changed }
+        ensures header { self.new.header ≡ self.old.header }
+    {
+        self.blocks[caller as usize].open();
+    }
+
+    /// The caller's block ends, with a commit or without: the writes that it kept back take effect in their order, in time linear
+    /// in the number of their words. No memory is taken.
+    pub fn close_block(&mut self, caller: u32)
+        requires caller { caller < self.old.header.callers }
+        requires opened { is_open self.old caller ≡ true }
+        ensures closed { (earlier : List Entry) → HasFollowed self.old earlier → HasFollowed self.new (record { caller = caller; kind = BlockClose } ∷ earlier) }
+        ensures committed { (earlier : List Entry) → HasFollowed self.old earlier → HasFollowed self.new (record { caller = caller; kind = BlockCommit } ∷ earlier) }
+        ensures changed { self.new.changed ≡ self.old.changed ++ words_of (kept_writes self.old caller) }
+        ensures header { self.new.header ≡ self.old.header }
+    {
+        let block = &mut self.blocks[caller as usize];
+        self.count -= block.len();
+        block.end(&mut self.words, &mut self.changed);
+    }
+
+    /// The plain words.
+    pub fn words(&self) -> &[u64]
+        ensures words { result.now ≡ self.now.words }
+        ensures all { length result.now ≡ plain_words self.now.header }
+        ensures values { (w : ℕ) → slice_index result.now w < 2 ^ 63 }
+    {
+        &self.words
+    }
+
+    /// The words that effects have touched since the last `clear_changed`, in the order of the effects: a write outside a block
+    /// adds its word, and a block's end the words written in it, once each in the order of their first writes.
+    pub fn changed(&self) -> &[u32]
+        ensures changed { result.now ≡ self.now.changed }
+        ensures words { All (λ w. w < plain_words self.now.header) result.now }
+    {
+        &self.changed
+    }
+
+    /// No word has changed from here on.
+    pub fn clear_changed(&mut self)
+        ensures changed { self.new ≡ record self.old { changed = [] } }
+        ensures followed { (earlier : List Entry) → HasFollowed self.old earlier → HasFollowed self.new earlier }
+    {
+        self.changed.clear();
+    }
+
+    /// A write outside a block takes effect.
+    fn write_through(&mut self, word: u32, value: u64) -> Result<(), AllocError>
+        requires word { word < plain_words self.old.header }
+        requires value { value < 2 ^ 63 }
+        ensures ok { OnOk result (self.new ≡ record self.old { words = slice_set self.old.words word value; changed = self.old.changed ++ word ∷ [] }) }
+        ensures refused { OnErr result (self.new ≡ self.old) }
+    {
+        self.changed.reserve(self.count + 1)?;
+        self.words[word as usize] = value;
+        self.changed.push(word)?;
+        Ok(())
+    }
+
+    /// A write in the caller's block is kept back.
+    fn keep(&mut self, caller: u32, word: u32, value: u64) -> Result<(), AllocError>
+        requires caller { caller < self.old.header.callers }
+        requires opened { is_open self.old caller ≡ true }
+        requires word { word < plain_words self.old.header }
+        requires value { value < 2 ^ 63 }
+        ensures ok { OnOk result (self.new ≡ record self.old { blocks = slice_set self.old.blocks caller (Some (insert_entry nat_eq (kept_writes self.old caller) word value)) }) }
+        ensures refused { OnErr result (self.new ≡ self.old) }
+    {
+        self.changed.reserve(self.count + 1)?;
+        let is_new = self.blocks[caller as usize].keep(word, value)?;
+        if is_new {
+            self.count += 1;
+        }
+        Ok(())
+    }
+}
+
+/// A closed block for each caller.
+fn closed_blocks(alloc: Global, callers: u32) -> Result<Vec<Block>, AllocError>
+    ensures { IfOk result (λ blocks. blocks.items ≡ replicate callers None) }
+{
+    let mut blocks = Vec::with_capacity(alloc, callers as usize)?;
+    for _ in 0..callers {
+        blocks.push(Block::new(alloc))?;
+    }
+    Ok(blocks)
+}

@@ -1,0 +1,33 @@
+//! The words and the changed words of a small log.
+
+use crate::Shadow;
+use std::test::Fail;
+use vyrd_base::{Header, Subject};
+
+#[test]
+fn writes_change_words_in_their_order(rt: HostRuntime) -> Result<(), Fail> {
+    let header = Header::new(1, Subject::Multiset, 1, 2).ok_or("no header")?;
+    let mut shadow = Shadow::new(rt.alloc(), header)?;
+    shadow.write(0, 1, 5)?;
+    shadow.write(0, 0, 2)?;
+    assert_eq!(rt; shadow.changed(), [1, 0].as_slice());
+    assert_eq!(rt; shadow.words(), [2, 5, 0, 0, 0, 0, 0, 0].as_slice());
+    Ok(())
+}
+
+#[test]
+fn blocks_change_words_at_their_end(rt: HostRuntime) -> Result<(), Fail> {
+    let header = Header::new(1, Subject::Multiset, 1, 2).ok_or("no header")?;
+    let mut shadow = Shadow::new(rt.alloc(), header)?;
+    shadow.write(0, 6, 1)?;
+    shadow.clear_changed();
+    shadow.open_block(1);
+    shadow.write(1, 3, 7)?;
+    shadow.write(1, 2, 8)?;
+    shadow.write(1, 3, 9)?;
+    assert_eq!(rt; shadow.changed(), [].as_slice());
+    shadow.close_block(1);
+    assert_eq!(rt; shadow.changed(), [3, 2].as_slice());
+    assert_eq!(rt; shadow.words(), [0, 0, 8, 9, 0, 0, 1, 0].as_slice());
+    Ok(())
+}
