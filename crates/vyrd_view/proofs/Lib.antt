@@ -1,0 +1,4 @@
+pub mod SumLaws
+pub mod PartLaws
+pub mod ChainLaws
+pub mod ApartLaws

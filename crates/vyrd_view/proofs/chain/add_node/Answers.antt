@@ -1,0 +1,32 @@
+use Rattle.std.proofs.Common.{◌≡◌, arith, ap, sym, ◌∙◌, min}
+use Rattle.std.specs.Prelude.{flat_map}
+use Rattle.vyrd_base.specs.Places.{numbers_below}
+use Rattle.vyrd_base.specs.Amounts.{amount_of}
+use Rattle.vyrd_base.specs.TreeView.{count_of}
+use Rattle.vyrd_view.specs.Added.{added}
+use Rattle.vyrd_view.proofs.SumLaws.{added-push, amount_of-added}
+use Rattle.vyrd_view.proofs.PartLaws.{place_parts, places_at_most, node_parts-places, place_is}
+use Rattle.vyrd_view.proofs.chain.add_node.Goals as goal
+
+pub add_entry-requires : goal.add_entry-requires
+add_entry-requires c = record {
+  few = λ key.
+      let so_far = flat_map (place_parts c.args.words.now c.args.node) (numbers_below c.loop-j.j) in
+      omega (
+        arith,
+        ap (λ s. amount_of s key) c.loop-j.invariant ∙ amount_of-added so_far c.args.sums.now key,
+        places_at_most c.args.words.now c.args.node c.loop-j.j key,
+        c.requires.few key,
+      );
+}
+
+pub loop-j-preserved : goal.loop-j-preserved
+loop-j-preserved c =
+    added-push (place_parts c.args.words.now c.args.node) c.loop-j.j c.args.sums.now c.loop-j.sums c.add_entry.new.sums c.loop-j.invariant
+    (c.in_ok-add_entry.ensures ∙ ap (added c.loop-j.sums) (place_is c.args.words.now c.args.node c.loop-j.j))
+
+pub returns : goal.returns
+returns c =
+    let all : c.loop-j.j ≡ min (count_of c.args.words.now c.args.node) 4 = omega arith in
+    c.loop-j.invariant ∙ ap (λ m. added c.args.sums.now (flat_map (place_parts c.args.words.now c.args.node) (numbers_below m))) all
+    ∙ sym (ap (added c.args.sums.now) (node_parts-places c.args.words.now c.args.node))

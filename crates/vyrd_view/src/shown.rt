@@ -1,0 +1,34 @@
+//! What words show.
+
+ghost use Rattle.std.specs.Prelude.{◌≡◌, length, IfOk};
+ghost use Rattle.vyrd_base.specs.Layout.{plain_words};
+ghost use Rattle.vyrd_base.specs.Views.{view_of_words};
+
+use crate::chain::chain;
+use crate::chunks::chunks;
+use crate::slots::slots;
+use std::alloc::{AllocError, Global};
+use vyrd_base::{AmountMap, Header, Subject, View};
+
+/// What the plain words of a header show. The time is in proportion to the words, times the logarithm of the keys that they
+/// show, and the memory is in proportion to those keys. A tree's chain wants a flag for each node as well.
+pub fn view_of(alloc: Global, header: Header, words: &[u64]) -> Result<View, AllocError>
+    requires count { length words.now ≡ plain_words header }
+    ensures { IfOk result (λ v. v ≡ view_of_words header words.now) }
+{
+    gathered(alloc, header, words)?.view(alloc)
+}
+
+/// The same, still to be listed.
+#[tactic(auto, unfolding(vyrd_base::specs::Views::view_of_words))]
+fn gathered(alloc: Global, header: Header, words: &[u64]) -> Result<AmountMap, AllocError>
+    requires count { length words.now ≡ plain_words header }
+    ensures { IfOk result (λ sums. sums ≡ view_of_words header words.now) }
+{
+    let size = header.size() as usize;
+    match header.subject() {
+        Subject::Multiset => slots(alloc, size, words),
+        Subject::Cache => chunks(alloc, size, words),
+        Subject::Tree => chain(alloc, size, words),
+    }
+}
