@@ -1,0 +1,10 @@
+pub mod FrontLaws
+pub mod ExecutionLaws
+pub mod StandingLaws
+pub mod FaultLaws
+pub mod KeptFacts
+pub mod SeenLaws
+pub mod OutcomeLaws
+pub mod StepLaws
+pub mod CountLaws
+pub mod VerdictFacts

@@ -1,0 +1,4 @@
+pub mod Executions
+pub mod Standing
+pub mod Outcomes
+pub mod Observing
