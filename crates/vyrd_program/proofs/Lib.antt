@@ -1,0 +1,6 @@
+pub mod WholeFacts
+pub mod LengthFacts
+pub mod PieceLaws
+pub mod InputLaws
+pub mod WriteLaws
+pub mod FormLaws
