@@ -1,0 +1,120 @@
+//! A traced memory that is closed.
+
+ghost use Rattle.std.specs.Prelude.{◌≡◌, ℕ, ◌+◌, ◌/◌, ◌<◌, ◌≤◌, length, true, [], slice_index, IfOk, IfErr, vec_len, vec_capacity};
+ghost use Rattle.std.specs.List.{All, sum_by};
+ghost use Rattle.std.specs.Slots.{slots_items, slots_len, IsFull};
+ghost use Rattle.vyrd_base.specs.Histories.{is_legal};
+ghost use Rattle.vyrd_trace.specs.Lanes.{part, cells_in, last_values};
+ghost use Rattle.vyrd_trace.specs.Hands.{AreAll};
+
+use crate::board::Board;
+use crate::hand::Hand;
+use crate::merge::merge;
+use crate::traced::Traced;
+use std::alloc::{AllocError, Global};
+use vyrd_base::{Did, Kind, Stamped};
+
+/// What a traced memory leaves: the history of all events, in the order of their numbers, and the last values, those of
+/// the plain cells and then those of the locks.
+#[derive(Drop)]
+pub struct Closed {
+    pub history: Vec<Stamped>,
+    pub words: Vec<u64>,
+}
+
+/// There was no memory to close it. Everything comes back as it was.
+#[derive(Drop)]
+pub struct Unclosed {
+    pub traced: Traced,
+    pub hands: Vec<Hand>,
+}
+
+// The memory that `close` takes before it changes anything.
+struct Room {
+    history: Vec<Stamped>,
+    words: Vec<u64>,
+    lanes: Vec<Vec<Stamped>>,
+}
+
+impl Room {
+    fn new(alloc: Global, total: usize, cells: usize, callers: usize) -> Result<Room, AllocError>
+        ensures history { IfOk result (λ r. vec_len r.history ≡ total) }
+        ensures words { IfOk result (λ r. (r.words.items ≡ []) × (cells ≤ vec_capacity r.words)) }
+        ensures lanes { IfOk result (λ r. (r.lanes.items ≡ []) × (callers ≤ vec_capacity r.lanes)) }
+    {
+        Ok(Room {
+            history: Vec::from_elem(alloc, blank(), total)?,
+            words: Vec::with_capacity(alloc, cells)?,
+            lanes: Vec::with_capacity(alloc, callers)?,
+        })
+    }
+}
+
+// An event that holds a place until the right one is written over it.
+fn blank() -> Stamped {
+    Stamped {
+        number: 0,
+        caller: 0,
+        did: Did::Marked(Kind::Commit),
+    }
+}
+
+// How many events the hands have.
+fn count_all(hands: &[Hand]) -> usize
+    requires limit { All (λ h. h.limit ≤ 16777216) hands.now }
+    requires few { length hands.now ≤ 64 }
+    ensures { result ≡ sum_by (λ h. length h.lane) hands.now }
+{
+    let mut total = 0;
+    for hand in hands {
+        total += hand.lane().len();
+    }
+    total
+}
+
+// The halves of the cells' words, which are the cells' values where no hand has claimed one.
+fn halve_words(closed: &atomic_table::Closed<(), Global>, cells: usize, words: &mut Vec<u64>)
+    requires closed { IsFull closed.now.words × (slots_len closed.now.words ≡ 1 + cells) }
+    requires room { (words.old.items ≡ []) × (cells ≤ vec_capacity words.old) }
+    ensures { (vec_len words.new ≡ cells) × ((k : ℕ) → k < cells → slice_index words.new.items k ≡ slice_index (slots_items closed.now.words) (k + 1) / 2) }
+{
+    for k in 0..cells {
+        words.push_reserved(closed.word(k + 1) / 2);
+    }
+}
+
+impl Traced {
+    /// Ends the sharing, and puts the lanes together. `hands` are all hands of this memory, in the order of their callers.
+    ///
+    /// It takes its memory first, for the whole history, and is `Unclosed` only where there was none. The time is linear
+    /// in the events and the cells.
+    pub fn close(self, hands: Vec<Hand>) -> Result<Closed, Unclosed>
+        requires { AreAll self hands.items }
+        ensures legal { IfOk result (λ closed. is_legal (cells_in self.plan) closed.history.items ≡ true) }
+        ensures parts { IfOk result (λ closed. All (λ hand. part hand.caller closed.history.items ≡ hand.lane) hands.items) }
+        ensures words { IfOk result (λ closed. closed.words.items ≡ last_values self.plan closed.history.items) }
+        ensures unclosed { IfErr result (λ left. (left.traced ≡ self) × (left.hands.items ≡ hands.items)) }
+    {
+        let total = count_all(hands.as_slice());
+        let cells = self.board.table.word_count() - 1;
+        let Ok(room) = Room::new(self.board.alloc, total, cells, hands.len()) else {
+            return Err(Unclosed {
+                traced: self,
+                hands,
+            });
+        };
+        let Room {
+            mut history,
+            mut words,
+            mut lanes,
+        } = room;
+        let Traced { board } = self;
+        let seat = board.gather_all(hands, &mut lanes);
+        let Board { alloc: _, table } = board;
+        let closed = table.close_with(seat);
+        halve_words(&closed, cells, &mut words);
+        closed.free();
+        merge(history.as_mut_slice(), lanes.as_slice());
+        Ok(Closed { history, words })
+    }
+}
