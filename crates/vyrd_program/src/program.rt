@@ -50,7 +50,7 @@ pub fn vyrd<R: Threads + Wait + Sync, S: Source, K: Sink, G: Gate>(
     // 3: the words are no form.
     ensures usage { result.status ≡ 3 → Appends (K.taken sink.old) (K.taken sink.new) usage_line }
     ensures usage_form { result.status ≡ 3 → ¬ (IsCheck (map (λ word. word.now) words.now)) }
-    ensures no_form { ¬ (IsCheck (map (λ word. word.now) words.now)) → (result.status ≡ 3) ⊎ (result.status ≡ 5) ⊎ (result.status ≡ 6) }
+    ensures no_form { ¬ (IsCheck (map (λ word. word.now) words.now)) → (result.status ≡ 3) ⊎ (result.status ≡ 5) }
     ensures source_untouched { ¬ (IsCheck (map (λ word. word.now) words.now)) → source.new ≡ source.old }
 
     // 4: a read failed, and nothing was written.
