@@ -39,6 +39,7 @@ impl Block {
         }
     }
 
+    /// Whether the block is open.
     pub fn is_open(&self) -> bool
         ensures { result ≡ is_some self.now }
     {
