@@ -23,3 +23,5 @@ pub mod AmountMaps
 pub mod KeyLaws
 pub mod DifferenceLaws
 pub mod StopLaws
+pub mod SumLaws
+pub mod ListLaws

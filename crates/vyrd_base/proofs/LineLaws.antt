@@ -65,7 +65,7 @@ module _ (same padded : Bool) (args : Args) (e : (same && padded && nat_lt args.
   padded_of = second_true same _ (first_true _ _ (first_true _ _ (first_true _ _ e)))
 
 -- a call is guessed right
-call_guess : (subject : Subject) (method : Method) (args : Args) → is_kind_of subject (Call method args) ≡ true
+pub call_guess : (subject : Subject) (method : Method) (args : Args) → is_kind_of subject (Call method args) ≡ true
     → guessed_kind subject (kind_fields (Call method args)) ≡ Some (Call method args)
 call_guess Multiset MsInsert args e = ap (λ x. Some (Call MsInsert x)) (args_1 args (padded_of true _ args e) (small_of true _ args e))
 call_guess Multiset MsInsertPair args e = ap (λ x. Some (Call MsInsertPair x)) (args_2 args (padded_of true _ args e) (small_of true _ args e))
@@ -140,7 +140,7 @@ plain_kind subject BlockOpen e = refl
 plain_kind subject BlockClose e = refl
 plain_kind subject BlockCommit e = refl
 
-plain_entry : (subject : Subject) (e : Entry) → is_entry_of subject e ≡ true → list_all is_plain_field (decimal e.caller ∷ kind_fields e.kind) ≡ true
+pub plain_entry : (subject : Subject) (e : Entry) → is_entry_of subject e ≡ true → list_all is_plain_field (decimal e.caller ∷ kind_fields e.kind) ≡ true
 plain_entry subject e is =
     both_true _ _ (plain_number e.caller (below_32 e.caller (first_true _ _ is))) (plain_kind subject e.kind (second_true (nat_lt e.caller (2 ^ 32)) _ is))
 

@@ -1,4 +1,4 @@
-pub mod SumLaws
+pub mod AddedLaws
 pub mod PartLaws
 pub mod ChainLaws
 pub mod ApartLaws

@@ -1,0 +1,55 @@
+-- What parts give to a key, whose amount is the sum of it.
+use Rattle.std.proofs.Common.{◌≡◌, ℕ, zero, suc, ◌+◌, ◌*◌, ◌<◌, ◌≤◌, Bool, true, false, cond, List, [], ◌∷◌, ◌++◌, refl, ap, ◌∙◌, sym, arith}
+use Rattle.std.specs.Prelude.{◌==◌, flat_map}
+use Rattle.std.proofs.lemmas.Bool.Decides.{nat_tests}
+use Rattle.vyrd_base.specs.Places.{numbers_from}
+use Rattle.vyrd_base.specs.Amounts.{Amounts, IsAmounts, amount_of, plus_amount, collected}
+use Rattle.vyrd_base.proofs.AmountLaws.{amount_of-with_amount, IsAmounts-with_amount}
+
+-- what one part gives to a key
+abbrev pub part_given : ℕ → ℕ × ℕ → ℕ
+part_given q part = cond (q == part.0) part.1 0
+
+-- what parts give to a key
+abbrev pub given : ℕ → List (ℕ × ℕ) → ℕ
+given q [] = 0
+given q (part ∷ parts) = part_given q part + given q parts
+
+equal_of : (q k : ℕ) → (q == k) ≡ true → q ≡ k
+equal_of q k e = grind (arith, nat_tests)
+
+pub amount_of-plus : (s : Amounts) (k a q : ℕ) → amount_of (plus_amount s k a) q ≡ amount_of s q + part_given q (k, a)
+amount_of-plus s k a q = amount_of-with_amount s k (amount_of s k + a) q ∙ by_key (q == k) refl
+  where
+    by_key : (b : Bool) → (q == k) ≡ b → cond b (amount_of s k + a) (amount_of s q) ≡ amount_of s q + cond b a 0
+    by_key true e = ap (λ x. amount_of s x + a) (sym (equal_of q k e))
+    by_key false e = omega arith
+
+pub amount_of-collected : (parts : List (ℕ × ℕ)) (q : ℕ) → amount_of (collected parts) q ≡ given q parts
+amount_of-collected [] q = refl
+amount_of-collected (part ∷ parts) q = omega (arith, amount_of-plus (collected parts) part.0 part.1 q, amount_of-collected parts q)
+
+pub IsAmounts-collected : (parts : List (ℕ × ℕ)) → IsAmounts (collected parts)
+IsAmounts-collected [] = record { rising = tt; some = tt }
+IsAmounts-collected (part ∷ parts) = IsAmounts-with_amount (collected parts) part.0 (amount_of (collected parts) part.0 + part.1) (IsAmounts-collected parts)
+
+pub given-append : (q : ℕ) (xs ys : List (ℕ × ℕ)) → given q (xs ++ ys) ≡ given q xs + given q ys
+given-append q [] ys = omega arith
+given-append q (x ∷ xs) ys = omega (arith, given-append q xs ys)
+
+-- what numbers in a row give, where each gives so much at most
+pub given_at_most : (f : ℕ → List (ℕ × ℕ)) (most q k n : ℕ) → ((j : ℕ) → given q (f j) ≤ most) → given q (flat_map f (numbers_from k n)) ≤ n * most
+given_at_most f most q k zero each = omega arith
+given_at_most f most q k (suc n) each =
+    omega (arith, given-append q (f k) (flat_map f (numbers_from (k + 1) n)), each k, given_at_most f most q (k + 1) n each)
+
+-- what numbers in a row give, where none of them gives anything
+pub given_nothing : (f : ℕ → List (ℕ × ℕ)) (q k n : ℕ) → ((j : ℕ) → k ≤ j → j < k + n → given q (f j) ≡ 0) → given q (flat_map f (numbers_from k n)) ≡ 0
+given_nothing f q k zero each = refl
+given_nothing f q k (suc n) each =
+    omega (
+      arith,
+      given-append q (f k) (flat_map f (numbers_from (k + 1) n)),
+      each k (omega arith) (omega arith),
+      given_nothing f q (k + 1) n (λ j from to. each j (omega arith) (omega arith)),
+    )
