@@ -23,7 +23,7 @@ abbrev pub input_to : ReaderState → Bool → Input
 input_to r is_whole = record { max_lines = r.max_lines; is_whole = is_whole }
 
 -- a text has at least one part
-parts_of : (xs : List ℕ) → (next : List ℕ) × (lines : List (List ℕ)) × (slice_split (λ b. b == 10) xs ≡ next ∷ lines)
+pub parts_of : (xs : List ℕ) → (next : List ℕ) × (lines : List (List ℕ)) × (slice_split (λ b. b == 10) xs ≡ next ∷ lines)
 parts_of xs = by_parts (slice_split (λ b. b == 10) xs) refl (split_longer (λ b. b == 10) [] xs)
   where
     by_parts : (ps : List (List ℕ)) → slice_split (λ b. b == 10) xs ≡ ps → Longer ([] ∷ []) ps → (next : List ℕ) × (lines : List (List ℕ)) × (slice_split (λ b. b == 10) xs ≡ next ∷ lines)

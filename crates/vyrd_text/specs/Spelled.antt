@@ -1,11 +1,12 @@
 -- What the parts of a line spell: the reader of a part finds exactly what has the text as its spelling.
 use Rattle.std.specs.Prelude.{◌≡◌, ℕ, ◌<◌, ◌^◌, true, List, [], ◌∷◌, ◌++◌, map, take, Option, Some, None, decimal}
 use Rattle.vyrd_base.specs.declared.subject.Subject.{Subject}
+use Rattle.vyrd_base.specs.declared.subject.Method.{Method}
 use Rattle.vyrd_base.specs.declared.subject.Args.{Args}
 use Rattle.vyrd_base.specs.declared.log.Kind.{Kind}
 use Rattle.vyrd_base.specs.Limits.{is_sized}
-use Rattle.vyrd_base.specs.Subjects.{are_padded}
-use Rattle.vyrd_base.specs.Spelling.{spaced, header_line, kind_fields, is_kind_of}
+use Rattle.vyrd_base.specs.Subjects.{arity_of, are_padded, subject_of, same_subject}
+use Rattle.vyrd_base.specs.Spelling.{spaced, header_line, method_name, arg_fields, kind_fields, is_kind_of}
 
 -- the text of the first `arity` arguments
 abbrev pub args_text : ℕ → Args → List ℕ
@@ -15,10 +16,21 @@ args_text arity args = spaced (map decimal (take arity (args.a ∷ args.b ∷ ar
 abbrev pub kind_text : Kind → List ℕ
 kind_text kind = spaced (kind_fields kind)
 
+-- the text of a method with its arguments
+abbrev pub call_text : Method → Args → List ℕ
+call_text method args = spaced (method_name method ∷ arg_fields method args)
+
 -- the arguments below 2^32 whose text it is
 abbrev pub AreArgsRead : ℕ → List ℕ → Option Args → Type 0
 AreArgsRead arity text None = (args : Args) → are_padded arity args ≡ true → args.a < 2 ^ 32 → args.b < 2 ^ 32 → args.c < 2 ^ 32 → text ≡ args_text arity args → ⊥
 AreArgsRead arity text (Some args) = (are_padded arity args ≡ true) × (text ≡ args_text arity args)
+
+-- the method of the subject and its arguments below 2^32 whose text it is
+abbrev pub IsCallRead : Subject → List ℕ → Option (Method × Args) → Type 0
+IsCallRead subject text None = (method : Method) (args : Args) → same_subject (subject_of method) subject ≡ true → are_padded (arity_of method) args ≡ true
+    → args.a < 2 ^ 32 → args.b < 2 ^ 32 → args.c < 2 ^ 32 → text ≡ call_text method args → ⊥
+IsCallRead subject text (Some (method, args)) =
+    (same_subject (subject_of method) subject ≡ true) × (are_padded (arity_of method) args ≡ true) × (text ≡ call_text method args)
 
 -- the kind whose text it is, of the subject and in the text's ranges
 abbrev pub IsKindRead : Subject → List ℕ → Option Kind → Type 0

@@ -37,7 +37,7 @@ fn read_numbers(line: &[u8]) -> Option<(u32, Subject, u32, u32)>
 }
 
 /// The subject whose name stands before a space, and what stands after that space.
-fn read_subject(text: &[u8]) -> Option<(Subject, &[u8])>
+pub fn read_subject(text: &[u8]) -> Option<(Subject, &[u8])>
     ensures { MatchOption result
         ((subject : Subject) (rest : List ℕ) → text.now ≡ subject_name subject ++ 32 ∷ rest → ⊥)
         (λ r. text.now ≡ subject_name r.0 ++ 32 ∷ r.1.now) }

@@ -4,6 +4,9 @@
 //! reading finds in the bytes so far, in their order, and answers the first fault of text exactly where that definition has
 //! one. It takes no memory but room for the entries, keeps at most one unfinished line, and reads a line that lies whole in a
 //! piece where it lies.
+//!
+//! The parts of lines are there for texts that share them: `read_call`, `read_subject` and the numbers to read, `LineBuffer`
+//! and `push_call` to write.
 #![tactic(auto)]
 
 mod fault;
@@ -20,7 +23,11 @@ mod verdict;
 mod writer;
 
 pub use fault::TextFault;
-pub use line::read_line;
+pub use header::read_subject;
+pub use line::{after, is_word, read_call, read_line};
+pub use line_buffer::LineBuffer;
+pub use lines::split_line;
+pub use number::{read_u32, read_u32_and_space};
 pub use reader::LogReader;
 pub use verdict::write_verdict;
-pub use writer::{write_line, write_log};
+pub use writer::{name_of_subject, push_call, write_line, write_log};

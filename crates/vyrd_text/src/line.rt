@@ -6,7 +6,7 @@ ghost use Rattle.vyrd_base.specs.declared.subject.Subject.{Subject};
 ghost use Rattle.vyrd_base.specs.Lines.{entry_in};
 ghost use Rattle.vyrd_base.specs.Spelling.{method_name};
 ghost use Rattle.vyrd_base.specs.Subjects.{subject_of, same_subject};
-ghost use Rattle.vyrd_text.specs.Spelled.{AreArgsRead, IsKindRead};
+ghost use Rattle.vyrd_text.specs.Spelled.{AreArgsRead, IsCallRead, IsKindRead};
 
 use crate::number::{read_u32, read_u32_and_space, read_u64};
 use vyrd_base::{Args, Entry, Kind, Method, Subject};
@@ -30,7 +30,7 @@ fn read_kind(subject: Subject, text: &[u8]) -> Option<Kind>
         return read_write(rest);
     }
     if let Some(rest) = after(text, b"call ") {
-        return read_call(subject, rest);
+        return read_called(subject, rest);
     }
     if let Some(rest) = after(text, b"return ") {
         return read_return(rest);
@@ -67,13 +67,22 @@ fn read_return(text: &[u8]) -> Option<Kind>
     Some(Kind::Return(reply))
 }
 
-/// The method of the subject and its arguments.
-fn read_call(subject: Subject, text: &[u8]) -> Option<Kind>
+/// The method and the arguments of a call.
+fn read_called(subject: Subject, text: &[u8]) -> Option<Kind>
     ensures { IsKindRead subject (codes "call " ++ text.now) result }
+{
+    let (method, args) = read_call(subject, text)?;
+    Some(Kind::Call(method, args))
+}
+
+/// The method of the subject and its arguments that the whole text spells: the method's name, and each argument after a
+/// space. None exactly where it spells none.
+pub fn read_call(subject: Subject, text: &[u8]) -> Option<(Method, Args)>
+    ensures { IsCallRead subject text.now result }
 {
     let (method, rest) = read_method(subject, text)?;
     let args = read_args(method.arity(), rest)?;
-    Some(Kind::Call(method, args))
+    Some((method, args))
 }
 
 /// The method of the subject whose name stands before a space, and what stands after that space.
@@ -189,7 +198,7 @@ fn read_three(text: &[u8]) -> Option<Args>
 }
 
 /// What stands after the word, where the text begins with it.
-pub(crate) fn after<'a>(text: &'a [u8], word: &[u8]) -> Option<&'a [u8]>
+pub fn after<'a>(text: &'a [u8], word: &[u8]) -> Option<&'a [u8]>
     ensures { MatchOption result ((rest : List ℕ) → text.now ≡ word.now ++ rest → ⊥) (λ rest. text.now ≡ word.now ++ rest.now) }
 {
     if text.len() < word.len() {
@@ -203,7 +212,7 @@ pub(crate) fn after<'a>(text: &'a [u8], word: &[u8]) -> Option<&'a [u8]>
 }
 
 /// Whether the text is the word.
-pub(crate) fn is_word(text: &[u8], word: &[u8]) -> bool
+pub fn is_word(text: &[u8], word: &[u8]) -> bool
     ensures { IsTrue result ↔ text.now ≡ word.now }
 {
     text == word

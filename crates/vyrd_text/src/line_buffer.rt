@@ -8,7 +8,7 @@ use std::marker::Model;
 /// How many bytes a line buffer holds. The longest line that is written, a verdict's, has 101.
 pub const ROOM: usize = 128;
 
-/// The bytes of a line, at most `ROOM` of them.
+/// The bytes of a line that is being made, at most 128 of them. It takes no memory but its own.
 #[derive(Drop)]
 pub struct LineBuffer {
     bytes: [u8; ROOM],

@@ -2,9 +2,8 @@
 
 ghost use Rattle.std.specs.Prelude.{◌≡◌, ◌+◌, ◌≤◌, ◌++◌, true, length, take, flat_map, OnOk, OnErr};
 ghost use Rattle.std.specs.List.{AllByRecursion};
-ghost use Rattle.vyrd_base.specs.declared.log.Kind.TheVariants.{Call};
 ghost use Rattle.vyrd_base.specs.Spelling.{log_text, entry_line, ended_line, header_line, method_name, subject_name};
-ghost use Rattle.vyrd_text.specs.Spelled.{args_text, kind_text};
+ghost use Rattle.vyrd_text.specs.Spelled.{args_text, call_text, kind_text};
 ghost use Rattle.vyrd_text.specs.Written.{is_padded, is_writable};
 
 use crate::line_buffer::LineBuffer;
@@ -102,7 +101,10 @@ fn push_kind(kind: Kind, line: &mut LineBuffer)
     ensures len { length line.new ≤ length line.old + 100 }
 {
     match kind {
-        Kind::Call(method, args) => push_call(method, args, line),
+        Kind::Call(method, args) => {
+            line.push(b"call ");
+            push_call(method, args, line);
+        }
         Kind::Return(reply) => {
             line.push(b"return ");
             line.push_number(reply);
@@ -120,13 +122,12 @@ fn push_kind(kind: Kind, line: &mut LineBuffer)
     }
 }
 
-/// Puts a call at the end of the line.
-fn push_call(method: Method, args: Args, line: &mut LineBuffer)
-    requires { length line.old ≤ 21 }
-    ensures text { line.new ≡ line.old ++ kind_text (Call method args) }
-    ensures len { length line.new ≤ length line.old + 100 }
+/// Puts the method's name and the arguments that it has at the end of the line, each argument after a space.
+pub fn push_call(method: Method, args: Args, line: &mut LineBuffer)
+    requires { length line.old ≤ 30 }
+    ensures text { line.new ≡ line.old ++ call_text method args }
+    ensures len { length line.new ≤ length line.old + 80 }
 {
-    line.push(b"call ");
     line.push(name_of_method(method));
     line.push(b" ");
     push_args(method.arity(), args, line);
@@ -153,7 +154,7 @@ fn push_args(arity: u32, args: Args, line: &mut LineBuffer)
 }
 
 /// The subject's name.
-fn name_of_subject(subject: Subject) -> &'static [u8]
+pub fn name_of_subject(subject: Subject) -> &'static [u8]
     ensures text { result.now ≡ subject_name subject }
     ensures len { length result.now ≤ 8 }
 {
