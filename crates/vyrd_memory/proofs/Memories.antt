@@ -1,0 +1,86 @@
+-- What it says of a memory that it stands for a state.
+use Rattle.std.proofs.Common.{◌≡◌, ℕ, ◌+◌, ◌<◌, ◌≤◌, Bool, true, false, cond, map, Some, refl, ap, ◌∙◌, sym, arith, rules}
+use Rattle.std.specs.Prelude.{◌==◌, ◌≢◌, ◌&&◌, drop, slice_index}
+use Rattle.std.specs.Bool.{then_some}
+use Rattle.std.specs.List.{list_all}
+use Rattle.std.proofs.lemmas.Bool.Decides.{nat_tests}
+use Rattle.std.proofs.lemmas.List.Folds.{list_all-map}
+use Rattle.vyrd_base.specs.declared.header.Header.{Header}
+use Rattle.vyrd_base.specs.Places.{numbers_from}
+use Rattle.vyrd_base.specs.Layout.{plain_words, lock_words}
+use Rattle.vyrd_base.specs.Amounts.{Amounts}
+use Rattle.vyrd_base.specs.Views.{view_of_words}
+use Rattle.vyrd_base.specs.Standing.{is_sound, state_of_words}
+use Rattle.vyrd_base.proofs.SplitLaws.{both_true, first_true, second_true}
+use Rattle.vyrd_memory.specs.Alone.{Memory, words_in, state_in, with_cell}
+use Rattle.vyrd_memory.proofs.NumberLists.{element_below, drop-from, all_pass, pass_all}
+
+-- the words are sound, the locks are free, and the state is what the words show
+pub record Stands (h : Header) (memory : Memory) (state : Amounts) : Type 0 where
+  pub sound : is_sound h.subject h.size (words_in h memory) ≡ true
+  pub free : (lock : ℕ) → plain_words h ≤ lock → lock < plain_words h + lock_words h → memory lock ≡ 0
+  pub shows : view_of_words h (words_in h memory) ≡ state
+
+-- a plain word or a lock among the words
+pub word_at : (h : Header) (memory : Memory) (cell : ℕ) → cell < plain_words h + lock_words h → slice_index (words_in h memory) cell ≡ memory cell
+word_at h memory cell low = element_below memory (plain_words h + lock_words h) cell low
+
+-- the test by which a lock is free
+abbrev pub is_free : ℕ → Bool
+is_free lock = lock == 0
+
+free_list : (memory : Memory) (k n : ℕ) → list_all is_free (map memory (numbers_from k n)) ≡ list_all (λ lock. is_free (memory lock)) (numbers_from k n)
+free_list memory k n = list_all-map is_free memory (numbers_from k n)
+
+locks_are : (h : Header) (memory : Memory) → drop (plain_words h) (words_in h memory) ≡ map memory (numbers_from (plain_words h) (lock_words h))
+locks_are h memory =
+    let e : 0 + plain_words h ≡ plain_words h = omega arith in
+    drop-from memory 0 (plain_words h) (lock_words h) ∙ ap (λ k. map memory (numbers_from k (lock_words h))) e
+
+zero_of : (n : ℕ) → is_free n ≡ true → n ≡ 0
+zero_of n e = grind (arith, nat_tests)
+
+then_some_true : {A : Type 0} (b : Bool) (x y : A) → then_some b x ≡ Some y → (b ≡ true) × (x ≡ y)
+then_some_true true x y e = (refl, cc)
+then_some_true false x y e = cc
+
+-- what a memory that stands for a state is
+pub stands : (h : Header) (memory : Memory) (state : Amounts) → state_in h memory ≡ Some state → Stands h memory state
+unfolding state_of_words
+stands h memory state e = record {
+  sound = first_true (is_sound h.subject h.size (words_in h memory)) (list_all is_free (drop (plain_words h) (words_in h memory))) both.0;
+  free = λ lock from to. zero_of (memory lock) (all_pass (λ lock. is_free (memory lock)) (plain_words h) (lock_words h) free lock from to);
+  shows = both.1;
+}
+  where
+    both : ((is_sound h.subject h.size (words_in h memory) && list_all is_free (drop (plain_words h) (words_in h memory))) ≡ true) ×
+        (view_of_words h (words_in h memory) ≡ state)
+    both =
+        then_some_true (is_sound h.subject h.size (words_in h memory) && list_all is_free (drop (plain_words h) (words_in h memory)))
+        (view_of_words h (words_in h memory)) state e
+
+    free : list_all (λ lock. is_free (memory lock)) (numbers_from (plain_words h) (lock_words h)) ≡ true
+    free =
+        sym (ap (list_all is_free) (locks_are h memory) ∙ free_list memory (plain_words h) (lock_words h))
+        ∙ second_true (is_sound h.subject h.size (words_in h memory)) (list_all is_free (drop (plain_words h) (words_in h memory))) both.0
+
+-- a memory that is so stands for the state
+pub standing : (h : Header) (memory : Memory) (state : Amounts) → Stands h memory state → state_in h memory ≡ Some state
+unfolding state_of_words
+standing h memory state s =
+    ap (λ b. then_some b (view_of_words h (words_in h memory))) (both_true _ _ s.sound free) ∙ ap Some s.shows
+  where
+    free : list_all is_free (drop (plain_words h) (words_in h memory)) ≡ true
+    free = ap (list_all is_free) (locks_are h memory) ∙ free_list memory (plain_words h) (lock_words h)
+        ∙ pass_all (λ lock. is_free (memory lock)) (plain_words h) (lock_words h) (λ lock from to. ap is_free (s.free lock from to))
+
+-- the cell that was changed, and every other cell
+pub changed_cell : (memory : Memory) (cell value : ℕ) → with_cell memory cell value cell ≡ value
+changed_cell memory cell value = search rules
+
+pub other_cell : (memory : Memory) (cell value other : ℕ) → other ≢ cell → with_cell memory cell value other ≡ memory other
+other_cell memory cell value other apart = by_place (other == cell) refl
+  where
+    by_place : (b : Bool) → (other == cell) ≡ b → with_cell memory cell value other ≡ memory other
+    by_place true e = let same : other ≡ cell = grind (arith, nat_tests) in absurd (apart same)
+    by_place false e = ap (λ b. cond b value (memory other)) e

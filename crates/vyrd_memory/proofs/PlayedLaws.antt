@@ -1,0 +1,93 @@
+-- Turns that have been played, one after the other.
+use Rattle.std.proofs.Common.{◌≡◌, ℕ, zero, suc, ◌+◌, ◌<◌, List, [], ◌∷◌, ◌++◌, replicate, take, refl, ap, ◌∙◌, sym, arith}
+use Rattle.std.specs.Prelude.{length, get_or}
+use Rattle.vyrd_base.specs.declared.header.Header.{Header}
+use Rattle.vyrd_base.specs.declared.history.Stamped.{Stamped}
+use Rattle.vyrd_base.specs.Places.{newest_first, numbers_below}
+use Rattle.vyrd_base.proofs.PlaceLaws.{numbers_below-push}
+use Rattle.vyrd_memory.specs.declared.op.Turn.{Turn}
+use Rattle.vyrd_memory.specs.Scripts.{Script}
+use Rattle.vyrd_memory.specs.Turns.{after_turn, after_turns, turns_of}
+use Rattle.vyrd_memory.specs.Playing.{IsReady, HasPlayed, HaveComeToRest, Scene, rounds_over}
+
+pub after_turns-append : (scripts : List Script) (xs ys : List ℕ) (earlier : List Stamped)
+    → after_turns scripts (xs ++ ys) earlier ≡ after_turns scripts ys (after_turns scripts xs earlier)
+after_turns-append scripts [] ys earlier = refl
+after_turns-append scripts (x ∷ xs) ys earlier = after_turns-append scripts xs ys (after_turn scripts x earlier)
+
+-- before the first turn
+pub played_none : {M : Type 0} (h : Header) (header_of : M → Header) (script : M → Script) (now : Scene M) → IsReady h header_of now.machines now.words
+    → HasPlayed h header_of script [] now now
+played_none h header_of script now ready = record { ready = ready; count = refl; plays = λ scripts is. is; history = λ scripts is. refl }
+
+-- further turns
+pub played_more : {M : Type 0} (h : Header) (header_of : M → Header) (script : M → Script) (xs ys zs : List ℕ) (a b c : Scene M)
+    → HasPlayed h header_of script xs a b → HasPlayed h header_of script ys b c → zs ≡ xs ++ ys → HasPlayed h header_of script zs a c
+played_more h header_of script xs ys zs a b c first second e = record {
+  ready = second.ready;
+  count = second.count ∙ first.count;
+  plays = λ scripts is. second.plays scripts (first.plays scripts is);
+  history = λ scripts is. second.history scripts (first.plays scripts is) ∙ ap (after_turns scripts ys) (first.history scripts is)
+      ∙ sym (after_turns-append scripts xs ys (newest_first a.history)) ∙ ap (λ zs. after_turns scripts zs (newest_first a.history)) (sym e);
+}
+
+-- one caller more, and one turn more
+pub next_number : (i : ℕ) → numbers_below (i + 1) ≡ numbers_below i ++ i ∷ []
+next_number i = numbers_below-push i
+
+pub one_more : {A : Type 0} (n : ℕ) (x : A) → replicate (n + 1) x ≡ replicate n x ++ x ∷ []
+one_more zero x = refl
+one_more (suc n) x = let e : suc n + 1 ≡ suc (n + 1) = omega arith in ap (λ n. replicate n x) e ∙ ap (λ xs. x ∷ xs) (one_more n x)
+
+pub turns_more : (turns : List Turn) (i : ℕ) (d : Turn) → i < length turns
+    → turns_of (take (i + 1) turns) ≡ turns_of (take i turns) ++ replicate (get_or turns i d).count (get_or turns i d).caller
+turns_more [] i d low = absurd (omega (arith, low))
+turns_more (turn ∷ turns) zero d low = append_none (replicate turn.count turn.caller)
+  where
+    append_none : (xs : List ℕ) → xs ++ [] ≡ xs
+    append_none [] = refl
+    append_none (x ∷ xs) = ap (λ ys. x ∷ ys) (append_none xs)
+turns_more (turn ∷ turns) (suc i) d low =
+    let e : suc i + 1 ≡ suc (i + 1) = omega arith in
+    ap (λ n. turns_of (take n (turn ∷ turns))) e ∙ ap (λ xs. replicate turn.count turn.caller ++ xs) (turns_more turns i d (omega arith))
+    ∙ sym (append_assoc (replicate turn.count turn.caller) (turns_of (take i turns)) (replicate (get_or turns i d).count (get_or turns i d).caller))
+  where
+    append_assoc : (xs ys zs : List ℕ) → (xs ++ ys) ++ zs ≡ xs ++ (ys ++ zs)
+    append_assoc [] ys zs = refl
+    append_assoc (x ∷ xs) ys zs = ap (λ rest. x ∷ rest) (append_assoc xs ys zs)
+
+append_none : {A : Type 0} (xs : List A) → xs ++ [] ≡ xs
+append_none [] = refl
+append_none (x ∷ xs) = ap (λ ys. x ∷ ys) (append_none xs)
+
+append_assoc : {A : Type 0} (xs ys zs : List A) → (xs ++ ys) ++ zs ≡ xs ++ (ys ++ zs)
+append_assoc [] ys zs = refl
+append_assoc (x ∷ xs) ys zs = ap (λ rest. x ∷ rest) (append_assoc xs ys zs)
+
+pub rounds_more : (n rounds : ℕ) → rounds_over n (rounds + 1) ≡ rounds_over n rounds ++ numbers_below n
+rounds_more n zero = append_none (numbers_below n)
+rounds_more n (suc rounds) =
+    let e : suc rounds + 1 ≡ suc (rounds + 1) = omega arith in
+    ap (rounds_over n) e ∙ ap (λ xs. numbers_below n ++ xs) (rounds_more n rounds) ∙ sym (append_assoc (numbers_below n) (rounds_over n rounds) (numbers_below n))
+
+-- one round more
+pub one_round_more : {M : Type 0} (h : Header) (header_of : M → Header) (script : M → Script) (a b c : Scene M) (rounds : ℕ)
+    → HasPlayed h header_of script (rounds_over (length a.machines) rounds) a b → HasPlayed h header_of script (numbers_below (length b.machines)) b c
+    → HasPlayed h header_of script (rounds_over (length a.machines) (rounds + 1)) a c
+one_round_more h header_of script a b c rounds first second =
+    played_more h header_of script (rounds_over (length a.machines) rounds) (numbers_below (length b.machines))
+    (rounds_over (length a.machines) (rounds + 1)) a b c first second
+    (rounds_more (length a.machines) rounds ∙ ap (λ n. rounds_over (length a.machines) rounds ++ numbers_below n) (sym first.count))
+
+-- a round without an event is the last
+pub come_to_rest : {M : Type 0} (h : Header) (header_of : M → Header) (script : M → Script) (a b c : Scene M) (rounds : ℕ)
+    → HasPlayed h header_of script (rounds_over (length a.machines) rounds) a b → HasPlayed h header_of script (numbers_below (length b.machines)) b c
+    → c.history ≡ b.history → HaveComeToRest h header_of script a c
+come_to_rest h header_of script a b c rounds first second same = record {
+  rounds = rounds + 1;
+  played = one_round_more h header_of script a b c rounds first second;
+  still = λ scripts is.
+      ap (λ n. after_turns scripts (numbers_below n) (newest_first c.history)) (sym first.count)
+      ∙ ap (λ history. after_turns scripts (numbers_below (length b.machines)) (newest_first history)) same
+      ∙ sym (second.history scripts (first.plays scripts is));
+}

@@ -1,0 +1,164 @@
+-- The log of a legal history of sound scripts breaks no rule, but that blocks may be raced.
+use Rattle.std.proofs.Common.{◌≡◌, ℕ, zero, suc, ◌+◌, ◌<◌, ◌≤◌, Bool, true, false, cond, ◌||◌}
+use Rattle.std.proofs.Common.{List, [], ◌∷◌, Option, Some, None, option_map, refl, ap, ◌∙◌, sym, subst, arith}
+use Rattle.std.specs.Prelude.{is_some, is_none, unwrap_or, filter_map, length}
+use Rattle.std.specs.Option.{option_or}
+use Rattle.std.specs.Bool.{then_some}
+use Rattle.std.specs.List.{cons_option, list_any}
+use Rattle.vyrd_base.specs.declared.header.Header.{Header}
+use Rattle.vyrd_base.specs.declared.log.Entry.{Entry}
+use Rattle.vyrd_base.specs.declared.history.Did.{Did}
+use Rattle.vyrd_base.specs.declared.history.Did.TheVariants.{Read, Wrote, Took, Gave, Marked}
+use Rattle.vyrd_base.specs.declared.history.Stamped.{Stamped}
+use Rattle.vyrd_base.specs.declared.verdict.Rule.{Rule}
+use Rattle.vyrd_base.specs.declared.verdict.Rule.TheVariants.{BlockRaced, CallOpen}
+use Rattle.vyrd_base.specs.declared.verdict.Why.{Why}
+use Rattle.vyrd_base.specs.declared.verdict.Verdict.{Verdict}
+use Rattle.vyrd_base.specs.declared.verdict.Verdict.TheVariants.{Violation, Malformed}
+use Rattle.vyrd_base.specs.Places.{Place, places, position_of, first_answer, newest_first_onto, newest_first, numbers_from}
+use Rattle.vyrd_base.specs.Callers.{open_call}
+use Rattle.vyrd_base.specs.Shape.{broken_rule}
+use Rattle.vyrd_base.specs.Front.{front, first_break}
+use Rattle.vyrd_base.specs.Amounts.{Amounts}
+use Rattle.vyrd_base.specs.Specification.{start}
+use Rattle.vyrd_base.specs.Commits.{commits, states_from}
+use Rattle.vyrd_base.specs.Faults.{fault_at}
+use Rattle.vyrd_base.specs.Verdicts.{line_of, violation_at, first_fault, shape_verdict, verdict_so_far, is_call_open, end_verdict, accepted, verdict}
+use Rattle.vyrd_base.specs.Histories.{cells_of, is_legal, logged, log_of}
+use Rattle.vyrd_base.proofs.HistoryLaws.{log_entry, reversed_map}
+use Rattle.vyrd_base.proofs.Fronts.{break_after}
+use Rattle.vyrd_base.proofs.SplitLaws.{same_number}
+use Rattle.vyrd_memory.specs.Scripts.{Script, left_after}
+use Rattle.vyrd_memory.specs.Soundness.{Standing, at_rest, may_act}
+use Rattle.vyrd_memory.specs.Turns.{part_of, script_of}
+use Rattle.vyrd_memory.specs.Runs.{AreSoundScripts, PlayToTheEnd}
+use Rattle.vyrd_memory.proofs.Standings.{act_of_event, standing_in, KeepsTo, sound_left, sound_keeps, rests_at_stop}
+use Rattle.vyrd_memory.proofs.LegalEvents.{AreLegal, legal_events, caller_low, are_answers}
+use Rattle.vyrd_memory.proofs.Agreements.{Agrees, agrees, keeps_before}
+use Rattle.vyrd_memory.proofs.KeptRules.{OnlyRaced, none_broken, isnt_open, write_kept, mark_kept}
+
+-- each entry breaks no other rule after the entries before it, the newest entry first
+abbrev pub AreOnlyRaced : Header → List Entry → Type 0
+AreOnlyRaced h [] = Unit {0}
+AreOnlyRaced h (e ∷ earlier) = OnlyRaced (broken_rule h earlier e) × AreOnlyRaced h earlier
+
+only_before : (h : Header) (earlier xs : List Entry) → AreOnlyRaced h (newest_first_onto earlier xs) → AreOnlyRaced h earlier
+only_before h earlier [] only = only
+only_before h earlier (x ∷ xs) only = (only_before h (x ∷ earlier) xs only).1
+
+or_only : (a b : Option Rule) → OnlyRaced a → OnlyRaced b → OnlyRaced (option_or a b)
+or_only None b first later = later
+or_only (Some rule) b first later = first
+
+break_only : (h : Header) (earlier xs : List Entry) → AreOnlyRaced h (newest_first_onto earlier xs) → OnlyRaced (break_after h earlier xs)
+break_only h earlier [] only = none_broken
+break_only h earlier (x ∷ xs) only =
+    or_only (broken_rule h earlier x) (break_after h (x ∷ earlier) xs) (only_before h (x ∷ earlier) xs only).0 (break_only h (x ∷ earlier) xs only)
+
+pub first_break_only : (h : Header) (entries : List Entry) → AreOnlyRaced h (newest_first entries) → OnlyRaced (first_break h entries)
+unfolding first_break
+first_break_only h entries only = break_only h [] entries only
+
+-- one event more
+event_only : (h : Header) (c : ℕ) (did : Did) (s : Standing) (log : List Entry) → c < h.callers → may_act h s (act_of_event did) ≡ true → Agrees c s log
+    → AreOnlyRaced h log → AreOnlyRaced h (cons_option (logged c did) log)
+event_only h c (Read cell value) s log low may a only = only
+event_only h c (Wrote cell value) s log low may a only = (write_kept h c cell value s log low may a, only)
+event_only h c (Took lock) s log low may a only = only
+event_only h c (Gave lock) s log low may a only = only
+event_only h c (Marked kind) s log low may a only = (mark_kept h c kind s log low may a, only)
+
+-- each caller's part keeps to what may be done
+abbrev pub AllKeep : Header → List Stamped → Type 0
+AllKeep h earlier = (c : ℕ) → c < h.callers → KeepsTo h (part_of c earlier)
+
+log_only : (h : Header) (earlier : List Stamped) → AreLegal (cells_of h) earlier → AllKeep h earlier → AreOnlyRaced h (filter_map log_entry earlier)
+log_only h [] legal keep = tt
+log_only h (e ∷ earlier) legal keep =
+    let low = caller_low (cells_of h) earlier e legal.0 in
+    let own : KeepsTo h (e.did ∷ part_of e.caller earlier) =
+    subst (λ b. KeepsTo h (cons_option (cond b (Some e.did) None) (part_of e.caller earlier))) (same_number e.caller) (keep e.caller low) in
+    event_only h e.caller e.did (standing_in (part_of e.caller earlier)) (filter_map log_entry earlier) low own.0
+    (agrees h e.caller earlier own.1)
+    (log_only h earlier legal.1 (λ c low. keeps_before h c e earlier (keep c low)))
+
+-- the newest entries first are those of the newest events first
+pub newest_log : (history : List Stamped) → newest_first (log_of history) ≡ filter_map log_entry (newest_first history)
+unfolding log_of
+newest_log history = reversed_map [] history
+
+-- no call is open at the end
+none_any : (test : ℕ → Bool) (k n : ℕ) → ((i : ℕ) → k ≤ i → i < k + n → test i ≡ false) → list_any test (numbers_from k n) ≡ false
+none_any test k zero each = refl
+none_any test k (suc n) each =
+    ap (λ b. b || list_any test (numbers_from (k + 1) n)) (each k (omega arith) (omega arith))
+    ∙ none_any test (k + 1) n (λ i from to. each i (omega arith) (omega arith))
+
+pub none_open : (h : Header) (earlier : List Stamped) → AllKeep h earlier → ((c : ℕ) → c < h.callers → standing_in (part_of c earlier) ≡ at_rest)
+    → is_call_open h (filter_map log_entry earlier) ≡ false
+none_open h earlier keep rest = none_any (λ c. is_some (open_call c (filter_map log_entry earlier))) 0 h.callers (λ c from to.
+    let low : c < h.callers = omega arith in
+    isnt_open c (standing_in (part_of c earlier)) (filter_map log_entry earlier) (agrees h c earlier (keep c low)) (ap (λ s. is_none s.called) (rest c low)))
+
+-- a fault is no broken rule
+fault_isnt : (h : Header) (states : List Amounts) (ps : List (Place Entry)) (line : ℕ) (rule : Rule)
+    → first_answer (violation_at h states) ps ≡ Some (Malformed line rule) → ⊥
+fault_isnt h states [] line rule e = cc
+fault_isnt h states (place ∷ ps) line rule e = by_fault (fault_at h states place) (fault_isnt h states ps line rule) e
+  where
+    by_fault : (o : Option Why) → (first_answer (violation_at h states) ps ≡ Some (Malformed line rule) → ⊥)
+        → option_or (option_map (Violation (line_of (position_of place))) o) (first_answer (violation_at h states) ps) ≡ Some (Malformed line rule) → ⊥
+    by_fault None later e = later e
+    by_fault (Some why) later e = cc
+
+first_fault_isnt : (h : Header) (entries : List Entry) (line : ℕ) (rule : Rule) → first_fault h entries ≡ Some (Malformed line rule) → ⊥
+unfolding first_fault
+first_fault_isnt h entries line rule e = fault_isnt h (states_from start (commits entries)) (places entries) line rule e
+
+-- a verdict that names a rule names a broken one
+named : (fault : Option Verdict) (broken : Option Rule) (open_ : Bool) (at end : ℕ) (good : Verdict) (line : ℕ) (rule : Rule)
+    → (fault ≡ Some (Malformed line rule) → ⊥) → open_ ≡ false → (good ≡ Malformed line rule → ⊥)
+    → unwrap_or (option_or (option_or fault (option_map (Malformed at) broken)) (then_some open_ (Malformed end CallOpen))) good ≡ Malformed line rule
+    → broken ≡ Some rule
+named (Some v) broken open_ at end good line rule isnt closed fine e = absurd (isnt (ap Some e))
+named None (Some broken) open_ at end good line rule isnt closed fine e = let same : broken ≡ rule = cc in ap Some same
+named None None true at end good line rule isnt closed fine e = cc
+named None None false at end good line rule isnt closed fine e = absurd (fine e)
+
+accepted_isnt : (entries : List Entry) (line : ℕ) (rule : Rule) → accepted entries ≡ Malformed line rule → ⊥
+unfolding accepted
+accepted_isnt entries line rule e = cc
+
+named_is_broken : (h : Header) (entries : List Entry) (line : ℕ) (rule : Rule) → is_call_open h (newest_first entries) ≡ false → verdict h entries ≡ Malformed line rule
+    → first_break h entries ≡ Some rule
+unfolding verdict verdict_so_far shape_verdict end_verdict
+named_is_broken h entries line rule closed e =
+    named (first_fault h (front h entries)) (first_break h entries) (is_call_open h (newest_first entries))
+    (line_of (length (front h entries))) (line_of (length entries))
+    (accepted entries) line rule (first_fault_isnt h (front h entries) line rule) closed (accepted_isnt entries line rule) e
+
+-- in a legal history sound scripts that are played keep to what may be done, and at their end nothing is in hand
+pub all_keep : (h : Header) (scripts : List Script) (history : List Stamped) → AreSoundScripts h scripts → AreLegal (cells_of h) (newest_first history)
+    → PlayToTheEnd scripts history → AllKeep h (newest_first history)
+all_keep h scripts history sound legal played c low =
+    let part = part_of c (newest_first history) in
+    sound_keeps h (script_of scripts c) part (sound.sound c low) (played c).plays (are_answers (cells_of h) (newest_first history) c legal)
+
+all_rest : (h : Header) (scripts : List Script) (history : List Stamped) → AreSoundScripts h scripts → AreLegal (cells_of h) (newest_first history)
+    → PlayToTheEnd scripts history → (c : ℕ) → c < h.callers → standing_in (part_of c (newest_first history)) ≡ at_rest
+all_rest h scripts history sound legal played c low =
+    let part = part_of c (newest_first history) in
+    rests_at_stop h (standing_in part) (left_after (script_of scripts c) part)
+    (sound_left h (script_of scripts c) part (sound.sound c low) (played c).plays (are_answers (cells_of h) (newest_first history) c legal)) (played c).done
+
+-- so a broken rule that is named is that of raced blocks
+pub only_races : (h : Header) (scripts : List Script) (history : List Stamped) → AreSoundScripts h scripts → is_legal (cells_of h) history ≡ true
+    → PlayToTheEnd scripts history → (line : ℕ) (rule : Rule) → verdict h (log_of history) ≡ Malformed line rule → rule ≡ BlockRaced
+only_races h scripts history sound is_legal_ played line rule e =
+    let legal = legal_events (cells_of h) history is_legal_ in
+    let keep : AllKeep h (newest_first history) = all_keep h scripts history sound legal played in
+    let only : AreOnlyRaced h (newest_first (log_of history)) =
+    subst (AreOnlyRaced h) (sym (newest_log history)) (log_only h (newest_first history) legal keep) in
+    let closed : is_call_open h (newest_first (log_of history)) ≡ false =
+    ap (is_call_open h) (newest_log history) ∙ none_open h (newest_first history) keep (all_rest h scripts history sound legal played) in
+    (first_break_only h (log_of history) only).raced rule (named_is_broken h (log_of history) line rule closed e)

@@ -1,0 +1,14 @@
+use Rattle.std.proofs.Common.{◌≡◌, Bool, true, false, not, ◌∙◌, sym, ap}
+use Rattle.std.specs.Prelude.{drop, is_some}
+use Rattle.vyrd_memory.specs.PlayerLaws.{player_between}
+use Rattle.vyrd_memory.proofs.player.PlayerMachine.between.Goals as goal
+
+flipped : (a b : Bool) → not a ≡ b → a ≡ not b
+flipped true b e = ap not e
+flipped false b e = ap not e
+
+pub returns : goal.returns
+returns g c =
+    let m = c.args.self.now in
+    flipped c.is_none.result (is_some m.hand.progress) (sym c.is_none.ensures)
+    ∙ sym (player_between m.hand.header m.hand.left (g.P.Progress.rest m.hand.header) m.hand.progress (g.P.Progress.procedure m.hand.header m.variant) (drop m.begun m.ops.items) m.hand.goes_on)

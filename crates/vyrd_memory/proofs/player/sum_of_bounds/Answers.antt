@@ -1,0 +1,15 @@
+use Rattle.std.proofs.Common.{arith}
+use Rattle.vyrd_base.specs.declared.subject.Method.TheVariants.{MsInsert}
+use Rattle.vyrd_memory.specs.declared.op.Op.{Op}
+use Rattle.vyrd_memory.proofs.BoundSums.{sum_more}
+use Rattle.vyrd_memory.proofs.player.sum_of_bounds.Goals as goal
+
+-- what stands for the operation past the end
+abbrev past : Op
+past = record { method = MsInsert; args = record { a = 0; b = 0; c = 0 } }
+
+pub loop-op-preserved : goal.loop-op-preserved
+loop-op-preserved c = (
+  sum_more c.args.header.now c.args.ops.now c.loop-op.op-index c.loop-op.sum c.bound-sum.result past c.loop-op.invariant.0 c.bound-sum.ensures.bound c.loop-op-test.true,
+  omega (arith, c.loop-op.invariant.1, c.bound-sum.ensures.small),
+)

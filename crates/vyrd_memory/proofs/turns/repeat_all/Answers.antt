@@ -1,0 +1,21 @@
+use Rattle.std.proofs.Common.{◌+◌, take, replicate}
+use Rattle.std.specs.Prelude.{get_or}
+use Rattle.vyrd_memory.specs.declared.op.Turn.{Turn}
+use Rattle.vyrd_memory.specs.Turns.{turns_of}
+use Rattle.vyrd_memory.specs.Playing.{scene}
+use Rattle.vyrd_memory.proofs.PlayedLaws.{played_more, turns_more}
+use Rattle.vyrd_memory.proofs.turns.repeat_all.Goals as goal
+
+-- what stands for the turn past the end
+abbrev past : Turn
+past = record { caller = 0; count = 0 }
+
+pub loop-turn-preserved : goal.loop-turn-preserved
+loop-turn-preserved g c =
+    let here = get_or c.args.turns.now c.loop-turn.turn-index past in
+    played_more c.args.header.now g.M.Machine.header_of g.M.Machine.script (turns_of (take c.loop-turn.turn-index c.args.turns.now)) (replicate here.count here.caller)
+    (turns_of (take (c.loop-turn.turn-index + 1) c.args.turns.now))
+    (scene c.args.machines.now c.args.words.now.items c.args.history.now.items)
+    (scene c.loop-turn.machines c.loop-turn.words.items c.loop-turn.history.items)
+    (scene c.repeat.new.machines c.repeat.new.words.items c.repeat.new.history.items)
+    c.loop-turn.invariant c.in_ok-repeat.ensures.played (turns_more c.args.turns.now c.loop-turn.turn-index past c.loop-turn-test.true)

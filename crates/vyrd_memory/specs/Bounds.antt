@@ -1,0 +1,49 @@
+-- How many events an operation has at most, with the marks of its call and its return.
+use Rattle.std.specs.Prelude.{◌≡◌, ℕ, ◌+◌, ◌-◌, ◌*◌, ◌≤◌, ⊤, Bool, true, false, List, [], ◌∷◌}
+use Rattle.vyrd_base.specs.declared.header.Header.{Header}
+use Rattle.vyrd_base.specs.declared.subject.Subject.{Subject}
+use Rattle.vyrd_base.specs.declared.subject.Subject.TheVariants.{Multiset, Cache, Tree}
+use Rattle.vyrd_base.specs.declared.subject.Method.{Method}
+use Rattle.vyrd_base.specs.declared.subject.Method.TheVariants.{TrInsert}
+use Rattle.vyrd_base.specs.declared.log.Kind.TheVariants.{Return}
+use Rattle.vyrd_memory.specs.declared.act.Act.{Act}
+use Rattle.vyrd_memory.specs.declared.act.Act.TheVariants.{Mark}
+use Rattle.vyrd_memory.specs.declared.op.Op.{Op}
+use Rattle.vyrd_memory.specs.Scripts.{Script, stop, step, is_stop, IsAnswer}
+
+-- A walk through a tree of n nodes visits each node once at most. An insert walks once, and once more in each of the 16 rounds
+-- in which the tree may grow upwards.
+abbrev pub tree_bound : ℕ → Method → ℕ
+tree_bound n TrInsert = 17 * (16 * n + 40)
+tree_bound n _ = 16 * n + 40
+
+-- the bound by the subject and the size
+abbrev pub bound_in : Subject → ℕ → Method → ℕ
+bound_in Multiset n method = 32
+bound_in Cache n method = 16
+bound_in Tree n method = tree_bound n method
+
+-- the bound of an operation of the method
+abbrev pub bound_of : Header → Method → ℕ
+bound_of h method = bound_in h.subject h.size method
+
+-- the sum of the operations' bounds
+abbrev pub bounds_of : Header → List Op → ℕ
+bounds_of h [] = 0
+bounds_of h (op ∷ ops) = bound_of h op.method + bounds_of h ops
+
+-- whether an act ends an operation
+abbrev pub is_return : Act → Bool
+is_return (Mark (Return reply)) = true
+is_return _ = false
+
+-- Whatever is loaded, the procedure comes to its return within n acts, and there it ends.
+abbrev pub EndsByReturn : ℕ → Script → Type 0
+EndsByReturn n stop = ⊥
+EndsByReturn n (step act rest) = (1 ≤ n) × (is_return act ≡ true → is_stop (rest 0) ≡ true)
+    × (is_return act ≡ false → (answer : ℕ) → IsAnswer act answer → EndsByReturn (n - 1) (rest answer))
+
+-- Whatever is loaded, the operation in hand ends within n acts. Where the script ends, none is in hand.
+abbrev pub EndsWithin : ℕ → Script → Type 0
+EndsWithin n stop = ⊤
+EndsWithin n (step act rest) = (1 ≤ n) × (is_return act ≡ false → (answer : ℕ) → IsAnswer act answer → EndsWithin (n - 1) (rest answer))

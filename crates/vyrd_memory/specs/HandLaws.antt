@@ -1,0 +1,140 @@
+-- What it says of a script that it is an operation in hand.
+use Rattle.std.proofs.Common.{◌≡◌, ℕ, ◌-◌, ◌≤◌, true, false, not, ◌&&◌, refl, ap, ◌∙◌, sym, subst, arith, Option, Some, None}
+use Rattle.std.specs.Prelude.{◌≢◌, nat_le, IfSome, is_some, is_none}
+use Rattle.std.proofs.lemmas.Bool.Decides.{nat_tests}
+use Rattle.std.proofs.Math.Logic.{∥∥₁_elim, ∥∥₁_map}
+use Rattle.std.proofs.Math.Bool.{Bool-set}
+use mathlib.Core.HLevel.{⊥_prop}
+use Rattle.vyrd_base.specs.declared.header.Header.{Header}
+use Rattle.vyrd_base.specs.declared.log.Kind.TheVariants.{Call, Return, Write, Commit, BlockOpen, BlockClose, BlockCommit}
+use Rattle.vyrd_base.specs.declared.subject.Method.{Method}
+use Rattle.vyrd_base.specs.Subjects.{same_subject, subject_of, are_args}
+use Rattle.vyrd_base.proofs.SplitLaws.{first_true, second_true}
+use Rattle.vyrd_memory.specs.declared.act.Act.{Act}
+use Rattle.vyrd_memory.specs.declared.act.Act.TheVariants.{Load, Store, Take, Give, Mark, Done}
+use Rattle.vyrd_memory.specs.Scripts.{Script, stop, step, next_act, after_answer, is_stop, is_call_or_done, is_between, IsAnswer}
+use Rattle.vyrd_memory.specs.Soundness.{Standing, IsSoundSomewhere, after_act, may_act, is_at_rest, holds_none}
+use Rattle.vyrd_memory.specs.Bounds.{is_return}
+use Rattle.vyrd_memory.specs.InHand.{IsInHand}
+
+abbrev pub InHand : Header → ℕ → Script → Type 0
+InHand h n script = ∥ IsInHand h n script ∥₁
+
+-- what is said of an operation that is there
+pub of_some : {P : Type 0} (Q : P → Type 0) (o : Option P) (p : P) → o ≡ Some p → ∥ IfSome o Q ∥₁ → ∥ Q p ∥₁
+of_some Q None p e if_some = cc
+of_some Q (Some x) p e if_some = let same : x ≡ p = cc in subst (λ x. ∥ Q x ∥₁) same if_some
+
+pub is_of_some : {P : Type 0} (Q : P → Type 0) (o : Option P) (p : P) → o ≡ Some p → IfSome o Q → Q p
+is_of_some Q None p e if_some = cc
+is_of_some Q (Some x) p e if_some = let same : x ≡ p = cc in subst Q same if_some
+
+pub in_hand_sound : (h : Header) (n : ℕ) (script : Script) → InHand h n script → IsSoundSomewhere h script
+in_hand_sound h n script hand = ∥∥₁_map hand (λ is. (is.standing, is.sound))
+
+not_done : (h : Header) (n : ℕ) (script : Script) → IsInHand h n script → next_act script ≢ Done
+not_done h n stop is = absurd is.ends
+not_done h n (step Done rest) is = absurd (cc_of is.sound.0)
+  where
+    cc_of : false ≡ true → ⊥
+    cc_of e = cc
+not_done h n (step (Load cell) rest) is = λ e. cc
+not_done h n (step (Store cell value) rest) is = λ e. cc
+not_done h n (step (Take lock) rest) is = λ e. cc
+not_done h n (step (Give lock) rest) is = λ e. cc
+not_done h n (step (Mark kind) rest) is = λ e. cc
+
+pub in_hand_goes_on : (h : Header) (n : ℕ) (script : Script) → InHand h n script → next_act script ≢ Done
+in_hand_goes_on h n script hand = λ e. ∥∥₁_elim hand ⊥_prop (λ is. not_done h n script is e)
+
+some_left : (h : Header) (n : ℕ) (script : Script) → IsInHand h n script → nat_le 1 n ≡ true
+some_left h n stop is = absurd is.ends
+some_left h n (step act rest) is = let low : 1 ≤ n = is.ends.0 in grind (arith, nat_tests)
+
+pub in_hand_left : (h : Header) (n : ℕ) (script : Script) → InHand h n script → 1 ≤ n
+in_hand_left h n script hand = let e : nat_le 1 n ≡ true = ∥∥₁_elim hand (Bool-set _ _) (some_left h n script) in grind (arith, nat_tests)
+
+-- an act that is allowed in an open execution is no call
+pub no_call : (h : Header) (s : Standing) (act : Act) → is_some s.called ≡ true → may_act h s act ≡ true → is_call_or_done act ≡ false
+no_call h s (Load cell) called may = refl
+no_call h s (Store cell value) called may = refl
+no_call h s (Take lock) called may = refl
+no_call h s (Give lock) called may = refl
+no_call h s Done called may = may_isnt may
+  where
+    may_isnt : false ≡ true → true ≡ false
+    may_isnt e = sym e
+no_call h s (Mark (Call method args)) called may =
+    absurd (not_both s.called called (idle_called s (second_true (same_subject (subject_of method) h.subject && are_args h.size method args) (is_at_rest s) may)))
+  where
+    not_both : (o : Option Method) → is_some o ≡ true → is_none o ≡ true → ⊥
+    not_both None some none = cc
+    not_both (Some x) some none = cc
+
+    idle_called : (s : Standing) → is_at_rest s ≡ true → is_none s.called ≡ true
+    idle_called s e =
+        second_true (holds_none s) (is_none s.called)
+        (first_true (holds_none s && is_none s.called) (not s.committed) (first_true (holds_none s && is_none s.called && not s.committed) (not s.in_block) e))
+no_call h s (Mark (Return reply)) called may = refl
+no_call h s (Mark (Write word value)) called may = refl
+no_call h s (Mark Commit) called may = refl
+no_call h s (Mark BlockOpen) called may = refl
+no_call h s (Mark BlockClose) called may = refl
+no_call h s (Mark BlockCommit) called may = refl
+
+-- the execution stays open until its return
+still_called : (s : Standing) (act : Act) → is_some s.called ≡ true → is_return act ≡ false → is_some (after_act s act).called ≡ true
+still_called s (Load cell) called goes = called
+still_called s (Store cell value) called goes = called
+still_called s (Take lock) called goes = called
+still_called s (Give lock) called goes = called
+still_called s Done called goes = called
+still_called s (Mark (Call method args)) called goes = refl
+still_called s (Mark (Return reply)) called goes = cc
+still_called s (Mark (Write word value)) called goes = called
+still_called s (Mark Commit) called goes = called
+still_called s (Mark BlockOpen) called goes = called
+still_called s (Mark BlockClose) called goes = called
+still_called s (Mark BlockCommit) called goes = called
+
+next_in_hand : (h : Header) (n : ℕ) (script : Script) (answer : ℕ) → is_return (next_act script) ≡ false → IsAnswer (next_act script) answer → IsInHand h n script
+    → IsInHand h (n - 1) (after_answer script answer)
+next_in_hand h n stop answer goes is_answer is = absurd is.ends
+next_in_hand h n (step act rest) answer goes is_answer is = record {
+  standing = after_act is.standing act;
+  called = still_called is.standing act is.called goes;
+  sound = is.sound.1 answer is_answer;
+  ends = is.ends.2 goes answer is_answer;
+}
+
+isnt_call : (h : Header) (n : ℕ) (script : Script) → IsInHand h n script → is_between script ≡ false
+isnt_call h n stop is = absurd is.ends
+isnt_call h n (step act rest) is = no_call h is.standing act is.called is.sound.0
+
+pub in_hand_isnt_between : (h : Header) (n : ℕ) (script : Script) → InHand h n script → is_between script ≡ false
+in_hand_isnt_between h n script hand = ∥∥₁_elim hand (Bool-set _ _) (isnt_call h n script)
+
+pub in_hand_next : (h : Header) (n : ℕ) (script : Script) (answer : ℕ) → InHand h n script → is_return (next_act script) ≡ false → IsAnswer (next_act script) answer
+    → InHand h (n - 1) (after_answer script answer)
+in_hand_next h n script answer hand goes is_answer = ∥∥₁_map hand (next_in_hand h n script answer goes is_answer)
+
+stop_of : (script : Script) → is_stop script ≡ true → script ≡ stop
+stop_of stop e = refl
+stop_of (step act rest) e = cc
+
+over : (h : Header) (n : ℕ) (script : Script) (answer : ℕ) → is_return (next_act script) ≡ true → IsAnswer (next_act script) answer → IsInHand h n script
+    → is_stop (after_answer script answer) ≡ true
+over h n stop answer ends is_answer is = absurd is.ends
+over h n (step act rest) answer ends is_answer is = let zero : answer ≡ 0 = zero_answer act answer ends is_answer in ap (λ a. is_stop (rest a)) zero ∙ is.ends.1 ends
+  where
+    zero_answer : (act : Act) (answer : ℕ) → is_return act ≡ true → IsAnswer act answer → answer ≡ 0
+    zero_answer (Load cell) answer ends is_answer = cc
+    zero_answer (Store cell value) answer ends is_answer = cc
+    zero_answer (Take lock) answer ends is_answer = cc
+    zero_answer (Give lock) answer ends is_answer = cc
+    zero_answer Done answer ends is_answer = cc
+    zero_answer (Mark kind) answer ends is_answer = is_answer
+
+pub in_hand_over : (h : Header) (n : ℕ) (script : Script) (answer : ℕ) → InHand h n script → is_return (next_act script) ≡ true → IsAnswer (next_act script) answer
+    → after_answer script answer ≡ stop
+in_hand_over h n script answer hand ends is_answer = stop_of (after_answer script answer) (∥∥₁_elim hand (Bool-set _ _) (over h n script answer ends is_answer))

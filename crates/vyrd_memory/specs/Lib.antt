@@ -1,0 +1,12 @@
+pub mod Arguments
+pub mod Scripts
+pub mod Soundness
+pub mod Bounds
+pub mod Alone
+pub mod Turns
+pub mod InHand
+pub mod Players
+pub mod HandLaws
+pub mod PlayerLaws
+pub mod Playing
+pub mod Runs

@@ -1,0 +1,217 @@
+-- What a player's script is: the operation in hand, followed by the operations to come.
+use Rattle.std.proofs.Common.{◌≡◌, ℕ, ◌+◌, ◌-◌, ◌≤◌, true, false, not, ◌&&◌, List, [], ◌∷◌, Option, Some, None, refl, ap, ◌∙◌, sym, subst, arith}
+use Rattle.std.specs.Prelude.{◌≢◌, IfSome, is_some, is_none, if◌then◌else◌}
+use Rattle.std.specs.Option.{option_map_or}
+use Rattle.std.proofs.Math.Logic.{∥∥₁_map}
+use Rattle.vyrd_base.specs.declared.header.Header.{Header}
+use Rattle.vyrd_base.specs.declared.subject.Subject.{Subject}
+use Rattle.vyrd_base.specs.declared.subject.Subject.TheVariants.{Multiset, Cache, Tree}
+use Rattle.vyrd_base.specs.declared.subject.Method.{Method}
+use Rattle.vyrd_base.specs.declared.subject.Method.TheVariants.{MsInsert, MsInsertPair, MsDelete, MsLookup, CaWrite, CaFlush, CaEvict, CaRead, TrInsert, TrDelete}
+use Rattle.vyrd_base.specs.declared.subject.Method.TheVariants.{TrLookup}
+use Rattle.vyrd_base.specs.declared.subject.Args.{Args}
+use Rattle.vyrd_base.specs.declared.log.Kind.TheVariants.{Call}
+use Rattle.vyrd_base.specs.Subjects.{same_subject, subject_of, are_args}
+use Rattle.vyrd_base.proofs.SplitLaws.{both_true, first_true, second_true}
+use Rattle.vyrd_memory.specs.declared.act.Act.{Act}
+use Rattle.vyrd_memory.specs.declared.act.Act.TheVariants.{Load, Store, Take, Give, Mark, Done}
+use Rattle.vyrd_memory.specs.declared.op.Op.{Op}
+use Rattle.vyrd_memory.specs.Scripts.{Script, stop, step, next_act, after_answer, followed_by, operations, is_between, is_call_or_done, IsAnswer}
+use Rattle.vyrd_memory.specs.Soundness.{Standing, IsSound, IsSoundSomewhere, at_rest, just_called, after_act}
+use Rattle.vyrd_memory.specs.Bounds.{EndsByReturn, EndsWithin, is_return, bound_of, bound_in, bounds_of}
+use Rattle.vyrd_memory.specs.InHand.{IsInHand}
+use Rattle.vyrd_memory.specs.HandLaws.{in_hand_goes_on, in_hand_isnt_between, in_hand_over}
+use Rattle.vyrd_memory.specs.Arguments.{are_small}
+use Rattle.vyrd_memory.specs.Players.{is_callable, are_callable, first_bound}
+
+-- each procedure is sound
+abbrev pub AreSound : Header → (Op → Script) → Type 0
+AreSound h body = (op : Op) → is_callable h op ≡ true → IsSound h (just_called op.method) (body op)
+
+-- each procedure ends by its return, within its bound
+abbrev pub AreBounded : Header → (Op → Script) → Type 0
+AreBounded h body = (op : Op) → is_callable h op ≡ true → EndsByReturn (bound_of h op.method - 1) (body op)
+
+followed-sound : (h : Header) (s : Standing) (a b : Script) → IsSound h s a → IsSound h at_rest b → IsSound h s (followed_by a b)
+followed-sound h s stop b first then_ = subst (λ s. IsSound h s b) (sym first) then_
+followed-sound h s (step act rest) b first then_ = (first.0, λ answer is. followed-sound h (after_act s act) (rest answer) b (first.1 answer is) then_)
+
+-- subjects that are found to be the same are
+pub same_subjects : (a b : Subject) → same_subject a b ≡ true → a ≡ b
+same_subjects Multiset Multiset e = refl
+same_subjects Cache Cache e = refl
+same_subjects Tree Tree e = refl
+same_subjects Multiset Cache e = cc
+same_subjects Multiset Tree e = cc
+same_subjects Cache Multiset e = cc
+same_subjects Cache Tree e = cc
+same_subjects Tree Multiset e = cc
+same_subjects Tree Cache e = cc
+
+-- the mark of its call may be left
+callable_mark : (h : Header) (op : Op) → is_callable h op ≡ true → (same_subject (subject_of op.method) h.subject && are_args h.size op.method op.args) ≡ true
+callable_mark h op e = first_true (same_subject (subject_of op.method) h.subject && are_args h.size op.method op.args) (are_small op.args) e
+
+pub callable_method : (h : Header) (op : Op) → is_callable h op ≡ true → subject_of op.method ≡ h.subject
+callable_method h op e =
+    same_subjects (subject_of op.method) h.subject (first_true (same_subject (subject_of op.method) h.subject) (are_args h.size op.method op.args) (callable_mark h op e))
+
+pub callable_args : (h : Header) (op : Op) → is_callable h op ≡ true → are_args h.size op.method op.args ≡ true
+callable_args h op e = second_true (same_subject (subject_of op.method) h.subject) (are_args h.size op.method op.args) (callable_mark h op e)
+
+pub callable_small : (h : Header) (op : Op) → is_callable h op ≡ true → are_small op.args ≡ true
+callable_small h op e = second_true (same_subject (subject_of op.method) h.subject && are_args h.size op.method op.args) (are_small op.args) e
+
+pub operations-sound : (h : Header) (body : Op → Script) (ops : List Op) → AreSound h body → are_callable h ops ≡ true → IsSound h at_rest (operations body ops)
+operations-sound h body [] each callable = refl
+operations-sound h body (op ∷ ops) each callable = (
+  both_true (same_subject (subject_of op.method) h.subject && are_args h.size op.method op.args) true
+      (callable_mark h op (first_true (is_callable h op) (are_callable h ops) callable)) refl,
+  λ answer is. followed-sound h (just_called op.method) (body op) (operations body ops) (each op (first_true (is_callable h op) (are_callable h ops) callable))
+      (operations-sound h body ops each (second_true (is_callable h op) (are_callable h ops) callable)),
+)
+
+pub followed-somewhere : (h : Header) (n : ℕ) (a b : Script) → ∥ IsInHand h n a ∥₁ → IsSound h at_rest b → IsSoundSomewhere h (followed_by a b)
+followed-somewhere h n a b hand later = ∥∥₁_map hand (λ is. (is.standing, followed-sound h is.standing a b is.sound later))
+
+followed-ends : (n : ℕ) (a b : Script) → EndsByReturn n a → EndsWithin n (followed_by a b)
+followed-ends n stop b ends = absurd ends
+followed-ends n (step act rest) b ends = (ends.0, λ goes answer is. followed-ends (n - 1) (rest answer) b (ends.2 goes answer is))
+
+pub followed-in_time : (h : Header) (n : ℕ) (a b : Script) → ∥ IsInHand h n a ∥₁ → ∥ EndsWithin n (followed_by a b) ∥₁
+followed-in_time h n a b hand = ∥∥₁_map hand (λ is. followed-ends n a b is.ends)
+
+-- a bound leaves room for the marks of the call and the return
+pub bound_is_some : (subject : Subject) (n : ℕ) (method : Method) → 1 ≤ bound_in subject n method
+bound_is_some Multiset n method = omega arith
+bound_is_some Cache n method = omega arith
+bound_is_some Tree n MsInsert = omega arith
+bound_is_some Tree n MsInsertPair = omega arith
+bound_is_some Tree n MsDelete = omega arith
+bound_is_some Tree n MsLookup = omega arith
+bound_is_some Tree n CaWrite = omega arith
+bound_is_some Tree n CaFlush = omega arith
+bound_is_some Tree n CaEvict = omega arith
+bound_is_some Tree n CaRead = omega arith
+bound_is_some Tree n TrInsert = omega arith
+bound_is_some Tree n TrDelete = omega arith
+bound_is_some Tree n TrLookup = omega arith
+
+pub operations-in_time : (h : Header) (body : Op → Script) (ops : List Op) → AreBounded h body → are_callable h ops ≡ true
+    → EndsWithin (first_bound h ops) (operations body ops)
+operations-in_time h body [] each callable = tt
+operations-in_time h body (op ∷ ops) each callable =
+    (bound_is_some h.subject h.size op.method, λ goes answer is. followed-ends (bound_of h op.method - 1) (body op) (operations body ops) (each op (first_true (is_callable h op) (are_callable h ops) callable)))
+
+-- what comes next of the operation in hand comes next of all
+pub followed-next : (a b : Script) → next_act a ≢ Done → next_act (followed_by a b) ≡ next_act a
+followed-next stop b goes = absurd (goes refl)
+followed-next (step act rest) b goes = refl
+
+pub followed-after : (a b : Script) (answer : ℕ) → next_act a ≢ Done → after_answer (followed_by a b) answer ≡ followed_by (after_answer a answer) b
+followed-after stop b answer goes = absurd (goes refl)
+followed-after (step act rest) b answer goes = refl
+
+pub followed-goes_on : (a b : Script) → next_act a ≢ Done → followed_by a b ≢ stop
+followed-goes_on stop b goes = absurd (goes refl)
+followed-goes_on (step act rest) b goes = λ e. cc
+
+-- the call of the next operation has its bound
+pub operations-bound : (h : Header) (body : Op → Script) (ops : List Op) (method : Method) (args : Args) → next_act (operations body ops) ≡ Mark (Call method args)
+    → first_bound h ops ≡ bound_of h method
+operations-bound h body [] method args e = cc
+operations-bound h body (op ∷ ops) method args e = let same : op.method ≡ method = cc in ap (bound_of h) same
+
+pub first_bound-within : (h : Header) (ops : List Op) → first_bound h ops ≤ bounds_of h ops
+first_bound-within h [] = omega arith
+first_bound-within h (op ∷ ops) = omega arith
+
+pub operations-done : (h : Header) (body : Op → Script) (ops : List Op) → operations body ops ≡ stop → bounds_of h ops ≡ 0
+operations-done h body [] e = refl
+operations-done h body (op ∷ ops) e = cc
+
+pub operations-between : (body : Op → Script) (ops : List Op) → is_between (operations body ops) ≡ true
+operations-between body [] = refl
+operations-between body (op ∷ ops) = refl
+
+-- the script of a player with this operation in hand, if there is one
+abbrev pub player_script : {P : Type 0} → (P → Script) → Option P → (Op → Script) → List Op → Script
+player_script rest progress body ops = followed_by (option_map_or rest progress stop) (operations body ops)
+
+-- what is known of the operation in hand
+abbrev pub HandIs : {P : Type 0} → Header → ℕ → (P → Script) → Option P → Type 0
+HandIs h n rest progress = ∥ IfSome progress (λ p. IsInHand h n (rest p)) ∥₁
+
+pub player_sound : {P : Type 0} (h : Header) (n : ℕ) (rest : P → Script) (progress : Option P) (body : Op → Script) (ops : List Op)
+    → AreSound h body → are_callable h ops ≡ true → HandIs h n rest progress → IsSoundSomewhere h (player_script rest progress body ops)
+player_sound h n rest None body ops each callable hand = ∣ (at_rest, operations-sound h body ops each callable) ∣₁
+player_sound h n rest (Some p) body ops each callable hand =
+    followed-somewhere h n (rest p) (operations body ops) hand (operations-sound h body ops each callable)
+
+pub player_in_time : {P : Type 0} (h : Header) (n : ℕ) (rest : P → Script) (progress : Option P) (body : Op → Script) (ops : List Op)
+    → AreBounded h body → are_callable h ops ≡ true → HandIs h n rest progress
+    → ∥ EndsWithin (if is_some progress then n else first_bound h ops) (player_script rest progress body ops) ∥₁
+player_in_time h n rest None body ops each callable hand = ∣ operations-in_time h body ops each callable ∣₁
+player_in_time h n rest (Some p) body ops each callable hand = followed-in_time h n (rest p) (operations body ops) hand
+
+hand_isnt_between : {P : Type 0} (h : Header) (n : ℕ) (rest : P → Script) (p : P) (body : Op → Script) (ops : List Op)
+    → HandIs h n rest (Some p) → is_between (player_script rest (Some p) body ops) ≡ false
+hand_isnt_between h n rest p body ops hand =
+    ap is_call_or_done (followed-next (rest p) (operations body ops) (in_hand_goes_on h n (rest p) hand)) ∙ in_hand_isnt_between h n (rest p) hand
+
+pub player_between : {P : Type 0} (h : Header) (n : ℕ) (rest : P → Script) (progress : Option P) (body : Op → Script) (ops : List Op)
+    → HandIs h n rest progress → is_between (player_script rest progress body ops) ≡ not (is_some progress)
+player_between h n rest None body ops hand = operations-between body ops
+player_between h n rest (Some p) body ops hand = hand_isnt_between h n rest p body ops hand
+
+pub player_bound : {P : Type 0} (h : Header) (n : ℕ) (rest : P → Script) (progress : Option P) (body : Op → Script) (ops : List Op) (method : Method) (args : Args)
+    → HandIs h n rest progress → next_act (player_script rest progress body ops) ≡ Mark (Call method args)
+    → (if is_some progress then n else first_bound h ops) ≡ bound_of h method
+player_bound h n rest None body ops method args hand e = operations-bound h body ops method args e
+player_bound h n rest (Some p) body ops method args hand e =
+    let no : true ≡ false = sym (ap is_call_or_done e) ∙ hand_isnt_between h n rest p body ops hand in cc
+
+pub player_within : {P : Type 0} (h : Header) (n later : ℕ) (progress : Option P) (ops : List Op) → later ≡ bounds_of h ops
+    → (if is_some progress then n else first_bound h ops) ≤ n + later
+player_within h n later None ops sum = omega (arith, sum, first_bound-within h ops)
+player_within h n later (Some p) ops sum = omega arith
+
+-- after the return of an operation the next one begins, or none is left
+operations-rests : (body : Op → Script) (ops : List Op) → is_return (next_act (operations body ops)) ≡ true → is_between (after_answer (operations body ops) 0) ≡ true
+operations-rests body [] ends = cc
+operations-rests body (op ∷ ops) ends = cc
+
+return_answered : (act : Act) → is_return act ≡ true → IsAnswer act 0
+return_answered (Load cell) ends = cc
+return_answered (Store cell value) ends = cc
+return_answered (Take lock) ends = cc
+return_answered (Give lock) ends = cc
+return_answered Done ends = cc
+return_answered (Mark kind) ends = refl
+
+pub player_rests : {P : Type 0} (h : Header) (n : ℕ) (rest : P → Script) (progress : Option P) (body : Op → Script) (ops : List Op)
+    → HandIs h n rest progress → is_return (next_act (player_script rest progress body ops)) ≡ true → is_between (after_answer (player_script rest progress body ops) 0) ≡ true
+player_rests h n rest None body ops hand ends = operations-rests body ops ends
+player_rests h n rest (Some p) body ops hand ends =
+    let goes = in_hand_goes_on h n (rest p) hand in
+    let ends' : is_return (next_act (rest p)) ≡ true = sym (ap is_return (followed-next (rest p) (operations body ops) goes)) ∙ ends in
+    ap is_between (followed-after (rest p) (operations body ops) 0 goes ∙ ap (λ s. followed_by s (operations body ops)) (in_hand_over h n (rest p) 0 hand ends' (return_answered (next_act (rest p)) ends')))
+    ∙ operations-between body ops
+
+pub player_done : {P : Type 0} (h : Header) (n later : ℕ) (rest : P → Script) (progress : Option P) (body : Op → Script) (ops : List Op)
+    → later ≡ bounds_of h ops → HandIs h n rest progress → (is_none progress ≡ true → n ≡ 0) → player_script rest progress body ops ≡ stop → n + later ≡ 0
+player_done h n later rest None body ops sum hand idle e = omega (arith, sum, operations-done h body ops e, idle refl)
+player_done h n later rest (Some p) body ops sum hand idle e = absurd (followed-goes_on (rest p) (operations body ops) (in_hand_goes_on h n (rest p) hand) e)
+
+pub player_wants : {P : Type 0} (h : Header) (n : ℕ) (rest : P → Script) (progress : Option P) (p : P) (body : Op → Script) (ops : List Op)
+    → HandIs h n rest progress → progress ≡ Some p → next_act (player_script rest progress body ops) ≡ next_act (rest p)
+player_wants h n rest None p body ops hand e = cc
+player_wants h n rest (Some x) p body ops hand e =
+    let same : x ≡ p = cc in followed-next (rest x) (operations body ops) (in_hand_goes_on h n (rest x) hand) ∙ ap (λ p. next_act (rest p)) same
+
+pub player_goes_on : {P : Type 0} (h : Header) (n : ℕ) (rest : P → Script) (progress : Option P) (body : Op → Script) (ops : List Op) (answer : ℕ) (new : Script)
+    → HandIs h n rest progress → is_some progress ≡ true → new ≡ after_answer (option_map_or rest progress stop) answer
+    → followed_by new (operations body ops) ≡ after_answer (player_script rest progress body ops) answer
+player_goes_on h n rest None body ops answer new hand some e = cc
+player_goes_on h n rest (Some p) body ops answer new hand some e =
+    ap (λ s. followed_by s (operations body ops)) e ∙ sym (followed-after (rest p) (operations body ops) answer (in_hand_goes_on h n (rest p) hand))

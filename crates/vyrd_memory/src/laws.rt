@@ -1,0 +1,26 @@
+//! Laws of runs, by turns and all at once. Each function does nothing: its contract is the law.
+
+ghost use Rattle.vyrd_memory.specs.Runs.{EndedRunsArentStuck, LoggedCallsFit, OnlyRacesAreMalformed, RunsByTurnsAreLegal, RunsByTurnsPlayToTheEnd, TurnsHaveOneEnd};
+
+/// A run by turns of sound scripts is a legal history, and each script is played to its end in it.
+pub fn run_by_turns_is_legal()
+    ensures legal { RunsByTurnsAreLegal }
+    ensures played { RunsByTurnsPlayToTheEnd }
+{}
+
+/// In the log of a legal history in which sound scripts are played to their end, no rule is broken but by a write to a word
+/// that another caller's open block has written.
+pub fn only_races_are_malformed()
+    ensures { OnlyRacesAreMalformed }
+{}
+
+/// The calls in that log are of the header's subject, with arguments in range.
+pub fn logged_calls_fit()
+    ensures { LoggedCallsFit }
+{}
+
+/// The scripts and the turns alone say how a run by turns ends: with one history, or stuck.
+pub fn turns_have_one_end()
+    ensures same { TurnsHaveOneEnd }
+    ensures ends { EndedRunsArentStuck }
+{}

@@ -1,0 +1,187 @@
+//! A machine that plays operations one after the other.
+
+ghost use Rattle.std.specs.Prelude.{◌≡◌, ◌≤◌, ◌<◌, ◌+◌, ◌*◌, [], ◌∷◌, IfOk, IfSome, MatchOption, drop, length, true, vec_len, is_some, is_none, if◌then◌else◌};
+ghost use Rattle.std.specs.Option.{option_map_or};
+ghost use Rattle.vyrd_memory.specs.Scripts.{stop, operations, followed_by};
+ghost use Rattle.vyrd_memory.specs.Soundness.{IsSound, at_rest};
+ghost use Rattle.vyrd_memory.specs.Bounds.{bounds_of};
+ghost use Rattle.vyrd_memory.specs.declared.op.Op.{Op};
+ghost use Rattle.vyrd_memory.specs.declared.op.Variant.TheVariants.{Correct};
+ghost use Rattle.vyrd_memory.specs.Alone.{IsRightAlone};
+ghost use Rattle.vyrd_memory.specs.Players.{are_callable, first_bound, is_callable};
+
+use crate::act::Act;
+use crate::bound::bound;
+use crate::hand::Hand;
+use crate::machine::Machine;
+use crate::op::{Op, Variant};
+use crate::progress::Progress;
+use std::alloc::{AllocError, Global};
+use vyrd_base::{Header, Kind};
+
+/// The most operations that a player may be given.
+pub const MAX_OPS: usize = 200_000;
+
+/// A machine of one caller: it calls its operations one after the other, each by the procedure of its structure.
+#[derive(Drop)]
+pub struct Player<P: Progress> {
+    hand: Hand<P>,
+    caller: u32,
+    variant: Variant,
+    ops: Vec<Op>,
+    begun: usize,
+    later: u64,
+    ghost within: { begun ≤ vec_len ops },
+    ghost callable: { are_callable hand.header (drop begun ops.items) ≡ true },
+    ghost bounded: { later ≡ bounds_of hand.header (drop begun ops.items) },
+    ghost small: { later ≤ 200000 * 279208 },
+}
+
+impl<P: Progress> Player<P> {
+    /// The machine of a caller that will call these operations.
+    pub fn new(
+        alloc: Global,
+        header: Header,
+        caller: u32,
+        variant: Variant,
+        ops: &[Op],
+    ) -> Result<Player<P>, AllocError>
+        requires subject { header.subject ≡ P.subject }
+        requires caller { caller < header.callers }
+        requires count { length ops.now ≤ 200000 }
+        requires ops { are_callable header ops.now ≡ true }
+        ensures header { IfOk result (λ m. ⟦<Player<P> as Machine>⟧.header_of m ≡ header) }
+        ensures caller { IfOk result (λ m. ⟦<Player<P> as Machine>⟧.caller_of m ≡ caller) }
+        ensures script { IfOk result (λ m. ⟦<Player<P> as Machine>⟧.script m ≡ operations (P.procedure header variant) ops.now) }
+        ensures bound { IfOk result (λ m. ⟦<Player<P> as Machine>⟧.ahead m ≡ bounds_of header ops.now) }
+        ensures alone { (op : Op) → is_callable header op ≡ true → IsRightAlone header op (P.procedure header Correct op) }
+        ensures sound { IsSound header at_rest (operations (P.procedure header variant) ops.now) }
+    {
+        let later = sum_of_bounds(&header, ops);
+        let ops = ops.to_vec(alloc)?;
+        Ok(Player {
+            hand: Hand::empty(header),
+            caller,
+            variant,
+            ops,
+            begun: 0,
+            later,
+        })
+    }
+}
+
+impl<P: Progress> Player<P> {
+    // The next operation to begin.
+    fn next_op(&self) -> Option<Op>
+        ensures { MatchOption result
+            (drop self.now.begun self.now.ops.items ≡ [])
+            (λ op. (drop self.now.begun self.now.ops.items ≡ op ∷ drop (self.now.begun + 1) self.now.ops.items) × (is_callable self.now.hand.header op ≡ true)) }
+    {
+        self.ops.get(self.begun).copied()
+    }
+
+    // Takes the next operation in hand, after the mark of its call.
+    fn begin(&mut self, op: Op)
+        requires idle { is_none self.old.hand.progress ≡ true }
+        requires next { drop self.old.begun self.old.ops.items ≡ op ∷ drop (self.old.begun + 1) self.old.ops.items }
+        requires callable { is_callable self.old.hand.header op ≡ true }
+        ensures begins { IfSome self.new.hand.progress (λ p. P.rest self.new.hand.header p ≡ P.procedure self.old.hand.header self.old.variant op) }
+        ensures some { is_some self.new.hand.progress ≡ true }
+        ensures header { self.new.hand.header ≡ self.old.hand.header }
+        ensures caller { self.new.caller ≡ self.old.caller }
+        ensures variant { self.new.variant ≡ self.old.variant }
+        ensures later { drop self.new.begun self.new.ops.items ≡ drop (self.old.begun + 1) self.old.ops.items }
+        ensures falls { self.new.hand.left + self.new.later < self.old.hand.left + self.old.later }
+    {
+        self.later -= bound(&self.hand.header, op.method);
+        self.begun += 1;
+        self.hand.begin(self.variant, op);
+    }
+}
+
+impl<P: Progress> Machine for Player<P> {
+    ghost use Rattle.std.proofs.Common.{◌∙◌};
+    ghost use Rattle.vyrd_memory.specs.PlayerLaws.{callable_method, callable_args, callable_small, player_sound, player_in_time, player_bound, player_within, player_rests, player_done};
+
+    ghost header_of = { λ m. m.hand.header };
+
+    ghost caller_of = { λ m. m.caller };
+
+    ghost script = { λ m. followed_by
+        (option_map_or (P.rest m.hand.header) m.hand.progress stop)
+        (operations (P.procedure m.hand.header m.variant) (drop m.begun m.ops.items)) };
+
+    ghost ahead = { λ m. m.hand.left + m.later };
+
+    ghost op_ahead = { λ m. if is_some m.hand.progress then m.hand.left else first_bound m.hand.header (drop m.begun m.ops.items) };
+
+    ghost is_sound = { λ m. player_sound m.hand.header m.hand.left (P.rest m.hand.header) m.hand.progress
+        (P.procedure m.hand.header m.variant) (drop m.begun m.ops.items)
+        (λ op callable. P.is_sound m.hand.header m.variant op m.hand.subject (callable_method m.hand.header op callable ∙ m.hand.subject) (callable_args m.hand.header op callable) (callable_small m.hand.header op callable))
+        m.callable m.hand.goes_on };
+
+    ghost ends_in_time = { λ m. player_in_time m.hand.header m.hand.left (P.rest m.hand.header) m.hand.progress
+        (P.procedure m.hand.header m.variant) (drop m.begun m.ops.items)
+        (λ op callable. P.ends_in_time m.hand.header m.variant op m.hand.subject (callable_method m.hand.header op callable ∙ m.hand.subject) (callable_args m.hand.header op callable) (callable_small m.hand.header op callable))
+        m.callable m.hand.goes_on };
+
+    ghost next_bound = { λ m method args. player_bound m.hand.header m.hand.left (P.rest m.hand.header) m.hand.progress
+        (P.procedure m.hand.header m.variant) (drop m.begun m.ops.items) method args m.hand.goes_on };
+
+    ghost op_is_ahead = { λ m. player_within m.hand.header m.hand.left m.later m.hand.progress (drop m.begun m.ops.items) m.bounded };
+
+    ghost rests = { λ m. player_rests m.hand.header m.hand.left (P.rest m.hand.header) m.hand.progress
+        (P.procedure m.hand.header m.variant) (drop m.begun m.ops.items) m.hand.goes_on };
+
+    ghost done = { λ m. player_done m.hand.header m.hand.left m.later (P.rest m.hand.header) m.hand.progress
+        (P.procedure m.hand.header m.variant) (drop m.begun m.ops.items) m.bounded m.hand.goes_on m.hand.idle };
+
+    fn wants(&self) -> Act {
+        match self.hand.progress {
+            Some(progress) => progress.wants(&self.hand.header),
+            None => match self.next_op() {
+                Some(op) => Act::Mark(Kind::Call(op.method, op.args)),
+                None => Act::Done,
+            },
+        }
+    }
+
+    fn took(&mut self, answer: u64) {
+        if self.hand.progress.is_some() {
+            self.hand.go_on(answer);
+        } else if let Some(op) = self.next_op() {
+            self.begin(op);
+        }
+    }
+
+    fn left(&self) -> u64 {
+        self.hand.left + self.later
+    }
+
+    fn op_left(&self) -> u64 {
+        match self.hand.progress {
+            Some(_) => self.hand.left,
+            None => match self.next_op() {
+                Some(op) => bound(&self.hand.header, op.method),
+                None => 0,
+            },
+        }
+    }
+
+    fn between(&self) -> bool {
+        self.hand.progress.is_none()
+    }
+}
+
+/// The sum of the bounds of operations.
+fn sum_of_bounds(header: &Header, ops: &[Op]) -> u64
+    requires { length ops.now ≤ 200000 }
+    ensures sum { result ≡ bounds_of header.now ops.now }
+    ensures small { result ≤ 200000 * 279208 }
+{
+    let mut sum = 0;
+    for op in ops {
+        sum += bound(header, op.method);
+    }
+    sum
+}

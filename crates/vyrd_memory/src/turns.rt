@@ -1,0 +1,248 @@
+//! The run by turns: machines over plain memory, one event at a time.
+
+ghost use Rattle.std.specs.Prelude.{◌≡◌, ◌<◌, ◌≤◌, ◌+◌, ◌^◌, ℕ, true, false, IfOk, MatchOption, Ok, Err, All, [], ◌∷◌, length, vec_len, map, List, replicate, slice_get, Some};
+ghost use Rattle.std.specs.List.{list_all};
+ghost use Rattle.vyrd_base.specs.Places.{newest_first, numbers_below};
+ghost use Rattle.vyrd_base.specs.Layout.{plain_words, lock_words};
+ghost use Rattle.vyrd_memory.specs.declared.turns.StepFault.TheVariants.{Stuck};
+ghost use Rattle.vyrd_memory.specs.Scripts.{Script, next_act, is_between, answer_of};
+ghost use Rattle.vyrd_memory.specs.Turns.{after_turn, after_turns, turns_of, is_done, RunsTo, GetsStuck};
+ghost use Rattle.vyrd_memory.specs.Playing.{event_in, words_after_event, IsWithin, IsReady, IsPlaying, HasPlayed, HaveComeToRest, scene, memory_after, total};
+
+use crate::act::Act;
+use crate::machine::Machine;
+use crate::op::Turn;
+use std::alloc::{AllocError, Global};
+use vyrd_base::{Did, Header, Stamped};
+
+/// What a run by turns leaves.
+#[derive(Debug, Drop)]
+pub struct Ran {
+    /// The events in their order, numbered from 0.
+    pub history: Vec<Stamped>,
+    /// The memory at the end: the plain words, and then the locks.
+    pub words: Vec<u64>,
+}
+
+/// Why a run by turns has no end.
+#[derive(Clone, Copy, Debug, PartialEq, Eq)]
+pub enum StepFault {
+    /// The turns are used up, some machine isn't done, and each such machine wants a lock that is held.
+    Stuck,
+    /// There was no memory.
+    Memory,
+}
+
+// Does an act of the caller in the memory. There is no event where the act is none, or where it takes a lock that is held.
+fn perform(words: &mut Vec<u64>, caller: u32, act: Act) -> Option<Did>
+    requires { IsWithin (vec_len words.old) act }
+    ensures event { result ≡ event_in words.old.items act }
+    ensures words { words.new.items ≡ words_after_event words.old.items caller result }
+{
+    match act {
+        Act::Load(cell) => Some(Did::Read(cell, words[cell as usize])),
+        Act::Store(cell, value) => {
+            words[cell as usize] = value;
+            Some(Did::Wrote(cell, value))
+        }
+        Act::Take(lock) => {
+            if words[lock as usize] != 0 {
+                return None;
+            }
+            words[lock as usize] = u64::from(caller) + 1;
+            Some(Did::Took(lock))
+        }
+        Act::Give(lock) => {
+            words[lock as usize] = 0;
+            Some(Did::Gave(lock))
+        }
+        Act::Mark(kind) => Some(Did::Marked(kind)),
+        Act::Done => None,
+    }
+}
+
+// A turn of a caller. `false` says that there was no event.
+fn turn<M: Machine>(
+    header: &Header,
+    machines: &mut [M],
+    caller: u32,
+    words: &mut Vec<u64>,
+    history: &mut Vec<Stamped>,
+) -> Result<bool, AllocError>
+    requires caller { caller < length machines.old }
+    requires ready { IsReady header.now M.header_of machines.old words.old.items }
+    ensures played { IfOk result (λ moved. HasPlayed header.now M.header_of M.script (caller ∷ [])
+        (scene machines.old words.old.items history.old.items) (scene machines.new words.new.items history.new.items)) }
+    ensures still { result ≡ Ok false → history.new.items ≡ history.old.items }
+    ensures falls { result ≡ Ok true → total M.ahead machines.new < total M.ahead machines.old }
+    ensures rests { result ≡ Ok false → total M.ahead machines.new ≤ total M.ahead machines.old }
+{
+    let machine = &mut machines[caller as usize];
+    let Some(did) = perform(words, caller, machine.wants()) else {
+        return Ok(false);
+    };
+    history.push(Stamped {
+        number: history.len() as u64,
+        caller,
+        did,
+    })?;
+    machine.took(answer(did));
+    Ok(true)
+}
+
+// The answer that an event gives: what was read, and else 0.
+fn answer(did: Did) -> u64
+    ensures { result ≡ answer_of did }
+{
+    match did {
+        Did::Read(_, value) => value,
+        _ => 0,
+    }
+}
+
+// A round over all callers. `false` says that there was no event.
+fn round<M: Machine>(
+    header: &Header,
+    machines: &mut [M],
+    words: &mut Vec<u64>,
+    history: &mut Vec<Stamped>,
+) -> Result<bool, AllocError>
+    requires few { length machines.old ≤ 64 }
+    requires ready { IsReady header.now M.header_of machines.old words.old.items }
+    ensures played { IfOk result (λ moved. HasPlayed header.now M.header_of M.script (numbers_below (length machines.old))
+        (scene machines.old words.old.items history.old.items) (scene machines.new words.new.items history.new.items)) }
+    ensures still { result ≡ Ok false → history.new.items ≡ history.old.items }
+    ensures falls { result ≡ Ok true → total M.ahead machines.new < total M.ahead machines.old }
+{
+    let mut moved = false;
+    for caller in 0..machines.len() {
+        if turn(header, machines, caller as u32, words, history)? {
+            moved = true;
+        }
+    }
+    Ok(moved)
+}
+
+// So many turns of a caller.
+fn repeat<M: Machine>(
+    header: &Header,
+    machines: &mut [M],
+    turns: &Turn,
+    words: &mut Vec<u64>,
+    history: &mut Vec<Stamped>,
+) -> Result<(), AllocError>
+    requires caller { turns.now.caller < length machines.old }
+    requires ready { IsReady header.now M.header_of machines.old words.old.items }
+    ensures played { IfOk result (λ u. HasPlayed header.now M.header_of M.script (replicate turns.now.count turns.now.caller)
+        (scene machines.old words.old.items history.old.items) (scene machines.new words.new.items history.new.items)) }
+{
+    for _time in 0..turns.count {
+        turn(header, machines, turns.caller, words, history)?;
+    }
+    Ok(())
+}
+
+// All turns, one after the other.
+fn repeat_all<M: Machine>(
+    header: &Header,
+    machines: &mut [M],
+    turns: &[Turn],
+    words: &mut Vec<u64>,
+    history: &mut Vec<Stamped>,
+) -> Result<(), AllocError>
+    requires callers { All (λ turn. turn.caller < length machines.old) turns.now }
+    requires ready { IsReady header.now M.header_of machines.old words.old.items }
+    ensures played { IfOk result (λ u. HasPlayed header.now M.header_of M.script (turns_of turns.now)
+        (scene machines.old words.old.items history.old.items) (scene machines.new words.new.items history.new.items)) }
+{
+    for turn in turns {
+        repeat(header, machines, turn, words, history)?;
+    }
+    Ok(())
+}
+
+// Rounds over all callers, until one has no event.
+fn play_rounds<M: Machine>(
+    header: &Header,
+    machines: &mut [M],
+    words: &mut Vec<u64>,
+    history: &mut Vec<Stamped>,
+) -> Result<(), AllocError>
+    requires few { length machines.old ≤ 64 }
+    requires ready { IsReady header.now M.header_of machines.old words.old.items }
+    ensures rest { IfOk result (λ u. HaveComeToRest header.now M.header_of M.script
+        (scene machines.old words.old.items history.old.items) (scene machines.new words.new.items history.new.items)) }
+{
+    while round(header, machines, words, history)? {}
+    Ok(())
+}
+
+// Whether all machines are done.
+fn are_done<M: Machine>(machines: &[M]) -> bool
+    ensures { result ≡ list_all (λ m. is_done (next_act (M.script m))) machines.now }
+{
+    for machine in machines {
+        if machine.wants() != Act::Done {
+            return false;
+        }
+    }
+    true
+}
+
+// All words 0 and all locks free.
+fn zeros(alloc: Global, header: &Header) -> Result<Vec<u64>, AllocError>
+    ensures { IfOk result (λ words. words.items ≡ replicate (plain_words header.now + lock_words header.now) 0) }
+{
+    let cells = header.plain_words() as usize + header.lock_words() as usize;
+    Vec::from_elem(alloc, 0u64, cells)
+}
+
+// Plays all turns and then rounds. There is nothing where the machines get stuck.
+fn play<M: Machine>(
+    alloc: Global,
+    header: &Header,
+    machines: &mut [M],
+    turns: &[Turn],
+) -> Result<Option<Ran>, AllocError>
+    requires count { length machines.old ≡ header.now.callers }
+    requires header { All (λ m. M.header_of m ≡ header.now) machines.old }
+    requires turns { All (λ turn. turn.caller < header.now.callers) turns.now }
+    ensures runs { IfOk result (λ ran. MatchOption ran
+        (GetsStuck (map M.script machines.old) turns.now)
+        (λ r. RunsTo (map M.script machines.old) turns.now r.history.items × (r.words.items ≡ memory_after header.now (newest_first r.history.items)))) }
+{
+    let mut words = zeros(alloc, header)?;
+    let mut history = Vec::new(alloc);
+    repeat_all(header, machines, turns, &mut words, &mut history)?;
+    play_rounds(header, machines, &mut words, &mut history)?;
+    if are_done(machines) {
+        Ok(Some(Ran { history, words }))
+    } else {
+        Ok(None)
+    }
+}
+
+/// Plays machines over plain memory, from all words 0 and all locks free: first the turns that are given, and then rounds over
+/// all callers, until all machines are done. Machine i is that of caller i. A turn of a machine that is done, or that wants
+/// a lock which is held, has no event.
+///
+/// The answer is a function of the machines' scripts and the turns. It takes time and memory for each event.
+pub fn run_turns<M: Machine>(
+    alloc: Global,
+    header: Header,
+    machines: &mut [M],
+    turns: &[Turn],
+) -> Result<Ran, StepFault>
+    requires count { length machines.old ≡ header.callers }
+    requires header { All (λ m. M.header_of m ≡ header) machines.old }
+    requires turns { All (λ turn. turn.caller < header.callers) turns.now }
+    ensures history { IfOk result (λ ran. RunsTo (map M.script machines.old) turns.now ran.history.items) }
+    ensures words { IfOk result (λ ran. ran.words.items ≡ memory_after header (newest_first ran.history.items)) }
+    ensures stuck { result ≡ Err Stuck → GetsStuck (map M.script machines.old) turns.now }
+{
+    match play(alloc, &header, machines, turns) {
+        Ok(Some(ran)) => Ok(ran),
+        Ok(None) => Err(StepFault::Stuck),
+        Err(AllocError) => Err(StepFault::Memory),
+    }
+}
