@@ -1,0 +1,40 @@
+-- When an insert and an insert_pair give up, by what they have done.
+use Rattle.std.proofs.Common.{◌≡◌, ℕ, inl, inr, false, Option, Some, None, arith}
+use Rattle.vyrd_base.specs.declared.header.Header.{Header}
+use Rattle.vyrd_base.specs.declared.subject.Subject.TheVariants.{Multiset}
+use Rattle.vyrd_base.specs.Amounts.{Amounts}
+use Rattle.vyrd_memory.specs.declared.op.Variant.TheVariants.{Correct}
+use Rattle.vyrd_memory.specs.Alone.{Memory, Outcome, state_in, alone}
+use Rattle.vyrd_multiset.specs.Procedures.{insert, insert_pair}
+use Rattle.vyrd_multiset.specs.Room.{free_slots_for, has_room_for_both}
+use Rattle.vyrd_multiset.specs.Replies.{GivesUpWhere}
+use Rattle.vyrd_multiset.specs.Laws.Slotted.{is_multiset}
+use Rattle.vyrd_multiset.specs.Laws.Played.{Ended}
+use Rattle.vyrd_multiset.specs.Laws.Done.{InsertDone, insert_done, PairDone, pair_done}
+
+by_outcome : (P : Type 0) (Q : ℕ → Memory → Type 0) (o : Option Outcome) → Ended o Q
+    → ((reply : ℕ) (after : Memory) → Q reply after → (reply ≡ 0 → P) × (P → reply ≡ 0)) → GivesUpWhere P o
+by_outcome P Q None e says = absurd e
+by_outcome P Q (Some outcome) e says = let both = says outcome.reply outcome.memory e in (both.0, both.1)
+
+pub insert_gives_up : (h : Header) (memory : Memory) (state : Amounts) (c x : ℕ) → h.subject ≡ Multiset → state_in h memory ≡ Some state
+    → GivesUpWhere (free_slots_for h memory x ≡ 0) (alone c (insert h Correct x) memory)
+insert_gives_up h memory state c x is e =
+    by_outcome (free_slots_for h memory x ≡ 0) (InsertDone h memory state x) (alone c (insert h Correct x) memory)
+    (insert_done h c memory state x (is_multiset h memory state is e)) says
+  where
+    says : (reply : ℕ) (after : Memory) → InsertDone h memory state x reply after → (reply ≡ 0 → free_slots_for h memory x ≡ 0) ×
+        (free_slots_for h memory x ≡ 0 → reply ≡ 0)
+    says reply after (inl d) = (λ none. absurd (omega (arith, none, d.0)), λ none. absurd (omega (arith, none, d.2)))
+    says reply after (inr d) = (λ none. d.2, λ none. d.0)
+
+pub insert_pair_gives_up : (h : Header) (memory : Memory) (state : Amounts) (c x y : ℕ) → h.subject ≡ Multiset → state_in h memory ≡ Some state
+    → GivesUpWhere (has_room_for_both h memory x y ≡ false) (alone c (insert_pair h Correct x y) memory)
+insert_pair_gives_up h memory state c x y is e =
+    by_outcome (has_room_for_both h memory x y ≡ false) (PairDone h memory state x y) (alone c (insert_pair h Correct x y) memory)
+    (pair_done h c memory state x y (is_multiset h memory state is e)) says
+  where
+    says : (reply : ℕ) (after : Memory) → PairDone h memory state x y reply after → (reply ≡ 0 → has_room_for_both h memory x y ≡ false) ×
+        (has_room_for_both h memory x y ≡ false → reply ≡ 0)
+    says reply after (inl d) = (λ none. absurd (omega (arith, none, d.0)), λ full. let room = d.2 in cc)
+    says reply after (inr d) = (λ none. d.2, λ full. d.0)

@@ -1,0 +1,89 @@
+-- How the parts of the procedures are played alone.
+use Rattle.std.proofs.Common.{◌≡◌, ◌≢◌, ℕ, zero, suc, ◌+◌, ◌*◌, ◌<◌, ◌≤◌, Bool, true, false, cond, Option, Some, None, refl, ap, sym, subst, arith}
+use Rattle.std.specs.Prelude.{◌==◌}
+use Rattle.vyrd_memory.specs.declared.act.Act.TheVariants.{Take}
+use Rattle.vyrd_memory.specs.Scripts.{Script, perform}
+use Rattle.vyrd_memory.specs.Alone.{Memory, with_cell, Outcome, alone}
+use Rattle.vyrd_multiset.specs.Slots.{state_word, value_word}
+use Rattle.vyrd_multiset.specs.Procedures.{find_from, reserve, compare, search_from}
+use Rattle.vyrd_multiset.specs.Laws.Tests.{same_of, apart_of}
+
+-- there is an outcome, and this holds of its reply and its memory
+abbrev pub Ended : Option Outcome → (ℕ → Memory → Type 0) → Type 0
+Ended None Q = ⊥
+Ended (Some outcome) Q = Q outcome.reply outcome.memory
+
+pub ended_with : (o : Option Outcome) (Q : ℕ → Memory → Type 0) → Ended o Q → (outcome : Outcome) × (o ≡ Some outcome) × Q outcome.reply outcome.memory
+ended_with None Q e = absurd e
+ended_with (Some outcome) Q e = (outcome, refl, e)
+
+pub ended_more : (o : Option Outcome) (P Q : ℕ → Memory → Type 0) → ((reply : ℕ) (memory : Memory) → P reply memory → Q reply memory) → Ended o P → Ended o Q
+ended_more None P Q more e = e
+ended_more (Some outcome) P Q more e = more outcome.reply outcome.memory e
+
+-- a free lock is taken
+pub take_played : (c lock : ℕ) (later : Script) (memory : Memory) (Q : ℕ → Memory → Type 0) → memory lock ≡ 0
+    → Ended (alone c later (with_cell memory lock (c + 1))) Q → Ended (alone c (perform (Take lock) later) memory) Q
+take_played c lock later memory Q free e = subst (λ b. Ended (cond b (alone c later (with_cell memory lock (c + 1))) None) Q) (sym (ap (λ n. n == 0) free)) e
+
+-- the memory after a slot was reserved
+abbrev pub with_reserved : Memory → ℕ → ℕ → Memory
+with_reserved memory slot value = with_cell (with_cell memory (value_word slot) value) (state_word slot) 1
+
+-- A free slot is found among the slots from this one on, or all of them have another state.
+pub find_from_played : (c : ℕ) (memory : Memory) (Q : ℕ → Memory → Type 0) (left slot value : ℕ) (found : Option ℕ → Script)
+    → ((j : ℕ) → slot ≤ j → j < slot + left → memory (2 * j) ≡ 0 → Ended (alone c (found (Some j)) (with_reserved memory j value)) Q)
+    → (((j : ℕ) → slot ≤ j → j < slot + left → memory (2 * j) ≢ 0) → Ended (alone c (found None) memory) Q)
+    → Ended (alone c (find_from left slot value found) memory) Q
+find_from_played c memory Q zero slot value found some none = none (λ j from to. absurd (omega (arith, from, to)))
+find_from_played c memory Q (suc left) slot value found some none =
+    by_state (memory (2 * slot) == 0) refl
+    (λ more. find_from_played c memory Q left (slot + 1) value found (λ j from to. some j (omega (arith, from)) (omega (arith, to))) more)
+  where
+    no_more : memory (2 * slot) ≢ 0 → ((j : ℕ) → slot + 1 ≤ j → j < slot + 1 + left → memory (2 * j) ≢ 0) → (j : ℕ) → slot ≤ j → j < slot + suc left → memory
+        (2 * j) ≢ 0
+    no_more here more j from to = by_place (j == slot) refl
+      where
+        by_place : (b : Bool) → (j == slot) ≡ b → memory (2 * j) ≢ 0
+        by_place true e = subst (λ k. memory (2 * k) ≢ 0) (sym (same_of j slot e)) here
+        by_place false e = let apart = apart_of j slot e in more j (omega (arith, apart, from)) (omega (arith, to))
+
+    by_state : (b : Bool) → (memory (2 * slot) == 0) ≡ b
+        → ((((j : ℕ) → slot + 1 ≤ j → j < slot + 1 + left → memory (2 * j) ≢ 0) → Ended (alone c (found None) memory) Q) → Ended
+        (alone c (find_from left (slot + 1) value found) memory) Q)
+        → Ended (alone c (cond b (reserve slot value (found (Some slot))) (find_from left (slot + 1) value found)) memory) Q
+    by_state true e later = some slot (omega arith) (omega arith) (same_of (memory (2 * slot)) 0 e)
+    by_state false e later = later (λ more. none (no_more (apart_of (memory (2 * slot)) 0 e) more))
+
+-- A search ends at a valid slot with the value, or no slot from this one on is one.
+pub search_from_played : (c : ℕ) (memory : Memory) (Q : ℕ → Memory → Type 0) (left slot value : ℕ) (ended : Option ℕ → Script)
+    → ((j : ℕ) → slot ≤ j → j < slot + left → memory (2 * j) ≡ 2 → memory (2 * j + 1) ≡ value → Ended (alone c (ended (Some j)) memory) Q)
+    → (((j : ℕ) → slot ≤ j → j < slot + left → memory (2 * j) ≡ 2 → memory (2 * j + 1) ≡ value → ⊥) → Ended (alone c (ended None) memory) Q)
+    → Ended (alone c (search_from left slot value ended) memory) Q
+search_from_played c memory Q zero slot value ended some none = none (λ j from to valid has. absurd (omega (arith, from, to)))
+search_from_played c memory Q (suc left) slot value ended some none =
+    by_state (memory (2 * slot) == 2) refl
+    (λ here. search_from_played c memory Q left (slot + 1) value ended (λ j from to. some j (omega (arith, from)) (omega (arith, to)))
+    (λ more. none (no_more here more)))
+  where
+    no_more : (memory (2 * slot) ≡ 2 → memory (2 * slot + 1) ≡ value → ⊥)
+        → ((j : ℕ) → slot + 1 ≤ j → j < slot + 1 + left → memory (2 * j) ≡ 2 → memory (2 * j + 1) ≡ value → ⊥)
+        → (j : ℕ) → slot ≤ j → j < slot + suc left → memory (2 * j) ≡ 2 → memory (2 * j + 1) ≡ value → ⊥
+    no_more here more j from to = by_place (j == slot) refl
+      where
+        by_place : (b : Bool) → (j == slot) ≡ b → memory (2 * j) ≡ 2 → memory (2 * j + 1) ≡ value → ⊥
+        by_place true e = subst (λ k. memory (2 * k) ≡ 2 → memory (2 * k + 1) ≡ value → ⊥) (sym (same_of j slot e)) here
+        by_place false e = let apart = apart_of j slot e in more j (omega (arith, apart, from)) (omega (arith, to))
+
+    by_value : memory (2 * slot) ≡ 2 → (b : Bool) → (memory (2 * slot + 1) == value) ≡ b
+        → ((memory (2 * slot) ≡ 2 → memory (2 * slot + 1) ≡ value → ⊥) → Ended (alone c (search_from left (slot + 1) value ended) memory) Q)
+        → Ended (alone c (cond b (ended (Some slot)) (search_from left (slot + 1) value ended)) memory) Q
+    by_value valid true e on = some slot (omega arith) (omega arith) valid (same_of (memory (2 * slot + 1)) value e)
+    by_value valid false e on = on (λ v has. apart_of (memory (2 * slot + 1)) value e has)
+
+    by_state : (b : Bool) → (memory (2 * slot) == 2) ≡ b
+        → ((memory (2 * slot) ≡ 2 → memory (2 * slot + 1) ≡ value → ⊥) → Ended (alone c (search_from left (slot + 1) value ended) memory) Q)
+        → Ended (alone c (cond b (compare slot value (ended (Some slot)) (search_from left (slot + 1) value ended))
+        (search_from left (slot + 1) value ended)) memory) Q
+    by_state true e on = by_value (same_of (memory (2 * slot)) 2 e) (memory (2 * slot + 1) == value) refl on
+    by_state false e on = on (λ valid has. apart_of (memory (2 * slot)) 2 e valid)

@@ -1,0 +1,127 @@
+-- Each correct procedure, played alone, does what the specification says.
+use Rattle.std.proofs.Common.{◌≡◌, ℕ, ◌-◌, ◌≤◌, inl, inr, true, false, cond, not, Some, None, refl, ap, ◌∙◌, sym, subst, arith}
+use Rattle.std.specs.Prelude.{◌==◌, IsSome}
+use Rattle.std.specs.Bool.{then_some}
+use Rattle.std.proofs.lemmas.Bool.Decides.{nat_tests}
+use Rattle.vyrd_base.specs.declared.header.Header.{Header}
+use Rattle.vyrd_base.specs.declared.subject.Subject.TheVariants.{Multiset}
+use Rattle.vyrd_base.specs.declared.subject.Method.{Method}
+use Rattle.vyrd_base.specs.declared.subject.Method.TheVariants.{MsInsert, MsInsertPair, MsDelete, MsLookup, CaWrite, CaFlush, CaEvict, CaRead, TrInsert, TrDelete, TrLookup}
+use Rattle.vyrd_base.specs.declared.subject.Args.{Args}
+use Rattle.vyrd_base.specs.Subjects.{subject_of, are_args, is_observer}
+use Rattle.vyrd_base.specs.Amounts.{Amounts, amount_of, with_amount, plus_amount}
+use Rattle.vyrd_base.specs.Specification.{by_reply, is_present, next_state}
+use Rattle.vyrd_memory.specs.declared.op.Op.{Op}
+use Rattle.vyrd_memory.specs.declared.op.Variant.TheVariants.{Correct}
+use Rattle.vyrd_memory.specs.Scripts.{Script}
+use Rattle.vyrd_memory.specs.Arguments.{are_small}
+use Rattle.vyrd_memory.specs.Alone.{Memory, alone, state_in, state_after, MeetsSpecification, IsRightAlone}
+use Rattle.vyrd_multiset.specs.Procedures.{insert, insert_pair, delete, lookup, by_method, multiset_procedure}
+use Rattle.vyrd_multiset.specs.Laws.Slotted.{IsMultiset, is_multiset, stands_for}
+use Rattle.vyrd_multiset.specs.Laws.Played.{Ended, ended_with}
+use Rattle.vyrd_multiset.specs.Laws.Done.{InsertDone, insert_done, PairDone, pair_done, DeleteDone, delete_done, LookupDone, lookup_done}
+
+-- the memory at the end stands for the state that the specification says
+record Meets (h : Header) (op : Op) (s : Amounts) (reply : ℕ) (after : Memory) : Type 0 where
+  state : Amounts
+  says : state_after (is_observer op.method) op reply s ≡ Some state
+  is : IsMultiset h after state
+
+meets : (h : Header) (op : Op) (script : Script) (c : ℕ) (memory : Memory) (s : Amounts) → h.subject ≡ Multiset
+    → (Q : ℕ → Memory → Type 0) → Ended (alone c script memory) Q → ((reply : ℕ) (after : Memory) → Q reply after → Meets h op s reply after)
+    → MeetsSpecification h op script c memory s
+meets h op script c memory s is Q ended says =
+    let o = ended_with (alone c script memory) Q ended in
+    let m = says o.0.reply o.0.memory o.2 in
+    let e : state_in h o.0.memory ≡ Some m.state = stands_for h o.0.memory m.state is m.is in
+    record {
+      outcome = o.0;
+      ends = o.1;
+      after = e ∙ sym m.says;
+      goes_on = subst (λ o. IsSome o) (sym e) refl;
+    }
+
+-- whether a key is there
+is_there : (s : Amounts) (x : ℕ) → 1 ≤ amount_of s x → is_present s x ≡ true
+is_there s x some = of_amount (amount_of s x) some
+  where
+    of_amount : (n : ℕ) → 1 ≤ n → not (n == 0) ≡ true
+    of_amount n some = grind (arith, nat_tests)
+
+isnt_there : (s : Amounts) (x : ℕ) → amount_of s x ≡ 0 → is_present s x ≡ false
+isnt_there s x none = ap (λ n. not (n == 0)) none
+
+by_method_right : (h : Header) (method : Method) (args : Args) → h.subject ≡ Multiset → subject_of method ≡ Multiset
+    → (c : ℕ) (memory : Memory) (s : Amounts) → IsMultiset h memory s
+    → MeetsSpecification h (record { method = method; args = args }) (by_method h Correct method args.a args.b) c memory s
+by_method_right h MsInsert args is of c memory s m =
+    meets h (record { method = MsInsert; args = args }) (insert h Correct args.a) c memory s is (InsertDone h memory s args.a) (insert_done h c memory s args.a m) says
+  where
+    says : (reply : ℕ) (after : Memory) → InsertDone h memory s args.a reply after → Meets h (record { method = MsInsert; args = args }) s reply after
+    says reply after (inl d) = record {
+      state = plus_amount s args.a 1;
+      says = ap (λ r. by_reply r (Some s) (Some (plus_amount s args.a 1)) None) d.0;
+      is = d.1;
+    }
+    says reply after (inr d) = record {
+      state = s;
+      says = ap (λ r. by_reply r (Some s) (Some (plus_amount s args.a 1)) None) d.0;
+      is = d.1;
+    }
+by_method_right h MsInsertPair args is of c memory s m =
+    meets h (record { method = MsInsertPair; args = args }) (insert_pair h Correct args.a args.b) c memory s is (PairDone h memory s args.a args.b)
+    (pair_done h c memory s args.a args.b m) says
+  where
+    says : (reply : ℕ) (after : Memory) → PairDone h memory s args.a args.b reply after → Meets h (record { method = MsInsertPair; args = args }) s reply after
+    says reply after (inl d) = record {
+      state = plus_amount (plus_amount s args.a 1) args.b 1;
+      says = ap (λ r. by_reply r (Some s) (Some (plus_amount (plus_amount s args.a 1) args.b 1)) None) d.0;
+      is = d.1;
+    }
+    says reply after (inr d) = record {
+      state = s;
+      says = ap (λ r. by_reply r (Some s) (Some (plus_amount (plus_amount s args.a 1) args.b 1)) None) d.0;
+      is = d.1;
+    }
+by_method_right h MsDelete args is of c memory s m =
+    meets h (record { method = MsDelete; args = args }) (delete h args.a) c memory s is (DeleteDone h s args.a) (delete_done h c memory s args.a m) says
+  where
+    fewer : Amounts
+    fewer = with_amount s args.a (amount_of s args.a - 1)
+
+    says : (reply : ℕ) (after : Memory) → DeleteDone h s args.a reply after → Meets h (record { method = MsDelete; args = args }) s reply after
+    says reply after (inl d) = record {
+      state = with_amount s args.a (amount_of s args.a - 1);
+      says = ap (λ r. next_state MsDelete args r s) d.0 ∙ ap (λ b. then_some b (with_amount s args.a (amount_of s args.a - 1))) (is_there s args.a d.2);
+      is = d.1;
+    }
+    says reply after (inr d) = record {
+      state = s;
+      says = ap (λ r. next_state MsDelete args r s) d.0 ∙ ap (λ b. then_some (not b) s) (isnt_there s args.a d.2);
+      is = d.1;
+    }
+by_method_right h MsLookup args is of c memory s m =
+    meets h (record { method = MsLookup; args = args }) (lookup h args.a) c memory s is (LookupDone h s args.a) (lookup_done h c memory s args.a m) says
+  where
+    says : (reply : ℕ) (after : Memory) → LookupDone h s args.a reply after → Meets h (record { method = MsLookup; args = args }) s reply after
+    says reply after (m', inl d) = record {
+      state = s;
+      says = ap (λ r. state_after true (record { method = MsLookup; args = args }) r s) d.0 ∙ ap (λ b. cond (1 == cond b 1 0) (Some s) None) (is_there s args.a d.1);
+      is = m';
+    }
+    says reply after (m', inr d) = record {
+      state = s;
+      says = ap (λ r. state_after true (record { method = MsLookup; args = args }) r s) d.0 ∙ ap (λ b. cond (0 == cond b 1 0) (Some s) None) (isnt_there s args.a d.1);
+      is = m';
+    }
+by_method_right h CaWrite args is of c memory s m = absurd (cc)
+by_method_right h CaFlush args is of c memory s m = absurd (cc)
+by_method_right h CaEvict args is of c memory s m = absurd (cc)
+by_method_right h CaRead args is of c memory s m = absurd (cc)
+by_method_right h TrInsert args is of c memory s m = absurd (cc)
+by_method_right h TrDelete args is of c memory s m = absurd (cc)
+by_method_right h TrLookup args is of c memory s m = absurd (cc)
+
+pub procedure_is_right_alone : (h : Header) (op : Op) → h.subject ≡ Multiset → subject_of op.method ≡ Multiset
+    → are_args h.size op.method op.args ≡ true → are_small op.args ≡ true → IsRightAlone h op (multiset_procedure h Correct op)
+procedure_is_right_alone h op is of args small = λ c memory s e. by_method_right h op.method op.args is of c memory s (is_multiset h memory s is e)

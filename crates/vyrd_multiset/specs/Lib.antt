@@ -1,0 +1,6 @@
+pub mod Slots
+pub mod Procedures
+pub mod Rest
+pub mod Room
+pub mod Replies
+pub mod Laws

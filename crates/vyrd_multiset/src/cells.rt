@@ -1,0 +1,59 @@
+//! The cells of slots and buckets.
+
+ghost use Rattle.std.specs.Prelude.{◌≡◌, ◌+◌, ◌*◌, ◌<◌, ◌^◌};
+ghost use Rattle.vyrd_multiset.specs.Slots.{bucket_of, first_slot, state_word, value_word, lock_of};
+
+use vyrd_base::Header;
+
+/// A slot that may be taken.
+pub(crate) const FREE: u64 = 0;
+/// A slot that is taken, whose value isn't in the multiset yet.
+pub(crate) const RESERVED: u64 = 1;
+/// A slot whose value is in the multiset.
+pub(crate) const VALID: u64 = 2;
+
+/// The bucket of a value.
+pub(crate) fn bucket_of(header: &Header, value: u32) -> u32
+    ensures bucket { result ≡ bucket_of header.now value }
+    ensures small { result < 1024 }
+{
+    value % header.size()
+}
+
+/// The first slot of the bucket of a value.
+pub(crate) fn first_slot_for(header: &Header, value: u32) -> u32
+    ensures { result ≡ first_slot (bucket_of header.now value) }
+{
+    4 * bucket_of(header, value)
+}
+
+/// The cell of a bucket's lock.
+pub(crate) fn lock_of(header: &Header, bucket: u32) -> u32
+    requires { bucket < 1024 }
+    ensures { result ≡ lock_of header.now bucket }
+{
+    8 * header.size() + bucket
+}
+
+/// The cell of the lock of a value's bucket.
+pub(crate) fn lock_for(header: &Header, value: u32) -> u32
+    ensures { result ≡ lock_of header.now (bucket_of header.now value) }
+{
+    lock_of(header, bucket_of(header, value))
+}
+
+/// The word of a slot's state.
+pub(crate) fn state_word(slot: u32) -> u32
+    requires { state_word slot < 2 ^ 32 }
+    ensures { result ≡ state_word slot }
+{
+    2 * slot
+}
+
+/// The word of a slot's value.
+pub(crate) fn value_word(slot: u32) -> u32
+    requires { value_word slot < 2 ^ 32 }
+    ensures { result ≡ value_word slot }
+{
+    2 * slot + 1
+}

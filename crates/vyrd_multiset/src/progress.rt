@@ -1,0 +1,64 @@
+//! How far an operation of the multiset has come.
+
+ghost use Rattle.std.specs.Prelude.{◌≡◌};
+ghost use Rattle.vyrd_base.specs.declared.subject.Subject.TheVariants.{Multiset};
+ghost use Rattle.vyrd_multiset.specs.Procedures.{multiset_procedure};
+ghost use Rattle.vyrd_multiset.specs.Rest.{rest_of};
+ghost use Rattle.vyrd_multiset.specs.Laws.Sound.{procedure_is_sound};
+ghost use Rattle.vyrd_multiset.specs.Laws.Bounded.{procedure_ends_in_time};
+ghost use Rattle.vyrd_multiset.specs.Laws.Right.{procedure_is_right_alone};
+
+use crate::place::{Place, Query, Searching, Want};
+use crate::task::Task;
+use vyrd_base::{Header, Method};
+use vyrd_memory::{Act, Op, Progress, Variant};
+
+/// How far an operation of the multiset has come: the values of its call, and a place in its procedure.
+///
+/// It has the size of a few numbers. Each step looks at one of them and costs the same.
+#[derive(Clone, Copy, Debug, PartialEq, Eq)]
+pub struct MultisetProgress {
+    task: Task,
+    place: Place,
+}
+
+impl Progress for MultisetProgress {
+    ghost subject = { Multiset };
+
+    ghost procedure = { multiset_procedure };
+
+    ghost rest = { rest_of };
+
+    ghost is_sound = { procedure_is_sound };
+
+    ghost ends_in_time = { procedure_ends_in_time };
+
+    ghost is_right_alone = { procedure_is_right_alone };
+
+    fn begin(header: &Header, variant: Variant, op: Op) -> Self {
+        let task = Task {
+            variant,
+            x: op.args.a,
+            y: op.args.b,
+        };
+        let place = match op.method {
+            Method::MsInsert => task.find(header, Want::Only),
+            Method::MsInsertPair => task.find(header, Want::First),
+            Method::MsDelete => Place::Search(Query::Delete, Searching::Lock),
+            Method::MsLookup => Place::Search(Query::Lookup, Searching::Lock),
+            _ => Place::Over,
+        };
+        MultisetProgress { task, place }
+    }
+
+    fn wants(&self, header: &Header) -> Act {
+        self.task.wants(header, self.place)
+    }
+
+    fn took(self, header: &Header, answer: u64) -> Self {
+        MultisetProgress {
+            task: self.task,
+            place: self.task.after(header, self.place, answer),
+        }
+    }
+}
