@@ -1,0 +1,4 @@
+pub mod Procedures
+pub mod Tasks
+pub mod Rests
+pub mod Laws
