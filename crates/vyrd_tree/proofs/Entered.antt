@@ -1,0 +1,31 @@
+-- A walk comes to a node.
+use Rattle.std.proofs.Common.{◌≡◌, ◌≢◌, ℕ, zero, suc, ◌+◌, ◌-◌, ◌<◌, ◌≤◌, refl, ap, ◌∙◌, sym, subst, arith}
+use Rattle.std.specs.Prelude.{Bool, true, false, cond, nat_lt}
+use Rattle.std.proofs.lemmas.Bool.Decides.{nat_tests}
+use Rattle.vyrd_base.specs.declared.header.Header.{Header}
+use Rattle.vyrd_memory.specs.Scripts.{Script}
+use Rattle.vyrd_tree.specs.declared.task.Task.{Task}
+use Rattle.vyrd_tree.specs.declared.visit.Visit.{Visit}
+use Rattle.vyrd_tree.specs.declared.visit.Errand.{Errand}
+use Rattle.vyrd_tree.specs.declared.visit.Visiting.TheVariants.{Lock}
+use Rattle.vyrd_tree.specs.Walk.{visit_node}
+use Rattle.vyrd_tree.specs.Rests.Errands.{arrived_for, walk_on, key_for, toward, lost_for}
+use Rattle.vyrd_tree.specs.Rests.Visits.{visiting_rest}
+
+less : (a b : ℕ) → a < b → nat_lt a b ≡ true
+less a b low = grind (arith, nat_tests)
+
+not_less : (a b : ℕ) → b ≤ a → nat_lt a b ≡ false
+not_less a b high = grind (arith, nat_tests)
+
+-- the visit of a node, with this errand and so many visits left after it
+abbrev visit_of : Header → Task → Errand → ℕ → ℕ → Script
+visit_of h task e left number = visit_node h task.variant (key_for task e) (toward e) number (lost_for task e) (walk_on h task e left) (arrived_for h task e)
+
+pub comes_in : (h : Header) (task : Task) (e : Errand) (left number : ℕ) (v : Visit) → v.errand ≡ e → v.left ≡ left - 1 → v.node.number ≡ number
+    → number < h.size → left ≢ 0 → visiting_rest h task v Lock ≡ walk_on h task e left number
+comes_in h task e zero number v is_errand is_left is_number low some = absurd (some refl)
+comes_in h task e (suc l) number v is_errand is_left is_number low some =
+    let fewer : v.left ≡ l = omega (arith, is_left) in
+    ap (λ x. visit_of h task x v.left v.node.number) is_errand ∙ ap (λ n. visit_of h task e n v.node.number) fewer ∙ ap (visit_of h task e l) is_number
+    ∙ ap (λ b. cond b (visit_of h task e l number) (lost_for task e)) (sym (less number h.size low))

@@ -1,0 +1,8 @@
+pub mod Entered
+pub mod Loads
+pub mod Added
+pub mod Parted
+pub mod Rooms
+pub mod Hangs
+pub mod PassLaws
+pub mod Small

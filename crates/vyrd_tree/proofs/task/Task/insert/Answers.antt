@@ -1,0 +1,15 @@
+use Rattle.std.proofs.Common.{◌≡◌, ◌∙◌, ap, sym}
+use Rattle.std.specs.Prelude.{take, None}
+use Rattle.vyrd_tree.specs.Procedures.{place_of}
+use Rattle.vyrd_tree.specs.Rests.Visits.{arrived_at}
+use Rattle.vyrd_tree.proofs.Added.{inserted_new}
+use Rattle.vyrd_tree.proofs.task.Task.insert.Goals as goal
+
+pub returns-in-None : goal.returns-in-None
+returns-in-None c = λ h.
+    let none : place_of c.args.self.key (take c.args.count c.args.visit.entries.slots) ≡ None =
+    ap (λ key. place_of key (take c.args.count c.args.visit.entries.slots)) (sym c.from.ensures) ∙ c.in-None.ensures in
+    c.add.ensures h
+    ∙ inserted_new h c.args.self c.args.visit.errand (arrived_at c.args.visit (take c.args.count c.args.visit.entries.slots))
+    (place_of c.args.self.key (take c.args.count c.args.visit.entries.slots)) c.from-in-None.result c.from-in-None-2.result
+    c.requires.operation none c.from-in-None.ensures c.from-in-None-2.ensures

@@ -1,0 +1,7 @@
+use Rattle.std.proofs.Common.{◌∙◌, ap}
+use Rattle.vyrd_tree.proofs.Entered.{comes_in}
+use Rattle.vyrd_tree.proofs.task.Task.walk.Goals as goal
+
+pub returns-in-Some : goal.returns-in-Some
+returns-in-Some c = comes_in c.args.header.now c.args.self c.args.errand c.args.left c.args.number c.new.result c.new.ensures.errand c.new.ensures.left
+    (ap (λ n. n.number) c.new.ensures.node ∙ c.in-Some.ensures.0) c.in-Some.ensures.1 c.if-left-eq0.false

@@ -1,0 +1,12 @@
+pub mod Cells
+pub mod Walk
+pub mod Split
+pub mod Ascent
+pub mod Procedures
+pub mod Rests
+pub mod Laws
+pub mod Room
+pub mod Replies
+pub mod Hanging
+pub mod Passes
+pub mod RightAlone

@@ -1,0 +1,92 @@
+-- The procedures of the tree, from after the mark of the call to the mark of the return.
+use Rattle.std.specs.Prelude.{ℕ, ◌+◌, ◌==◌, nat_lt, List, length, position, remove, slice_index, map, Option, Some, None, if◌then◌else◌}
+use Rattle.vyrd_base.specs.declared.header.Header.{Header}
+use Rattle.vyrd_base.specs.declared.log.Kind.TheVariants.{Return, Commit, BlockOpen, BlockCommit}
+use Rattle.vyrd_base.specs.declared.subject.Method.{Method}
+use Rattle.vyrd_base.specs.declared.subject.Method.TheVariants.{TrInsert, TrDelete, TrLookup}
+use Rattle.vyrd_memory.specs.declared.act.Act.TheVariants.{Load, Store, Mark}
+use Rattle.vyrd_memory.specs.declared.op.Op.{Op}
+use Rattle.vyrd_memory.specs.declared.op.Variant.{Variant}
+use Rattle.vyrd_memory.specs.Scripts.{Script, stop, step, perform}
+use Rattle.vyrd_tree.specs.Cells.{root_cell, value_cell, unlock_node}
+use Rattle.vyrd_tree.specs.Walk.{Arrived, walk_from}
+use Rattle.vyrd_tree.specs.Split.{with_unused, rewrite, add_entry, split_entry, split_key}
+use Rattle.vyrd_tree.specs.Ascent.{ascend}
+
+-- the mark of the return, which ends an operation
+abbrev pub returns : ℕ → Script
+returns reply = perform (Mark (Return reply)) stop
+
+-- commit and return 0
+abbrev pub gives_up : Script
+gives_up = perform (Mark Commit) (returns 0)
+
+-- with the node's lock held: commit, unlock it, and return 0
+abbrev pub changes_nothing : Header → ℕ → Script
+changes_nothing h node = perform (Mark Commit) (unlock_node h node (returns 0))
+
+-- the walk of an operation: from the root to the leaf of its key
+abbrev pub walk_down : Header → Variant → ℕ → Script → (Arrived → Script) → Script
+walk_down h variant key lost arrived = step (Load (root_cell h)) (λ root. walk_from h variant key 0 h.size root lost arrived)
+
+-- the place of the first entry with this key
+abbrev pub place_of : ℕ → List (ℕ × ℕ) → Option ℕ
+place_of key entries = position (λ entry. entry.0 == key) entries
+
+-- the value at a place
+abbrev pub value_at : List (ℕ × ℕ) → ℕ → ℕ
+value_at entries place = slice_index (map (λ entry. entry.1) entries) place
+
+-- what a lookup replies: the value plus 1, or 0
+abbrev pub reply_of : List (ℕ × ℕ) → Option ℕ → ℕ
+reply_of entries None = 0
+reply_of entries (Some place) = value_at entries place + 1
+
+-- what a lookup does in the leaf of its key
+abbrev pub look_in : Header → Arrived → Option ℕ → Script
+look_in h at place = unlock_node h at.node (returns (reply_of at.entries place))
+
+-- lookup k
+abbrev pub lookup : Header → Variant → ℕ → Script
+lookup h variant key = walk_down h variant key (returns 0) (λ at. look_in h at (place_of key at.entries))
+
+-- what a delete does in the leaf of its key: the entries from the place on move up by one
+abbrev pub delete_in : Header → Arrived → Option ℕ → Script
+delete_in h at None = changes_nothing h at.node
+delete_in h at (Some place) = rewrite h at.node place (remove at.entries place) BlockCommit (returns 1)
+
+-- delete k
+abbrev pub delete : Header → Variant → ℕ → Script
+delete h variant key = walk_down h variant key gives_up (λ at. delete_in h at (place_of key at.entries))
+
+-- a new value for a key that is there, in a block; then unlock the leaf and return 2
+abbrev pub replace_value : Header → ℕ → ℕ → ℕ → Script
+replace_value h node place value =
+    perform (Mark BlockOpen) (perform (Store (value_cell node place) value) (perform (Mark BlockCommit) (unlock_node h node (returns 2))))
+
+-- an entry for a key that isn't there: the leaf may be split, and then the new leaf gets an entry above, in up to 16 rounds
+abbrev pub insert_new : Header → Variant → ℕ → ℕ → Arrived → Script
+insert_new h variant key value at =
+    if nat_lt (length at.entries) 4 then add_entry h at key value BlockCommit (returns 1)
+    else with_unused h (changes_nothing h at.node) (λ new.
+    split_entry h at key value new BlockCommit (ascend h variant 16 0 (split_key at key value) new (returns 1)))
+
+-- what an insert does in the leaf of its key
+abbrev pub insert_in : Header → Variant → ℕ → ℕ → Arrived → Option ℕ → Script
+insert_in h variant key value at None = insert_new h variant key value at
+insert_in h variant key value at (Some place) = replace_value h at.node place value
+
+-- insert k v
+abbrev pub insert_entry : Header → Variant → ℕ → ℕ → Script
+insert_entry h variant key value = walk_down h variant key gives_up (λ at. insert_in h variant key value at (place_of key at.entries))
+
+-- the procedure of each method; those of another subject have none
+abbrev pub by_method : Header → Variant → Method → ℕ → ℕ → Script
+by_method h variant TrInsert a b = insert_entry h variant a b
+by_method h variant TrDelete a b = delete h variant a
+by_method h variant TrLookup a b = lookup h variant a
+by_method h variant _ a b = stop
+
+-- the procedure of an operation
+abbrev pub tree_procedure : Header → Variant → Op → Script
+tree_procedure h variant op = by_method h variant op.method op.args.a op.args.b

@@ -1,0 +1,33 @@
+//! The slots of a node, each of which holds an entry.
+
+ghost use Rattle.std.specs.Prelude.{◌≡◌, ◌+◌, ◌<◌, ◌≤◌, MatchOption};
+
+/// A slot of a node: the place of an entry among the node's first entries, of which there are so many.
+#[derive(Clone, Copy, Debug, PartialEq, Eq)]
+pub(crate) struct Slot {
+    pub(crate) place: u32,
+    pub(crate) of: u32,
+    ghost within: { place < of },
+    ghost few: { of ≤ 4 },
+}
+
+impl Slot {
+    /// The slot at a place, where there are so many entries.
+    pub(crate) fn new(place: u32, of: u32) -> Option<Slot>
+        requires { of ≤ 4 }
+        ensures { MatchOption result (of ≤ place) (λ slot. (slot.place ≡ place) × (slot.of ≡ of)) }
+    {
+        if place < of {
+            Some(Slot { place, of })
+        } else {
+            None
+        }
+    }
+
+    /// The slot that comes after it.
+    pub(crate) fn next(self) -> Option<Slot>
+        ensures { MatchOption result (self.of ≤ self.place + 1) (λ slot. (slot.place ≡ self.place + 1) × (slot.of ≡ self.of)) }
+    {
+        Slot::new(self.place + 1, self.of)
+    }
+}
