@@ -1,0 +1,185 @@
+-- The first line has one reading.
+use Rattle.std.proofs.Common.{◌≡◌, ℕ, ◌<◌, ◌^◌, Bool, true, false, cond, List, [], ◌∷◌, ◌++◌, Option, Some, None, refl, ap, sym, ◌∙◌, arith}
+use Rattle.std.specs.Prelude.{◌==◌, codes, decimal}
+use Rattle.std.specs.Option.{option_map}
+use Rattle.std.specs.List.{list_all, slice_split}
+use Rattle.std.specs.Str.{bytes_eq}
+use Rattle.std.proofs.lemmas.List.{append_cancel_left}
+use Rattle.std.proofs.lemmas.Bool.Decides.{nat_tests}
+use Rattle.std.proofs.lemmas.Slice.Eq.{bytes_eq-Decides}
+use Rattle.vyrd_base.specs.declared.header.Header.{Header}
+use Rattle.vyrd_base.specs.declared.subject.Subject.{Subject}
+use Rattle.vyrd_base.specs.declared.subject.Subject.TheVariants.{Multiset, Cache, Tree}
+use Rattle.vyrd_base.specs.Limits.{is_known_version, is_sized, is_within}
+use Rattle.vyrd_base.specs.Spelling.{subject_name}
+use Rattle.vyrd_base.specs.Lines.{fields_of, number_of, subject_called, header_if, header_of}
+use Rattle.vyrd_base.proofs.SplitLaws.{lacks, both_true, first_true, second_true, split_at, split-join, lacks-join, number_of_decimal, bytes_same}
+use Rattle.vyrd_base.proofs.LineLaws.{is_plain_field, plain_number, plain_spaces, plain_line_feeds}
+use Rattle.vyrd_memory.specs.declared.op.Variant.{Variant}
+use Rattle.vyrd_memory.specs.declared.op.Variant.TheVariants.{Correct, Broken}
+use Rattle.vyrd_text.proofs.PartLaws.{one_before_space}
+use Rattle.vyrd_text.proofs.HeaderLaws.{small_size, small_callers, made, not_made}
+use Rattle.vyrd_work.specs.Workloads.{Workload, variant_name, work_header_line}
+use Rattle.vyrd_work.specs.WorkLines.{variant_called, begun, begun_if_spelled, begun_from, begun_in}
+use Rattle.vyrd_work.specs.Spelled.{IsVariantRead, AreBoundsRead, IsFirstRead}
+
+-- a size that no number of callers follows
+pub no_callers : (text : List ℕ) (m : ℕ) (r : List ℕ) → m < 2 ^ 64 → text ≡ decimal m ++ 32 ∷ r → ((n : ℕ) (s : List ℕ) → n < 2 ^ 32 → r ≡ decimal n ++ 32 ∷ s → ⊥)
+    → AreBoundsRead text None
+no_callers text m r low e none size callers variant s c f =
+    let is = one_before_space m size r (decimal callers ++ 32 ∷ variant_name variant) low (omega arith) (sym e ∙ f) in
+    none callers (variant_name variant) c is.1
+
+-- a number of callers that no variant follows
+pub no_variant : (text : List ℕ) (m n : ℕ) (r t : List ℕ) → m < 2 ^ 64 → n < 2 ^ 64 → text ≡ decimal m ++ 32 ∷ r → r ≡ decimal n ++ 32 ∷ t → IsVariantRead t None
+    → AreBoundsRead text None
+no_variant text m n r t low small e g none size callers variant s c f =
+    let is = one_before_space m size r (decimal callers ++ 32 ∷ variant_name variant) low (omega arith) (sym e ∙ f) in
+    let more = one_before_space n callers t (variant_name variant) small (omega arith) (sym g ∙ is.1) in
+    none variant more.1
+
+plain_name : (subject : Subject) → lacks 32 (subject_name subject) ≡ true
+plain_name Multiset = refl
+plain_name Cache = refl
+plain_name Tree = refl
+
+-- the name before a space is one
+one_name : (a b : Subject) (r s : List ℕ) → subject_name a ++ 32 ∷ r ≡ subject_name b ++ 32 ∷ s → r ≡ s
+one_name a b r s e =
+    let parts : subject_name a ∷ slice_split (λ x. x == 32) r ≡ subject_name b ∷ slice_split (λ x. x == 32) s =
+    sym (split_at 32 (subject_name a) r (plain_name a)) ∙ ap (slice_split (λ x. x == 32)) e ∙ split_at 32 (subject_name b) s (plain_name b) in
+    let same : subject_name a ≡ subject_name b = cc in
+    let tails : 32 ∷ r ≡ 32 ∷ s = append_cancel_left (subject_name a) (32 ∷ r) (32 ∷ s) (e ∙ ap (λ t. t ++ 32 ∷ s) (sym same)) in
+    cc
+
+-- a line that no bounds end
+pub no_bounds : (line r : List ℕ) (found : Subject) (t : List ℕ) → line ≡ codes "work " ++ r → r ≡ subject_name found ++ 32 ∷ t → AreBoundsRead t None
+    → IsFirstRead line None
+no_bounds line r found t e g none subject size callers variant s c f =
+    let after = append_cancel_left (codes "work ") r (subject_name subject ++ 32 ∷ (decimal size ++ 32 ∷ (decimal callers ++ 32 ∷ variant_name variant))) (sym e ∙ f) in
+    none size callers variant s c (one_name found subject t (decimal size ++ 32 ∷ (decimal callers ++ 32 ∷ variant_name variant)) (sym g ∙ after))
+
+subject_read : (subject : Subject) → subject_called (subject_name subject) ≡ Some subject
+subject_read Multiset = refl
+subject_read Cache = refl
+subject_read Tree = refl
+
+plain_subject : (subject : Subject) → is_plain_field (subject_name subject) ≡ true
+plain_subject Multiset = refl
+plain_subject Cache = refl
+plain_subject Tree = refl
+
+variant_read : (variant : Variant) → variant_called (variant_name variant) ≡ Some variant
+variant_read Correct = refl
+variant_read Broken = refl
+
+plain_variant : (variant : Variant) → is_plain_field (variant_name variant) ≡ true
+plain_variant Correct = refl
+plain_variant Broken = refl
+
+-- a first line and what it names
+module _ (subject : Subject) (size callers : ℕ) (variant : Variant) (s : size < 2 ^ 64) (c : callers < 2 ^ 64) where
+  parts : List (List ℕ)
+  parts = subject_name subject ∷ decimal size ∷ decimal callers ∷ variant_name variant ∷ []
+
+  plain : list_all is_plain_field (codes "work" ∷ subject_name subject ∷ decimal size ∷ decimal callers ∷ variant_name variant ∷ []) ≡ true
+  plain = both_true _ _ refl (both_true _ _ (plain_subject subject)
+      (both_true _ _ (plain_number size s) (both_true _ _ (plain_number callers c) (both_true _ _ (plain_variant variant) refl))))
+
+  fields : fields_of (work_header_line subject size callers variant) ≡ codes "work" ∷ subject_name subject ∷ decimal size ∷ decimal callers ∷ variant_name variant ∷ []
+  fields = split-join 32 (codes "work") (subject_name subject ∷ decimal size ∷ decimal callers ∷ variant_name variant ∷ [])
+      (plain_spaces (codes "work" ∷ subject_name subject ∷ decimal size ∷ decimal callers ∷ variant_name variant ∷ []) plain)
+
+  -- it is one line
+  pub first_line_whole : lacks 10 (work_header_line subject size callers variant) ≡ true
+  first_line_whole = lacks-join 10 32 (codes "work") (subject_name subject ∷ decimal size ∷ decimal callers ∷ variant_name variant ∷ []) refl
+      (plain_line_feeds (codes "work" ∷ subject_name subject ∷ decimal size ∷ decimal callers ∷ variant_name variant ∷ []) plain)
+
+  -- it is read as the header with its numbers, where there is one
+  pub begun_known : begun_in (work_header_line subject size callers variant) ≡ option_map (begun variant) (header_of 1 subject size callers)
+  unfolding begun_in
+  begun_known =
+      let line = work_header_line subject size callers variant in
+      ap (begun_from line) fields
+      ∙ (λ i. begun_if_spelled line (subject_read subject i) (number_of_decimal size s i) (number_of_decimal callers c i) (variant_read variant i))
+      ∙ ap (λ b. cond b (option_map (begun variant) (header_of 1 subject size callers)) None) (bytes_same line)
+
+known : (n : ℕ) → is_known_version n ≡ true → n ≡ 1
+known n e = grind (arith, nat_tests)
+
+sized : (h : Header) → is_sized h.size h.callers ≡ true
+sized h = second_true (is_known_version h.version) _ h.within
+
+pub size_fits : (h : Header) → h.size < 2 ^ 32
+size_fits h = small_size h.size h.callers (sized h)
+
+pub callers_fit : (h : Header) → h.callers < 2 ^ 32
+callers_fit h = small_callers h.size h.callers (sized h)
+
+-- a workload's header and variant are read back from its first line
+pub begun_in-first_line : (h : Header) (variant : Variant) → begun_in (work_header_line h.subject h.size h.callers variant) ≡ Some (begun variant h)
+begun_in-first_line h variant =
+    let s : h.size < 2 ^ 64 = let l = size_fits h in omega (arith, l) in
+    let c : h.callers < 2 ^ 64 = let l = callers_fit h in omega (arith, l) in
+    begun_known h.subject h.size h.callers variant s c
+    ∙ ap (option_map (begun variant)) (made 1 h.subject h.size h.callers h (known h.version (first_true _ _ h.within)) refl refl refl)
+
+-- what a first line is read as: a workload of nothing, whose first line it is
+pub record IsBegun (line : List ℕ) (w : Workload) : Type 0 where
+  pub empty : w ≡ begun w.variant w.header
+  pub line_is : line ≡ work_header_line w.header.subject w.header.size w.header.callers w.variant
+
+pub begun_in_sound : (line : List ℕ) (w : Workload) → begun_in line ≡ Some w → IsBegun line w
+unfolding begun_in
+begun_in_sound line w found = from (fields_of line) found
+  where
+    of_header : (subject : Subject) (size callers : ℕ) (variant : Variant) (b : Bool) (e : is_within 1 size callers ≡ b)
+        → line ≡ work_header_line subject size callers variant
+        → option_map (begun variant) (header_if 1 subject size callers b e) ≡ Some w → IsBegun line w
+    of_header subject size callers variant false e same f = cc
+    of_header subject size callers variant true e same f =
+        let is : begun variant (record { version = 1; subject = subject; size = size; callers = callers; within = e }) ≡ w = cc in record {
+          empty = sym is ∙ ap (λ x. begun x.variant x.header) is;
+          line_is = same ∙ ap (λ x. work_header_line x.header.subject x.header.size x.header.callers x.variant) is;
+        }
+
+    spelled : (subject : Subject) (size callers : ℕ) (variant : Variant) (b : Bool) → bytes_eq (work_header_line subject size callers variant) line ≡ b
+        → cond b (option_map (begun variant) (header_of 1 subject size callers)) None ≡ Some w → IsBegun line w
+    spelled subject size callers variant false t f = cc
+    spelled subject size callers variant true t f =
+        of_header subject size callers variant (is_within 1 size callers) refl (sym ((bytes_eq-Decides (work_header_line subject size callers variant) line).0 t)) f
+
+    if_spelled : (subject : Option Subject) (size callers : ℕ) (variant : Option Variant) → begun_if_spelled line subject size callers variant ≡ Some w → IsBegun line w
+    if_spelled None size callers variant f = cc
+    if_spelled (Some subject) size callers None f = cc
+    if_spelled (Some subject) size callers (Some variant) f = spelled subject size callers variant (bytes_eq (work_header_line subject size callers variant) line) refl f
+
+    from : (parts : List (List ℕ)) → begun_from line parts ≡ Some w → IsBegun line w
+    from [] f = cc
+    from (a ∷ []) f = cc
+    from (a ∷ b ∷ []) f = cc
+    from (a ∷ b ∷ c ∷ []) f = cc
+    from (a ∷ b ∷ c ∷ d ∷ []) f = cc
+    from (a ∷ b ∷ c ∷ d ∷ e ∷ more) f = if_spelled (subject_called b) (number_of c) (number_of d) (variant_called e) f
+
+-- a line that names nothing is no first line
+pub no_first : (line : List ℕ) → IsFirstRead line None → None ≡ begun_in line
+no_first line none = by_answer (begun_in line) refl
+  where
+    by_answer : (o : Option Workload) → begun_in line ≡ o → None ≡ o
+    by_answer None e = refl
+    by_answer (Some w) e = absurd (none w.header.subject w.header.size w.header.callers w.variant (size_fits w.header) (callers_fit w.header)
+        (begun_in_sound line w e).line_is)
+
+module _ (line : List ℕ) (subject : Subject) (size callers : ℕ) (variant : Variant) (s : size < 2 ^ 32) (c : callers < 2 ^ 32)
+    (is : line ≡ work_header_line subject size callers variant) where
+  on_line : begun_in line ≡ option_map (begun variant) (header_of 1 subject size callers)
+  on_line = ap begun_in is ∙ begun_known subject size callers variant (omega (arith, s)) (omega (arith, c))
+
+  -- its numbers aren't within the limits
+  pub out_of_bounds : ¬ (is_within 1 size callers ≡ true) → None ≡ begun_in line
+  out_of_bounds no_header = sym (on_line ∙ ap (option_map (begun variant)) (not_made 1 subject size callers no_header))
+
+  -- or they are
+  pub first_found : (h : Header) → h.version ≡ 1 → h.subject ≡ subject → h.size ≡ size → h.callers ≡ callers → Some (begun variant h) ≡ begun_in line
+  first_found h v u n k = sym (on_line ∙ ap (option_map (begun variant)) (made 1 subject size callers h v u n k))

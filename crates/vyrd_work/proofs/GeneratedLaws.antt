@@ -1,0 +1,90 @@
+-- Generated workloads, one operation at a time, and that they keep the limits.
+use Rattle.std.proofs.Common.{◌≡◌, ℕ, suc, zero, ◌+◌, ◌-◌, ◌/◌, ◌%◌, ◌<◌, ◌≤◌, ◌^◌, Bool, true, false, cond, ◌&&◌, ◌||◌, List, ◌∷◌, length, refl, ap, sym, ◌∙◌, arith}
+use Rattle.std.specs.Prelude.{◌==◌, nat_lt}
+use Rattle.std.specs.List.{AllByRecursion}
+use Rattle.std.proofs.lemmas.Bool.Decides.{nat_tests}
+use Rattle.vyrd_base.specs.declared.subject.Subject.TheVariants.{Multiset}
+use Rattle.vyrd_base.specs.declared.subject.Method.TheVariants.{MsInsert, MsInsertPair, MsDelete, MsLookup}
+use Rattle.vyrd_base.specs.Subjects.{subject_of, same_subject, are_args}
+use Rattle.vyrd_base.proofs.SplitLaws.{both_true}
+use Rattle.vyrd_memory.specs.declared.op.Op.{Op}
+use Rattle.vyrd_work.specs.declared.work.WorkOp.{WorkOp}
+use Rattle.vyrd_memory.specs.Arguments.{are_small}
+use Rattle.vyrd_work.specs.WorkLimits.{is_op_of, KeepsLimits}
+use Rattle.vyrd_work.specs.Generated.{next_draw, upper, work_op_from, ops_from, generated_header, generated}
+
+-- one more operation is drawn
+pub ops_step : (n i x y : ℕ) (o : WorkOp) → i < n → y ≡ next_draw x → o ≡ work_op_from i y
+    → ◌≡◌ {A = List WorkOp} (o ∷ ops_from (n - (i + 1)) (i + 1) y) (ops_from (n - i) i x)
+ops_step n i x y o h e f =
+    let left : n - i ≡ suc (n - (i + 1)) = omega arith in
+    let op : o ≡ work_op_from i (next_draw x) = f ∙ ap (work_op_from i) e in
+    (λ k. op k ∷ ops_from (n - (i + 1)) (i + 1) (e k)) ∙ sym (ap (λ m. ops_from m i x) left)
+
+-- the operation by the tests of its kind
+abbrev op_by : Bool → Bool → Bool → ℕ → ℕ → Op
+op_by a b c v w =
+    cond a (record { method = MsInsert; args = record { a = v; b = 0; c = 0 } })
+    (cond b (record { method = MsInsertPair; args = record { a = v; b = w; c = 0 } })
+    (cond c (record { method = MsDelete; args = record { a = v; b = 0; c = 0 } })
+    (record { method = MsLookup; args = record { a = v; b = 0; c = 0 } })))
+
+or_true : (b : Bool) → (b || true) ≡ true
+or_true true = refl
+or_true false = refl
+
+by_fits : (a b c : Bool) (v w : ℕ) → (same_subject (subject_of (op_by a b c v w).method) Multiset && are_args 64 (op_by a b c v w).method (op_by a b c v w).args) ≡ true
+by_fits true b c v w = refl
+by_fits false true c v w = ap (λ t. t && true && true) (or_true (w == 0))
+by_fits false false true v w = refl
+by_fits false false false v w = refl
+
+by_small : (a b c : Bool) (v w : ℕ) → nat_lt v (2 ^ 32) ≡ true → nat_lt w (2 ^ 32) ≡ true → are_small (op_by a b c v w).args ≡ true
+by_small true b c v w e f = both_true _ _ (both_true _ _ e refl) refl
+by_small false true c v w e f = both_true _ _ (both_true _ _ e f) refl
+by_small false false true v w e f = both_true _ _ (both_true _ _ e refl) refl
+by_small false false false v w e f = both_true _ _ (both_true _ _ e refl) refl
+
+small_test : (n : ℕ) → n < 2 ^ 32 → nat_lt n (2 ^ 32) ≡ true
+small_test n h = grind (arith, nat_tests)
+
+caller_test : (n : ℕ) → n < 4 → nat_lt n 4 ≡ true
+caller_test n h = grind (arith, nat_tests)
+
+op_fits : (i x : ℕ) → is_op_of generated_header (work_op_from i x) ≡ true
+op_fits i x =
+    let kind = upper x % 8 in
+    both_true _ _ (caller_test (i % 4) (omega arith)) (by_fits (nat_lt kind 3) (kind == 3) (nat_lt kind 6) ((upper x / 8) % 256) (upper x / 2048))
+
+op_small : (i x : ℕ) → x < 2147483648 → are_small (work_op_from i x).op.args ≡ true
+op_small i x h =
+    let kind = upper x % 8 in
+    by_small (nat_lt kind 3) (kind == 3) (nat_lt kind 6) ((upper x / 8) % 256) (upper x / 2048)
+    (small_test ((upper x / 8) % 256) (omega arith)) (small_test (upper x / 2048) (omega arith))
+
+next_small : (x : ℕ) → next_draw x < 2147483648
+next_small x = omega arith
+
+all_fit : (left i x : ℕ) → AllByRecursion (λ o. is_op_of generated_header o ≡ true) (ops_from left i x)
+all_fit zero i x = tt
+all_fit (suc left) i x = (op_fits i (next_draw x), all_fit left (i + 1) (next_draw x))
+
+all_small : (left i x : ℕ) → AllByRecursion (λ o. are_small o.op.args ≡ true) (ops_from left i x)
+all_small zero i x = tt
+all_small (suc left) i x = (op_small i (next_draw x) (next_small x), all_small left (i + 1) (next_draw x))
+
+count : (left i x : ℕ) → length (ops_from left i x) ≡ left
+count zero i x = refl
+count (suc left) i x = ap suc (count left (i + 1) (next_draw x))
+
+-- a generated workload keeps the limits
+pub generated_keeps : (n : ℕ) → n ≤ 200000 → KeepsLimits (generated n)
+unfolding generated
+generated_keeps n h = record {
+  ops = all_fit n 0 n;
+  args = all_small n 0 n;
+  turns = tt;
+  op_count = let e = count n 0 n in omega (arith, e);
+  turn_count = omega arith;
+  turn_sum = omega arith;
+}

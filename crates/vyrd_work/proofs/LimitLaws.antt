@@ -1,0 +1,179 @@
+-- What a broken rule says, and the limits of one more operation or of more turns.
+use Rattle.std.proofs.Common.{◌≡◌, ℕ, ◌+◌, ◌<◌, ◌≤◌, ◌^◌, Bool, true, false, cond, not, ◌&&◌, ◌||◌, List, []}
+use Rattle.std.proofs.Common.{◌∷◌, ◌++◌, map, length, Option, Some, None, refl, ap, sym, ◌∙◌, arith, append_assoc, length-append}
+use Rattle.std.specs.Prelude.{nat_lt, nat_le}
+use Rattle.std.specs.List.{AllByRecursion}
+use Rattle.std.proofs.lemmas.List.Sums.{sum-map, sum_by-cons}
+use Rattle.std.proofs.lemmas.List.{map-append}
+use Rattle.std.proofs.lemmas.Bool.Decides.{nat_tests}
+use Rattle.vyrd_base.specs.declared.header.Header.{Header}
+use Rattle.vyrd_base.specs.Subjects.{arity_of, are_padded, subject_of, same_subject, are_args}
+use Rattle.vyrd_base.proofs.SplitLaws.{both_true, first_true, second_true}
+use Rattle.vyrd_memory.specs.declared.op.Turn.{Turn}
+use Rattle.vyrd_work.specs.declared.work.WorkOp.{WorkOp}
+use Rattle.vyrd_work.specs.declared.line.Item.{Item}
+use Rattle.vyrd_work.specs.declared.line.Item.TheVariants as item
+use Rattle.vyrd_work.specs.declared.fault.WorkRule.{WorkRule}
+use Rattle.vyrd_work.specs.declared.fault.WorkRule.TheVariants.{CallerRange, ArgumentRange, OpAfterTurn, TooManyOps, TooManyTurns}
+use Rattle.vyrd_work.specs.Workloads.{Workload, items_of}
+use Rattle.vyrd_memory.specs.Arguments.{are_small}
+use Rattle.vyrd_work.specs.WorkLines.{is_item_of}
+use Rattle.vyrd_work.specs.WorkReading.{turns_in, broken_by, with_item}
+use Rattle.vyrd_work.specs.WorkLimits.{is_op_of, is_turn_of, KeepsLimits}
+use Rattle.vyrd_work.proofs.ItemLaws.{op_subject, op_small}
+use Rattle.vyrd_work.proofs.FirstLaws.{callers_fit}
+
+not_broken : (b : Bool) (rule : WorkRule) (rest : Option WorkRule) → cond b (Some rule) rest ≡ None → (b ≡ false) × (rest ≡ None)
+not_broken true rule rest e = cc
+not_broken false rule rest e = (refl, e)
+
+below_callers : (callers caller : ℕ) → nat_le callers caller ≡ false → nat_lt caller callers ≡ true
+below_callers callers caller e = grind (arith, nat_tests)
+
+not_false : (b : Bool) → not b ≡ false → b ≡ true
+not_false true e = refl
+not_false false e = cc
+
+none_of_them : (turns : List Turn) → nat_lt 0 (length turns) ≡ false → turns ≡ []
+none_of_them [] e = refl
+none_of_them (t ∷ turns) e = absurd (let h : 0 < length (t ∷ turns) → ⊥ = λ l. grind (arith, nat_tests) in h (omega arith))
+
+fewer : (n : ℕ) → nat_le 200000 n ≡ false → n < 200000
+fewer n e = grind (arith, nat_tests)
+
+no_more : (n : ℕ) → nat_lt 4000000 n ≡ false → n ≤ 4000000
+no_more n e = grind (arith, nat_tests)
+
+neither : (a b : Bool) → (a || b) ≡ false → (a ≡ false) × (b ≡ false)
+neither true b e = cc
+neither false b e = (refl, e)
+
+-- an operation that breaks no rule
+module _ (w : Workload) (o : WorkOp) (is : broken_by w (item.Op o) ≡ None) where
+  first : (nat_le w.header.callers o.caller ≡ false) × (cond (not (are_args w.header.size o.op.method o.op.args)) (Some ArgumentRange)
+      (cond (nat_lt 0 (length w.turns)) (Some OpAfterTurn) (cond (nat_le 200000 (length w.ops)) (Some TooManyOps) None)) ≡ None)
+  first = not_broken _ CallerRange _ is
+
+  second : (not (are_args w.header.size o.op.method o.op.args) ≡ false)
+      × (cond (nat_lt 0 (length w.turns)) (Some OpAfterTurn) (cond (nat_le 200000 (length w.ops)) (Some TooManyOps) None) ≡ None)
+  second = not_broken _ ArgumentRange _ first.1
+
+  third : (nat_lt 0 (length w.turns) ≡ false) × (cond (nat_le 200000 (length w.ops)) (Some TooManyOps) None ≡ None)
+  third = not_broken _ OpAfterTurn _ second.1
+
+  pub op_fits : same_subject (subject_of o.op.method) w.header.subject ≡ true → is_op_of w.header o ≡ true
+  op_fits same = both_true _ _ (below_callers w.header.callers o.caller first.0) (both_true _ _ same (not_false _ second.0))
+
+  pub before_turns : w.turns ≡ []
+  before_turns = none_of_them w.turns third.0
+
+  pub not_many_ops : length w.ops < 200000
+  not_many_ops = fewer (length w.ops) (not_broken _ TooManyOps _ third.1).0
+
+-- turns that break no rule
+module _ (w : Workload) (t : Turn) (is : broken_by w (item.Turns t) ≡ None) where
+  turn_first : (nat_le w.header.callers t.caller ≡ false)
+      × (cond (nat_le 200000 (length w.turns) || nat_lt 4000000 (turns_in w.turns + t.count)) (Some TooManyTurns) None ≡ None)
+  turn_first = not_broken _ CallerRange _ is
+
+  turn_second : (nat_le 200000 (length w.turns) ≡ false) × (nat_lt 4000000 (turns_in w.turns + t.count) ≡ false)
+  turn_second = neither _ _ (not_broken _ TooManyTurns _ turn_first.1).0
+
+  pub turn_fits : (nat_le 1 t.count && nat_le t.count 4000000) ≡ true → is_turn_of w.header t ≡ true
+  turn_fits counted = both_true _ _ (below_callers w.header.callers t.caller turn_first.0) counted
+
+  pub not_many_turns : length w.turns < 200000
+  not_many_turns = fewer (length w.turns) turn_second.0
+
+  pub sum_fits : turns_in w.turns + t.count ≤ 4000000
+  sum_fits = no_more (turns_in w.turns + t.count) turn_second.1
+
+pub all_more : {A : Type 0} (P : A → Type 0) (xs : List A) (x : A) → AllByRecursion P xs → P x → AllByRecursion P (xs ++ x ∷ [])
+all_more P [] x all p = (p, tt)
+all_more P (y ∷ xs) x all p = (all.0, all_more P xs x all.1 p)
+
+-- the first turns of a list, and the others
+pub turns_cons : (t : Turn) (turns : List Turn) → turns_in (t ∷ turns) ≡ t.count + turns_in turns
+turns_cons t turns = sum-map (λ u. u.count) (t ∷ turns) ∙ sum_by-cons (λ u. u.count) t turns ∙ ap (λ n. t.count + n) (sym (sum-map (λ u. u.count) turns))
+
+pub turns_more : (turns : List Turn) (t : Turn) → turns_in (turns ++ t ∷ []) ≡ turns_in turns + t.count
+turns_more [] t = omega (arith, turns_cons t [])
+turns_more (u ∷ turns) t =
+    let rest = turns_more turns t in
+    omega (arith, rest, turns_cons u (turns ++ t ∷ []), turns_cons u turns)
+
+-- one more that breaks no rule keeps the limits
+pub limits_more : (w : Workload) (x : Item) → KeepsLimits w → is_item_of w.header.subject x ≡ true → broken_by w x ≡ None → KeepsLimits (with_item w x)
+limits_more w (item.Op o) keeps is none = record {
+  ops = all_more (λ p. is_op_of w.header p ≡ true) w.ops o keeps.ops (op_fits w o none (op_subject w.header.subject o is));
+  args = all_more (λ p. are_small p.op.args ≡ true) w.ops o keeps.args (op_small w.header.subject o is);
+  turns = keeps.turns;
+  op_count = let few = not_many_ops w o none in omega (arith, few, length-append w.ops (o ∷ []));
+  turn_count = keeps.turn_count;
+  turn_sum = keeps.turn_sum;
+}
+limits_more w (item.Turns t) keeps is none = record {
+  ops = keeps.ops;
+  args = keeps.args;
+  turns = all_more (λ u. is_turn_of w.header u ≡ true) w.turns t keeps.turns (turn_fits w t none (second_true (nat_lt t.caller (2 ^ 32)) _ is));
+  op_count = keeps.op_count;
+  turn_count = let few = not_many_turns w t none in omega (arith, few, length-append w.turns (t ∷ []));
+  turn_sum = let fits = sum_fits w t none in let more = turns_more w.turns t in omega (arith, fits, more);
+}
+
+ops_items : (ops : List WorkOp) (o : WorkOp) (turns : List Turn) → turns ≡ []
+    → map item.Op (ops ++ o ∷ []) ++ map item.Turns turns ≡ (map item.Op ops ++ map item.Turns turns) ++ item.Op o ∷ []
+ops_items [] o [] e = refl
+ops_items (p ∷ ops) o [] e = ap (λ rest. item.Op p ∷ rest) (ops_items ops o [] e)
+ops_items [] o (t ∷ turns) e = cc
+ops_items (p ∷ ops) o (t ∷ turns) e = cc
+
+-- and comes after the others
+pub items_more : (w : Workload) (x : Item) → broken_by w x ≡ None → items_of (with_item w x) ≡ items_of w ++ x ∷ []
+items_more w (item.Op o) none = ops_items w.ops o w.turns (before_turns w o none)
+items_more w (item.Turns t) none =
+    ap (λ ts. map item.Op w.ops ++ ts) (map-append item.Turns w.turns (t ∷ [])) ∙ sym (append_assoc (map item.Op w.ops) (map item.Turns w.turns) (item.Turns t ∷ []))
+
+not_below : (callers caller : ℕ) → nat_lt caller callers ≡ true → nat_le callers caller ≡ false
+not_below callers caller e = grind (arith, nat_tests)
+
+few : (n : ℕ) → n < 200000 → nat_le 200000 n ≡ false
+few n h = grind (arith, nat_tests)
+
+enough : (n : ℕ) → n ≤ 4000000 → nat_lt 4000000 n ≡ false
+enough n h = grind (arith, nat_tests)
+
+-- an operation that fits breaks no rule where there is room for it
+pub op_unbroken : (w : Workload) (o : WorkOp) → is_op_of w.header o ≡ true → w.turns ≡ [] → length w.ops < 200000 → broken_by w (item.Op o) ≡ None
+op_unbroken w o fits before room =
+    let caller = not_below w.header.callers o.caller (first_true _ _ fits) in
+    let args : not (are_args w.header.size o.op.method o.op.args) ≡ false =
+    ap not (second_true (same_subject (subject_of o.op.method) w.header.subject) _ (second_true (nat_lt o.caller w.header.callers) _ fits)) in
+    let count = few (length w.ops) room in
+    λ i. cond (caller i) (Some CallerRange)
+    (cond (args i) (Some ArgumentRange) (cond (nat_lt 0 (length (before i))) (Some OpAfterTurn) (cond (count i) (Some TooManyOps) None)))
+
+-- and so do turns
+pub turns_unbroken : (w : Workload) (t : Turn) → is_turn_of w.header t ≡ true → length w.turns < 200000 → turns_in w.turns + t.count ≤ 4000000
+    → broken_by w (item.Turns t) ≡ None
+turns_unbroken w t fits room sum =
+    let caller = not_below w.header.callers t.caller (first_true _ _ fits) in
+    let count = few (length w.turns) room in
+    let total = enough (turns_in w.turns + t.count) sum in
+    λ i. cond (caller i) (Some CallerRange) (cond (count i || total i) (Some TooManyTurns) None)
+
+small_caller : (callers caller : ℕ) → callers < 2 ^ 32 → nat_lt caller callers ≡ true → nat_lt caller (2 ^ 32) ≡ true
+small_caller callers caller h e = grind (arith, nat_tests)
+
+-- what fits the header can stand in the text
+pub op_is_item : (h : Header) (o : WorkOp) → is_op_of h o ≡ true → are_small o.op.args ≡ true → is_item_of h.subject (item.Op o) ≡ true
+op_is_item h o fits small =
+    let rest = second_true (nat_lt o.caller h.callers) _ fits in
+    let args : are_args h.size o.op.method o.op.args ≡ true = second_true (same_subject (subject_of o.op.method) h.subject) _ rest in
+    let padded : are_padded (arity_of o.op.method) o.op.args ≡ true = first_true (are_padded (arity_of o.op.method) o.op.args) _ args in
+    let same : same_subject (subject_of o.op.method) h.subject ≡ true = first_true _ _ rest in
+    both_true _ _ (small_caller h.callers o.caller (callers_fit h) (first_true _ _ fits)) (both_true _ _ (both_true _ _ same padded) small)
+
+pub turns_are_item : (h : Header) (t : Turn) → is_turn_of h t ≡ true → is_item_of h.subject (item.Turns t) ≡ true
+turns_are_item h t fits =
+    both_true _ _ (small_caller h.callers t.caller (callers_fit h) (first_true _ _ fits)) (second_true (nat_lt t.caller h.callers) _ fits)

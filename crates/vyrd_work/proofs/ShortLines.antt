@@ -1,0 +1,80 @@
+-- No line of a workload has more than 64 bytes.
+use Rattle.std.proofs.Common.{◌≡◌, ℕ, ◌<◌, ◌≤◌, ◌^◌, true, List, [], ◌∷◌, ◌++◌, map, length, arith, length-append}
+use Rattle.std.specs.Prelude.{codes, decimal, nat_lt, nat_le}
+use Rattle.std.specs.List.{AllByRecursion}
+use Rattle.std.proofs.lemmas.Fmt.{length-decimal-le}
+use Rattle.vyrd_base.specs.declared.header.Header.{Header}
+use Rattle.vyrd_base.specs.declared.subject.Subject.{Subject}
+use Rattle.vyrd_base.specs.declared.subject.Subject.TheVariants.{Multiset, Cache, Tree}
+use Rattle.vyrd_base.specs.Spelling.{subject_name, end_line}
+use Rattle.vyrd_base.proofs.SplitLaws.{both_true, first_true, second_true}
+use Rattle.vyrd_base.proofs.LongLines.{short_entry}
+use Rattle.vyrd_memory.specs.declared.op.Turn.{Turn}
+use Rattle.vyrd_memory.specs.declared.op.Variant.{Variant}
+use Rattle.vyrd_memory.specs.declared.op.Variant.TheVariants.{Correct, Broken}
+use Rattle.vyrd_text.specs.Spelled.{call_text}
+use Rattle.vyrd_text.proofs.PartLaws.{below}
+use Rattle.vyrd_work.specs.declared.work.WorkOp.{WorkOp}
+use Rattle.vyrd_work.specs.declared.line.Item.TheVariants as item
+use Rattle.vyrd_work.specs.Workloads.{Workload, variant_name, work_header_line, item_line, lines_of}
+use Rattle.vyrd_memory.specs.Arguments.{are_small}
+use Rattle.vyrd_work.specs.WorkLines.{is_item_of}
+use Rattle.vyrd_work.specs.WorkLimits.{is_op_of, is_turn_of, KeepsLimits}
+use Rattle.vyrd_work.proofs.ItemLaws.{call_of, op_caller, op_call, most_turns}
+use Rattle.vyrd_work.proofs.FirstLaws.{size_fits, callers_fit}
+use Rattle.vyrd_work.proofs.LimitLaws.{op_is_item, turns_are_item}
+
+short_number : (n : ℕ) → n < 2 ^ 32 → length (decimal n) ≤ 10
+short_number n h = length-decimal-le 10 n (omega arith) (omega arith) (omega arith)
+
+-- an operation's line is shorter than that of the call in a log
+pub short_op : (subject : Subject) (o : WorkOp) → is_item_of subject (item.Op o) ≡ true → length (item_line (item.Op o)) ≤ 64
+short_op subject o is =
+    let entry = short_entry subject (call_of o) (both_true _ _ (op_caller subject o is) (op_call subject o is)) in
+    omega (
+      arith,
+      entry,
+      length-append (decimal o.caller) (32 ∷ call_text o.op.method o.op.args),
+      length-append (decimal o.caller)
+          (32 ∷ (codes "call " ++ call_text o.op.method o.op.args)),
+    )
+
+pub short_turns : (subject : Subject) (t : Turn) → is_item_of subject (item.Turns t) ≡ true → length (item_line (item.Turns t)) ≤ 64
+short_turns subject t is =
+    let caller = short_number t.caller (below _ _ (first_true _ _ is)) in
+    let count = short_number t.count (most_turns t.count (second_true (nat_le 1 t.count) _ (second_true (nat_lt t.caller (2 ^ 32)) _ is))) in
+    omega (arith, caller, count, length-append (decimal t.caller) (32 ∷ decimal t.count))
+
+short_subject : (subject : Subject) → length (subject_name subject) ≤ 8
+short_subject Multiset = omega arith
+short_subject Cache = omega arith
+short_subject Tree = omega arith
+
+short_variant : (variant : Variant) → length (variant_name variant) ≤ 7
+short_variant Correct = omega arith
+short_variant Broken = omega arith
+
+pub short_first : (h : Header) (variant : Variant) → length (work_header_line h.subject h.size h.callers variant) ≤ 64
+short_first h variant =
+    let size = short_number h.size (size_fits h) in
+    let callers = short_number h.callers (callers_fit h) in
+    omega (
+      arith,
+      size,
+      callers,
+      short_subject h.subject,
+      short_variant variant,
+      length-append (subject_name h.subject) (32 ∷ (decimal h.size ++ 32 ∷ (decimal h.callers ++ 32 ∷ variant_name variant))),
+      length-append (decimal h.size) (32 ∷ (decimal h.callers ++ 32 ∷ variant_name variant)),
+      length-append (decimal h.callers) (32 ∷ variant_name variant),
+    )
+
+short_later : (h : Header) (ops : List WorkOp) (turns : List Turn) → AllByRecursion (λ o. is_op_of h o ≡ true) ops → AllByRecursion (λ o. are_small o.op.args ≡ true) ops
+    → AllByRecursion (λ t. is_turn_of h t ≡ true) turns
+    → AllByRecursion (λ line. length line ≤ 64) (map item_line (map item.Op ops ++ map item.Turns turns) ++ end_line ∷ [])
+short_later h [] [] all small rest = (omega arith, tt)
+short_later h [] (t ∷ turns) all small rest = (short_turns h.subject t (turns_are_item h t rest.0), short_later h [] turns all small rest.1)
+short_later h (o ∷ ops) turns all small rest = (short_op h.subject o (op_is_item h o all.0 small.0), short_later h ops turns all.1 small.1 rest)
+
+pub short_lines : (w : Workload) → KeepsLimits w → AllByRecursion (λ line. length line ≤ 64) (lines_of w)
+short_lines w keeps = (short_first w.header w.variant, short_later w.header w.ops w.turns keeps.ops keeps.args keeps.turns)

@@ -1,0 +1,49 @@
+-- The scripts of a workload that keeps its limits are sound.
+use Rattle.std.proofs.Common.{◌≡◌, ℕ, zero, suc, ◌+◌, ◌<◌, true, false, List, [], ◌∷◌, map, length, refl, ap, ◌∙◌, sym, subst, arith}
+use Rattle.std.specs.Prelude.{slice_index_or}
+use Rattle.vyrd_base.specs.declared.header.Header.{Header}
+use Rattle.vyrd_base.specs.declared.subject.Subject.{Subject}
+use Rattle.vyrd_base.specs.declared.subject.Subject.TheVariants.{Multiset, Cache, Tree}
+use Rattle.vyrd_base.specs.Places.{numbers_from, numbers_below}
+use Rattle.vyrd_memory.specs.declared.op.Op.{Op}
+use Rattle.vyrd_memory.specs.declared.op.Variant.{Variant}
+use Rattle.vyrd_memory.specs.Scripts.{Script, stop, operations}
+use Rattle.vyrd_memory.specs.Soundness.{IsSound, at_rest, just_called}
+use Rattle.vyrd_memory.specs.Players.{is_callable, are_callable}
+use Rattle.vyrd_memory.specs.PlayerLaws.{AreSound, operations-sound, callable_method, callable_args, callable_small}
+use Rattle.vyrd_memory.specs.Turns.{script_of}
+use Rattle.vyrd_memory.specs.Runs.{AreSoundScripts}
+use Rattle.vyrd_multiset.specs.Laws.Sound.{procedure_is_sound}
+use Rattle.vyrd_cache.specs.Laws.{cache_is_sound}
+use Rattle.vyrd_tree.specs.Laws.{tree_is_sound}
+use Rattle.vyrd_work.specs.Workloads.{Workload}
+use Rattle.vyrd_work.specs.WorkLimits.{KeepsLimits}
+use Rattle.vyrd_work.specs.WorkScripts.{procedure_in, ops_of, work_script, work_scripts}
+use Rattle.vyrd_work.proofs.ScriptLaws.{ops_are_callable}
+
+script_at : (f : ℕ → Script) (k n i : ℕ) → i < n → slice_index_or (map f (numbers_from k n)) i stop ≡ f (k + i)
+script_at f k zero i low = absurd (omega (arith, low))
+script_at f k (suc n) zero low = let e : k ≡ k + 0 = omega arith in ap f e
+script_at f k (suc n) (suc i) low = let e : k + 1 + i ≡ k + suc i = omega arith in script_at f (k + 1) n i (omega arith) ∙ ap f e
+
+how_many : (f : ℕ → Script) (k n : ℕ) → length (map f (numbers_from k n)) ≡ n
+how_many f k zero = refl
+how_many f k (suc n) = ap suc (how_many f (k + 1) n)
+
+-- each structure's procedures are sound
+procedures_sound : (subject : Subject) (h : Header) (variant : Variant) → h.subject ≡ subject → AreSound h (procedure_in subject h variant)
+procedures_sound Multiset h variant is = λ op callable.
+    procedure_is_sound h variant op is (callable_method h op callable ∙ is) (callable_args h op callable) (callable_small h op callable)
+procedures_sound Cache h variant is = λ op callable.
+    cache_is_sound h variant op is (callable_method h op callable ∙ is) (callable_args h op callable) (callable_small h op callable)
+procedures_sound Tree h variant is = λ op callable.
+    tree_is_sound h variant op is (callable_method h op callable ∙ is) (callable_args h op callable) (callable_small h op callable)
+
+pub scripts_sound : (w : Workload) → KeepsLimits w → AreSoundScripts w.header (work_scripts w)
+scripts_sound w limits = record {
+  count = how_many (work_script w) 0 w.header.callers;
+  sound = λ c low.
+      let e : 0 + c ≡ c = omega arith in
+      subst (IsSound w.header at_rest) (sym (script_at (work_script w) 0 w.header.callers c low ∙ ap (work_script w) e))
+      (operations-sound w.header (procedure_in w.header.subject w.header w.variant) (ops_of c w.ops) (procedures_sound w.header.subject w.header w.variant refl) (ops_are_callable w c limits));
+}

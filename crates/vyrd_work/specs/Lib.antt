@@ -1,0 +1,9 @@
+pub mod Workloads
+pub mod WorkLines
+pub mod Spelled
+pub mod WorkReading
+pub mod WorkLimits
+pub mod LongInputs
+pub mod Refusals
+pub mod Generated
+pub mod WorkScripts
