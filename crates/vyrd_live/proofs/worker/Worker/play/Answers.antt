@@ -1,0 +1,96 @@
+-- Event by event the lane is what the script wants, with room for each operation before it begins.
+use Rattle.std.proofs.Common.{◌≡◌, ◌≢◌, ℕ, List, arith, length, refl, ap, ◌∙◌, sym, subst, rules}
+use Rattle.vyrd_base.specs.declared.history.Stamped.{Stamped}
+use Rattle.vyrd_memory.specs.declared.act.Act.TheVariants.{Done}
+use Rattle.vyrd_memory.specs.Scripts.{next_act, after_answer}
+use Rattle.vyrd_trace.specs.Hands.{HandView}
+use Rattle.vyrd_live.specs.Rooms.{HadRoom}
+use Rattle.vyrd_live.specs.Working.{dids_of, IsWorking, HasRoomAhead}
+use Rattle.vyrd_live.specs.Acts.{HasActed, MayAct}
+use Rattle.vyrd_live.proofs.RoomLaws.{room_for_one}
+use Rattle.vyrd_live.proofs.StandingLaws.{next_may}
+use Rattle.vyrd_live.proofs.WorkLaws.{working_first, working_with_room, working_turn, same_hand, one_longer, worked_to_the_end}
+use Rattle.vyrd_live.proofs.worker.Worker.play.Given as given
+use Rattle.vyrd_live.proofs.worker.Worker.play.Goals as goal
+
+pub loop-self-init : goal.loop-self-init
+loop-self-init g c = record {
+  header = refl;
+  hand_of = c.requires.hand_of;
+  caller = refl;
+  falls = let e = ap (λ (lane : List Stamped). length lane) c.requires.empty in omega (arith, e);
+  working = working_first (g.M.Machine.header_of c.args.self.now.machine) (g.M.Machine.script c.args.self.now.machine) c.args.self.now.hand
+      c.requires.empty c.requires.between (g.met.M.Machine.is_sound c.args.self.now.machine);
+}
+
+-- the room that was made, and what the machine has played with it
+module _ (g : given.Over) (c : goal.After-make_event-arg-1 g) where
+  goes : next_act (g.M.Machine.script c.loop-self.self.machine) ≢ Done
+  goes = search rules
+
+  room : HasRoomAhead (g.M.Machine.header_of c.args.self.now.machine) (g.M.Machine.script c.loop-self.self.machine) c.make_room.new.self.hand
+  room = subst (λ h. HasRoomAhead h (g.M.Machine.script c.loop-self.self.machine) c.make_room.new.self.hand) c.loop-self.invariant.header c.in-Ok.ensures.room
+
+  working : IsWorking (g.M.Machine.header_of c.args.self.now.machine) (g.M.Machine.script c.args.self.now.machine)
+      (g.M.Machine.script c.loop-self.self.machine) c.make_room.new.self.hand
+  working = working_with_room (g.M.Machine.header_of c.args.self.now.machine) (g.M.Machine.script c.args.self.now.machine) (g.M.Machine.script c.loop-self.self.machine)
+      c.loop-self.self.hand c.make_room.new.self.hand c.in-Ok.ensures.hand c.loop-self.invariant.working room
+
+pub make_event-requires-clause-hand : goal.make_event-requires-clause-hand
+make_event-requires-clause-hand g c κs within =
+    let hand = c.in-Ok.ensures.hand in
+    let of = c.loop-self.invariant.hand_of in (
+      (ap (λ (v : HandView). v.table) hand ∙ of.0, ap (λ (v : HandView). v.limit) hand ∙ of.1),
+      room_for_one c.make_room.new.self.hand.spare (g.M.Machine.script c.loop-self.self.machine) (goes g c) (room g c).spare,
+    )
+
+pub make_event-requires-clause-may : goal.make_event-requires-clause-may
+make_event-requires-clause-may g c κs within =
+    subst (λ m. MayAct c.args.traced.now.plan c.make_room.new.self.hand (next_act (g.M.Machine.script m))) (sym c.in-Ok.ensures.machine)
+    (next_may (g.M.Machine.header_of c.args.self.now.machine) c.args.traced.now.plan
+    (g.M.Machine.script c.loop-self.self.machine) c.make_room.new.self.hand c.requires.memory (goes g c) (working g c).stands)
+
+pub loop-self-preserved : goal.loop-self-preserved
+loop-self-preserved g c =
+    let h = g.M.Machine.header_of c.args.self.now.machine in
+    let machine = c.in-Ok.ensures.machine in
+    let made = subst (λ m. (answer : ℕ) × (g.M.Machine.script c.make_event.new.self.machine ≡ after_answer (g.M.Machine.script m) answer)
+    × HasActed (next_act (g.M.Machine.script m)) answer c.make_room.new.self.hand c.make_event.new.self.hand) machine c.make_event.ensures.made in
+    let room = subst (λ h. HasRoomAhead h (g.M.Machine.script c.loop-self.self.machine) c.make_room.new.self.hand) c.loop-self.invariant.header c.in-Ok.ensures.room in
+    let same = same_hand (next_act (g.M.Machine.script c.loop-self.self.machine)) made.0 c.loop-self.self.hand c.make_room.new.self.hand c.make_event.new.self.hand
+    c.in-Ok.ensures.hand made.2 in record {
+      header = c.make_event.ensures.header ∙ ap g.M.Machine.header_of machine ∙ c.loop-self.invariant.header;
+      hand_of = (same.0 ∙ c.loop-self.invariant.hand_of.0, same.1 ∙ c.loop-self.invariant.hand_of.1);
+      caller = same.2 ∙ c.loop-self.invariant.caller;
+      falls =
+          let before = ap (λ (v : HandView). length v.lane) c.in-Ok.ensures.hand in
+          let ahead = ap g.M.Machine.ahead machine in
+          let later = c.make_event.ensures.falls in
+          let now = c.loop-self.invariant.falls in
+          omega (
+            arith,
+            one_longer (next_act (g.M.Machine.script c.loop-self.self.machine)) made.0 c.make_room.new.self.hand c.make_event.new.self.hand made.2,
+            before,
+            ahead,
+            later,
+            now,
+          );
+      working = working_turn h (g.M.Machine.script c.args.self.now.machine) (g.M.Machine.script c.loop-self.self.machine)
+          (g.M.Machine.script c.make_event.new.self.machine)
+          c.loop-self.self.hand c.make_room.new.self.hand c.make_event.new.self.hand
+          (g.met.M.Machine.rests c.loop-self.self.machine) c.in-Ok.ensures.hand room made c.loop-self.invariant.working;
+    }
+
+pub returns : goal.returns
+returns g c =
+    let h = g.M.Machine.header_of c.args.self.now.machine in
+    let w = c.loop-self.invariant.working in
+    let done : next_act (g.M.Machine.script c.loop-self.self.machine) ≡ Done = search rules in record {
+      hand_of = c.loop-self.invariant.hand_of;
+      caller = c.loop-self.invariant.caller;
+      ended = (
+        worked_to_the_end h (g.M.Machine.script c.args.self.now.machine) (g.M.Machine.script c.loop-self.self.machine) c.loop-self.self.hand w done,
+        subst (λ n. HadRoom h n (dids_of c.loop-self.self.hand.lane)) c.loop-self.invariant.hand_of.1 w.had_room,
+      );
+      long = λ e. cc;
+    }

@@ -1,0 +1,8 @@
+use Rattle.std.proofs.Common.{map}
+use Rattle.vyrd_live.specs.Endings.{IsFirstSpent}
+use Rattle.vyrd_live.specs.declared.worker.Stopped.{Stopped}
+use Rattle.vyrd_live.proofs.workers.first_spent.Given as goal
+
+-- the first of those before
+abbrev pub invariant-loop-caller : goal.invariant-loop-caller
+invariant-loop-caller l = IsFirstSpent (map (λ (s : Stopped). s.ending) l.stopped) l.caller l.first

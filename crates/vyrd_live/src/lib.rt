@@ -1,0 +1,24 @@
+//! Live runs: the callers of a workload on threads of their own, over one traced memory.
+//!
+//! The central call is [`run_live`]. Each caller's machine is played by a worker with a thread of its own, and what the workers
+//! leave is one legal history in which each caller's part plays the caller's script. A [`Run`] has this history, the memory at
+//! the end and the verdict about the history's log. [`judged`] adds the verdict to a history of any run.
+//!
+//! What a run promises stands in `specs/`: `LiveRuns` says what it leaves, and `Rooms` when a limit leaves room for an
+//! operation. No promise says that two threads ran at one time; tests with gates speak of that.
+#![tactic(auto)]
+
+mod acting;
+mod judging;
+mod live;
+mod logged;
+mod run;
+#[cfg(test)]
+mod tests;
+mod worker;
+mod workers;
+
+pub use judging::{judge, judged};
+pub use live::run_live;
+pub use logged::log_of;
+pub use run::{LiveFault, Overrun, Run};

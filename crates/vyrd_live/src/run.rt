@@ -1,0 +1,32 @@
+//! What a live run leaves.
+
+use vyrd_base::{Stamped, Verdict};
+
+/// What a run of a workload leaves.
+#[derive(Debug, Drop)]
+pub struct Run {
+    /// The events in their order, numbered from 0.
+    pub history: Vec<Stamped>,
+    /// The memory at the end: the plain words, and then the locks.
+    pub words: Vec<u64>,
+    /// The verdict about the log of the history: its marks and its writes, in their order.
+    pub verdict: Verdict,
+}
+
+/// A live run that the limit of events ended.
+#[derive(Debug, Drop)]
+pub struct Overrun {
+    /// The first caller whose next operation might have had more events than the limit leaves.
+    pub caller: u32,
+    /// The events of all callers up to then, in their order, numbered from 0.
+    pub history: Vec<Stamped>,
+}
+
+/// Why a live run has no verdict.
+#[derive(Debug, Drop)]
+pub enum LiveFault {
+    /// The limit of events ended it.
+    Spent(Overrun),
+    /// There was no memory.
+    Memory,
+}

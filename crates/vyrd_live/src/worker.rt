@@ -1,0 +1,128 @@
+//! A worker: one caller's machine, played on the caller's hand.
+
+ghost use Rattle.std.specs.Prelude.{◌≡◌, ◌≢◌, ◌+◌, ◌<◌, ◌≤◌, ℕ, false, true, length, IfOk, Err};
+ghost use Rattle.vyrd_memory.specs.declared.act.Act.TheVariants.{Done};
+ghost use Rattle.vyrd_memory.specs.Scripts.{next_act, after_answer, is_between};
+ghost use Rattle.vyrd_memory.specs.Bounds.{EndsWithin};
+ghost use Rattle.vyrd_trace.specs.declared.hand.Reserve.TheVariants as reserve;
+ghost use Rattle.vyrd_trace.specs.Hands.{IsOf, with_spare};
+ghost use Rattle.vyrd_live.specs.Rooms.{HasNoRoom};
+ghost use Rattle.vyrd_live.specs.Acts.{MayAct, HasActed};
+ghost use Rattle.vyrd_live.specs.Working.{HasRoomAhead};
+ghost use Rattle.vyrd_live.specs.Workers.{IsFresh, HasWorked};
+
+use crate::acting::act;
+use std::sync::Wait;
+use std::thread;
+use vyrd_base::Gate;
+use vyrd_memory::{Act, Machine};
+use vyrd_trace::{Hand, Reserve, Traced};
+
+/// How a worker ended.
+#[derive(Clone, Copy, Debug, PartialEq, Eq)]
+pub(crate) enum Ending {
+    /// All operations are done.
+    Finished,
+    /// The next operation might have had more events than the limit leaves.
+    Spent,
+    /// There was no memory for the next operation's events.
+    Memory,
+}
+
+/// A caller's machine, and the hand that it is played on.
+#[derive(Drop)]
+pub(crate) struct Worker<M> {
+    pub(crate) machine: M,
+    pub(crate) hand: Hand,
+}
+
+/// What a worker leaves.
+#[derive(Drop)]
+pub(crate) struct Stopped {
+    pub(crate) hand: Hand,
+    pub(crate) ending: Ending,
+}
+
+impl Stopped {
+    /// The hand alone.
+    pub(crate) fn into_hand(self) -> Hand
+        ensures { result ≡ self.hand }
+    {
+        let Stopped { hand, ending: _ } = self;
+        hand
+    }
+}
+
+impl<M: Machine> Worker<M> {
+    /// Plays the machine until all of its operations are done, or until the next one has no room.
+    ///
+    /// It asks the gate before each event. Before an operation it makes room for all of the operation's events, so that it stops
+    /// only between operations. It may wait forever: for the gate, or for a lock that nobody gives back.
+    pub(crate) fn work<R: Wait, G: Gate>(self, rt: &R, traced: &Traced, gate: &G) -> Stopped
+        requires { IsFresh M.header_of M.script traced.now self.machine self.hand }
+        ensures { HasWorked M.header_of M.script M.ahead traced.now self.machine self.hand result.hand result.ending }
+    {
+        let mut worker = self;
+        let ending = worker.play(rt, traced, gate);
+        let Worker { machine: _, hand } = worker;
+        Stopped { hand, ending }
+    }
+
+    fn play<R: Wait, G: Gate>(&mut self, rt: &R, traced: &Traced, gate: &G) -> Ending
+        requires { IsFresh M.header_of M.script traced.now self.old.machine self.old.hand }
+        ensures { HasWorked M.header_of M.script M.ahead traced.now self.old.machine self.old.hand self.new.hand result }
+    {
+        while self.machine.wants() != Act::Done {
+            match self.make_room() {
+                Ok(()) => {}
+                Err(Reserve::Spent) => return Ending::Spent,
+                Err(Reserve::Memory) => return Ending::Memory,
+            }
+            self.make_event(rt, traced, gate);
+        }
+        Ending::Finished
+    }
+
+    // Makes room for the next operation, where none is in hand.
+    fn make_room(&mut self) -> Result<(), Reserve>
+        requires goes_on { next_act (M.script self.old.machine) ≢ Done }
+        requires in_time { is_between (M.script self.old.machine) ≡ false → ∥ EndsWithin self.old.hand.spare (M.script self.old.machine) ∥₁ }
+        ensures machine { self.new.machine ≡ self.old.machine }
+        ensures hand { self.new.hand ≡ with_spare self.old.hand self.new.hand.spare }
+        ensures room { IfOk result (λ _. HasRoomAhead (M.header_of self.old.machine) (M.script self.old.machine) self.new.hand) }
+        ensures long { result ≡ Err reserve.Spent → self.old.hand.limit < length self.old.hand.lane + M.ahead self.old.machine }
+        ensures spent { result ≡ Err reserve.Spent → HasNoRoom (M.header_of self.old.machine) self.old.hand.limit (length self.old.hand.lane) (next_act (M.script self.old.machine)) }
+    {
+        if self.machine.between() {
+            self.hand.reserve(self.machine.op_left())?;
+        }
+        Ok(())
+    }
+
+    // Makes the next event, once the gate lets it start.
+    fn make_event<R: Wait, G: Gate>(&mut self, rt: &R, traced: &Traced, gate: &G)
+        requires hand { IsOf traced.now self.old.hand × (0 < self.old.hand.spare) }
+        requires may { MayAct traced.now.plan self.old.hand (next_act (M.script self.old.machine)) }
+        ensures made { (answer : ℕ) × (M.script self.new.machine ≡ after_answer (M.script self.old.machine) answer)
+            × HasActed (next_act (M.script self.old.machine)) answer self.old.hand self.new.hand }
+        ensures header { M.header_of self.new.machine ≡ M.header_of self.old.machine }
+        ensures falls { M.ahead self.new.machine < M.ahead self.old.machine }
+    {
+        let wanted = self.machine.wants();
+        let place = self.hand.lane().len() as u64;
+        wait_for(rt, gate, self.hand.caller(), place);
+        let answer = act(rt, traced, &mut self.hand, wanted);
+        self.machine.took(answer);
+    }
+}
+
+// Asks the gate until it lets the caller's next event start.
+fn wait_for<R: Wait, G: Gate>(rt: &R, gate: &G, caller: u32, place: u64) {
+    for _ in rt.forever() {
+        if gate.may_start(caller, place) {
+            return;
+        }
+        thread::yield_now();
+    }
+    unreachable!()
+}
