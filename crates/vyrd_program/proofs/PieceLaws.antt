@@ -26,7 +26,7 @@ no_more_bytes [] = refl
 no_more_bytes (x ∷ xs) = ap (λ ys. x ∷ ys) (no_more_bytes xs)
 
 -- bytes that were taken, and then a piece
-taken_more : (before between after : Option (List ℕ)) (taken piece : List ℕ) → IsTaken before taken between → IsTaken between piece after → IsTaken before (taken ++ piece) after
+pub taken_more : (before between after : Option (List ℕ)) (taken piece : List ℕ) → IsTaken before taken between → IsTaken between piece after → IsTaken before (taken ++ piece) after
 taken_more before between None taken piece first then =
     first ∙ ap (option_map (λ left. taken ++ left)) then
 taken_more before between (Some left) taken piece first then =

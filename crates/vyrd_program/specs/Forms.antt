@@ -1,6 +1,33 @@
 -- The words that the program takes.
-use Rattle.std.specs.Prelude.{◌≡◌, ℕ, List, [], ◌∷◌, codes}
+use Rattle.std.specs.Prelude.{Bool, true, false, ◌&&◌, ℕ, nat_le, List, [], ◌∷◌, codes, decimal, Option, Some, None, if◌then◌else◌}
+use Rattle.std.specs.Str.{bytes_eq}
+use Rattle.vyrd_base.specs.Lines.{number_of}
+use Rattle.vyrd_program.specs.declared.form.Form.{Form}
+use Rattle.vyrd_program.specs.declared.form.Form.TheVariants.{Check, Step, Live, Gen}
 
--- the one word `check`
-abbrev pub IsCheck : List (List ℕ) → Type 0
-IsCheck words = words ≡ codes "check" ∷ []
+-- one word: `check`, `step` or `run`
+abbrev pub one_word : List ℕ → Option Form
+one_word word = if bytes_eq word (codes "check") then Some Check
+    else (if bytes_eq word (codes "step") then Some (Step false)
+    else (if bytes_eq word (codes "run") then Some (Live false) else None))
+
+-- whether a word is the one spelling of a number from 1 to 200,000
+abbrev pub is_count : List ℕ → Bool
+is_count word = bytes_eq (decimal (number_of word)) word && nat_le 1 (number_of word) && nat_le (number_of word) 200000
+
+-- `step` and `run` with the one option that they have
+abbrev pub logged_form : List ℕ → Option Form
+logged_form word = if bytes_eq word (codes "step") then Some (Step true)
+    else (if bytes_eq word (codes "run") then Some (Live true) else None)
+
+-- two words: `step --log`, `run --log`, or `gen` with a number from 1 to 200,000
+abbrev pub two_words : List ℕ → List ℕ → Option Form
+two_words word other =
+    if bytes_eq word (codes "gen") then (if is_count other then Some (Gen (number_of other)) else None)
+    else (if bytes_eq other (codes "--log") then logged_form word else None)
+
+-- the form of the words, if they have one
+abbrev pub form_in : List (List ℕ) → Option Form
+form_in (word ∷ []) = one_word word
+form_in (word ∷ other ∷ []) = two_words word other
+form_in _ = None

@@ -9,6 +9,7 @@ use Rattle.vyrd_base.specs.declared.verdict.Verdict.TheVariants.{Accepted, Malfo
 use Rattle.vyrd_base.specs.Devices.{IsAtEnd}
 use Rattle.vyrd_base.specs.Reading.{Reading, reading}
 use Rattle.vyrd_base.specs.Verdicts.{verdict_at}
+use Rattle.vyrd_work.specs.LongInputs.{longest_input}
 use Rattle.vyrd_base.specs.TextVerdicts.{stop_of, text_verdict}
 
 -- the reading of bytes that may go on, and of the whole input
@@ -37,6 +38,16 @@ pub record IsReadSoFar (max : ℕ) (input left : List ℕ) : Type 0 where
 -- the source told its bytes before and after, or neither time
 abbrev pub IsTaken : Option (List ℕ) → List ℕ → Option (List ℕ) → Type 0
 IsTaken before taken after = before ≡ option_map (λ left. taken ++ left) after
+
+-- These bytes were read of an input: all that there were, which the source has said, or as many as are read at most.
+pub record IsInputRead (before after : Option (List ℕ)) (bytes : List ℕ) : Type 0 where
+  pub told : IsTaken before bytes after
+  pub enough : IsAtEnd after ⊎ (length bytes ≡ longest_input)
+  pub few : length bytes ≤ longest_input
+
+-- The source has said its end, or as many bytes were taken of the input as are read at most, where they are told.
+abbrev pub IsInputTaken : Option (List ℕ) → Option (List ℕ) → Type 0
+IsInputTaken before after = IsAtEnd after ⊎ ((taken : List ℕ) × IsTaken before taken after × (length taken ≡ longest_input))
 
 -- what was read is what this reading says
 pub record IsReadAs (read : Reading) (header : Option Header) (entries : List Entry) (stop : Stop) : Type 0 where

@@ -3,3 +3,6 @@ pub mod Outputs
 pub mod Forms
 pub mod Progress
 pub mod Checks
+pub mod Steps
+pub mod Lives
+pub mod Generated

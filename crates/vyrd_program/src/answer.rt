@@ -1,5 +1,12 @@
 //! What the program answers before it writes.
 
+ghost use Rattle.std.specs.Prelude.{◌≡◌, [], None};
+ghost use Rattle.vyrd_program.specs.Outputs.{status_of};
+
+use std::alloc::Global;
+use vyrd_base::Verdict;
+use vyrd_live::{Overrun, Run};
+
 /// The words are none of the forms.
 pub const USAGE: u8 = 3;
 
@@ -12,9 +19,49 @@ pub const WRITE_FAULT: u8 = 5;
 /// There was no memory.
 pub const MEMORY: u8 = 6;
 
-/// A status, and the text that is written with it.
+/// The workload is refused.
+pub const REFUSED: u8 = 7;
+
+/// The run by turns is stuck.
+pub const STUCK: u8 = 8;
+
+/// The events of a caller of the live run are spent.
+pub const SPENT: u8 = 9;
+
+/// A status, the text that is written with it, and the run that it is about: one that came to its end, or one that the limit
+/// of events ended.
 #[derive(Debug, Drop)]
 pub struct Answer {
     pub status: u8,
     pub text: Vec<u8>,
+    pub run: Option<Run>,
+    pub spent: Option<Overrun>,
+}
+
+impl Answer {
+    /// An answer without text.
+    pub fn silent(alloc: Global, status: u8) -> Answer
+        ensures status { result.status ≡ status }
+        ensures text { result.text.items ≡ [] }
+        ensures run { result.run ≡ None }
+        ensures spent { result.spent ≡ None }
+    {
+        Answer {
+            status,
+            text: Vec::new(alloc),
+            run: None,
+            spent: None,
+        }
+    }
+}
+
+/// The status that a verdict ends with.
+pub fn status_of(verdict: Verdict) -> u8
+    ensures { result ≡ status_of verdict }
+{
+    match verdict {
+        Verdict::Accepted { .. } => 0,
+        Verdict::Violation { .. } => 1,
+        Verdict::Malformed { .. } => 2,
+    }
 }

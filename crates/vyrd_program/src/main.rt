@@ -6,10 +6,19 @@
 #![tactic(auto)]
 
 mod answer;
+mod by_turns;
 mod check;
 mod deliver;
+mod form;
+mod generate;
+mod input;
+mod live;
+#[cfg(test)]
+mod play_tests;
 mod program;
 mod reading;
+mod step;
+mod telling;
 #[cfg(test)]
 mod tests;
 

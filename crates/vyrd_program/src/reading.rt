@@ -13,7 +13,7 @@ use vyrd_base::{Entry, Header, Source, Stop};
 use vyrd_text::{LogReader, TextFault};
 
 /// How many bytes one read takes at most.
-const LONGEST_READ: usize = 65_536;
+pub(crate) const LONGEST_READ: usize = 65_536;
 
 /// A log as it was read: its header where its first line is one, its entries, and how its text stops after them.
 #[derive(Debug, Drop)]

@@ -132,7 +132,20 @@ fn write_that_fails(rt: HostRuntime) -> Result<(), Fail> {
 #[test]
 fn words_that_are_no_form(rt: HostRuntime) -> Result<(), Fail> {
     let alloc = rt.alloc();
-    let table: [&[&str]; 5] = [&[], &["check", "x"], &["--help"], &["Check"], &[""]];
+    let table: [&[&str]; 12] = [
+        &[],
+        &["check", "x"],
+        &["--help"],
+        &["--version"],
+        &["Check"],
+        &[""],
+        &["step", "--Log"],
+        &["run", "--log", "x"],
+        &["gen"],
+        &["gen", "0"],
+        &["gen", "200001"],
+        &["gen", "04"],
+    ];
     let writes = Writes {
         most: ROOM,
         failing: &[],
@@ -141,7 +154,7 @@ fn words_that_are_no_form(rt: HostRuntime) -> Result<(), Fail> {
         name: "words",
         log: DELETED,
         status: 3,
-        answer: b"usage: vyrd check\n",
+        answer: b"usage: vyrd check | step [--log] | run [--log] | gen N\n",
     };
     for words in table {
         let mut source = MemorySource::new(alloc, row.log, 16, &[1])?;

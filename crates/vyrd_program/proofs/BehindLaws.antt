@@ -1,0 +1,12 @@
+-- What a source gives is put behind the bytes that were taken before.
+use Rattle.std.proofs.Common.{◌≡◌, ℕ, ◌+◌, List, ◌++◌, take, drop, Option, ap, subst, sym, ◌∙◌}
+use Rattle.std.proofs.Math.Seq.{take-add}
+use Rattle.vyrd_base.specs.Devices.{Gives}
+use Rattle.vyrd_program.specs.Inputs.{IsTaken}
+use Rattle.vyrd_program.proofs.PieceLaws.{taken_more}
+
+pub taken_behind : (before between after : Option (List ℕ)) (count n : ℕ) (old new : List ℕ) → IsTaken before (take count old) between
+    → take count new ≡ take count old → Gives between n (drop count new) after → IsTaken before (take (count + n) new) after
+taken_behind before between after count n old new told front gives =
+    subst (λ bytes. IsTaken before bytes after) (ap (λ bytes. bytes ++ take n (drop count new)) (sym front) ∙ sym (take-add count n new))
+    (taken_more before between after (take count old) (take n (drop count new)) told gives.bytes)

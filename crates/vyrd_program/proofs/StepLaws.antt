@@ -1,0 +1,98 @@
+-- What is known of the run of a workload that keeps its limits, and of the input that it was read from.
+use Rattle.std.proofs.Common.{◌≡◌, ℕ, true, not, ◌||◌, List, [], ◌∷◌, ◌++◌, length, Option, Some, None, refl, ap, ◌∙◌, sym, subst, arith, inl, inr}
+use Rattle.std.specs.Prelude.{◌⊎◌, nat_lt, IfSome, MatchOption}
+use Rattle.std.specs.List.{AllByRecursion}
+use Rattle.vyrd_base.specs.declared.header.Header.{Header}
+use Rattle.vyrd_base.specs.declared.log.Kind.{Kind}
+use Rattle.vyrd_base.specs.declared.log.Kind.TheVariants.{Call, Return, Write, Commit, BlockOpen, BlockClose, BlockCommit}
+use Rattle.vyrd_base.specs.declared.log.Entry.{Entry}
+use Rattle.vyrd_base.specs.Subjects.{same_subject, subject_of, are_args, are_padded, arity_of, takes_chunk}
+use Rattle.vyrd_base.specs.Devices.{IsAtEnd}
+use Rattle.vyrd_base.specs.Histories.{cells_of, is_legal, log_of}
+use Rattle.vyrd_base.specs.Verdicts.{verdict}
+use Rattle.vyrd_base.proofs.ListLaws.{append_nil}
+use Rattle.vyrd_base.proofs.SplitLaws.{both_true, first_true, second_true}
+use Rattle.vyrd_text.specs.Written.{is_writable}
+use Rattle.vyrd_memory.specs.Runs.{is_call_of, PlayToTheEnd}
+use Rattle.vyrd_memory.proofs.LegalRuns.{run_is_legal, run_plays}
+use Rattle.vyrd_memory.proofs.RaceLaws.{only_races}
+use Rattle.vyrd_memory.proofs.LoggedCalls.{calls_fit}
+use Rattle.vyrd_work.specs.Workloads.{Workload}
+use Rattle.vyrd_work.specs.WorkLimits.{KeepsLimits}
+use Rattle.vyrd_work.specs.WorkReading.{work_reading}
+use Rattle.vyrd_work.specs.WorkScripts.{work_scripts}
+use Rattle.vyrd_work.specs.LongInputs.{longest_input}
+use Rattle.vyrd_work.proofs.SoundScripts.{scripts_sound}
+use Rattle.vyrd_work.proofs.SettledLaws.{reading_settled}
+use Rattle.vyrd_live.specs.declared.run.Run.{Run}
+use Rattle.vyrd_program.specs.Inputs.{IsInputRead, IsInputTaken}
+use Rattle.vyrd_program.specs.Steps.{IsRunByTurns, NamesOnlyRaces}
+
+-- the history of a run by turns is legal, and each script is played to its end in it
+legal_run : (w : Workload) (run : Run) → KeepsLimits w → IsRunByTurns w run → is_legal (cells_of w.header) run.history.items ≡ true
+legal_run w run limits is = run_is_legal w.header (work_scripts w) w.turns run.history.items (scripts_sound w limits) is.history
+
+played_run : (w : Workload) (run : Run) → KeepsLimits w → IsRunByTurns w run → PlayToTheEnd (work_scripts w) run.history.items
+played_run w run limits is = run_plays w.header (work_scripts w) w.turns run.history.items (scripts_sound w limits) is.history
+
+-- a verdict about a legal history of played scripts names no rule but that of races
+pub names_only_races : (w : Workload) (run : Run) → KeepsLimits w → is_legal (cells_of w.header) run.history.items ≡ true → PlayToTheEnd (work_scripts w) run.history.items
+    → run.verdict ≡ verdict w.header (log_of run.history.items) → NamesOnlyRaces run
+names_only_races w run limits legal played is = λ line rule e.
+    only_races w.header (work_scripts w) run.history.items (scripts_sound w limits) legal played line rule (sym is ∙ e)
+
+pub run_names_only_races : (w : Workload) (run : Run) → KeepsLimits w → IsRunByTurns w run → NamesOnlyRaces run
+run_names_only_races w run limits is = names_only_races w run limits (legal_run w run limits is) (played_run w run limits is) is.verdict_is
+
+-- a call of the header can be written
+call_is_writable : (h : Header) (e : Entry) → is_call_of h e.kind ≡ true → is_writable h.subject e ≡ true
+call_is_writable h e fits = by_kind e.kind fits
+  where
+    by_kind : (kind : Kind) → is_call_of h kind ≡ true → is_writable h.subject (record { caller = e.caller; kind = kind }) ≡ true
+    by_kind (Call method args) fits =
+        let range : are_args h.size method args ≡ true = second_true (same_subject (subject_of method) h.subject) (are_args h.size method args) fits in
+        both_true (same_subject (subject_of method) h.subject) (are_padded (arity_of method) args)
+        (first_true (same_subject (subject_of method) h.subject) (are_args h.size method args) fits)
+        (first_true (are_padded (arity_of method) args) (not (takes_chunk method) || nat_lt args.a h.size) range)
+    by_kind (Return reply) fits = refl
+    by_kind (Write word value) fits = refl
+    by_kind Commit fits = refl
+    by_kind BlockOpen fits = refl
+    by_kind BlockClose fits = refl
+    by_kind BlockCommit fits = refl
+
+all_writable : (h : Header) (entries : List Entry) → AllByRecursion (λ e. is_call_of h e.kind ≡ true) entries → AllByRecursion (λ e. is_writable h.subject e ≡ true) entries
+all_writable h [] fit = tt
+all_writable h (e ∷ entries) fit = (call_is_writable h e fit.0, all_writable h entries fit.1)
+
+-- the log of such a history can be written
+pub log_is_writable : (w : Workload) (run : Run) → KeepsLimits w → is_legal (cells_of w.header) run.history.items ≡ true → PlayToTheEnd (work_scripts w) run.history.items
+    → AllByRecursion (λ e. is_writable w.header.subject e ≡ true) (log_of run.history.items)
+log_is_writable w run limits legal played =
+    all_writable w.header (log_of run.history.items) (calls_fit w.header (work_scripts w) run.history.items (scripts_sound w limits) legal played)
+
+pub run_is_writable : (w : Workload) (run : Run) → KeepsLimits w → IsRunByTurns w run
+    → AllByRecursion (λ e. is_writable w.header.subject e ≡ true) (log_of run.history.items)
+run_is_writable w run limits is = log_is_writable w run limits (legal_run w run limits is) (played_run w run limits is)
+
+-- what was read of an input says what the whole input says
+pub reading_is_input : (before after : Option (List ℕ)) (bytes : List ℕ) → IsInputRead before after bytes → IfSome before (λ input. work_reading bytes ≡ work_reading input)
+reading_is_input before None bytes is = subst (λ before. IfSome before (λ input. work_reading bytes ≡ work_reading input)) (sym is.told) tt
+reading_is_input before (Some left) bytes is =
+    subst (λ before. IfSome before (λ input. work_reading bytes ≡ work_reading input)) (sym is.told) (by_end is.enough)
+  where
+    by_end : IsAtEnd (Some left) ⊎ (length bytes ≡ longest_input) → work_reading bytes ≡ work_reading (bytes ++ left)
+    by_end (inl none) = ap work_reading (sym (ap (λ left. bytes ++ left) none ∙ append_nil bytes))
+    by_end (inr long) = sym (reading_settled bytes left (omega (arith, long)))
+
+pub input_taken : (before after : Option (List ℕ)) (bytes : List ℕ) → IsInputRead before after bytes → IsInputTaken before after
+input_taken before after bytes is = by_end is.enough
+  where
+    by_end : IsAtEnd after ⊎ (length bytes ≡ longest_input) → IsInputTaken before after
+    by_end (inl none) = inl none
+    by_end (inr long) = inr (bytes, is.told, long)
+
+-- what is said where there is a value
+pub of_match : {A : Type 0} (P : Type 0) (Q : A → Type 0) (o : Option A) (x : A) → o ≡ Some x → MatchOption o P Q → Q x
+of_match P Q None x e m = cc
+of_match P Q (Some y) x e m = let same : y ≡ x = cc in subst Q same m

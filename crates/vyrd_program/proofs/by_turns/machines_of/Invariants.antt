@@ -1,0 +1,14 @@
+use Rattle.std.proofs.Common.{◌≡◌, map}
+use Rattle.std.specs.Prelude.{All, length}
+use Rattle.vyrd_base.specs.Places.{numbers_below}
+use Rattle.vyrd_work.specs.Workloads.{workload_of}
+use Rattle.vyrd_work.specs.WorkScripts.{work_script}
+use Rattle.vyrd_program.proofs.by_turns.machines_of.Given as goal
+
+-- the machines of the callers before this one
+abbrev pub invariant-loop-caller : goal.invariant-loop-caller
+invariant-loop-caller g l = record {
+  count : length l.machines.items ≡ l.caller;
+  made : All (λ m. g.M.Machine.header_of m ≡ l.work.header) l.machines.items;
+  scripts : map g.M.Machine.script l.machines.items ≡ map (work_script (workload_of l.work)) (numbers_below l.caller);
+}

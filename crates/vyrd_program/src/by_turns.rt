@@ -1,0 +1,42 @@
+//! The run of a workload by turns.
+
+ghost use Rattle.std.specs.Prelude.{◌≡◌, length, map, All, IfOk, MatchOption};
+ghost use Rattle.vyrd_memory.specs.Turns.{GetsStuck};
+ghost use Rattle.vyrd_work.specs.Workloads.{workload_of};
+ghost use Rattle.vyrd_work.specs.WorkLimits.{KeepsLimits};
+ghost use Rattle.vyrd_work.specs.WorkScripts.{work_scripts};
+ghost use Rattle.vyrd_program.specs.Steps.{IsRunByTurns};
+
+use std::alloc::{AllocError, Global};
+use vyrd_live::{Run, judged};
+use vyrd_memory::{Ran, StepFault, run_turns};
+use vyrd_work::{Work, WorkMachine};
+
+/// The run by turns of a workload. There is none where it gets stuck.
+pub fn play<M: WorkMachine>(alloc: Global, work: &Work) -> Result<Option<Run>, AllocError>
+    requires limits { KeepsLimits (workload_of work.now) }
+    ensures { IfOk result (λ run. MatchOption run
+        (GetsStuck (work_scripts (workload_of work.now)) work.now.turns.items)
+        (IsRunByTurns (workload_of work.now))) }
+{
+    let mut machines: Vec<M> = machines_of(alloc, work)?;
+    match run_turns(alloc, work.header, &mut machines, &work.turns) {
+        Ok(Ran { history, words }) => Ok(Some(judged(alloc, work.header, history, words)?)),
+        Err(StepFault::Stuck) => Ok(None),
+        Err(StepFault::Memory) => Err(AllocError),
+    }
+}
+
+// The machines of a workload's callers, in their order.
+fn machines_of<M: WorkMachine>(alloc: Global, work: &Work) -> Result<Vec<M>, AllocError>
+    requires limits { KeepsLimits (workload_of work.now) }
+    ensures count { IfOk result (λ machines. length machines.items ≡ work.now.header.callers) }
+    ensures header { IfOk result (λ machines. All (λ m. M.header_of m ≡ work.now.header) machines.items) }
+    ensures scripts { IfOk result (λ machines. map M.script machines.items ≡ work_scripts (workload_of work.now)) }
+{
+    let mut machines = Vec::new(alloc);
+    for caller in 0..work.header.callers() {
+        machines.push(M::of_caller(alloc, work, caller)?)?;
+    }
+    Ok(machines)
+}

@@ -1,0 +1,95 @@
+//! The forms of words that the program takes.
+
+ghost use Rattle.std.specs.Prelude.{◌≡◌, ◌≤◌, ℕ, List, decimal, map, if◌then◌else◌, Some, None};
+ghost use Rattle.vyrd_base.specs.Lines.{number_of};
+ghost use Rattle.vyrd_program.specs.declared.form.Form.TheVariants.{Gen};
+ghost use Rattle.vyrd_program.specs.Forms.{form_in, one_word, logged_form, two_words, is_count};
+
+use vyrd_text::read_u32;
+
+/// The most operations that are generated.
+const MOST_OPS: u32 = 200_000;
+
+/// What the words ask for.
+#[derive(Clone, Copy, Debug, PartialEq, Eq)]
+pub enum Form {
+    /// `check`: the verdict about a log.
+    Check,
+    /// `step`: a workload is played by turns and judged. `--log` asks for the log before the verdict.
+    Step { log: bool },
+    /// `run`: a workload is played by callers on threads of their own and judged. `--log` asks for the log before the verdict.
+    Live { log: bool },
+    /// `gen N`: a workload of so many operations is generated, played by turns and judged.
+    Gen { count: u32 },
+}
+
+/// The form of the words that stand after the program's name, if they have one.
+pub fn form_of(words: &[&str]) -> Option<Form>
+    ensures form { result ≡ form_in (map (λ word. word.now) words.now) }
+    ensures some { (n : ℕ) → result ≡ Some (Gen n) → 1 ≤ n }
+    ensures few { (n : ℕ) → result ≡ Some (Gen n) → n ≤ 200000 }
+{
+    match words {
+        [word] => one_word(word),
+        [word, other] => two_words(word, other),
+        _ => None,
+    }
+}
+
+// The form of one word.
+fn one_word(word: &str) -> Option<Form>
+    ensures { result ≡ one_word word.now }
+{
+    match word {
+        "check" => Some(Form::Check),
+        "step" => Some(Form::Step { log: false }),
+        "run" => Some(Form::Live { log: false }),
+        _ => None,
+    }
+}
+
+// The form of two words.
+fn two_words(word: &str, other: &str) -> Option<Form>
+    ensures { result ≡ two_words word.now other.now }
+{
+    if word == "gen" {
+        let count = count_of(other)?;
+        return Some(Form::Gen { count });
+    }
+    if other == "--log" {
+        return logged_form(word);
+    }
+    None
+}
+
+// The form of a word that asks for the log.
+fn logged_form(word: &str) -> Option<Form>
+    ensures { result ≡ logged_form word.now }
+{
+    match word {
+        "step" => Some(Form::Step { log: true }),
+        "run" => Some(Form::Live { log: true }),
+        _ => None,
+    }
+}
+
+// The number from 1 to 200,000 that the word spells.
+fn count_of(word: &str) -> Option<u32>
+    ensures { result ≡ (if is_count word.now then Some (number_of word.now) else None) }
+{
+    let number = read_u32(word.as_bytes())?;
+    in_range(number)
+}
+
+// The number, where it is from 1 to 200,000.
+fn in_range(number: u32) -> Option<u32>
+    ensures { (word : List ℕ) → word ≡ decimal number → result ≡ (if is_count word then Some (number_of word) else None) }
+{
+    if number == 0 {
+        return None;
+    }
+    if MOST_OPS < number {
+        return None;
+    }
+    Some(number)
+}

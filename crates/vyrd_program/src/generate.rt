@@ -1,0 +1,43 @@
+//! What `gen` answers.
+
+ghost use Rattle.std.specs.Prelude.{◌≡◌, ◌≤◌, ◌⊎◌, [], None, IfOk, IfSome};
+ghost use Rattle.vyrd_program.specs.Generated.{IsGenAnswer, IsGenStatus};
+ghost use Rattle.vyrd_program.specs.Steps.{NamesOnlyRaces};
+
+use crate::answer::{Answer, MEMORY};
+use crate::by_turns::play;
+use crate::telling::{generated, stuck};
+use std::alloc::{AllocError, Global};
+use vyrd_work::{AnyMachine, generate};
+
+/// The answer to so many operations, from 1 to 200,000: the verdict about the run by turns of the workload that is generated of
+/// them; or that the run gets stuck; or nothing where there is no memory.
+pub fn answer_generated(alloc: Global, count: u32) -> Answer
+    requires some { 1 ≤ count }
+    requires few { count ≤ 200000 }
+    ensures statuses { IsGenStatus result.status ⊎ (result.status ≡ 6) }
+    ensures answer { IsGenStatus result.status → IsGenAnswer count result.status result.text.items result.run }
+    ensures races { IfSome result.run NamesOnlyRaces }
+    ensures silent { result.status ≡ 6 → (result.text.items ≡ []) × (result.run ≡ None) }
+    ensures spent { result.spent ≡ None }
+{
+    match try_answer(alloc, count) {
+        Ok(answer) => answer,
+        Err(_) => Answer::silent(alloc, MEMORY),
+    }
+}
+
+// The same, with want of memory as an error.
+fn try_answer(alloc: Global, count: u32) -> Result<Answer, AllocError>
+    requires some { 1 ≤ count }
+    requires few { count ≤ 200000 }
+    ensures answer { IfOk result (λ answer. IsGenAnswer count answer.status answer.text.items answer.run) }
+    ensures races { IfOk result (λ answer. IfSome answer.run NamesOnlyRaces) }
+    ensures spent { IfOk result (λ answer. answer.spent ≡ None) }
+{
+    let work = generate(alloc, count)?;
+    match play::<AnyMachine>(alloc, &work)? {
+        Some(run) => generated(alloc, count, run),
+        None => stuck(alloc),
+    }
+}

@@ -1,0 +1,79 @@
+//! Reading an input whole.
+
+ghost use Rattle.std.specs.Prelude.{◌≡◌, ◌+◌, ◌≤◌, ◌<◌, true, take, drop, vec_len, IfOk, OnOk, Ok, Err};
+ghost use Rattle.vyrd_base.specs.Devices.{HasRisen, Gives, IsAtEnd};
+ghost use Rattle.vyrd_program.specs.Inputs.{IsInputRead, longest_read};
+ghost use Rattle.vyrd_work.specs.LongInputs.{longest_input};
+ghost use Rattle.vyrd_program.specs.declared.reading.ReadFault.TheVariants.{Failed};
+
+use crate::reading::{LONGEST_READ, ReadFault};
+use std::alloc::{AllocError, Global};
+use vyrd_base::Source;
+
+/// How many bytes of an input are read at most: 32 MiB, and one byte that shows that there are more.
+const LONGEST_INPUT: usize = 33_554_433;
+
+/// Reads to the source's end, or 33,554,433 bytes.
+///
+/// Each read takes at most 65,536 bytes, straight into the vector. The time and the memory grow with the bytes.
+pub fn read_input<S: Source>(alloc: Global, source: &mut S) -> Result<Vec<u8>, ReadFault>
+    ensures read { IfOk result (λ bytes. IsInputRead (S.rest source.old) (S.rest source.new) bytes.items) }
+    ensures failed { result ≡ Err Failed → HasRisen (S.faults source.old) (S.faults source.new) }
+    ensures counted { S.faults source.old ≤ S.faults source.new }
+    ensures sure { S.is_sure source.old ≡ true → S.faults source.new ≡ S.faults source.old }
+{
+    let mut bytes = Vec::new(alloc);
+    let mut count = 0;
+    while count < LONGEST_INPUT {
+        make_room(count, &mut bytes)?;
+        let n = read_behind(count, &mut bytes, source)?;
+        if n == 0 {
+            break;
+        }
+        count += n;
+    }
+    bytes.truncate(count);
+    Ok(bytes)
+}
+
+// Makes room for a read behind the first bytes, so many as `count`, which stay.
+fn make_room(count: usize, bytes: &mut Vec<u8>) -> Result<(), AllocError>
+    requires within { count ≤ vec_len bytes.old }
+    requires few { count < longest_input }
+    requires high { vec_len bytes.old ≤ longest_input }
+    requires short { vec_len bytes.old ≤ count + longest_read }
+    ensures room { OnOk result (count < vec_len bytes.new) }
+    ensures front { take count bytes.new.items ≡ take count bytes.old.items }
+    ensures high { vec_len bytes.new ≤ longest_input }
+    ensures short { vec_len bytes.new ≤ count + longest_read }
+{
+    if count < bytes.len() {
+        return Ok(());
+    }
+    let room = LONGEST_READ.min(LONGEST_INPUT - count);
+    bytes.resize(count + room, 0)
+}
+
+// Reads once, and puts what comes behind the first bytes, so many as `count`. The answer says how much came.
+fn read_behind<S: Source>(
+    count: usize,
+    bytes: &mut Vec<u8>,
+    source: &mut S,
+) -> Result<usize, ReadFault>
+    requires room { count < vec_len bytes.old }
+    requires short { vec_len bytes.old ≤ count + longest_read }
+    ensures given { IfOk result (λ n. Gives (S.rest source.old) n (drop count bytes.new.items) (S.rest source.new)) }
+    ensures at_end { result ≡ Ok 0 → IsAtEnd (S.rest source.new) }
+    ensures front { take count bytes.new.items ≡ take count bytes.old.items }
+    ensures len { vec_len bytes.new ≡ vec_len bytes.old }
+    ensures failed { result ≡ Err Failed → HasRisen (S.faults source.old) (S.faults source.new) }
+    ensures counted { S.faults source.old ≤ S.faults source.new }
+    ensures sure { S.is_sure source.old ≡ true → S.faults source.new ≡ S.faults source.old }
+    ensures stays_sure { S.is_sure source.old ≡ true → S.is_sure source.new ≡ true }
+{
+    let (_, room) = bytes.split_at_mut(count);
+    match source.read(room) {
+        Ok(n) => Ok(n),
+        Err(_) => Err(ReadFault::Failed),
+    }
+}

@@ -1,0 +1,89 @@
+//! What `run` answers.
+
+ghost use Rattle.std.specs.Prelude.{◌≡◌, ◌≤◌, ◌⊎◌, true, [], None, IfOk, IfSome};
+ghost use Rattle.vyrd_base.specs.Devices.{HasRisen};
+ghost use Rattle.vyrd_work.specs.Workloads.{workload_of};
+ghost use Rattle.vyrd_work.specs.WorkLimits.{KeepsLimits};
+ghost use Rattle.vyrd_work.specs.WorkReading.{work_reading};
+ghost use Rattle.vyrd_program.specs.Inputs.{IsInputTaken};
+ghost use Rattle.vyrd_program.specs.Steps.{NamesOnlyRaces};
+ghost use Rattle.vyrd_program.specs.Lives.{AnswersLive, IsLiveAnswer, IsRunAnswer, IsLiveStatus};
+
+use crate::answer::{Answer, MEMORY, READ_FAULT};
+use crate::input::read_input;
+use crate::reading::ReadFault;
+use crate::telling::{overrun, refuse, tell};
+use std::alloc::{AllocError, Global};
+use std::sync::Wait;
+use std::thread::Threads;
+use vyrd_base::{Gate, Source};
+use vyrd_live::{LiveFault, run_live};
+use vyrd_work::{Work, WorkFault, read_work};
+
+/// How many events a caller may have.
+const MOST_EVENTS: u64 = 16_777_216;
+
+/// The answer to a workload: the verdict about a live run, with the log before it where that is asked for; or that it is
+/// refused, or that a caller's events are spent; or nothing after a failed read or want of memory.
+pub fn live<R: Threads + Wait + Sync, S: Source, G: Gate>(
+    rt: &R,
+    alloc: Global,
+    log: bool,
+    source: &mut S,
+    gate: &G,
+) -> Answer
+    ensures statuses { IsLiveStatus result.status ⊎ (result.status ≡ 4) ⊎ (result.status ≡ 6) }
+    ensures answers { IsLiveStatus result.status → AnswersLive log (S.rest source.old) result.status result.text.items result.run result.spent }
+    ensures races { IfSome result.run NamesOnlyRaces }
+    ensures consumed { IsLiveStatus result.status → IsInputTaken (S.rest source.old) (S.rest source.new) }
+    ensures silent { result.status ≡ 4 ⊎ result.status ≡ 6 → (result.text.items ≡ []) × (result.run ≡ None) × (result.spent ≡ None) }
+    ensures cause { result.status ≡ 4 → HasRisen (S.faults source.old) (S.faults source.new) }
+    ensures counted { S.faults source.old ≤ S.faults source.new }
+    ensures sure { S.is_sure source.old ≡ true → S.faults source.new ≡ S.faults source.old }
+{
+    match read_input(alloc, source) {
+        Ok(bytes) => match answer_to(rt, alloc, log, &bytes, gate) {
+            Ok(answer) => answer,
+            Err(_) => Answer::silent(alloc, MEMORY),
+        },
+        Err(ReadFault::Failed) => Answer::silent(alloc, READ_FAULT),
+        Err(ReadFault::Memory) => Answer::silent(alloc, MEMORY),
+    }
+}
+
+// The answer to the bytes of a workload.
+fn answer_to<R: Threads + Wait + Sync, G: Gate>(
+    rt: &R,
+    alloc: Global,
+    log: bool,
+    bytes: &[u8],
+    gate: &G,
+) -> Result<Answer, AllocError>
+    ensures answer { IfOk result (λ answer. IsLiveAnswer log (work_reading bytes.now) answer.status answer.text.items answer.run answer.spent) }
+    ensures races { IfOk result (λ answer. IfSome answer.run NamesOnlyRaces) }
+{
+    match read_work(alloc, bytes) {
+        Ok(work) => play(rt, alloc, log, &work, gate),
+        Err(WorkFault::Refused { line, rule }) => refuse(alloc, line, rule),
+        Err(WorkFault::Memory) => Err(AllocError),
+    }
+}
+
+// The answer to a workload that keeps its limits.
+fn play<R: Threads + Wait + Sync, G: Gate>(
+    rt: &R,
+    alloc: Global,
+    log: bool,
+    work: &Work,
+    gate: &G,
+) -> Result<Answer, AllocError>
+    requires { KeepsLimits (workload_of work.now) }
+    ensures answer { IfOk result (λ answer. IsRunAnswer log (workload_of work.now) answer.status answer.text.items answer.run answer.spent) }
+    ensures races { IfOk result (λ answer. IfSome answer.run NamesOnlyRaces) }
+{
+    match run_live(rt, alloc, work, MOST_EVENTS, gate) {
+        Ok(run) => tell(alloc, log, work.header, run),
+        Err(LiveFault::Spent(spent)) => overrun(alloc, spent),
+        Err(LiveFault::Memory) => Err(AllocError),
+    }
+}

@@ -1,0 +1,248 @@
+//! What the top call answers on worked workloads, and on live runs.
+
+use crate::program::vyrd;
+use std::alloc::{AllocError, Global};
+use std::process::Abort;
+use std::sync::Wait;
+use std::test::*;
+use std::thread::Threads;
+use vyrd_base::{Did, MemorySink, MemorySource, OpenGate, Stamped, Verdict};
+
+/// The most bytes that a sink takes here. No answer is as long.
+const ROOM: usize = 4096;
+
+/// Words and a workload, and what the program answers to them.
+#[derive(Drop)]
+struct Row<'a> {
+    name: &'a str,
+    words: &'a [&'a str],
+    work: &'a [u8],
+    status: u8,
+    answer: &'a [u8],
+}
+
+/// Asserts that a call ends with the row's status and has written its answer.
+fn assert_row<R: Threads + Wait + Abort + Sync>(
+    rt: &R,
+    alloc: Global,
+    row: &Row<'_>,
+) -> Result<(), Fail> {
+    let mut source = MemorySource::new(alloc, row.work, 16, &[])?;
+    let mut sink = MemorySink::new(alloc, ROOM, ROOM, &[])?;
+    let ended = vyrd(rt, alloc, row.words, &mut source, &mut sink, &OpenGate);
+    assert_eq!(rt;
+        (ended.status, sink.taken()),
+        (row.status, row.answer),
+        "{}",
+        row.name
+    );
+    Ok(())
+}
+
+#[test]
+fn workloads_by_turns(rt: HostRuntime) -> Result<(), Fail> {
+    let alloc = rt.alloc();
+    for row in worked() {
+        assert_row(&rt, alloc, &row)?;
+    }
+    Ok(())
+}
+
+/// Worked workloads, with the answers that the definitions give.
+fn worked() -> [Row<'static>; 9] {
+    [
+        Row {
+            name: "write_behind_a_flush_by_turns",
+            words: &["step", "--log"],
+            work: b"work cache 1 2 broken\nop 0 write 0 1 2\nop 0 write 0 3 4\nop 1 flush 0\nturn 0 15\nturn 1 12\nend\n",
+            status: 1,
+            answer: b"vyrd 1 cache 1 2\n0 call write 0 1 2\n0 open\n0 write 1 1\n0 write 2 2\n0 write 0 2\n0 close commit\n0 return 1\n0 call write 0 3 4\n0 write 1 3\n1 call flush 0\n1 open\n1 write 3 3\n1 write 4 2\n1 write 0 1\n1 close commit\n1 return 1\n0 write 2 4\n0 commit\n0 return 1\nend\nviolation at line 16: view differs at key 0\n",
+        },
+        Row {
+            name: "evicted_chunk_is_read_again",
+            words: &["step"],
+            work: b"work cache 1 1 correct\nop 0 write 0 1 2\nop 0 flush 0\nop 0 evict 0\nop 0 read 0\nend\n",
+            status: 0,
+            answer: b"accepted: 26 entries, 3 commits, 1 observers\n",
+        },
+        Row {
+            name: "slot_taken_without_the_lock",
+            words: &["step"],
+            work: b"work multiset 1 2 broken\nop 0 insert 5\nop 1 insert 6\nturn 0 2\nturn 1 10\nend\n",
+            status: 1,
+            answer: b"violation at line 14: view differs at key 6\n",
+        },
+        Row {
+            name: "slots_taken_under_the_lock",
+            words: &["step"],
+            work: b"work multiset 1 2 correct\nop 0 insert 5\nop 1 insert 6\nturn 0 2\nturn 1 10\nend\n",
+            status: 0,
+            answer: b"accepted: 14 entries, 2 commits, 0 observers\n",
+        },
+        Row {
+            name: "locks_taken_crosswise",
+            words: &["step"],
+            work: b"work multiset 2 2 broken\nop 0 insert_pair 0 1\nop 1 insert_pair 1 0\nturn 0 8\nturn 1 10\nend\n",
+            status: 8,
+            answer: b"stuck\n",
+        },
+        Row {
+            name: "tree_is_full",
+            words: &["step"],
+            work: b"work tree 1 1 correct\nop 0 insert 1 1\nop 0 insert 2 2\nop 0 insert 3 3\nop 0 insert 4 4\nop 0 insert 5 5\nend\n",
+            status: 0,
+            answer: b"accepted: 31 entries, 5 commits, 0 observers\n",
+        },
+        Row {
+            name: "refused_workload",
+            words: &["step"],
+            work: b"work cache 1 1 correct\nop 0 flush 1\nend\n",
+            status: 7,
+            answer: b"workload refused at line 2: argument out of range\n",
+        },
+        Row {
+            name: "refused_live_run",
+            words: &["run", "--log"],
+            work: b"work tree 0 1 correct\nend\n",
+            status: 7,
+            answer: b"workload refused at line 1: bad header\n",
+        },
+        Row {
+            name: "four_generated_operations",
+            words: &["gen", "4"],
+            work: b"",
+            status: 0,
+            answer: b"generated: 4 operations, 48 events\naccepted: 21 entries, 2 commits, 2 observers\n",
+        },
+    ]
+}
+
+#[test]
+fn write_of_a_log_that_fails(rt: HostRuntime) -> Result<(), Fail> {
+    let alloc = rt.alloc();
+    let work = b"work multiset 1 1 correct\nop 0 lookup 5\nend\n";
+    let mut source = MemorySource::new(alloc, work, 16, &[])?;
+    let mut sink = MemorySink::new(alloc, ROOM, 5, &[3])?;
+    let words = ["step", "--log"];
+    let ended = vyrd(&rt, alloc, &words, &mut source, &mut sink, &OpenGate);
+    assert_eq!(rt; (ended.status, sink.taken()), (5, b"vyrd 1 mul".as_slice()));
+    assert!(rt; ended.run.is_some());
+    Ok(())
+}
+
+#[test]
+fn the_same_operations_twice(rt: HostRuntime) -> Result<(), Fail> {
+    let alloc = rt.alloc();
+    let words = ["gen", "2000"];
+    let mut source = MemorySource::new(alloc, b"", 1, &[])?;
+    let mut first = MemorySink::new(alloc, ROOM, ROOM, &[])?;
+    let mut second = MemorySink::new(alloc, ROOM, ROOM, &[])?;
+    let ended = vyrd(&rt, alloc, &words, &mut source, &mut first, &OpenGate);
+    let again = vyrd(&rt, alloc, &words, &mut source, &mut second, &OpenGate);
+    assert_eq!(rt; (ended.status, again.status), (0, 0));
+    assert_eq!(rt; first.taken(), second.taken());
+    let judged = match ended.run.map(|run| run.verdict) {
+        Some(
+            Verdict::Accepted {
+                commits,
+                observers,
+                ..
+            },
+        ) => commits.checked_add(observers),
+        _ => None,
+    };
+    assert_eq!(rt; judged, Some(2000));
+    Ok(())
+}
+
+#[test]
+fn twenty_live_runs(rt: HostRuntime) -> Result<(), Fail> {
+    let alloc = rt.alloc();
+    for size in 1..=20u32 {
+        let work = mixed_work(alloc, size)?;
+        let mut source = MemorySource::new(alloc, &work, 64, &[])?;
+        let mut sink = MemorySink::new(alloc, ROOM, ROOM, &[])?;
+        let ended = vyrd(&rt, alloc, &["run"], &mut source, &mut sink, &OpenGate);
+        assert_eq!(rt; ended.status, 0, "size {size}");
+        let legal = match &ended.run {
+            Some(run) => is_legal(alloc, &run.history)?,
+            None => false,
+        };
+        assert!(rt; legal, "size {size}");
+    }
+    Ok(())
+}
+
+/// A workload of three callers who share a few keys, on a multiset, a cache or a tree of this size.
+fn mixed_work(alloc: Global, size: u32) -> Result<Vec<u8>, AllocError> {
+    let (subject, methods): (&[u8], [&[u8]; 4]) = match size % 3 {
+        0 => (
+            b"multiset",
+            [b"insert 1", b"delete 1", b"insert_pair 1 2", b"lookup 2"],
+        ),
+        1 => (
+            b"cache",
+            [b"write 0 1 2", b"flush 0", b"evict 0", b"read 0"],
+        ),
+        _ => (
+            b"tree",
+            [b"insert 1 7", b"delete 2", b"insert 2 8", b"lookup 1"],
+        ),
+    };
+    let mut work = Vec::new(alloc);
+    work.extend_from_slice(b"work ")?;
+    work.extend_from_slice(subject)?;
+    work.extend_from_slice(if size < 10 {
+        b" 9 3 correct\n"
+    } else {
+        b" 2 3 correct\n"
+    })?;
+    for _round in 0..5 {
+        for method in methods {
+            for caller in [b"op 0 ", b"op 1 ", b"op 2 "] {
+                work.extend_from_slice(caller)?;
+                work.extend_from_slice(method)?;
+                work.extend_from_slice(b"\n")?;
+            }
+        }
+    }
+    work.extend_from_slice(b"end\n")?;
+    Ok(work)
+}
+
+/// Whether the history is legal, played over again in a memory of its own.
+fn is_legal(alloc: Global, history: &[Stamped]) -> Result<bool, AllocError> {
+    let mut cells = vec![in alloc; 0u64; 2048]?;
+    for (at, event) in history.iter().enumerate() {
+        if event.number != at as u64 || !may_happen(&mut cells, event) {
+            return Ok(false);
+        }
+    }
+    Ok(true)
+}
+
+/// Whether the event may happen, which it then does.
+fn may_happen(cells: &mut [u64], event: &Stamped) -> bool {
+    let holder = u64::from(event.caller) + 1;
+    match event.did {
+        Did::Read(cell, value) => turns(cells, cell, Some(value), value),
+        Did::Wrote(cell, value) => turns(cells, cell, None, value),
+        Did::Took(lock) => turns(cells, lock, Some(0), holder),
+        Did::Gave(lock) => turns(cells, lock, Some(holder), 0),
+        Did::Marked(_) => true,
+    }
+}
+
+/// Whether the cell has the value that it has to have, if there is one. It then gets the new one.
+fn turns(cells: &mut [u64], cell: u32, before: Option<u64>, after: u64) -> bool {
+    let Some(found) = cells.get_mut(cell as usize) else {
+        return false;
+    };
+    if let Some(value) = before {
+        if value != *found {
+            return false;
+        }
+    }
+    *found = after;
+    true
+}

@@ -1,0 +1,130 @@
+//! The texts of the answers to a workload.
+
+ghost use Rattle.std.specs.Prelude.{◌≡◌, ◌++◌, true, length, Some, None, IfOk};
+ghost use Rattle.std.specs.List.{AllByRecursion};
+ghost use Rattle.vyrd_base.specs.Histories.{log_of};
+ghost use Rattle.vyrd_base.specs.VerdictText.{verdict_text};
+ghost use Rattle.vyrd_text.specs.Written.{is_writable};
+ghost use Rattle.vyrd_work.specs.Refusals.{refusal_text};
+ghost use Rattle.vyrd_program.specs.Outputs.{status_of};
+ghost use Rattle.vyrd_program.specs.Steps.{run_text, stuck_line};
+ghost use Rattle.vyrd_program.specs.Lives.{spent_line};
+ghost use Rattle.vyrd_program.specs.Generated.{generated_line};
+
+use crate::answer::{Answer, REFUSED, SPENT, STUCK, status_of};
+use std::alloc::{AllocError, Global};
+use vyrd_base::Header;
+use vyrd_live::{Overrun, Run, log_of};
+use vyrd_text::{LineBuffer, write_log, write_verdict};
+use vyrd_work::{WorkRule, write_refusal};
+
+/// The verdict about a run, after its log where that is asked for.
+pub fn tell(alloc: Global, log: bool, header: Header, run: Run) -> Result<Answer, AllocError>
+    requires { AllByRecursion (λ e. is_writable header.subject e ≡ true) (log_of run.history.items) }
+    ensures status { IfOk result (λ answer. answer.status ≡ status_of run.verdict) }
+    ensures text { IfOk result (λ answer. answer.text.items ≡ run_text log header run) }
+    ensures run { IfOk result (λ answer. answer.run ≡ Some run) }
+    ensures spent { IfOk result (λ answer. answer.spent ≡ None) }
+{
+    let mut text = Vec::new(alloc);
+    if log {
+        let entries = log_of(alloc, &run.history)?;
+        write_log(header, &entries, &mut text)?;
+    }
+    write_verdict(&run.verdict, &mut text)?;
+    let status = status_of(run.verdict);
+    Ok(Answer {
+        status,
+        text,
+        run: Some(run),
+        spent: None,
+    })
+}
+
+/// That a run by turns gets stuck.
+pub fn stuck(alloc: Global) -> Result<Answer, AllocError>
+    ensures status { IfOk result (λ answer. answer.status ≡ 8) }
+    ensures text { IfOk result (λ answer. answer.text.items ≡ stuck_line) }
+    ensures run { IfOk result (λ answer. answer.run ≡ None) }
+    ensures spent { IfOk result (λ answer. answer.spent ≡ None) }
+{
+    let mut text = Vec::new(alloc);
+    text.extend_from_slice(b"stuck\n")?;
+    Ok(Answer {
+        status: STUCK,
+        text,
+        run: None,
+        spent: None,
+    })
+}
+
+/// That a workload is refused.
+pub fn refuse(alloc: Global, line: u64, rule: WorkRule) -> Result<Answer, AllocError>
+    ensures status { IfOk result (λ answer. answer.status ≡ 7) }
+    ensures text { IfOk result (λ answer. answer.text.items ≡ refusal_text line rule) }
+    ensures run { IfOk result (λ answer. answer.run ≡ None) }
+    ensures spent { IfOk result (λ answer. answer.spent ≡ None) }
+{
+    let mut text = Vec::new(alloc);
+    write_refusal(line, rule, &mut text)?;
+    Ok(Answer {
+        status: REFUSED,
+        text,
+        run: None,
+        spent: None,
+    })
+}
+
+/// That the events of a caller are spent.
+pub fn overrun(alloc: Global, spent: Overrun) -> Result<Answer, AllocError>
+    ensures status { IfOk result (λ answer. answer.status ≡ 9) }
+    ensures text { IfOk result (λ answer. answer.text.items ≡ spent_line spent.caller) }
+    ensures run { IfOk result (λ answer. answer.run ≡ None) }
+    ensures spent { IfOk result (λ answer. answer.spent ≡ Some spent) }
+{
+    let mut line = LineBuffer::new();
+    line.push(b"events spent by caller ");
+    line.push_number(u64::from(spent.caller));
+    line.push(b"\n");
+    let mut text = Vec::new(alloc);
+    text.extend_from_slice(line.as_slice())?;
+    Ok(Answer {
+        status: SPENT,
+        text,
+        run: None,
+        spent: Some(spent),
+    })
+}
+
+/// How many operations were generated, how many events their run has, and the verdict about it.
+pub fn generated(alloc: Global, count: u32, run: Run) -> Result<Answer, AllocError>
+    ensures status { IfOk result (λ answer. answer.status ≡ status_of run.verdict) }
+    ensures text { IfOk result (λ answer. answer.text.items ≡ generated_line count (length run.history.items) ++ verdict_text run.verdict) }
+    ensures run { IfOk result (λ answer. answer.run ≡ Some run) }
+    ensures spent { IfOk result (λ answer. answer.spent ≡ None) }
+{
+    let mut text = counts(alloc, count, run.history.len() as u64)?;
+    write_verdict(&run.verdict, &mut text)?;
+    let status = status_of(run.verdict);
+    Ok(Answer {
+        status,
+        text,
+        run: Some(run),
+        spent: None,
+    })
+}
+
+// The line that says how many operations and events there are.
+fn counts(alloc: Global, count: u32, events: u64) -> Result<Vec<u8>, AllocError>
+    ensures { IfOk result (λ text. text.items ≡ generated_line count events) }
+{
+    let mut line = LineBuffer::new();
+    line.push(b"generated: ");
+    line.push_number(u64::from(count));
+    line.push(b" operations, ");
+    line.push_number(events);
+    line.push(b" events\n");
+    let mut text = Vec::new(alloc);
+    text.extend_from_slice(line.as_slice())?;
+    Ok(text)
+}
