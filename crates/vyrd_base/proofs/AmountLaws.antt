@@ -11,6 +11,7 @@ use Rattle.std.specs.FinMap.{nat_cmp-IsAntisymmetric}
 use Rattle.std.specs.FinMap.Entries.{find, put, by_order, find-put, find-where_key, is_sorted-put, is_sorted-where_key, same_entries, below_all, is_sorted}
 use Rattle.std.specs.List.{AllByRecursion}
 use Rattle.vyrd_base.specs.Amounts.{Amounts, IsAmounts, amount_of, with_amount}
+use Rattle.vyrd_base.proofs.TestLaws.{same_of, apart_of}
 
 -- the test by which the keys other than k are kept
 abbrev pub isnt : ℕ → ℕ → Bool
@@ -27,16 +28,13 @@ put_in a false o = refl
 alike : (k q x : ℕ) → nat_cmp q x ≡ Equal → isnt k x ≡ isnt k q
 alike k q x e = ap (isnt k) (sym (nat_cmp-IsAntisymmetric q x e))
 
-is_zero : (a : ℕ) → (a == 0) ≡ true → a ≡ 0
-is_zero a e = grind (arith, nat_tests)
-
 -- the key has the new amount, and every other key its old one
 pub amount_of-with_amount : (s : Amounts) (k a q : ℕ) → amount_of (with_amount s k a) q ≡ cond (q == k) a (amount_of s q)
 amount_of-with_amount s k a q = by_zero (a == 0) refl
   where
     by_zero : (b : Bool) → (a == 0) ≡ b → amount_of (cond b (filter (λ entry. not (entry.0 == k)) s) (put nat_cmp k a s)) q ≡ cond (q == k) a (amount_of s q)
     by_zero true e = ap (λ o. unwrap_or o 0) (find-where_key nat_cmp (isnt k) q (alike k q) s)
-        ∙ found_in k q (q == k) (find nat_cmp q s) refl ∙ ap (λ z. cond (q == k) z (amount_of s q)) (sym (is_zero a e))
+        ∙ found_in k q (q == k) (find nat_cmp q s) refl ∙ ap (λ z. cond (q == k) z (amount_of s q)) (sym (same_of a 0 e))
     by_zero false e = ap (λ o. unwrap_or o 0) (find-put nat_cmp nat_cmp_total q k a s ∙ ap (λ b. cond b (Some a) (find nat_cmp q s)) (unsigned_tied q k))
         ∙ put_in a (q == k) (find nat_cmp q s)
 
@@ -59,16 +57,13 @@ kept_put k a (e ∷ s) some all = elim (nat_cmp k e.0) as (λ o. AllSome (by_ord
   | Greater ↦ (all.0, kept_put k a s some all.1)
 ]
 
-isnt_zero : (a : ℕ) → (a == 0) ≡ false → a ≢ 0
-isnt_zero a e = grind (arith, nat_tests)
-
 -- amounts stay amounts
 pub IsAmounts-with_amount : (s : Amounts) (k a : ℕ) → IsAmounts s → IsAmounts (with_amount s k a)
 IsAmounts-with_amount s k a is = by_zero (a == 0) refl
   where
     by_zero : (b : Bool) → (a == 0) ≡ b → IsAmounts (cond b (filter (λ entry. not (entry.0 == k)) s) (put nat_cmp k a s))
     by_zero true e = record { rising = is_sorted-where_key nat_cmp (isnt k) s is.rising; some = kept_filter (λ entry. entry.1 ≢ 0) (λ entry. isnt k entry.0) s is.some }
-    by_zero false e = record { rising = is_sorted-put nat_cmp nat_cmp_total k a s is.rising; some = kept_put k a s (isnt_zero a e) is.some }
+    by_zero false e = record { rising = is_sorted-put nat_cmp nat_cmp_total k a s is.rising; some = kept_put k a s (apart_of a 0 e) is.some }
 
 some_same : (x y : ℕ) → ◌≡◌ {A = Option ℕ} (Some x) (Some y) → x ≡ y
 some_same x y e = cc

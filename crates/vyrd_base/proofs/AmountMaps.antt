@@ -11,6 +11,7 @@ use Rattle.std.specs.Cmp.{unsigned_tied}
 use Rattle.std.proofs.lemmas.Bool.Decides.{nat_tests}
 use Rattle.vyrd_base.specs.Amounts.{Amounts, with_amount}
 use Rattle.vyrd_base.proofs.AmountLaws.{first_of_and, second_of_and}
+use Rattle.vyrd_base.proofs.TestLaws.{isnt_same}
 
 -- what `get` finds
 pub lookup-find : (q : ℕ) (es : Amounts) → lookup (is_at (nat_cmp q)) es ≡ find nat_cmp q es
@@ -63,12 +64,9 @@ remove_entry-filter k (e ∷ es) rising =
         ∙ ap (λ xs. e ∷ xs) rest
         ∙ sym (ap (λ b. cond (not b) (e ∷ kept) kept) (flip k e.0 false isnt))
 
-not_zero : (n : ℕ) → n ≢ 0 → (n == 0) ≡ false
-not_zero n h = grind (arith, nat_tests)
-
 -- an insert of an amount that isn't 0, and a remove
 pub insert-with_amount : (es : Amounts) (k v : ℕ) → v ≢ 0 → insert_entry nat_cmp es k v ≡ with_amount es k v
-insert-with_amount es k v some = insert_entry-put k v es ∙ ap (λ b. cond b (filter (λ entry. not (entry.0 == k)) es) (put nat_cmp k v es)) (sym (not_zero v some))
+insert-with_amount es k v some = insert_entry-put k v es ∙ ap (λ b. cond b (filter (λ entry. not (entry.0 == k)) es) (put nat_cmp k v es)) (sym (isnt_same v 0 some))
 
 pub remove-with_amount : (es : Amounts) (k : ℕ) → T (is_sorted nat_cmp es) → remove_entry (is_at (nat_cmp k)) es ≡ with_amount es k 0
 remove-with_amount es k rising = remove_entry-filter k es rising

@@ -12,7 +12,6 @@ pub mod AmountLaws
 pub mod SplitLaws
 pub mod LineLaws
 pub mod ReadingLaws
-pub mod CommitLaws
 pub mod BlockLaws
 pub mod ShadowLaws
 pub mod HistoryLaws
@@ -25,3 +24,5 @@ pub mod DifferenceLaws
 pub mod StopLaws
 pub mod SumLaws
 pub mod ListLaws
+pub mod TestLaws
+pub mod SubjectLaws

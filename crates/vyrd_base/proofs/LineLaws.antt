@@ -17,9 +17,10 @@ use Rattle.vyrd_base.specs.declared.log.Entry.{Entry}
 use Rattle.vyrd_base.specs.Subjects.{arity_of, are_padded, subject_of, same_subject}
 use Rattle.vyrd_base.specs.Spelling.{spaced, method_name, arg_fields, kind_fields, entry_line, end_line, is_kind_of, is_entry_of}
 use Rattle.vyrd_base.specs.Lines.{fields_of, number_of, args_from, guessed_kind, guessed_entry, entry_in}
-use Rattle.vyrd_base.proofs.SplitLaws.{lacks, all_lack, both_true, first_true, second_true, split-join, lacks-join, decimal_lacks, no_space, no_line_feed, number_of_decimal, bytes_same}
+use Rattle.vyrd_base.proofs.SplitLaws.{lacks, all_lack, split-join, lacks-join, decimal_lacks, no_space, no_line_feed, number_of_decimal, bytes_same}
+use Rattle.vyrd_base.proofs.TestLaws.{both_true, first_true, second_true, same_of}
 
-below_32 : (n : ℕ) → nat_lt n (2 ^ 32) ≡ true → n < 2 ^ 64
+pub below_32 : (n : ℕ) → nat_lt n (2 ^ 32) ≡ true → n < 2 ^ 64
 below_32 n e = grind (arith, nat_tests)
 
 below_64 : (n : ℕ) → nat_lt n (2 ^ 64) ≡ true → n < 2 ^ 64
@@ -29,9 +30,6 @@ or_false : (a b : Bool) → (a || b) ≡ true → b ≡ false → a ≡ true
 or_false true b e f = refl
 or_false false b e f = cc
 
-zero_if : (n : ℕ) → (n == 0) ≡ true → n ≡ 0
-zero_if n e = grind (arith, nat_tests)
-
 -- the numbers of a call, in their ranges
 record Small (args : Args) : Type 0 where
   a : args.a < 2 ^ 64
@@ -40,13 +38,13 @@ record Small (args : Args) : Type 0 where
 
 args_1 : (args : Args) → are_padded 1 args ≡ true → Small args → args_from (decimal args.a ∷ []) ≡ args
 args_1 args e small =
-    let b_is : args.b ≡ 0 = zero_if args.b (or_false _ _ (first_true _ _ e) refl) in
-    let c_is : args.c ≡ 0 = zero_if args.c (or_false _ _ (second_true (args.b == 0 || nat_lt 1 1) _ e) refl) in
+    let b_is : args.b ≡ 0 = same_of args.b 0 (or_false _ _ (first_true _ _ e) refl) in
+    let c_is : args.c ≡ 0 = same_of args.c 0 (or_false _ _ (second_true (args.b == 0 || nat_lt 1 1) _ e) refl) in
     λ i. record { a = number_of_decimal args.a small.a i; b = sym b_is i; c = sym c_is i }
 
 args_2 : (args : Args) → are_padded 2 args ≡ true → Small args → args_from (decimal args.a ∷ decimal args.b ∷ []) ≡ args
 args_2 args e small =
-    let c_is : args.c ≡ 0 = zero_if args.c (or_false _ _ (second_true (args.b == 0 || nat_lt 1 2) _ e) refl) in
+    let c_is : args.c ≡ 0 = same_of args.c 0 (or_false _ _ (second_true (args.b == 0 || nat_lt 1 2) _ e) refl) in
     λ i. record { a = number_of_decimal args.a small.a i; b = number_of_decimal args.b small.b i; c = sym c_is i }
 
 args_3 : (args : Args) → Small args → args_from (decimal args.a ∷ decimal args.b ∷ decimal args.c ∷ []) ≡ args

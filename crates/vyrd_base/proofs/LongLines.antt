@@ -8,7 +8,6 @@ use Rattle.std.proofs.lemmas.Fmt.{length-decimal-le}
 use Rattle.std.proofs.lemmas.Bool.Decides.{nat_tests}
 use Rattle.std.proofs.lemmas.Slice.Eq.{bytes_eq-Decides}
 use Rattle.vyrd_base.specs.declared.subject.Subject.{Subject}
-use Rattle.vyrd_base.specs.declared.subject.Subject.TheVariants.{Multiset, Cache, Tree}
 use Rattle.vyrd_base.specs.declared.subject.Method.TheVariants.{MsInsert, MsInsertPair, MsDelete, MsLookup, CaWrite, CaFlush, CaEvict, CaRead, TrInsert, TrDelete, TrLookup}
 use Rattle.vyrd_base.specs.declared.verdict.Rule.TheVariants.{BadHeader, UnknownVersion}
 use Rattle.vyrd_base.specs.declared.subject.Method.{Method}
@@ -19,7 +18,8 @@ use Rattle.vyrd_base.specs.Limits.{is_sized}
 use Rattle.vyrd_base.specs.Subjects.{arity_of, are_padded, subject_of, same_subject}
 use Rattle.vyrd_base.specs.Spelling.{method_name, subject_name, header_line, kind_fields, entry_line, end_line, is_kind_of, is_entry_of}
 use Rattle.vyrd_base.specs.Lines.{fields_of, number_of, guessed_entry, entry_in, subject_called, header_of, header_spelled, header_from, header_in}
-use Rattle.vyrd_base.proofs.SplitLaws.{first_true, second_true}
+use Rattle.vyrd_base.proofs.TestLaws.{first_true, second_true}
+use Rattle.vyrd_base.proofs.SubjectLaws.{short_subject}
 
 -- how long fields are with the spaces after them
 abbrev pub spaced_length : List (List ℕ) → ℕ
@@ -114,11 +114,6 @@ long_isnt_end line long = by_test (bytes_eq line end_line) refl
 
 short_size : (n most : ℕ) → most < 2 ^ 32 → nat_le n most ≡ true → nat_lt n (2 ^ 32) ≡ true
 short_size n most m e = grind (arith, nat_tests)
-
-short_subject : (subject : Subject) → length (subject_name subject) ≤ 8
-short_subject Multiset = omega arith
-short_subject Cache = omega arith
-short_subject Tree = omega arith
 
 -- a header's line has at most 64 bytes
 short_header : (version : ℕ) (subject : Subject) (size callers : ℕ) → nat_lt version (2 ^ 32) ≡ true → is_sized size callers ≡ true → length (header_line version subject size callers) ≤ 64

@@ -14,10 +14,6 @@ first_answer-append f (x ∷ xs) ys = elim (f x) as (λ o. option_or o (first_an
   | Some b ↦ refl
 ]
 
-pub first_answer-map : {A B C : Type 0} (f : B → Option C) (g : A → B) (xs : List A) → first_answer f (map g xs) ≡ first_answer (λ x. f (g x)) xs
-first_answer-map f g [] = refl
-first_answer-map f g (x ∷ xs) = ap (option_or (f (g x))) (first_answer-map f g xs)
-
 pub places_after-append : {A : Type 0} (earlier xs ys : List A)
     → places_after earlier (xs ++ ys) ≡ map (with_later ys) (places_after earlier xs) ++ places_after (newest_first_onto earlier xs) ys
 places_after-append earlier [] ys = refl

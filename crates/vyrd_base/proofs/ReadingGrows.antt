@@ -6,6 +6,7 @@ use Rattle.std.specs.List.{slice_split, onto_first}
 use Rattle.std.specs.Str.{bytes_eq}
 use Rattle.std.proofs.lemmas.Bool.Decides.{nat_tests}
 use Rattle.std.proofs.lemmas.Option.{option_and_then_some}
+use Rattle.std.proofs.Math.Bool.{and-false}
 use Rattle.vyrd_base.specs.declared.header.Header.{Header}
 use Rattle.vyrd_base.specs.declared.subject.Subject.{Subject}
 use Rattle.vyrd_base.specs.declared.log.Entry.{Entry}
@@ -21,6 +22,7 @@ use Rattle.vyrd_base.specs.Verdicts.{verdict_so_far, end_verdict, accepted}
 use Rattle.vyrd_base.specs.TextVerdicts.{entries_verdict, known_verdict, text_verdict, text_verdict_so_far}
 use Rattle.vyrd_base.proofs.LongLines.{long_entry, long_isnt_end, long_header}
 use Rattle.vyrd_base.proofs.VerdictLaws.{verdict_lasts}
+use Rattle.vyrd_base.proofs.TestLaws.{below_of, is_below}
 
 -- parts of which the last one goes on, and after which further ones may come
 abbrev pub Longer : List (List ℕ) → List (List ℕ) → Type 0
@@ -100,10 +102,6 @@ so_far max = record { max_lines = max; is_whole = false }
 abbrev pub input_of : ℕ → Bool → Input
 input_of max whole = record { max_lines = max; is_whole = whole }
 
-and_false : (a : Bool) → (a && false) ≡ false
-and_false true = refl
-and_false false = refl
-
 -- why an unfinished line is bad already
 data Known (max n : ℕ) (bad rule : Rule) (rest : List ℕ) : Type 0 where
   past : 0 < length rest → nat_lt max n ≡ true → rule ≡ TooManyLines → Known max n bad rule rest
@@ -117,18 +115,12 @@ many_bytes : (xs : List ℕ) (b : Bool) → (has_any xs && b) ≡ false → 64 <
 many_bytes [] b e h = absurd (omega arith)
 many_bytes (x ∷ xs) b e h = e
 
-more_than : (n : ℕ) → nat_lt 64 n ≡ true → 64 < n
-more_than n e = grind (arith, nat_tests)
-
-is_more : (n : ℕ) → 64 < n → nat_lt 64 n ≡ true
-is_more n h = grind (arith, nat_tests)
-
 is_some_length : (xs : List ℕ) (b : Bool) → 0 < length xs → b ≡ true → (has_any xs && b) ≡ true
 is_some_length [] b h e = absurd (omega arith)
 is_some_length (x ∷ xs) b h e = e
 
 no_first : (xs : List ℕ) (b : Bool) → b ≡ false → (has_any xs && b) ≡ false
-no_first xs b e = ap (λ x. has_any xs && x) e ∙ and_false (has_any xs)
+no_first xs b e = ap (λ x. has_any xs && x) e ∙ and-false (has_any xs)
 
 no_rule : {P : Type 0} {rule : Rule} (o : Option Rule) → o ≡ None → o ≡ Some rule → P
 no_rule o e f = absurd (let x : ⊥ = cc in x)
@@ -140,10 +132,10 @@ unfinished_known max n bad rule rest e = by_first (has_any rest && nat_lt max n)
     others = cond (has_any rest && false) (Some NoLineFeed) (cond false (Some NoEnd) None)
 
     no_others : others ≡ None
-    no_others = ap (λ b. cond b (Some NoLineFeed) None) (and_false (has_any rest))
+    no_others = ap (λ b. cond b (Some NoLineFeed) None) (and-false (has_any rest))
 
     by_second : (has_any rest && nat_lt max n) ≡ false → (b : Bool) → nat_lt 64 (length rest) ≡ b → cond b (Some bad) others ≡ Some rule → Known max n bad rule rest
-    by_second first true is f = let h = more_than (length rest) is in long h (many_bytes rest (nat_lt max n) first h) cc
+    by_second first true is f = let h = below_of 64 (length rest) is in long h (many_bytes rest (nat_lt max n) first h) cc
     by_second first false is f = no_rule others no_others f
 
     by_first : (a : Bool) → (has_any rest && nat_lt max n) ≡ a → cond a (Some TooManyLines) (cond (nat_lt 64 (length rest)) (Some bad) others) ≡ Some rule → Known max n bad rule rest
@@ -161,7 +153,7 @@ unfinished_stays max n whole bad rule rest more (long many limit is) =
     let longer : 64 < length (rest ++ more) = omega (arith, length-append rest more) in
     ap (λ b. cond b (Some TooManyLines) (cond (nat_lt 64 (length (rest ++ more))) (Some bad) (cond (has_any (rest ++ more) && whole) (Some NoLineFeed) (cond whole (Some NoEnd) None))))
     (no_first (rest ++ more) (nat_lt max n) limit)
-    ∙ ap (λ b. cond b (Some bad) (cond (has_any (rest ++ more) && whole) (Some NoLineFeed) (cond whole (Some NoEnd) None))) (is_more (length (rest ++ more)) longer)
+    ∙ ap (λ b. cond b (Some bad) (cond (has_any (rest ++ more) && whole) (Some NoLineFeed) (cond whole (Some NoEnd) None))) (is_below 64 (length (rest ++ more)) longer)
     ∙ ap Some (sym is)
 
 -- and as it is finished
@@ -197,10 +189,6 @@ after_end_stays max n whole next (p ∷ ps) q (q2 ∷ qs) rule h e =
     any_right : (b : Bool) → (b || true) ≡ true
     any_right true = refl
     any_right false = refl
-
--- what a whole line leads to
-abbrev pub line_read : Input → ℕ → Bool → Reading → Reading → Reading
-line_read input n is_end end onward = cond (nat_lt input.max_lines n) (stopped n (Some TooManyLines)) (cond is_end end onward)
 
 line_grown : (n : ℕ) (past is_end : Bool) (end end' onward onward' : Reading) → Grown end end' → Grown onward onward'
     → Grown (cond past (stopped n (Some TooManyLines)) (cond is_end end onward)) (cond past (stopped n (Some TooManyLines)) (cond is_end end' onward'))

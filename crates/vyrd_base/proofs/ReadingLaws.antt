@@ -1,5 +1,5 @@
 -- The text of a log is read as that log.
-use Rattle.std.proofs.Common.{◌≡◌, ℕ, ◌+◌, ◌<◌, ◌≤◌, ◌^◌, Bool, true, false, cond, ◌&&◌, List, [], ◌∷◌, ◌++◌, map, length, Option, Some, None, Ok, Err, refl, ap, ◌∙◌, arith, append_assoc}
+use Rattle.std.proofs.Common.{◌≡◌, ℕ, ◌+◌, ◌<◌, ◌≤◌, ◌^◌, Bool, true, false, cond, ◌&&◌, List, [], ◌∷◌, ◌++◌, map, length, Some, None, Ok, Err, refl, ap, ◌∙◌, arith, append_assoc}
 use Rattle.std.specs.Prelude.{◌==◌, nat_lt, nat_le, codes, decimal, flat_map, ok_or}
 use Rattle.std.specs.Option.{option_or, unwrap_or}
 use Rattle.std.specs.List.{list_all, slice_split, AllByRecursion}
@@ -8,17 +8,19 @@ use Rattle.std.proofs.lemmas.Bool.Decides.{nat_tests}
 use Rattle.std.proofs.Math.Bool.{Bool-set}
 use Rattle.vyrd_base.specs.declared.header.Header.{Header}
 use Rattle.vyrd_base.specs.declared.subject.Subject.{Subject}
-use Rattle.vyrd_base.specs.declared.subject.Subject.TheVariants.{Multiset, Cache, Tree}
 use Rattle.vyrd_base.specs.declared.log.Entry.{Entry}
 use Rattle.vyrd_base.specs.declared.verdict.Rule.TheVariants.{TooManyLines, UnknownVersion, BadHeader}
 use Rattle.vyrd_base.specs.Limits.{is_within, is_sized, is_known_version}
 use Rattle.vyrd_base.specs.Spelling.{ended_line, entry_line, end_line, header_line, subject_name, log_text, is_entry_of}
-use Rattle.vyrd_base.specs.Lines.{entry_in, header_in, fields_of, subject_called, header_spelled, header_from, header_if, header_of}
+use Rattle.vyrd_base.specs.Lines.{entry_in, header_in, fields_of, header_spelled, header_from, header_if, header_of}
 use Rattle.vyrd_base.specs.Reading.{Reading, Input, stopped, ended, after_end_rule, entry_before, lines_read, header_before, text_read, reading}
 use Rattle.vyrd_base.specs.Verdicts.{verdict_so_far, end_verdict, accepted, verdict}
 use Rattle.vyrd_base.specs.TextVerdicts.{known_verdict, text_verdict}
-use Rattle.vyrd_base.proofs.SplitLaws.{lacks, both_true, first_true, second_true, split_at, split-join, lacks-join, number_of_decimal, bytes_same}
+use Rattle.vyrd_base.proofs.SplitLaws.{lacks, split_at, split-join, lacks-join, number_of_decimal, bytes_same}
 use Rattle.vyrd_base.proofs.LineLaws.{is_plain_field, plain_number, plain_spaces, plain_line_feeds, entry_line_whole, entry_in-entry_line, entry_line_isnt_end}
+use Rattle.vyrd_base.proofs.TestLaws.{both_true, first_true, second_true}
+use Rattle.vyrd_base.proofs.SubjectLaws.{plain_subject, subject_read}
+use Rattle.vyrd_base.proofs.ListLaws.{or_none}
 
 -- all entries can stand in the text of a log of the subject
 abbrev pub AllOf : Subject → List Entry → Type 0
@@ -65,24 +67,14 @@ split_tail subject (e ∷ entries) all =
     ∙ append_assoc (entry_line e) (10 ∷ []) more in
     ap (slice_split (λ b. b == 10)) regrouped ∙ split_at 10 (entry_line e) more (entry_line_whole subject e all.0) ∙ ap (λ rest. entry_line e ∷ rest) (split_tail subject entries all.1)
 
-below_version : (n : ℕ) → is_known_version n ≡ true → n ≡ 1
-below_version n e = grind (arith, nat_tests)
+pub known_version : (n : ℕ) → is_known_version n ≡ true → n ≡ 1
+known_version n e = grind (arith, nat_tests)
 
 small_number : (n most : ℕ) → most < 2 ^ 32 → nat_le n most ≡ true → n < 2 ^ 64
 small_number n most m e = grind (arith, nat_tests)
 
 version_fits : (n : ℕ) → n ≡ 1 → nat_lt n (2 ^ 32) ≡ true
 version_fits n e = ap (λ m. nat_lt m (2 ^ 32)) e
-
-plain_subject : (subject : Subject) → is_plain_field (subject_name subject) ≡ true
-plain_subject Multiset = refl
-plain_subject Cache = refl
-plain_subject Tree = refl
-
-subject_read : (subject : Subject) → subject_called (subject_name subject) ≡ Some subject
-subject_read Multiset = refl
-subject_read Cache = refl
-subject_read Tree = refl
 
 -- limits that were tested give the header
 header_if_within : (version : ℕ) (subject : Subject) (size callers : ℕ) (w : is_within version size callers ≡ true) (b : Bool) (e : is_within version size callers ≡ b) → b ≡ true
@@ -104,7 +96,7 @@ header_in-header_line h =
     line = header_line h.version h.subject h.size h.callers
 
     is_1 : h.version ≡ 1
-    is_1 = below_version h.version (first_true _ _ h.within)
+    is_1 = known_version h.version (first_true _ _ h.within)
 
     sized : is_sized h.size h.callers ≡ true
     sized = second_true (is_known_version h.version) _ h.within
@@ -136,7 +128,7 @@ header_lacks h = lacks-join 10 32 (codes "vyrd") (decimal h.version ∷ subject_
     sized = second_true (is_known_version h.version) _ h.within
 
     small_version : h.version < 2 ^ 64
-    small_version = rw (below_version h.version (first_true _ _ h.within)) (omega arith)
+    small_version = rw (known_version h.version (first_true _ _ h.within)) (omega arith)
 
     small_size : h.size < 2 ^ 64
     small_size = small_number h.size 1024 (omega arith) (second_true (nat_le 1 h.size) _ (first_true _ _ (first_true _ _ sized)))
@@ -173,10 +165,6 @@ reading-log_text input h entries within all =
     ap (λ bytes. text_read input (slice_split (λ b. b == 10) bytes)) regrouped
     ∙ ap (text_read input) (split_at 10 line more (header_lacks h) ∙ ap (λ rest. line ∷ rest) (split_tail h.subject entries all))
     ∙ lines_of_log input h entries within all
-
-or_none : {A : Type 0} (o : Option A) → option_or o None ≡ o
-or_none None = refl
-or_none (Some a) = refl
 
 -- the verdict about the text of a log is the verdict about the log
 pub text_verdict-log_text : (max : ℕ) (h : Header) (entries : List Entry) → length entries + 2 ≤ max → AllOf h.subject entries

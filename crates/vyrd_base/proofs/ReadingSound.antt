@@ -16,8 +16,8 @@ use Rattle.vyrd_base.specs.Shape.{◌breaks◌, first_broken}
 use Rattle.vyrd_base.specs.Spelling.{ended_line, entry_line, end_line, header_line, log_text, is_entry_of}
 use Rattle.vyrd_base.specs.Lines.{fields_of, number_of, guessed_entry, entry_in, header_if, header_of, header_spelled, header_from, header_in, subject_called}
 use Rattle.vyrd_base.specs.Reading.{Reading, Input, has_any, stopped, ended, after_end_rule, entry_before, lines_read, header_before, text_read, reading}
-use Rattle.vyrd_base.proofs.SplitLaws.{first_true, second_true}
 use Rattle.vyrd_base.proofs.ReadingLaws.{AllOf, tail_lines}
+use Rattle.vyrd_base.proofs.TestLaws.{first_true, second_true}
 
 -- an entry that is read is spelled by the line, and its numbers are in range
 pub entry_in_sound : (subject : Subject) (line : List ℕ) (e : Entry) → entry_in subject line ≡ Some e → (line ≡ entry_line e) × (is_entry_of subject e ≡ true)

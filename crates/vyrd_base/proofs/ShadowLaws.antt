@@ -1,9 +1,10 @@
 -- In a well-formed log a word that no open block has written has the value that was logged last for it.
 use Rattle.std.proofs.Common.{◌≡◌, ℕ, suc, zero, ◌+◌, ◌<◌, ◌≤◌, Bool, true, false, cond, not, ◌&&◌, ◌||◌, List, [], ◌∷◌, ◌++◌, Option, Some, None, refl, ap, subst, ◌∙◌, sym, arith}
-use Rattle.std.specs.Prelude.{◌==◌, is_some, is_none, unwrap_or, nat_le}
+use Rattle.std.specs.Prelude.{◌==◌, is_some, is_none, unwrap_or}
 use Rattle.std.specs.Option.{option_or, option_flatten}
 use Rattle.std.specs.List.{list_any}
 use Rattle.std.proofs.lemmas.Bool.Decides.{nat_tests}
+use Rattle.std.proofs.lemmas.Bool.{not-false}
 use Rattle.vyrd_base.specs.declared.header.Header.{Header}
 use Rattle.vyrd_base.specs.declared.log.Kind.{Kind}
 use Rattle.vyrd_base.specs.declared.log.Kind.TheVariants.{Call, Return, Write, Commit, BlockOpen, BlockClose, BlockCommit}
@@ -16,8 +17,8 @@ use Rattle.vyrd_base.specs.Words.{with_write, block_writes, given_to, effects_at
 use Rattle.vyrd_base.specs.Verdicts.{is_call_open}
 use Rattle.vyrd_base.proofs.PlaceLaws.{first_answer-append}
 use Rattle.vyrd_base.proofs.Fronts.{break_after}
-use Rattle.vyrd_base.proofs.SplitLaws.{same_number}
 use Rattle.vyrd_base.proofs.BlockLaws.{entry, by_same, own_answer, other_answer, no_answer, wrote, block_value, own_value, own_wrote, other_writes, wrote_is}
+use Rattle.vyrd_base.proofs.TestLaws.{above_of, same_number, flipped}
 
 -- each entry keeps the rules after the entries before it, the newest entry first
 abbrev pub WellFormed : Header → List Entry → Type 0
@@ -53,9 +54,6 @@ all_kept (check ∷ checks) e =
     split true f = cc
     split false f = (refl, f)
 
-pub above : (a b : ℕ) → nat_le a b ≡ false → b < a
-above a b e = grind (arith, nat_tests)
-
 or_false_left : (a b : Bool) → (a || b) ≡ false → a ≡ false
 or_false_left true b e = e
 or_false_left false b e = refl
@@ -73,10 +71,7 @@ none_of p k (suc n) d e low high = by_same k d
     (λ same. ap p (sym same) ∙ or_false_left (p k) _ e)
     (λ other. none_of p (k + 1) n d (or_false_right (p k) _ e) (apart k d other low) (omega arith))
 
-flipped : (c d : ℕ) → (c == d) ≡ false → (d == c) ≡ false
-flipped c d e = grind (arith, nat_tests)
-
-held_false : (same held : Bool) → (not same && held) ≡ false → same ≡ false → held ≡ false
+pub held_false : (same held : Bool) → (not same && held) ≡ false → same ≡ false → held ≡ false
 held_false true held e f = cc
 held_false false held e f = e
 
@@ -89,23 +84,19 @@ write_kept : (h : Header) (c word value : ℕ) (earlier : List Entry) → broken
 write_kept h c word value earlier e =
     let kept = all_kept (checks_at h earlier (entry c (Write word value))) e in
     record {
-      caller = above h.callers c kept.0;
+      caller = above_of h.callers c kept.0;
       free = λ d low other. held_false (d == c) (holds_word d word earlier)
           (none_of (λ x. not (x == c) && holds_word x word earlier) 0 h.callers d kept.1.1.1.1.0 (omega arith) (omega arith)) other;
     }
 
-open_kept : (h : Header) (c : ℕ) (earlier : List Entry) → broken_rule h earlier (entry c BlockOpen) ≡ None → has_block c earlier ≡ false
+pub open_kept : (h : Header) (c : ℕ) (earlier : List Entry) → broken_rule h earlier (entry c BlockOpen) ≡ None → has_block c earlier ≡ false
 open_kept h c earlier e = (all_kept (checks_at h earlier (entry c BlockOpen)) e).1.1.0
 
-is_true : (b : Bool) → not b ≡ false → b ≡ true
-is_true true e = refl
-is_true false e = cc
+pub close_kept : (h : Header) (c : ℕ) (earlier : List Entry) → broken_rule h earlier (entry c BlockClose) ≡ None → has_block c earlier ≡ true
+close_kept h c earlier e = not-false (has_block c earlier) (all_kept (checks_at h earlier (entry c BlockClose)) e).1.1.0
 
-close_kept : (h : Header) (c : ℕ) (earlier : List Entry) → broken_rule h earlier (entry c BlockClose) ≡ None → has_block c earlier ≡ true
-close_kept h c earlier e = is_true (has_block c earlier) (all_kept (checks_at h earlier (entry c BlockClose)) e).1.1.0
-
-commit_kept : (h : Header) (c : ℕ) (earlier : List Entry) → broken_rule h earlier (entry c BlockCommit) ≡ None → has_block c earlier ≡ true
-commit_kept h c earlier e = is_true (has_block c earlier) (all_kept (checks_at h earlier (entry c BlockCommit)) e).1.1.0
+pub block_commit_kept : (h : Header) (c : ℕ) (earlier : List Entry) → broken_rule h earlier (entry c BlockCommit) ≡ None → has_block c earlier ≡ true
+block_commit_kept h c earlier e = not-false (has_block c earlier) (all_kept (checks_at h earlier (entry c BlockCommit)) e).1.1.0
 
 -- the last value that was logged for the word, in a block or not
 abbrev pub logged_value : ℕ → Kind → Option ℕ
@@ -121,7 +112,7 @@ pub record Sound (h : Header) (w : ℕ) (earlier : List Entry) : Type 0 where
   pub held : (d : ℕ) → d < h.callers → holds_word d w earlier ≡ true → block_value d w earlier ≡ Some (last_logged w earlier)
 
 -- another caller's entry leaves alone what this caller holds and has written
-holds_other : (d c w : ℕ) (kind : Kind) (earlier : List Entry) → (c == d) ≡ false → holds_word d w (entry c kind ∷ earlier) ≡ holds_word d w earlier
+pub holds_other : (d c w : ℕ) (kind : Kind) (earlier : List Entry) → (c == d) ≡ false → holds_word d w (entry c kind ∷ earlier) ≡ holds_word d w earlier
 holds_other d c w kind earlier other =
     let block = other_answer d c open_or_close kind earlier other in
     let word = other_answer d c (write_or_open w) kind earlier other in
@@ -159,14 +150,6 @@ quiet_sound h w c kind earlier quiet sound = record {
     last : last_logged w (entry c kind ∷ earlier) ≡ last_logged w earlier
     last = ap (λ o. unwrap_or (option_or o (first_answer (λ e. logged_value w e.kind) earlier)) 0) quiet.logged
 
-false_and : (b : Bool) → (false && b) ≡ false
-false_and b = refl
-
--- what is held has an open block
-holds_inside : (a b : Bool) → (a && b) ≡ true → a ≡ true
-holds_inside true b e = refl
-holds_inside false b e = e
-
 outside_holds : (a b : Bool) → a ≡ false → (a && b) ≡ false
 outside_holds true b e = cc
 outside_holds false b e = refl
@@ -192,12 +175,6 @@ open_sound h w c earlier outside sound = record {
       (λ same. absurd (never (subst (λ x. holds_word x w (entry c BlockOpen ∷ earlier) ≡ false) same (own_edge c w BlockOpen earlier true refl (λ _. refl))) holding))
       (λ other. value_other d c w BlockOpen earlier other ∙ sound.held d low (sym (holds_other d c w BlockOpen earlier other) ∙ holding));
 }
-
--- the kinds that end a block
-abbrev pub is_close : Kind → Bool
-is_close BlockClose = true
-is_close BlockCommit = true
-is_close _ = false
 
 record Closes (w c : ℕ) (kind : Kind) (earlier : List Entry) : Type 0 where
   edge : open_or_close kind ≡ Some false
@@ -302,8 +279,8 @@ write_own_sound h w c value earlier kept = by_block (has_block c earlier) refl
     }
 
 -- the range that the rules give each caller
-kept_caller : (h : Header) (earlier : List Entry) (e : Entry) → broken_rule h earlier e ≡ None → e.caller < h.callers
-kept_caller h earlier e kept = above h.callers e.caller (all_kept (checks_at h earlier e) kept).0
+pub caller_kept : (h : Header) (earlier : List Entry) (e : Entry) → broken_rule h earlier e ≡ None → e.caller < h.callers
+caller_kept h earlier e kept = above_of h.callers e.caller (all_kept (checks_at h earlier e) kept).0
 
 step_sound : (h : Header) (w c : ℕ) (kind : Kind) (earlier : List Entry) → broken_rule h earlier (entry c kind) ≡ None → Sound h w earlier → Sound h w (entry c kind ∷ earlier)
 step_sound h w c (Call method args) earlier kept sound = quiet_sound h w c (Call method args) earlier (record { edge = refl; word = refl; writes = refl; effect = refl; logged = refl }) sound
@@ -311,9 +288,9 @@ step_sound h w c (Return reply) earlier kept sound = quiet_sound h w c (Return r
 step_sound h w c Commit earlier kept sound = quiet_sound h w c Commit earlier (record { edge = refl; word = refl; writes = refl; effect = refl; logged = refl }) sound
 step_sound h w c BlockOpen earlier kept sound = open_sound h w c earlier (open_kept h c earlier kept) sound
 step_sound h w c BlockClose earlier kept sound =
-    close_sound h w c BlockClose earlier (kept_caller h earlier (entry c BlockClose) kept) (close_kept h c earlier kept) (record { edge = refl; effect = refl; logged = refl }) sound
+    close_sound h w c BlockClose earlier (caller_kept h earlier (entry c BlockClose) kept) (close_kept h c earlier kept) (record { edge = refl; effect = refl; logged = refl }) sound
 step_sound h w c BlockCommit earlier kept sound =
-    close_sound h w c BlockCommit earlier (kept_caller h earlier (entry c BlockCommit) kept) (commit_kept h c earlier kept) (record { edge = refl; effect = refl; logged = refl }) sound
+    close_sound h w c BlockCommit earlier (caller_kept h earlier (entry c BlockCommit) kept) (block_commit_kept h c earlier kept) (record { edge = refl; effect = refl; logged = refl }) sound
 step_sound h w c (Write word value) earlier kept sound = by_same word w
     (λ same. subst (λ x. Sound h w (entry c (Write x value) ∷ earlier)) (sym same)
     (write_own_sound h w c value earlier (subst (λ x. WriteKept h c x earlier) same (write_kept h c word value earlier kept))))

@@ -19,6 +19,7 @@ use Rattle.vyrd_base.specs.Reading.{Reading, TextFault, has_any, fault_on, stopp
 use Rattle.vyrd_base.specs.Verdicts.{verdict_so_far, end_verdict, accepted, verdict, verdict_at}
 use Rattle.vyrd_base.specs.TextVerdicts.{entries_verdict, known_verdict, text_verdict, stop_of}
 use Rattle.vyrd_base.proofs.ReadingGrows.{input_of, some_parts}
+use Rattle.vyrd_base.proofs.ListLaws.{or_none}
 
 -- Where the lines from line n on stop: a fault behind `end` is two lines after the last entry, any other on the line after it.
 -- Without `end` there is one.
@@ -88,10 +89,6 @@ text_stop max (line ∷ next ∷ lines) some = by_header (header_in line)
 pub reading_stops : (max : ℕ) (bytes : List ℕ) → TextStops (reading (input_of max true) bytes)
 unfolding reading
 reading_stops max bytes = text_stop max (slice_split (λ b. b == 10) bytes) (some_parts (λ b. b == 10) bytes)
-
-or_none : {A : Type 0} (o : Option A) → option_or o None ≡ o
-or_none None = refl
-or_none (Some a) = refl
 
 unwrap_or-or_some : {A : Type 0} (o : Option A) (a d : A) → unwrap_or (option_or o (Some a)) d ≡ unwrap_or o a
 unwrap_or-or_some None a d = refl

@@ -1,10 +1,10 @@
 -- What parts give to a key, whose amount is the sum of it.
 use Rattle.std.proofs.Common.{◌≡◌, ℕ, zero, suc, ◌+◌, ◌*◌, ◌<◌, ◌≤◌, Bool, true, false, cond, List, [], ◌∷◌, ◌++◌, refl, ap, ◌∙◌, sym, arith}
 use Rattle.std.specs.Prelude.{◌==◌, flat_map}
-use Rattle.std.proofs.lemmas.Bool.Decides.{nat_tests}
 use Rattle.vyrd_base.specs.Places.{numbers_from}
 use Rattle.vyrd_base.specs.Amounts.{Amounts, IsAmounts, amount_of, plus_amount, collected}
 use Rattle.vyrd_base.proofs.AmountLaws.{amount_of-with_amount, IsAmounts-with_amount}
+use Rattle.vyrd_base.proofs.TestLaws.{same_of}
 
 -- what one part gives to a key
 abbrev pub part_given : ℕ → ℕ × ℕ → ℕ
@@ -15,14 +15,11 @@ abbrev pub given : ℕ → List (ℕ × ℕ) → ℕ
 given q [] = 0
 given q (part ∷ parts) = part_given q part + given q parts
 
-equal_of : (q k : ℕ) → (q == k) ≡ true → q ≡ k
-equal_of q k e = grind (arith, nat_tests)
-
 pub amount_of-plus : (s : Amounts) (k a q : ℕ) → amount_of (plus_amount s k a) q ≡ amount_of s q + part_given q (k, a)
 amount_of-plus s k a q = amount_of-with_amount s k (amount_of s k + a) q ∙ by_key (q == k) refl
   where
     by_key : (b : Bool) → (q == k) ≡ b → cond b (amount_of s k + a) (amount_of s q) ≡ amount_of s q + cond b a 0
-    by_key true e = ap (λ x. amount_of s x + a) (sym (equal_of q k e))
+    by_key true e = ap (λ x. amount_of s x + a) (sym (same_of q k e))
     by_key false e = omega arith
 
 pub amount_of-collected : (parts : List (ℕ × ℕ)) (q : ℕ) → amount_of (collected parts) q ≡ given q parts

@@ -1,7 +1,6 @@
 -- One step of an operation: what is left after it.
-use Rattle.std.proofs.Common.{◌≡◌, ℕ, false, refl, ap, ◌∙◌, sym, arith}
-use Rattle.std.specs.Prelude.{◌≢◌, ◌==◌}
-use Rattle.std.proofs.lemmas.Bool.Decides.{nat_tests}
+use Rattle.std.proofs.Common.{◌≡◌, ℕ, refl, ap, ◌∙◌, sym}
+use Rattle.std.specs.Prelude.{◌≢◌}
 use Rattle.vyrd_base.specs.declared.header.Header.{Header}
 use Rattle.vyrd_base.specs.declared.subject.Subject.TheVariants.{Cache}
 use Rattle.vyrd_base.specs.declared.subject.Method.{Method}
@@ -9,6 +8,7 @@ use Rattle.vyrd_base.specs.declared.subject.Method.TheVariants.{MsInsert, MsInse
 use Rattle.vyrd_base.specs.declared.subject.Method.TheVariants.{TrLookup}
 use Rattle.vyrd_base.specs.declared.subject.Args.{Args}
 use Rattle.vyrd_base.specs.Subjects.{subject_of}
+use Rattle.vyrd_base.proofs.TestLaws.{isnt_same}
 use Rattle.vyrd_memory.specs.declared.op.Variant.{Variant}
 use Rattle.vyrd_memory.specs.declared.op.Variant.TheVariants.{Correct, Broken}
 use Rattle.vyrd_memory.specs.Scripts.{Script, after_answer}
@@ -20,9 +20,6 @@ use Rattle.vyrd_cache.specs.declared.progress.CacheProgress.{CacheProgress}
 use Rattle.vyrd_cache.specs.Procedures.{in_order, procedure_of}
 use Rattle.vyrd_cache.specs.Tasks.{place_after}
 use Rattle.vyrd_cache.specs.Rests.{rest_of, rest_from, after_loads, after_state}
-
-isnt : (n m : ℕ) → n ≢ m → (n == m) ≡ false
-isnt n m apart = grind (arith, nat_tests)
 
 -- a task that is known
 with_task : (h : Header) (p : CacheProgress) (task : Task) (state : ℕ) → p.task ≡ task → after_state h p task state ≡ after_state h p p.task state
@@ -37,7 +34,7 @@ looked_dirty h p q state task found is =
 pub looked_other : (h : Header) (p q : CacheProgress) (state : ℕ) → p.task ≡ LookAndWrite → state ≢ 2 → q ≡ record p { task = Write; place = Open }
     → rest_of h q ≡ after_state h p p.task state
 looked_other h p q state task found is =
-    let other : rest_of h (record p { task = Write; place = Open }) ≡ after_state h p LookAndWrite state = rw (isnt state 2 found) in
+    let other : rest_of h (record p { task = Write; place = Open }) ≡ after_state h p LookAndWrite state = rw (isnt_same state 2 found) in
     ap (rest_of h) is ∙ other ∙ with_task h p LookAndWrite state task
 
 pub flushed_dirty : (h : Header) (p q : CacheProgress) (state : ℕ) → p.task ≡ Flush → state ≡ 2 → q ≡ record p { place = LoadLow }
@@ -48,7 +45,7 @@ flushed_dirty h p q state task found is =
 pub flushed_other : (h : Header) (p q : CacheProgress) (state : ℕ) → p.task ≡ Flush → state ≢ 2 → q ≡ record p { place = Commit }
     → rest_of h q ≡ after_state h p p.task state
 flushed_other h p q state task found is =
-    let other : rest_of h (record p { place = Commit }) ≡ after_state h p Flush state = rw (isnt state 2 found) in
+    let other : rest_of h (record p { place = Commit }) ≡ after_state h p Flush state = rw (isnt_same state 2 found) in
     ap (rest_of h) is ∙ other ∙ with_task h p Flush state task
 
 pub evicted_dirty : (h : Header) (p q : CacheProgress) (state : ℕ) → p.task ≡ Evict → state ≡ 2 → q ≡ record p { place = LoadLow }
@@ -64,7 +61,7 @@ evicted_absent h p q state task found is =
 pub evicted_other : (h : Header) (p q : CacheProgress) (state : ℕ) → p.task ≡ Evict → state ≢ 2 → state ≢ 0 → q ≡ record p { task = Forget; place = Open }
     → rest_of h q ≡ after_state h p p.task state
 evicted_other h p q state task two none is =
-    let other : rest_of h (record p { task = Forget; place = Open }) ≡ after_state h p Evict state = rw (isnt state 2 two, isnt state 0 none) in
+    let other : rest_of h (record p { task = Forget; place = Open }) ≡ after_state h p Evict state = rw (isnt_same state 2 two, isnt_same state 0 none) in
     ap (rest_of h) is ∙ other ∙ with_task h p Evict state task
 
 pub read_absent : (h : Header) (p q : CacheProgress) (state : ℕ) → p.task ≡ Read → state ≡ 0 → q ≡ record p { task = Fetch; place = LoadLow }
@@ -75,7 +72,7 @@ read_absent h p q state task found is =
 pub read_other : (h : Header) (p q : CacheProgress) (state : ℕ) → p.task ≡ Read → state ≢ 0 → q ≡ record p { place = LoadLow }
     → rest_of h q ≡ after_state h p p.task state
 read_other h p q state task found is =
-    let other : rest_of h (record p { place = LoadLow }) ≡ after_state h p Read state = rw (isnt state 0 found) in
+    let other : rest_of h (record p { place = LoadLow }) ≡ after_state h p Read state = rw (isnt_same state 0 found) in
     ap (rest_of h) is ∙ other ∙ with_task h p Read state task
 
 pub decided : (h : Header) (p q : CacheProgress) (state : ℕ) → p.task ≢ LookAndWrite → p.task ≢ Flush → p.task ≢ Evict → p.task ≢ Read → q ≡ record p { place = Open }

@@ -1,10 +1,9 @@
 -- How the numbers of commits and of observers grow, entry by entry.
-use Rattle.std.proofs.Common.{◌≡◌, ℕ, zero, suc, ◌+◌, ◌<◌, ◌≤◌, Bool, true, false, cond, ◌&&◌, List, [], ◌∷◌, length, take, drop, get_or, set, replicate, Option, Some, None, slice_get, refl, ap, subst, ◌∙◌, sym, arith, drop-cons}
+use Rattle.std.proofs.Common.{◌≡◌, ℕ, suc, ◌+◌, ◌<◌, Bool, true, false, cond, ◌&&◌, List, [], ◌∷◌, length, take, drop, get_or, set, Option, Some, None, slice_get, refl, ap, subst, ◌∙◌, sym, arith, drop-cons}
 use Rattle.std.specs.Prelude.{◌==◌, count_by}
 use Rattle.std.specs.Option.{option_or, option_flatten, option_map_or}
 use Rattle.std.proofs.lemmas.List.Sums.{sum_by-cons}
 use Rattle.std.proofs.lemmas.Option.{slice_get_within}
-use Rattle.std.proofs.Math.ListN.{drop_of_length-le}
 use Rattle.vyrd_base.specs.declared.header.Header.{Header}
 use Rattle.vyrd_base.specs.declared.log.Kind.{Kind}
 use Rattle.vyrd_base.specs.declared.log.Kind.TheVariants.{Call, Return, Write, Commit, BlockOpen, BlockClose, BlockCommit}
@@ -19,10 +18,6 @@ use Rattle.vyrd_judge.specs.Observing.{observing_after, AreObserving}
 use Rattle.vyrd_judge.proofs.FrontLaws.{newest_next}
 use Rattle.vyrd_judge.proofs.ExecutionLaws.{open_call-other, open_call-quiet}
 use Rattle.vyrd_judge.proofs.StandingLaws.{slice_get-set_same, slice_get-set_other, not_same}
-
--- whether a caller's open call is an observer's
-observes : Option Called → Bool
-observes o = option_map_or (λ called. is_observer called.method) o false
 
 other_caller : (h : Header) (c d : ℕ) (kind : Kind) (earlier : List Entry) (observing : List Bool) (b : Bool) → AreObserving h earlier observing → d < h.callers
     → (c == d) ≡ false → slice_get (set observing c b) d ≡ Some (is_observing d (entry c kind ∷ earlier))
@@ -60,15 +55,6 @@ observing-next h c BlockOpen earlier observing here so = unchanged h c BlockOpen
 observing-next h c BlockClose earlier observing here so = unchanged h c BlockClose earlier observing refl so
 observing-next h c BlockCommit earlier observing here so = unchanged h c BlockCommit earlier observing refl so
 
--- at first nobody observes
-pub observing-first : (h : Header) → AreObserving h [] (replicate h.callers false)
-observing-first h c within = none_of h.callers c within
-  where
-    none_of : (n d : ℕ) → d < n → slice_get (replicate n false) d ≡ Some false
-    none_of zero d low = absurd (omega arith)
-    none_of (suc n) zero low = refl
-    none_of (suc n) (suc d) low = none_of n d (omega arith)
-
 -- whether an observer returns at a place
 abbrev pub observer_returns : Place Entry → Bool
 observer_returns place = is_return place.here.kind && is_observing place.here.caller place.earlier
@@ -76,9 +62,6 @@ observer_returns place = is_return place.here.kind && is_observing place.here.ca
 -- how many observers return from a place on
 abbrev pub observers_from : List Entry → ℕ → ℕ
 observers_from es at = count_by observer_returns (places_after (newest_first (take at es)) (drop at es))
-
-pub observers_past : (es : List Entry) (at : ℕ) → length es ≤ at → observers_from es at ≡ 0
-observers_past es at past = ap (λ later. count_by observer_returns (places_after (newest_first (take at es)) later)) (drop_of_length-le es past)
 
 pub observers_next : (es : List Entry) (at : ℕ) (d : Entry) → at < length es
     → observers_from es at ≡ cond (observer_returns (record { earlier = newest_first (take at es); here = get_or es at d; later = drop (at + 1) es })) 1 0 + observers_from es (at + 1)

@@ -1,24 +1,24 @@
 -- What an entry that keeps the rules of shape tells.
-use Rattle.std.proofs.Common.{◌≡◌, ℕ, ◌<◌, ◌^◌, Bool, true, false, not, ◌&&◌, List, ◌∷◌, length, take, drop, get_or, Option, Some, None, refl, ap, ◌∙◌, sym, suc}
+use Rattle.std.proofs.Common.{◌≡◌, ℕ, ◌<◌, ◌^◌, true, false, ◌&&◌, List, ◌∷◌, length, take, drop, get_or, Option, Some, None, refl, ap, ◌∙◌, sym, suc}
 use Rattle.std.specs.Prelude.{is_none}
 use Rattle.std.specs.Option.{option_or, option_map_or}
+use Rattle.std.proofs.lemmas.Bool.{not-false}
 use Rattle.vyrd_base.specs.declared.header.Header.{Header}
-use Rattle.vyrd_base.specs.declared.subject.Subject.{Subject}
-use Rattle.vyrd_base.specs.declared.subject.Subject.TheVariants.{Multiset, Cache, Tree}
 use Rattle.vyrd_base.specs.declared.subject.Method.{Method}
 use Rattle.vyrd_base.specs.declared.subject.Args.{Args}
-use Rattle.vyrd_base.specs.declared.log.Kind.TheVariants.{Call, Return, Write, Commit, BlockOpen, BlockClose, BlockCommit}
+use Rattle.vyrd_base.specs.declared.log.Kind.TheVariants.{Call, Return, Write, Commit, BlockCommit}
 use Rattle.vyrd_base.specs.declared.log.Entry.{Entry}
 use Rattle.vyrd_base.specs.Places.{newest_first}
-use Rattle.vyrd_base.specs.Subjects.{subject_of, same_subject, is_observer, are_args}
-use Rattle.vyrd_base.specs.Callers.{Called, open_call, has_block}
+use Rattle.vyrd_base.specs.Subjects.{subject_of, is_observer, are_args}
+use Rattle.vyrd_base.specs.Callers.{Called, open_call}
 use Rattle.vyrd_base.specs.Layout.{plain_words}
 use Rattle.vyrd_base.specs.Shape.{broken_rule, checks_at, is_held_by_other}
 use Rattle.vyrd_base.specs.Front.{first_break}
 use Rattle.vyrd_base.proofs.BlockLaws.{entry}
 use Rattle.vyrd_base.proofs.VerdictLaws.{first_break-append}
-use Rattle.vyrd_base.proofs.ShadowLaws.{all_kept, above}
-use Rattle.vyrd_judge.specs.declared.execution.Execution.{Execution}
+use Rattle.vyrd_base.proofs.ShadowLaws.{all_kept}
+use Rattle.vyrd_base.proofs.TestLaws.{above_of, first_true, second_true}
+use Rattle.vyrd_base.proofs.SubjectLaws.{same_subjects}
 use Rattle.vyrd_judge.specs.Executions.{has_method}
 use Rattle.vyrd_judge.proofs.FrontLaws.{split_at_next}
 
@@ -34,18 +34,11 @@ kept_at h front at d within kept =
     by_parts None (Some b) c e = cc
     by_parts (Some a) b c e = cc
 
-pub caller_kept : (h : Header) (earlier : List Entry) (e : Entry) → broken_rule h earlier e ≡ None → e.caller < h.callers
-caller_kept h earlier e kept = above h.callers e.caller (all_kept (checks_at h earlier e) kept).0
-
-is_true : (b : Bool) → not b ≡ false → b ≡ true
-is_true true e = refl
-is_true false e = cc
-
 pub call_kept : (h : Header) (c : ℕ) (method : Method) (args : Args) (earlier : List Entry) → broken_rule h earlier (entry c (Call method args)) ≡ None
     → has_method h method args ≡ true
 call_kept h c method args earlier kept =
     let checks = all_kept (checks_at h earlier (entry c (Call method args))) kept in
-    ap (λ b. b && are_args h.size method args) (is_true _ checks.1.0) ∙ is_true _ checks.1.1.0
+    ap (λ b. b && are_args h.size method args) (not-false _ checks.1.0) ∙ not-false _ checks.1.1.0
 
 pub record WriteFits (h : Header) (c word value : ℕ) (earlier : List Entry) : Type 0 where
   pub word_fits : word < plain_words h
@@ -55,16 +48,7 @@ pub record WriteFits (h : Header) (c word value : ℕ) (earlier : List Entry) : 
 pub write_kept : (h : Header) (c word value : ℕ) (earlier : List Entry) → broken_rule h earlier (entry c (Write word value)) ≡ None → WriteFits h c word value earlier
 write_kept h c word value earlier kept =
     let checks = all_kept (checks_at h earlier (entry c (Write word value))) kept in
-    record { word_fits = above _ word checks.1.1.0; value_fits = above _ value checks.1.1.1.0; unheld = checks.1.1.1.1.0 }
-
-pub open_kept : (h : Header) (c : ℕ) (earlier : List Entry) → broken_rule h earlier (entry c BlockOpen) ≡ None → has_block c earlier ≡ false
-open_kept h c earlier kept = (all_kept (checks_at h earlier (entry c BlockOpen)) kept).1.1.0
-
-pub close_kept : (h : Header) (c : ℕ) (earlier : List Entry) → broken_rule h earlier (entry c BlockClose) ≡ None → has_block c earlier ≡ true
-close_kept h c earlier kept = is_true _ (all_kept (checks_at h earlier (entry c BlockClose)) kept).1.1.0
-
-pub block_commit_kept : (h : Header) (c : ℕ) (earlier : List Entry) → broken_rule h earlier (entry c BlockCommit) ≡ None → has_block c earlier ≡ true
-block_commit_kept h c earlier kept = is_true _ (all_kept (checks_at h earlier (entry c BlockCommit)) kept).1.1.0
+    record { word_fits = above_of _ word checks.1.1.0; value_fits = above_of _ value checks.1.1.1.0; unheld = checks.1.1.1.1.0 }
 
 -- a commit stands in a mutator's execution
 is_running : (o : Option Called) → is_none o ≡ false → option_map_or (λ called. is_observer called.method) o false ≡ false
@@ -90,32 +74,8 @@ return_kept h c reply earlier kept = running (open_call c earlier) (all_kept (ch
     running None some = cc
     running (Some called) some = (called, refl)
 
--- the subject of a method that the header's specification has
-pub same_is : (a b : Subject) → same_subject a b ≡ true → a ≡ b
-same_is Multiset Multiset e = refl
-same_is Cache Cache e = refl
-same_is Tree Tree e = refl
-same_is Multiset Cache e = cc
-same_is Multiset Tree e = cc
-same_is Cache Multiset e = cc
-same_is Cache Tree e = cc
-same_is Tree Multiset e = cc
-same_is Tree Cache e = cc
-
-left_true : (a b : Bool) → (a && b) ≡ true → a ≡ true
-left_true true b e = refl
-left_true false b e = cc
-
-right_true : (a b : Bool) → (a && b) ≡ true → b ≡ true
-right_true true b e = e
-right_true false b e = cc
-
 pub method_subject : (h : Header) (method : Method) (args : Args) → has_method h method args ≡ true → subject_of method ≡ h.subject
-method_subject h method args e = same_is (subject_of method) h.subject (left_true _ _ e)
+method_subject h method args e = same_subjects (subject_of method) h.subject (first_true _ _ e)
 
 pub method_args : (h : Header) (method : Method) (args : Args) → has_method h method args ≡ true → are_args h.size method args ≡ true
-method_args h method args e = right_true _ _ e
-
--- the same of a kept execution, by the parts of a judge
-pub execution_subject : (h g : Header) (subject : Subject) (x : Execution) → g ≡ h → h.subject ≡ subject → has_method h x.method x.args ≡ true → subject_of x.method ≡ subject
-execution_subject h g subject x same is allowed = method_subject h x.method x.args allowed ∙ is
+method_args h method args e = second_true _ _ e

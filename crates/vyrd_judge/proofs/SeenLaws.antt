@@ -14,11 +14,6 @@ one_more f (suc n) [] d within = absurd (omega arith)
 one_more f zero (x ∷ xs) d within = refl
 one_more f (suc n) (x ∷ xs) d within = ap (λ ys. f x ∷ ys) (one_more f n xs d (omega arith))
 
-pub length-changed_below : {A : Type 0} (f : A → A) (n : ℕ) (xs : List A) → length (changed_below f n xs) ≡ length xs
-length-changed_below f zero xs = refl
-length-changed_below f (suc n) [] = refl
-length-changed_below f (suc n) (x ∷ xs) = ap (λ k. suc k) (length-changed_below f n xs)
-
 -- the next element is still as it was
 pub unchanged_at : {A : Type 0} (f : A → A) (n : ℕ) (xs : List A) (d : A) → get_or (changed_below f n xs) n d ≡ get_or xs n d
 unchanged_at f zero xs d = refl

@@ -17,8 +17,8 @@ use Rattle.vyrd_base.specs.Amounts.{Amounts}
 use Rattle.vyrd_base.specs.Commits.{is_commit, returned, next_reply, Committed, committed_at, commits_after, state_after, states_from, commit_count}
 use Rattle.vyrd_base.specs.Faults.{states_since_call}
 use Rattle.vyrd_base.proofs.BlockLaws.{entry, by_same, own_answer}
-use Rattle.vyrd_base.proofs.SplitLaws.{same_number}
 use Rattle.vyrd_base.proofs.Lasting.{states_begin}
+use Rattle.vyrd_base.proofs.TestLaws.{same_number}
 use Rattle.vyrd_judge.specs.declared.execution.Execution.{Execution}
 use Rattle.vyrd_judge.specs.Executions.{has_method, answers, seeing, IsExecution, IsOpen}
 use Rattle.vyrd_judge.specs.Standing.{Stands}

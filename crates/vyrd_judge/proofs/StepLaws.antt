@@ -26,6 +26,7 @@ use Rattle.vyrd_base.specs.Faults.{fault_at}
 use Rattle.vyrd_base.specs.Verdicts.{line_of, violation_at, first_fault}
 use Rattle.vyrd_base.proofs.BlockLaws.{entry}
 use Rattle.vyrd_base.proofs.Lasting.{no_fault_beyond}
+use Rattle.vyrd_base.proofs.ShadowLaws.{caller_kept, open_kept, close_kept, block_commit_kept}
 use Rattle.vyrd_judge.specs.declared.execution.Execution.{Execution}
 use Rattle.vyrd_judge.specs.Executions.{has_method, IsExecution, IsOpen, AreAllowed}
 use Rattle.vyrd_judge.specs.Standing.{Stands, states_of}
@@ -33,7 +34,7 @@ use Rattle.vyrd_judge.specs.declared.outcome.Outcome.{Outcome}
 use Rattle.vyrd_judge.specs.Outcomes.{PlaceGives, place_of}
 use Rattle.vyrd_shadow.specs.Following.{Kept, HasFollowed, is_open}
 use Rattle.vyrd_judge.proofs.FrontLaws.{newest_next}
-use Rattle.vyrd_judge.proofs.KeptFacts.{WriteFits, kept_at, caller_kept, call_kept, write_kept, open_kept, close_kept, block_commit_kept, return_kept}
+use Rattle.vyrd_judge.proofs.KeptFacts.{WriteFits, kept_at, call_kept, write_kept, return_kept}
 
 -- a caller that is in an execution
 pub running_at : (h : Header) (states : List Amounts) (earlier later : List Entry) (state : Amounts) (executions : List (Option Execution)) (c : ℕ) (called : Called)

@@ -110,11 +110,6 @@ pub in_range : (h : Header) (limit : ℕ) (scripts : List Script) (history : Lis
 in_range h limit scripts history None is = tt
 in_range h limit scripts history (Some caller) is = is.in_range
 
--- what follows from what holds where all went well
-pub where_ok : {A E : Type 0} {P Q : A → Type 0} (r : Result A E) → IfOk r P → ((x : A) → P x → Q x) → IfOk r Q
-where_ok (Ok x) is step = step x is
-where_ok (Err e) is step = is
-
 pub both_ok : {A E : Type 0} {P Q R : A → Type 0} (r : Result A E) → IfOk r P → IfOk r Q → ((x : A) → P x → Q x → R x) → IfOk r R
 both_ok (Ok x) first second step = step x first second
 both_ok (Err e) first second step = first

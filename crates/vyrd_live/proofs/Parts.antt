@@ -2,7 +2,6 @@
 use Rattle.std.proofs.Common.{◌≡◌, ◌≢◌, ℕ, suc, ◌≤◌, Bool, true, false, cond, List, [], ◌∷◌, map, Some, None, refl, ap, ◌∙◌, arith, ne_eqb}
 use Rattle.std.specs.Prelude.{◌==◌, slice_get}
 use Rattle.std.specs.List.{cons_option}
-use Rattle.vyrd_base.specs.declared.history.Did.{Did}
 use Rattle.vyrd_base.specs.declared.history.Stamped.{Stamped}
 use Rattle.vyrd_base.specs.Places.{newest_first, newest_first_onto}
 use Rattle.vyrd_base.specs.Histories.{Cells, is_legal}
@@ -11,9 +10,6 @@ use Rattle.vyrd_trace.specs.Lanes.{part}
 use Rattle.vyrd_trace.proofs.HistoryGrows.{numbered}
 use Rattle.vyrd_live.specs.Working.{dids_of}
 use Rattle.vyrd_live.specs.LiveRuns.{done_by}
-
-dids : List Stamped → List Did
-dids = map (λ (e : Stamped). e.did)
 
 -- the events of one caller, in any order
 of_part : (c : ℕ) (es : List Stamped) → part_of c es ≡ map (λ (e : Stamped). e.did) (part c es)

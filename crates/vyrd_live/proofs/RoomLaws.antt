@@ -14,10 +14,10 @@ use Rattle.vyrd_base.specs.declared.history.Did.{Did}
 use Rattle.vyrd_base.specs.declared.history.Did.TheVariants.{Read, Wrote, Took, Gave, Marked}
 use Rattle.vyrd_memory.specs.declared.act.Act.{Act}
 use Rattle.vyrd_memory.specs.declared.act.Act.TheVariants.{Load, Store, Take, Give, Mark, Done}
-use Rattle.vyrd_memory.specs.Scripts.{Script, stop, step, next_act, after_answer, event_of, is_between, is_call_or_done, IsAnswer}
+use Rattle.vyrd_memory.specs.Scripts.{Script, stop, step, next_act, after_answer, event_of, is_between, IsAnswer}
 use Rattle.vyrd_memory.specs.Bounds.{bound_of, is_return, EndsWithin}
 use Rattle.vyrd_trace.specs.Hands.{HandView, with_spare}
-use Rattle.vyrd_live.specs.Rooms.{BeginsWithRoom, HasNoRoom}
+use Rattle.vyrd_live.specs.Rooms.{BeginsWithRoom}
 use Rattle.vyrd_live.specs.Working.{HasRoom, HasRoomAhead}
 
 -- the number is the bound of the operation that the act begins
@@ -53,40 +53,6 @@ room_made h left hand now n in_time next is fits = subst (HasRoomAhead h left) (
   where
     within : (a b : ℕ) → (a < b → ⊥) → b ≤ a
     within a b fits = dite (dec_lt a b) (λ l. absurd (fits l)) (λ l. omega arith)
-
--- room that needn't be made, since an operation is in hand
-pub room_is_left : (h : Header) (left : Script) (hand : HandView) → is_between left ≡ false → ∥ EndsWithin hand.spare left ∥₁ → HasRoomAhead h left hand
-room_is_left h left hand goes in_time = record { spare = in_time; room = in_hand (next_act left) goes }
-  where
-    in_hand : (act : Act) → is_call_or_done act ≡ false → HasRoom h hand.limit (length hand.lane) act
-    in_hand (Load cell) goes = tt
-    in_hand (Store cell value) goes = tt
-    in_hand (Take lock) goes = tt
-    in_hand (Give lock) goes = tt
-    in_hand Done goes = tt
-    in_hand (Mark (Call method args)) goes = cc
-    in_hand (Mark (Return reply)) goes = tt
-    in_hand (Mark (Write word value)) goes = tt
-    in_hand (Mark Commit) goes = tt
-    in_hand (Mark BlockOpen) goes = tt
-    in_hand (Mark BlockClose) goes = tt
-    in_hand (Mark BlockCommit) goes = tt
-
--- an operation that has no room
-pub no_room : (h : Header) (limit before n : ℕ) (act : Act) → is_call_or_done act ≡ true → act ≢ Done → IsNextBound h act n → limit < before + n
-    → HasNoRoom h limit before act
-no_room h limit before n (Load cell) between goes next over = cc
-no_room h limit before n (Store cell value) between goes next over = cc
-no_room h limit before n (Take lock) between goes next over = cc
-no_room h limit before n (Give lock) between goes next over = cc
-no_room h limit before n Done between goes next over = absurd (goes refl)
-no_room h limit before n (Mark (Call method args)) between goes next over = let e = next method args refl in omega arith
-no_room h limit before n (Mark (Return reply)) between goes next over = cc
-no_room h limit before n (Mark (Write word value)) between goes next over = cc
-no_room h limit before n (Mark Commit) between goes next over = cc
-no_room h limit before n (Mark BlockOpen) between goes next over = cc
-no_room h limit before n (Mark BlockClose) between goes next over = cc
-no_room h limit before n (Mark BlockCommit) between goes next over = cc
 
 -- an act that has room, once it is done
 pub began_with_room : (h : Header) (limit before : ℕ) (act : Act) (answer : ℕ) (did : Did) → event_of act answer ≡ Some did → HasRoom h limit before act

@@ -3,7 +3,6 @@ use Rattle.std.proofs.Common.{◌≡◌, ◌≢◌, ℕ, ◌+◌, ◌<◌, ◌�
 use Rattle.std.proofs.Common.{◌||◌, List, [], ◌∷◌, Some, None, refl, ap, ◌∙◌, sym, subst, arith, eq-eqb, ne_eqb}
 use Rattle.std.specs.Prelude.{nat_lt, nat_le, ◌==◌, is_some, is_none, filter}
 use Rattle.std.specs.List.{list_any}
-use Rattle.std.proofs.lemmas.Bool.Decides.{nat_tests}
 use Rattle.std.proofs.Math.Logic.{∥∥₁_elim, ∥∥₁_map}
 use Rattle.std.proofs.Math.Bool.{Bool-set}
 use mathlib.Core.Logic.{dite}
@@ -16,11 +15,12 @@ use Rattle.vyrd_base.specs.declared.history.Did.TheVariants.{Read, Wrote, Took, 
 use Rattle.vyrd_base.specs.Layout.{plain_words, lock_words}
 use Rattle.vyrd_base.specs.Histories.{cells_of, is_plain, is_lock, is_write, made_of}
 use Rattle.vyrd_base.specs.Subjects.{same_subject, subject_of, are_args}
-use Rattle.vyrd_base.proofs.SplitLaws.{both_true, first_true, second_true}
+use Rattle.vyrd_base.proofs.TestLaws.{both_true, first_true, second_true, below_of, same_of, at_most_of}
 use Rattle.vyrd_memory.specs.declared.act.Act.{Act}
 use Rattle.vyrd_memory.specs.declared.act.Act.TheVariants.{Load, Store, Take, Give, Mark, Done}
 use Rattle.vyrd_memory.specs.Scripts.{Script, stop, step, next_act, after_answer, event_of, is_stop, is_between}
 use Rattle.vyrd_memory.specs.Soundness.{Standing, IsSound, IsSoundSomewhere, at_rest, holds, is_nil, is_at_rest, may_act, after_act}
+use Rattle.vyrd_memory.specs.HandLaws.{stop_of}
 use Rattle.vyrd_trace.specs.declared.plan.Plan.{Plan}
 use Rattle.vyrd_trace.specs.declared.look.Look.{Look}
 use Rattle.vyrd_trace.specs.Lanes.{last_value}
@@ -29,7 +29,7 @@ use Rattle.vyrd_trace.proofs.Holding.{holds-taken, holds-still, holds-beside}
 use Rattle.vyrd_live.specs.Acts.{MayAct, HasActed}
 use Rattle.vyrd_live.specs.Working.{IsMemoryOf, Stands}
 
--- the same as `MayAct`, as a test
+-- the same_of as `MayAct`, as a test
 may_test : Plan → HandView → Act → Bool
 may_test plan hand (Load cell) = nat_lt cell plan.plain
 may_test plan hand (Store cell value) = nat_lt cell plan.plain && nat_lt value (2 ^ 63)
@@ -38,34 +38,25 @@ may_test plan hand (Give lock) = (nat_le plan.plain lock && nat_lt lock (plan.pl
 may_test plan hand (Mark kind) = not (is_write kind)
 may_test plan hand Done = false
 
-below : (a b : ℕ) → nat_lt a b ≡ true → a < b
-below a b e = grind (arith, nat_tests)
-
-within : (a b : ℕ) → nat_le a b ≡ true → a ≤ b
-within a b e = grind (arith, nat_tests)
-
-same : (a b : ℕ) → (a == b) ≡ true → a ≡ b
-same a b e = grind (arith, nat_tests)
-
 tested : (plan : Plan) (hand : HandView) (act : Act) → may_test plan hand act ≡ true → MayAct plan hand act
 unfolding may_test
-tested plan hand (Load cell) e = below cell plan.plain e
+tested plan hand (Load cell) e = below_of cell plan.plain e
 tested plan hand (Store cell value) e = (
-  below cell plan.plain (first_true (nat_lt cell plan.plain) (nat_lt value (2 ^ 63)) e),
-  below value (2 ^ 63)
+  below_of cell plan.plain (first_true (nat_lt cell plan.plain) (nat_lt value (2 ^ 63)) e),
+  below_of value (2 ^ 63)
       (second_true (nat_lt cell plan.plain) (nat_lt value (2 ^ 63)) e),
 )
 tested plan hand (Take lock) e = (
-  within plan.plain lock (first_true (nat_le plan.plain lock) (nat_lt lock (plan.plain + plan.locks)) e),
-  below lock (plan.plain + plan.locks)
+  at_most_of plan.plain lock (first_true (nat_le plan.plain lock) (nat_lt lock (plan.plain + plan.locks)) e),
+  below_of lock (plan.plain + plan.locks)
       (second_true (nat_le plan.plain lock) (nat_lt lock (plan.plain + plan.locks)) e),
 )
 tested plan hand (Give lock) e =
     let lock_is : (nat_le plan.plain lock && nat_lt lock (plan.plain + plan.locks)) ≡ true = first_true
     (nat_le plan.plain lock && nat_lt lock (plan.plain + plan.locks)) (last_value hand.lane lock == hand.caller + 1) e in (
-      within plan.plain lock (first_true (nat_le plan.plain lock) (nat_lt lock (plan.plain + plan.locks)) lock_is),
-      below lock (plan.plain + plan.locks) (second_true (nat_le plan.plain lock) (nat_lt lock (plan.plain + plan.locks)) lock_is),
-      same (last_value hand.lane lock) (hand.caller + 1) (second_true (nat_le plan.plain lock && nat_lt lock (plan.plain + plan.locks))
+      at_most_of plan.plain lock (first_true (nat_le plan.plain lock) (nat_lt lock (plan.plain + plan.locks)) lock_is),
+      below_of lock (plan.plain + plan.locks) (second_true (nat_le plan.plain lock) (nat_lt lock (plan.plain + plan.locks)) lock_is),
+      same_of (last_value hand.lane lock) (hand.caller + 1) (second_true (nat_le plan.plain lock && nat_lt lock (plan.plain + plan.locks))
           (last_value hand.lane lock == hand.caller + 1) e),
     )
 tested plan hand (Mark kind) e = negated (is_write kind) e
@@ -78,7 +69,7 @@ tested plan hand Done e = cc_of e
     cc_of : false ≡ true → ⊥
     cc_of e = cc
 
--- an act that a sound script does is within the plan
+-- an act that a sound script does is at_most_of the plan
 plain_of : (h : Header) (plan : Plan) (cell : ℕ) → IsMemoryOf h plan → is_plain (cells_of h) cell ≡ true → nat_lt cell plan.plain ≡ true
 plain_of h plan cell is e = ap (λ n. nat_lt cell n) is.plain ∙ e
 
@@ -148,7 +139,7 @@ other_held lock given (x ∷ xs) e = by_given (x == given) refl (x == lock) refl
         (ap (λ b. b || list_any (λ held. held == lock) xs) here ∙ l.0, l.1)
     by_given false is true here later = (
       ap (λ b. b || list_any (λ held. held == lock) xs) here,
-      λ e. let x_is : x ≡ lock = same x lock here in let apart : true ≡ false = sym
+      λ e. let x_is : x ≡ lock = same_of x lock here in let apart : true ≡ false = sym
           (eq-eqb x given (x_is ∙ sym e)) ∙ is in cc,
     )
     by_given false is false here later =
@@ -173,7 +164,7 @@ no_lock h hand lock e = absurd (cc_of e)
 
 stored_apart : (h : Header) (cell value lock caller : ℕ) → is_plain (cells_of h) cell ≡ true → plain_words h ≤ lock → made_of lock caller (Wrote cell value) ≡ None
 stored_apart h cell value lock caller plain le =
-    let low : cell < plain_words h = below cell (plain_words h) plain in
+    let low : cell < plain_words h = below_of cell (plain_words h) plain in
     let apart : cell ≢ lock = λ e. omega arith in ap (λ b. cond b (Some value) None) (ne_eqb cell lock apart)
 
 -- each act leaves the hand with the locks that it should hold
@@ -196,7 +187,7 @@ held_after h s (Take taken) answer did number look hand may e held =
     (λ no. let l = held lock (sym (ap (λ b. b || holds s lock) (ne_eqb taken lock no)) ∙ some) in (l.0, (holds-beside hand lock taken number look no l.1).0)))
   where
     is_high : plain_words h ≤ taken
-    is_high = within (plain_words h) taken (first_true (nat_le (plain_words h) taken) (nat_lt taken (plain_words h + lock_words h))
+    is_high = at_most_of (plain_words h) taken (first_true (nat_le (plain_words h) taken) (nat_lt taken (plain_words h + lock_words h))
         (first_true (is_lock (cells_of h) taken) (not (holds s taken)) may))
 held_after h s (Give given) answer did number look hand may e held =
     let is : Gave given ≡ did = cc in
@@ -283,10 +274,6 @@ stands_fresh h left hand between sound = ∥∥₁_map sound (stands_first h lef
 nothing : (h : Header) (left : Script) (hand : HandView) → next_act left ≡ Done → Stands h left hand → is_stop left ≡ true
 nothing h stop hand done stands = refl
 nothing h (step act rest) hand done stands = let no : false ≡ true = sym (ap (may_act h stands.standing) done) ∙ stands.sound.0 in cc
-
-stop_of : (left : Script) → is_stop left ≡ true → left ≡ stop
-stop_of stop e = refl
-stop_of (step act rest) e = cc
 
 pub nothing_left : (h : Header) (left : Script) (hand : HandView) → next_act left ≡ Done → ∥ Stands h left hand ∥₁ → left ≡ stop
 nothing_left h left hand done stands = stop_of left (∥∥₁_elim stands (Bool-set _ _) (nothing h left hand done))

@@ -11,7 +11,7 @@ use Rattle.vyrd_memory.specs.Soundness.{IsSoundSomewhere}
 use Rattle.vyrd_memory.specs.Bounds.{is_return, EndsWithin}
 use Rattle.vyrd_trace.specs.Lanes.{stamp}
 use Rattle.vyrd_trace.specs.Hands.{HandView, with_spare}
-use Rattle.vyrd_live.specs.Rooms.{HadRoom, BeginsWithRoom, HasNoRoom, StopsForRoom}
+use Rattle.vyrd_live.specs.Rooms.{HadRoom, BeginsWithRoom}
 use Rattle.vyrd_live.specs.Working.{dids_of, IsWorking, HasRoomAhead}
 use Rattle.vyrd_live.specs.Acts.{HasActed}
 use Rattle.vyrd_live.proofs.Lanes.{dids_of-snoc, length-dids}
@@ -105,12 +105,3 @@ one_longer act answer before after acted =
 pub worked_to_the_end : (h : Header) (script left : Script) (hand : HandView) → IsWorking h script left hand → next_act left ≡ Done
     → PlaysToTheEnd script (dids_of hand.lane)
 worked_to_the_end h script left hand w done = record { plays = w.plays; done = sym w.left_is ∙ nothing_left h left hand done w.stands }
-
--- a script that was played up to an operation that has no room
-pub worked_until_spent : (h : Header) (script left : Script) (hand : HandView) → IsWorking h script left hand → HasNoRoom h hand.limit (length hand.lane) (next_act left)
-    → StopsForRoom h hand.limit script (dids_of hand.lane)
-worked_until_spent h script left hand w none = record {
-  plays = w.plays;
-  no_room = subst (λ n. HasNoRoom h hand.limit n (next_act (left_after script (dids_of hand.lane)))) (sym (length-dids hand.lane))
-      (subst (λ s. HasNoRoom h hand.limit (length hand.lane) (next_act s)) w.left_is none);
-}

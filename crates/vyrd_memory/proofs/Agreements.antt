@@ -4,6 +4,7 @@ use Rattle.std.specs.Prelude.{◌==◌, is_some, is_none, unwrap_or, filter_map}
 use Rattle.std.specs.Option.{option_or, option_flatten}
 use Rattle.std.specs.List.{cons_option}
 use Rattle.std.proofs.lemmas.Bool.Decides.{nat_tests}
+use Rattle.std.proofs.lemmas.Bool.{not-true}
 use Rattle.vyrd_base.specs.declared.header.Header.{Header}
 use Rattle.vyrd_base.specs.declared.subject.Method.{Method}
 use Rattle.vyrd_base.specs.declared.subject.Args.{Args}
@@ -18,8 +19,8 @@ use Rattle.vyrd_base.specs.Subjects.{same_subject, subject_of, are_args}
 use Rattle.vyrd_base.specs.Callers.{Called, by_caller, call_or_return, open_call, open_or_close, has_block, commit_or_call, has_committed}
 use Rattle.vyrd_base.specs.Histories.{logged}
 use Rattle.vyrd_base.proofs.HistoryLaws.{log_entry}
-use Rattle.vyrd_base.proofs.BlockLaws.{entry, own_answer, other_answer}
-use Rattle.vyrd_base.proofs.SplitLaws.{first_true, second_true}
+use Rattle.vyrd_base.proofs.BlockLaws.{entry, own_answer, other_answer, own_block}
+use Rattle.vyrd_base.proofs.TestLaws.{first_true, second_true}
 use Rattle.vyrd_memory.specs.Soundness.{Standing, holds_none, observes, is_at_rest, may_act, may_mark, after_act, after_mark}
 use Rattle.vyrd_memory.specs.Turns.{part_of}
 use Rattle.vyrd_memory.proofs.Standings.{act_of_event, standing_in, KeepsTo}
@@ -43,10 +44,6 @@ four_true a b c d e =
     let front : (a && b && c) ≡ true = first_true (a && b && c) d e in
     (first_true a b (first_true (a && b) c front), second_true a b (first_true (a && b) c front), second_true (a && b) c front, second_true (a && b && c) d e)
 
-pub not_true : (b : Bool) → not b ≡ true → b ≡ false
-not_true true e = cc
-not_true false e = refl
-
 -- what is said of a standing with nothing in hand
 pub record Rests (s : Standing) : Type 0 where
   pub locks : holds_none s ≡ true
@@ -57,7 +54,7 @@ pub record Rests (s : Standing) : Type 0 where
 rests : (s : Standing) → is_at_rest s ≡ true → Rests s
 rests s e =
     let parts = four_true (holds_none s) (is_none s.called) (not s.committed) (not s.in_block) e in
-    record { locks = parts.0; called = parts.1; committed = not_true s.committed parts.2; in_block = not_true s.in_block parts.3 }
+    record { locks = parts.0; called = parts.1; committed = not-true s.committed parts.2; in_block = not-true s.in_block parts.3 }
 
 -- what is said where an act may come
 pub may_call : (h : Header) (s : Standing) (method : Method) (args : Args) → may_mark h s (Call method args) ≡ true
@@ -70,7 +67,7 @@ pub may_return : (h : Header) (s : Standing) (reply : ℕ) → may_mark h s (Ret
     → (is_some s.called ≡ true) × (s.in_block ≡ false) × ((observes s || s.committed) ≡ true) × (holds_none s ≡ true)
 may_return h s reply may =
     let parts = four_true (is_some s.called) (not s.in_block) (observes s || s.committed) (holds_none s) may in
-    (parts.0, not_true s.in_block parts.1, parts.2, parts.3)
+    (parts.0, not-true s.in_block parts.1, parts.2, parts.3)
 
 -- the caller's own entry
 own_method : (c : ℕ) (kind : Kind) (log : List Entry)
@@ -81,10 +78,6 @@ own_method c kind log = ap (λ o. option_map (λ (called : Called). called.metho
 own_commit : (c : ℕ) (kind : Kind) (log : List Entry)
     → has_committed c (entry c kind ∷ log) ≡ unwrap_or (option_or (commit_or_call kind) (first_answer (by_caller c commit_or_call) log)) false
 own_commit c kind log = ap (λ o. unwrap_or o false) (own_answer c commit_or_call kind log)
-
-own_block : (c : ℕ) (kind : Kind) (log : List Entry)
-    → has_block c (entry c kind ∷ log) ≡ unwrap_or (option_or (open_or_close kind) (first_answer (by_caller c open_or_close) log)) false
-own_block c kind log = ap (λ o. unwrap_or o false) (own_answer c open_or_close kind log)
 
 own_mark : (h : Header) (c : ℕ) (kind : Kind) (s : Standing) (log : List Entry) → may_mark h s kind ≡ true → Agrees c s log
     → Agrees c (after_mark s kind) (entry c kind ∷ log)

@@ -12,7 +12,7 @@ use Rattle.vyrd_base.specs.declared.history.Did.TheVariants.{Read, Wrote, Took, 
 use Rattle.vyrd_base.specs.declared.history.Stamped.{Stamped}
 use Rattle.vyrd_base.specs.Places.{first_answer}
 use Rattle.vyrd_base.specs.Histories.{Cells, cells_of, is_plain, is_lock, made_of, value_in, may_do}
-use Rattle.vyrd_base.proofs.SplitLaws.{first_true, second_true, same_number}
+use Rattle.vyrd_base.proofs.TestLaws.{first_true, second_true, same_number, same_of}
 use Rattle.vyrd_memory.specs.Soundness.{Standing, is_nil, holds, may_act, may_mark, after_act, after_mark}
 use Rattle.vyrd_memory.specs.Turns.{part_of}
 use Rattle.vyrd_memory.proofs.Standings.{act_of_event, standing_in, KeepsTo}
@@ -31,9 +31,6 @@ other_isnt c d e = grind (arith, nat_tests)
 
 others_isnt : (v c d : ℕ) → (v == d + 1) ≡ true → (d == c) ≡ false → (v == c + 1) ≡ false
 others_isnt v c d e f = grind (arith, nat_tests)
-
-same_cell : (a b : ℕ) → (a == b) ≡ true → a ≡ b
-same_cell a b e = grind (arith, nat_tests)
 
 apart_too : (x a b : ℕ) → (x == a) ≡ false → (a == b) ≡ true → (x == b) ≡ false
 apart_too x a b e f = grind (arith, nat_tests)
@@ -118,7 +115,7 @@ other_held cells c d (Took other) earlier lock may is apart = by_place (other ==
         ≡ (unwrap_or (option_or (cond b (Some (d + 1)) None) (first_answer (λ e. made_of lock e.caller e.did) earlier)) 0 == c + 1)
     by_place true e =
         let free : (value_in earlier other == 0) ≡ true = second_true (is_lock cells other) (value_in earlier other == 0) may in
-        free_isnt (value_in earlier lock) c (subst (λ cell. (value_in earlier cell == 0) ≡ true) (same_cell other lock e) free) ∙ sym (other_isnt c d apart)
+        free_isnt (value_in earlier lock) c (subst (λ cell. (value_in earlier cell == 0) ≡ true) (same_of other lock e) free) ∙ sym (other_isnt c d apart)
     by_place false e = refl
 other_held cells c d (Gave other) earlier lock may is apart = by_place (other == lock) refl
   where
@@ -126,7 +123,7 @@ other_held cells c d (Gave other) earlier lock may is apart = by_place (other ==
         ≡ (unwrap_or (option_or (cond b (Some 0) None) (first_answer (λ e. made_of lock e.caller e.did) earlier)) 0 == c + 1)
     by_place true e =
         let its : (value_in earlier other == d + 1) ≡ true = second_true (is_lock cells other) (value_in earlier other == d + 1) may in
-        others_isnt (value_in earlier lock) c d (subst (λ cell. (value_in earlier cell == d + 1) ≡ true) (same_cell other lock e) its) apart ∙ sym (zero_isnt c)
+        others_isnt (value_in earlier lock) c d (subst (λ cell. (value_in earlier cell == d + 1) ≡ true) (same_of other lock e) its) apart ∙ sym (zero_isnt c)
     by_place false e = refl
 other_held cells c d (Marked kind) earlier lock may is apart = refl
 
@@ -135,7 +132,7 @@ next_held : (h : Header) (c d : ℕ) (did : Did) (dids : List Did) (earlier : Li
     → holds (standing_in dids) lock ≡ (value_in earlier lock == c + 1)
     → holds (standing_in (cons_option (cond b (Some did) None) dids)) lock ≡ (value_with earlier lock d did == c + 1)
 next_held h c d did dids earlier lock true e may keeps is before =
-    subst (λ d. holds (after_act (standing_in dids) (act_of_event did)) lock ≡ (value_with earlier lock d did == c + 1)) (sym (same_cell d c e))
+    subst (λ d. holds (after_act (standing_in dids) (act_of_event did)) lock ≡ (value_with earlier lock d did == c + 1)) (sym (same_of d c e))
     (own_held h c did (standing_in dids) earlier lock keeps.0 is before)
 next_held h c d did dids earlier lock false e may keeps is before = before ∙ other_held (cells_of h) c d did earlier lock may is e
 

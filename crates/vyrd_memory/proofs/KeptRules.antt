@@ -1,8 +1,8 @@
 -- What a caller may do where it stands breaks no rule of shape, but that its write may race for a word of a block.
-use Rattle.std.proofs.Common.{◌≡◌, ℕ, ◌<◌, ◌^◌, Bool, true, false, cond, not, ◌||◌, List, Option, Some, None, option_map, refl, ap, ◌∙◌, sym, arith}
+use Rattle.std.proofs.Common.{◌≡◌, ℕ, ◌<◌, ◌^◌, Bool, true, false, cond, not, ◌||◌, List, Option, Some, None, option_map, refl, ap, ◌∙◌, sym}
 use Rattle.std.specs.Prelude.{nat_lt, nat_le, is_some, is_none}
 use Rattle.std.specs.Option.{option_map_or}
-use Rattle.std.proofs.lemmas.Bool.Decides.{nat_tests}
+use Rattle.std.proofs.lemmas.Bool.{not-true}
 use Rattle.vyrd_base.specs.declared.header.Header.{Header}
 use Rattle.vyrd_base.specs.declared.subject.Method.{Method}
 use Rattle.vyrd_base.specs.declared.log.Kind.{Kind}
@@ -17,10 +17,10 @@ use Rattle.vyrd_base.specs.Callers.{Called, open_call, has_block, has_committed}
 use Rattle.vyrd_base.specs.Shape.{first_broken, checks_of, is_observing, is_held_by_other, broken_rule}
 use Rattle.vyrd_base.specs.Histories.{cells_of, is_plain}
 use Rattle.vyrd_base.proofs.BlockLaws.{entry}
-use Rattle.vyrd_base.proofs.SplitLaws.{first_true, second_true}
+use Rattle.vyrd_base.proofs.TestLaws.{first_true, second_true, isnt_at_most, above_then}
 use Rattle.vyrd_memory.specs.declared.act.Act.TheVariants.{Store}
 use Rattle.vyrd_memory.specs.Soundness.{Standing, observes, may_act, may_mark}
-use Rattle.vyrd_memory.proofs.Agreements.{Agrees, three_true, four_true, not_true, may_call, may_return}
+use Rattle.vyrd_memory.proofs.Agreements.{Agrees, three_true, four_true, may_call, may_return}
 
 -- where a rule is broken, it is that of raced blocks
 pub record OnlyRaced (broken : Option Rule) : Type 0 where
@@ -64,21 +64,15 @@ watches c s log a = by_call (open_call c log) ∙ ap (λ o. option_map_or is_obs
     by_call None = refl
     by_call (Some called) = refl
 
-in_range : (n c : ℕ) → c < n → nat_le n c ≡ false
-in_range n c low = grind (arith, nat_tests)
-
-below : (n c : ℕ) → nat_lt c n ≡ true → nat_le n c ≡ false
-below n c low = grind (arith, nat_tests)
-
 -- a write
 pub write_kept : (h : Header) (c word value : ℕ) (s : Standing) (log : List Entry) → c < h.callers → may_act h s (Store word value) ≡ true → Agrees c s log
     → OnlyRaced (broken_rule h log (entry c (Write word value)))
 write_kept h c word value s log low may a =
     let parts = three_true (is_plain (cells_of h) word) (nat_lt value (2 ^ 63)) (is_some s.called) may in
-    passed (nat_le h.callers c) CallerRange (first_broken (checks_of h log c (Write word value))) (in_range h.callers c low)
+    passed (nat_le h.callers c) CallerRange (first_broken (checks_of h log c (Write word value))) (isnt_at_most h.callers c low)
     (passed (is_none (open_call c log)) NoCall _ (is_open c s log a parts.2)
-    (passed (nat_le (plain_words h) word) WordRange _ (below (plain_words h) word parts.0)
-    (passed (nat_le (2 ^ 63) value) ValueRange _ (below (2 ^ 63) value parts.1)
+    (passed (nat_le (plain_words h) word) WordRange _ (above_then (plain_words h) word parts.0)
+    (passed (nat_le (2 ^ 63) value) ValueRange _ (above_then (2 ^ 63) value parts.1)
     (race_last (is_held_by_other h c word log)))))
 
 -- the rules of a mark, after that of its caller
@@ -100,12 +94,12 @@ checks_kept h c (Write word value) s log may a = cc
 checks_kept h c Commit s log may a =
     let parts = four_true (is_some s.called) (not (observes s)) (not s.committed) (not s.in_block) may in
     passed (is_none (open_call c log)) NoCall _ (is_open c s log a parts.0)
-    (passed (is_observing c log) ObserverCommit _ (watches c s log a ∙ not_true (observes s) parts.1)
-    (passed (has_committed c log) SecondCommit _ (a.committed ∙ not_true s.committed parts.2)
-    (passed (has_block c log) CommitInBlock None (a.in_block ∙ not_true s.in_block parts.3) none_broken)))
+    (passed (is_observing c log) ObserverCommit _ (watches c s log a ∙ not-true (observes s) parts.1)
+    (passed (has_committed c log) SecondCommit _ (a.committed ∙ not-true s.committed parts.2)
+    (passed (has_block c log) CommitInBlock None (a.in_block ∙ not-true s.in_block parts.3) none_broken)))
 checks_kept h c BlockOpen s log may a =
     passed (is_none (open_call c log)) NoCall _ (is_open c s log a (first_true (is_some s.called) (not s.in_block) may))
-    (passed (has_block c log) BlockInBlock None (a.in_block ∙ not_true s.in_block (second_true (is_some s.called) (not s.in_block) may)) none_broken)
+    (passed (has_block c log) BlockInBlock None (a.in_block ∙ not-true s.in_block (second_true (is_some s.called) (not s.in_block) may)) none_broken)
 checks_kept h c BlockClose s log may a =
     passed (is_none (open_call c log)) NoCall _ (is_open c s log a (first_true (is_some s.called) s.in_block may))
     (passed (not (has_block c log)) NoBlock None (not_false _ (a.in_block ∙ second_true (is_some s.called) s.in_block may)) none_broken)
@@ -113,10 +107,10 @@ checks_kept h c BlockCommit s log may a =
     let parts = four_true (is_some s.called) s.in_block (not (observes s)) (not s.committed) may in
     passed (is_none (open_call c log)) NoCall _ (is_open c s log a parts.0)
     (passed (not (has_block c log)) NoBlock _ (not_false _ (a.in_block ∙ parts.1))
-    (passed (is_observing c log) ObserverCommit _ (watches c s log a ∙ not_true (observes s) parts.2)
-    (passed (has_committed c log) SecondCommit None (a.committed ∙ not_true s.committed parts.3) none_broken)))
+    (passed (is_observing c log) ObserverCommit _ (watches c s log a ∙ not-true (observes s) parts.2)
+    (passed (has_committed c log) SecondCommit None (a.committed ∙ not-true s.committed parts.3) none_broken)))
 
 pub mark_kept : (h : Header) (c : ℕ) (kind : Kind) (s : Standing) (log : List Entry) → c < h.callers → may_mark h s kind ≡ true → Agrees c s log
     → OnlyRaced (broken_rule h log (entry c kind))
 mark_kept h c kind s log low may a =
-    passed (nat_le h.callers c) CallerRange (first_broken (checks_of h log c kind)) (in_range h.callers c low) (checks_kept h c kind s log may a)
+    passed (nat_le h.callers c) CallerRange (first_broken (checks_of h log c kind)) (isnt_at_most h.callers c low) (checks_kept h c kind s log may a)

@@ -9,7 +9,7 @@ use Rattle.vyrd_base.specs.declared.history.Did.TheVariants.{Read, Wrote, Took, 
 use Rattle.vyrd_base.specs.declared.history.Stamped.{Stamped}
 use Rattle.vyrd_base.specs.Places.{places_after, first_answer, newest_first_onto, newest_first}
 use Rattle.vyrd_base.specs.Histories.{Cells, is_plain, is_lock, made_of, value_in, may_do, is_legal_at, is_legal}
-use Rattle.vyrd_base.proofs.SplitLaws.{both_true, first_true, second_true}
+use Rattle.vyrd_base.proofs.TestLaws.{both_true, first_true, second_true}
 use Rattle.vyrd_memory.specs.Scripts.{IsAnswer, answer_of}
 use Rattle.vyrd_memory.specs.Turns.{part_of}
 use Rattle.vyrd_memory.proofs.Standings.{act_of_event, AreAnswers}

@@ -12,7 +12,7 @@ use Rattle.vyrd_base.specs.declared.history.Did.TheVariants.{Read, Wrote, Took, 
 use Rattle.vyrd_base.specs.declared.history.Stamped.{Stamped}
 use Rattle.vyrd_base.specs.Places.{newest_first, numbers_below}
 use Rattle.vyrd_base.specs.Histories.{cells_of, is_plain, is_lock, value_in, is_write, may_do, is_legal}
-use Rattle.vyrd_base.proofs.SplitLaws.{both_true, first_true, second_true, same_number}
+use Rattle.vyrd_base.proofs.TestLaws.{both_true, first_true, second_true, same_number, is_below}
 use Rattle.vyrd_memory.specs.declared.act.Act.{Act}
 use Rattle.vyrd_memory.specs.declared.act.Act.TheVariants.{Load, Store, Take, Give, Mark, Done}
 use Rattle.vyrd_memory.specs.declared.op.Turn.{Turn}
@@ -101,9 +101,6 @@ in_range_or_not {P} c n low high = by_test (nat_lt c n) refl
     by_test true e = low (grind (arith, nat_tests))
     by_test false e = high (grind (arith, nat_tests))
 
-low_test : (c n : ℕ) → c < n → nat_lt c n ≡ true
-low_test c n low = grind (arith, nat_tests)
-
 -- what is left of a caller's script is sound where the caller stands, and its part keeps to what may be done
 pub run_sound : (h : Header) (scripts : List Script) (earlier : List Stamped) (c : ℕ) → AreSoundScripts h scripts → IsRun h scripts earlier → c < h.callers
     → IsSound h (standing_in (part_of c earlier)) (left_after (script_of scripts c) (part_of c earlier))
@@ -121,7 +118,7 @@ event_runs : (h : Header) (scripts : List Script) (earlier : List Stamped) (c : 
 event_runs h scripts earlier c did sound run low e = record {
   legal = (
     both_true (length earlier == length earlier && nat_lt c h.callers) (may_do (cells_of h) earlier c did)
-        (both_true (length earlier == length earlier) (nat_lt c h.callers) (same_number (length earlier)) (low_test c h.callers low))
+        (both_true (length earlier == length earlier) (nat_lt c h.callers) (same_number (length earlier)) (is_below c h.callers low))
         (event_may h c earlier (standing_in (part_of c earlier)) (act_of scripts c earlier) did
         (next_may h (standing_in (part_of c earlier)) (left_after (script_of scripts c) (part_of c earlier)) earlier did (run_sound h scripts earlier c sound run low) e)
         (λ lock is. held_is h c earlier lock run.legal (run_keeps h scripts earlier c sound run low) is)

@@ -1,6 +1,8 @@
 pub mod NumberLists
 pub mod PartSums
 pub mod Memories
+pub mod TimedActs
+pub mod Small
 mod BoundSums
 mod PlayLaws
 mod PlayedLaws

@@ -13,7 +13,7 @@ use Rattle.vyrd_base.specs.Places.{newest_first_onto, newest_first}
 use Rattle.vyrd_base.specs.Subjects.{same_subject, subject_of, are_args}
 use Rattle.vyrd_base.specs.Histories.{cells_of, is_legal, logged, log_of}
 use Rattle.vyrd_base.proofs.HistoryLaws.{log_entry}
-use Rattle.vyrd_base.proofs.SplitLaws.{first_true, same_number}
+use Rattle.vyrd_base.proofs.TestLaws.{first_true, same_number}
 use Rattle.vyrd_memory.specs.Scripts.{Script}
 use Rattle.vyrd_memory.specs.Soundness.{Standing, may_act, may_mark, is_at_rest}
 use Rattle.vyrd_memory.specs.Turns.{part_of}

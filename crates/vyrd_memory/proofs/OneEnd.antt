@@ -7,7 +7,7 @@ use Rattle.vyrd_base.specs.declared.history.Did.TheVariants.{Took}
 use Rattle.vyrd_base.specs.declared.history.Stamped.{Stamped}
 use Rattle.vyrd_base.specs.Places.{newest_first_onto, newest_first, numbers_below}
 use Rattle.vyrd_base.specs.Histories.{value_in}
-use Rattle.vyrd_base.proofs.SplitLaws.{both_true, first_true, second_true}
+use Rattle.vyrd_base.proofs.TestLaws.{both_true, first_true, second_true}
 use Rattle.vyrd_memory.specs.declared.act.Act.{Act}
 use Rattle.vyrd_memory.specs.declared.act.Act.TheVariants.{Load, Store, Take, Give, Mark, Done}
 use Rattle.vyrd_memory.specs.declared.op.Turn.{Turn}

@@ -17,7 +17,7 @@ use Rattle.vyrd_base.specs.Places.{newest_first, newest_first_onto, numbers_from
 use Rattle.vyrd_base.specs.Layout.{plain_words, lock_words}
 use Rattle.vyrd_base.specs.Histories.{value_in, made_of, cells_of, is_plain, is_lock}
 use Rattle.vyrd_base.proofs.PlaceLaws.{newest_first-push}
-use Rattle.vyrd_base.proofs.SplitLaws.{first_true, second_true, same_number}
+use Rattle.vyrd_base.proofs.TestLaws.{first_true, second_true, same_number}
 use Rattle.vyrd_memory.specs.declared.act.Act.{Act}
 use Rattle.vyrd_memory.specs.declared.act.Act.TheVariants.{Load, Store, Take, Give, Mark, Done}
 use Rattle.vyrd_memory.specs.Scripts.{Script, stop, step, next_act, after_answer, answer_of, left_after}
@@ -25,6 +25,7 @@ use Rattle.vyrd_memory.specs.Soundness.{Standing, IsSound, IsSoundSomewhere, may
 use Rattle.vyrd_memory.specs.Turns.{part_of, script_of, act_of, event_now, with_event, after_turn}
 use Rattle.vyrd_memory.specs.Playing.{event_in, words_with, IsWithin, IsReady, IsPlaying, HasPlayed, scene, memory_after, total}
 use Rattle.vyrd_memory.proofs.NumberLists.{element_below, map_alike}
+use Rattle.vyrd_memory.proofs.Standings.{some_same}
 
 -- the same as `IsWithin`, as a test
 within_test : ℕ → Act → Bool
@@ -126,9 +127,6 @@ WithinMemory n (Wrote cell value) = (cell < n) × (value < 2 ^ 63)
 WithinMemory n (Took lock) = lock < n
 WithinMemory n (Gave lock) = lock < n
 WithinMemory n (Marked kind) = Unit {0}
-
-some_same : {A : Type 0} (x y : A) → ◌≡◌ {A = Option A} (Some x) (Some y) → x ≡ y
-some_same x y e = cc
 
 event_within : (n : ℕ) (words : List ℕ) (act : Act) (did : Did) → IsWithin n act → event_in words act ≡ Some did → WithinMemory n did
 unfolding WithinMemory

@@ -1,5 +1,5 @@
 -- Turns that have been played, one after the other.
-use Rattle.std.proofs.Common.{◌≡◌, ℕ, zero, suc, ◌+◌, ◌<◌, List, [], ◌∷◌, ◌++◌, replicate, take, refl, ap, ◌∙◌, sym, arith}
+use Rattle.std.proofs.Common.{◌≡◌, ℕ, zero, suc, ◌+◌, ◌<◌, List, [], ◌∷◌, ◌++◌, replicate, take, refl, ap, ◌∙◌, sym, arith, append-nil}
 use Rattle.std.specs.Prelude.{length, get_or}
 use Rattle.vyrd_base.specs.declared.header.Header.{Header}
 use Rattle.vyrd_base.specs.declared.history.Stamped.{Stamped}
@@ -8,17 +8,12 @@ use Rattle.vyrd_base.proofs.PlaceLaws.{numbers_below-push}
 use Rattle.vyrd_memory.specs.declared.op.Turn.{Turn}
 use Rattle.vyrd_memory.specs.Scripts.{Script}
 use Rattle.vyrd_memory.specs.Turns.{after_turn, after_turns, turns_of}
-use Rattle.vyrd_memory.specs.Playing.{IsReady, HasPlayed, HaveComeToRest, Scene, rounds_over}
+use Rattle.vyrd_memory.specs.Playing.{HasPlayed, HaveComeToRest, Scene, rounds_over}
 
 pub after_turns-append : (scripts : List Script) (xs ys : List ℕ) (earlier : List Stamped)
     → after_turns scripts (xs ++ ys) earlier ≡ after_turns scripts ys (after_turns scripts xs earlier)
 after_turns-append scripts [] ys earlier = refl
 after_turns-append scripts (x ∷ xs) ys earlier = after_turns-append scripts xs ys (after_turn scripts x earlier)
-
--- before the first turn
-pub played_none : {M : Type 0} (h : Header) (header_of : M → Header) (script : M → Script) (now : Scene M) → IsReady h header_of now.machines now.words
-    → HasPlayed h header_of script [] now now
-played_none h header_of script now ready = record { ready = ready; count = refl; plays = λ scripts is. is; history = λ scripts is. refl }
 
 -- further turns
 pub played_more : {M : Type 0} (h : Header) (header_of : M → Header) (script : M → Script) (xs ys zs : List ℕ) (a b c : Scene M)
@@ -42,11 +37,11 @@ one_more (suc n) x = let e : suc n + 1 ≡ suc (n + 1) = omega arith in ap (λ n
 pub turns_more : (turns : List Turn) (i : ℕ) (d : Turn) → i < length turns
     → turns_of (take (i + 1) turns) ≡ turns_of (take i turns) ++ replicate (get_or turns i d).count (get_or turns i d).caller
 turns_more [] i d low = absurd (omega (arith, low))
-turns_more (turn ∷ turns) zero d low = append_none (replicate turn.count turn.caller)
+turns_more (turn ∷ turns) zero d low = append-nil (replicate turn.count turn.caller)
   where
-    append_none : (xs : List ℕ) → xs ++ [] ≡ xs
-    append_none [] = refl
-    append_none (x ∷ xs) = ap (λ ys. x ∷ ys) (append_none xs)
+    append-nil : (xs : List ℕ) → xs ++ [] ≡ xs
+    append-nil [] = refl
+    append-nil (x ∷ xs) = ap (λ ys. x ∷ ys) (append-nil xs)
 turns_more (turn ∷ turns) (suc i) d low =
     let e : suc i + 1 ≡ suc (i + 1) = omega arith in
     ap (λ n. turns_of (take n (turn ∷ turns))) e ∙ ap (λ xs. replicate turn.count turn.caller ++ xs) (turns_more turns i d (omega arith))
@@ -56,16 +51,12 @@ turns_more (turn ∷ turns) (suc i) d low =
     append_assoc [] ys zs = refl
     append_assoc (x ∷ xs) ys zs = ap (λ rest. x ∷ rest) (append_assoc xs ys zs)
 
-append_none : {A : Type 0} (xs : List A) → xs ++ [] ≡ xs
-append_none [] = refl
-append_none (x ∷ xs) = ap (λ ys. x ∷ ys) (append_none xs)
-
 append_assoc : {A : Type 0} (xs ys zs : List A) → (xs ++ ys) ++ zs ≡ xs ++ (ys ++ zs)
 append_assoc [] ys zs = refl
 append_assoc (x ∷ xs) ys zs = ap (λ rest. x ∷ rest) (append_assoc xs ys zs)
 
 pub rounds_more : (n rounds : ℕ) → rounds_over n (rounds + 1) ≡ rounds_over n rounds ++ numbers_below n
-rounds_more n zero = append_none (numbers_below n)
+rounds_more n zero = append-nil (numbers_below n)
 rounds_more n (suc rounds) =
     let e : suc rounds + 1 ≡ suc (rounds + 1) = omega arith in
     ap (rounds_over n) e ∙ ap (λ xs. numbers_below n ++ xs) (rounds_more n rounds) ∙ sym (append_assoc (numbers_below n) (rounds_over n rounds) (numbers_below n))

@@ -27,7 +27,7 @@ use Rattle.vyrd_base.specs.Verdicts.{line_of, violation_at, first_fault, shape_v
 use Rattle.vyrd_base.specs.Histories.{cells_of, is_legal, logged, log_of}
 use Rattle.vyrd_base.proofs.HistoryLaws.{log_entry, reversed_map}
 use Rattle.vyrd_base.proofs.Fronts.{break_after}
-use Rattle.vyrd_base.proofs.SplitLaws.{same_number}
+use Rattle.vyrd_base.proofs.TestLaws.{same_number}
 use Rattle.vyrd_memory.specs.Scripts.{Script, left_after}
 use Rattle.vyrd_memory.specs.Soundness.{Standing, at_rest, may_act}
 use Rattle.vyrd_memory.specs.Turns.{part_of, script_of}

@@ -1,5 +1,5 @@
 -- An operation that is played alone, from words that represent a state, does what the specification says.
-use Rattle.std.specs.Prelude.{◌≡◌, ℕ, ◌+◌, ◌==◌, Bool, true, false, List, map, Option, Some, None, IsSome, if◌then◌else◌}
+use Rattle.std.specs.Prelude.{◌≡◌, ◌↔◌, ℕ, ◌+◌, ◌==◌, Bool, true, false, List, map, Option, Some, None, IsSome, IsSomeAnd, if◌then◌else◌}
 use Rattle.vyrd_base.specs.declared.header.Header.{Header}
 use Rattle.vyrd_base.specs.declared.log.Kind.{Kind}
 use Rattle.vyrd_base.specs.declared.log.Kind.TheVariants.{Return}
@@ -49,6 +49,10 @@ alone c (step (Take lock) rest) memory = if memory lock == 0 then alone c (rest 
 alone c (step (Give lock) rest) memory = alone c (rest 0) (with_cell memory lock 0)
 alone c (step (Mark kind) rest) memory = after_kind kind memory (alone c (rest 0) memory)
 alone c (step Done rest) memory = None
+
+-- there is an outcome, and its reply is 0 exactly where this is so
+abbrev pub GivesUpWhere : Type 0 → Option Outcome → Type 0
+GivesUpWhere P end = IsSomeAnd end (λ outcome. outcome.reply ≡ 0 ↔ P)
 
 -- what the specification says of an operation: an observer answers in the state and changes nothing, and a mutator leads on
 abbrev pub state_after : Bool → Op → ℕ → Amounts → Option Amounts

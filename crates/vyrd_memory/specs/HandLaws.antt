@@ -9,7 +9,7 @@ use Rattle.vyrd_base.specs.declared.header.Header.{Header}
 use Rattle.vyrd_base.specs.declared.log.Kind.TheVariants.{Call, Return, Write, Commit, BlockOpen, BlockClose, BlockCommit}
 use Rattle.vyrd_base.specs.declared.subject.Method.{Method}
 use Rattle.vyrd_base.specs.Subjects.{same_subject, subject_of, are_args}
-use Rattle.vyrd_base.proofs.SplitLaws.{first_true, second_true}
+use Rattle.vyrd_base.proofs.TestLaws.{first_true, second_true}
 use Rattle.vyrd_memory.specs.declared.act.Act.{Act}
 use Rattle.vyrd_memory.specs.declared.act.Act.TheVariants.{Load, Store, Take, Give, Mark, Done}
 use Rattle.vyrd_memory.specs.Scripts.{Script, stop, step, next_act, after_answer, is_stop, is_call_or_done, is_between, IsAnswer}
@@ -118,7 +118,7 @@ pub in_hand_next : (h : Header) (n : ℕ) (script : Script) (answer : ℕ) → I
     → InHand h (n - 1) (after_answer script answer)
 in_hand_next h n script answer hand goes is_answer = ∥∥₁_map hand (next_in_hand h n script answer goes is_answer)
 
-stop_of : (script : Script) → is_stop script ≡ true → script ≡ stop
+pub stop_of : (script : Script) → is_stop script ≡ true → script ≡ stop
 stop_of stop e = refl
 stop_of (step act rest) e = cc
 

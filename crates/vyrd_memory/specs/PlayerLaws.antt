@@ -12,7 +12,8 @@ use Rattle.vyrd_base.specs.declared.subject.Method.TheVariants.{TrLookup}
 use Rattle.vyrd_base.specs.declared.subject.Args.{Args}
 use Rattle.vyrd_base.specs.declared.log.Kind.TheVariants.{Call}
 use Rattle.vyrd_base.specs.Subjects.{same_subject, subject_of, are_args}
-use Rattle.vyrd_base.proofs.SplitLaws.{both_true, first_true, second_true}
+use Rattle.vyrd_base.proofs.TestLaws.{both_true, first_true, second_true}
+use Rattle.vyrd_base.proofs.SubjectLaws.{same_subjects}
 use Rattle.vyrd_memory.specs.declared.act.Act.{Act}
 use Rattle.vyrd_memory.specs.declared.act.Act.TheVariants.{Load, Store, Take, Give, Mark, Done}
 use Rattle.vyrd_memory.specs.declared.op.Op.{Op}
@@ -35,18 +36,6 @@ AreBounded h body = (op : Op) → is_callable h op ≡ true → EndsByReturn (bo
 followed-sound : (h : Header) (s : Standing) (a b : Script) → IsSound h s a → IsSound h at_rest b → IsSound h s (followed_by a b)
 followed-sound h s stop b first then_ = subst (λ s. IsSound h s b) (sym first) then_
 followed-sound h s (step act rest) b first then_ = (first.0, λ answer is. followed-sound h (after_act s act) (rest answer) b (first.1 answer is) then_)
-
--- subjects that are found to be the same are
-pub same_subjects : (a b : Subject) → same_subject a b ≡ true → a ≡ b
-same_subjects Multiset Multiset e = refl
-same_subjects Cache Cache e = refl
-same_subjects Tree Tree e = refl
-same_subjects Multiset Cache e = cc
-same_subjects Multiset Tree e = cc
-same_subjects Cache Multiset e = cc
-same_subjects Cache Tree e = cc
-same_subjects Tree Multiset e = cc
-same_subjects Tree Cache e = cc
 
 -- the mark of its call may be left
 callable_mark : (h : Header) (op : Op) → is_callable h op ≡ true → (same_subject (subject_of op.method) h.subject && are_args h.size op.method op.args) ≡ true

@@ -1,7 +1,7 @@
 -- Scripts. What a caller does is a procedure: an act, and how it goes on after the answer. A load is answered by the value that
 -- it found, which is below 2^63, and any other act by 0.
 use Rattle.std.specs.Prelude.{◌≡◌, ℕ, ◌<◌, ◌^◌, ⊤, Bool, true, false, List, [], ◌∷◌, Option, Some, None}
-use Rattle.vyrd_base.specs.declared.log.Kind.TheVariants.{Call}
+use Rattle.vyrd_base.specs.declared.log.Kind.TheVariants.{Call, Return, Commit}
 use Rattle.vyrd_base.specs.declared.history.Did.{Did}
 use Rattle.vyrd_base.specs.declared.history.Did.TheVariants.{Read, Wrote, Took, Gave, Marked}
 use Rattle.vyrd_memory.specs.declared.act.Act.{Act}
@@ -17,6 +17,14 @@ pub data Script : Type 0 where
 abbrev pub perform : Act → Script → Script
 perform act rest = step act (λ answer. rest)
 
+-- the mark of the return, which ends an operation
+abbrev pub returns : ℕ → Script
+returns reply = perform (Mark (Return reply)) stop
+
+-- commit, and return 0
+abbrev pub gives_up : Script
+gives_up = perform (Mark Commit) (returns 0)
+
 -- what comes next
 abbrev pub next_act : Script → Act
 next_act stop = Done
@@ -31,11 +39,6 @@ is_stop (step act rest) = false
 abbrev pub after_answer : Script → ℕ → Script
 after_answer stop answer = stop
 after_answer (step act rest) answer = rest answer
-
--- what comes next after these answers, the first answer first
-abbrev pub act_after : Script → List ℕ → Act
-act_after script [] = next_act script
-act_after script (answer ∷ answers) = act_after (after_answer script answer) answers
 
 -- what an act may be answered
 abbrev pub IsAnswer : Act → ℕ → Type 0

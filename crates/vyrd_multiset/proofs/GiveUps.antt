@@ -4,10 +4,9 @@ use Rattle.vyrd_base.specs.declared.header.Header.{Header}
 use Rattle.vyrd_base.specs.declared.subject.Subject.TheVariants.{Multiset}
 use Rattle.vyrd_base.specs.Amounts.{Amounts}
 use Rattle.vyrd_memory.specs.declared.op.Variant.TheVariants.{Correct}
-use Rattle.vyrd_memory.specs.Alone.{Memory, Outcome, state_in, alone}
+use Rattle.vyrd_memory.specs.Alone.{Memory, Outcome, state_in, alone, GivesUpWhere}
 use Rattle.vyrd_multiset.specs.Procedures.{insert, insert_pair}
 use Rattle.vyrd_multiset.specs.Room.{free_slots_for, has_room_for_both}
-use Rattle.vyrd_multiset.specs.Replies.{GivesUpWhere}
 use Rattle.vyrd_multiset.specs.Laws.Slotted.{is_multiset}
 use Rattle.vyrd_multiset.specs.Laws.Played.{Ended}
 use Rattle.vyrd_multiset.specs.Laws.Done.{InsertDone, insert_done, PairDone, pair_done}

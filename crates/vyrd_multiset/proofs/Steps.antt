@@ -1,8 +1,7 @@
 -- What a step needs: what holds at a place, and the next slot that is looked at.
-use Rattle.std.proofs.Common.{◌≡◌, ◌≢◌, ℕ, suc, ◌+◌, ◌-◌, false, cond, Option, Some, ap, ◌∙◌, sym, subst, arith}
-use Rattle.std.specs.Prelude.{◌==◌}
-use Rattle.std.proofs.lemmas.Bool.Decides.{nat_tests}
+use Rattle.std.proofs.Common.{◌≡◌, ◌≢◌, ℕ, suc, ◌+◌, ◌-◌, cond, Option, Some, ap, ◌∙◌, sym, subst, arith}
 use Rattle.vyrd_base.specs.declared.header.Header.{Header}
+use Rattle.vyrd_base.proofs.TestLaws.{isnt_same}
 use Rattle.vyrd_memory.specs.declared.op.Variant.{Variant}
 use Rattle.vyrd_memory.specs.Scripts.{Script, after_answer}
 use Rattle.vyrd_memory.specs.Soundness.{IsSoundSomewhere}
@@ -28,9 +27,6 @@ pub search_next : (look : Look) (a s x : ℕ) (ended : Option ℕ → Script) �
 search_next look a s x ended some fewer next =
     ap (λ n. search_from n s x ended) (one_fewer a look.after some fewer) ∙ ap (λ n. search_from look.after n x ended) next
 
-isnt_zero : (n : ℕ) → n ≢ 0 → (n == 0) ≡ false
-isnt_zero n some = grind (arith, nat_tests)
-
 -- where the slot isn't free, it is looked at the next one
 pub find_next : (h : Header) (variant : Variant) (value : ℕ) (found : Option ℕ → Script) (place : Finding) (look : Look) (a s answer : ℕ)
     → place ≡ finding.Load look → answer ≢ 0 → look.after ≢ 0 → a ≡ look.after - 1 → s ≡ look.slot + 1
@@ -38,5 +34,5 @@ pub find_next : (h : Header) (variant : Variant) (value : ℕ) (found : Option �
 find_next h variant value found place look a s answer at taken some fewer next =
     let on : Option ℕ → Script = λ slot. find_unlock h variant (bucket_of h value) (found slot) in
     ap (λ n. find_from n s value on) (one_fewer a look.after some fewer) ∙ ap (λ n. find_from look.after n value on) next
-    ∙ ap (λ b. cond b (reserve look.slot value (on (Some look.slot))) (find_from look.after (look.slot + 1) value on)) (sym (isnt_zero answer taken))
+    ∙ ap (λ b. cond b (reserve look.slot value (on (Some look.slot))) (find_from look.after (look.slot + 1) value on)) (sym (isnt_same answer 0 taken))
     ∙ ap (λ p. after_answer (finding_rest h variant value found p) answer) (sym at)

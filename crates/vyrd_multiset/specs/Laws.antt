@@ -1,5 +1,4 @@
 -- The laws of the procedures, with what their proofs need. They define nothing that a contract means.
-pub mod Tests
 pub mod Sound
 pub mod Bounded
 pub mod Slotted

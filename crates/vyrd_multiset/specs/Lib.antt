@@ -2,5 +2,4 @@ pub mod Slots
 pub mod Procedures
 pub mod Rest
 pub mod Room
-pub mod Replies
 pub mod Laws

@@ -3,12 +3,12 @@ use Rattle.std.specs.Prelude.{ℕ, zero, suc, ◌+◌, ◌==◌, min, max, Optio
 use Rattle.vyrd_base.specs.declared.header.Header.{Header}
 use Rattle.vyrd_base.specs.declared.subject.Method.{Method}
 use Rattle.vyrd_base.specs.declared.subject.Method.TheVariants.{MsInsert, MsInsertPair, MsDelete, MsLookup}
-use Rattle.vyrd_base.specs.declared.log.Kind.TheVariants.{Return, Commit, BlockOpen, BlockCommit}
+use Rattle.vyrd_base.specs.declared.log.Kind.TheVariants.{Commit, BlockOpen, BlockCommit}
 use Rattle.vyrd_memory.specs.declared.act.Act.TheVariants.{Load, Store, Take, Give, Mark}
 use Rattle.vyrd_memory.specs.declared.op.Op.{Op}
 use Rattle.vyrd_memory.specs.declared.op.Variant.{Variant}
 use Rattle.vyrd_memory.specs.declared.op.Variant.TheVariants.{Correct, Broken}
-use Rattle.vyrd_memory.specs.Scripts.{Script, stop, step, perform}
+use Rattle.vyrd_memory.specs.Scripts.{Script, stop, step, perform, returns, gives_up}
 use Rattle.vyrd_multiset.specs.Slots.{bucket_of, first_slot, state_word, value_word, lock_of}
 
 -- lock a bucket, and go on
@@ -18,14 +18,6 @@ lock h bucket later = perform (Take (lock_of h bucket)) later
 -- unlock a bucket, and go on
 abbrev pub unlock : Header → ℕ → Script → Script
 unlock h bucket later = perform (Give (lock_of h bucket)) later
-
--- the mark of the return, which ends an operation
-abbrev pub returns : ℕ → Script
-returns reply = perform (Mark (Return reply)) stop
-
--- an insert that finds no room: commit, and return 0
-abbrev pub gives_up : Script
-gives_up = perform (Mark Commit) (returns 0)
 
 -- store the value, and the state 1
 abbrev pub reserve : ℕ → ℕ → Script → Script

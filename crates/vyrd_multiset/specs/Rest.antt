@@ -4,7 +4,7 @@ use Rattle.vyrd_base.specs.declared.header.Header.{Header}
 use Rattle.vyrd_base.specs.declared.log.Kind.TheVariants.{Commit, BlockCommit}
 use Rattle.vyrd_memory.specs.declared.act.Act.TheVariants.{Store, Mark}
 use Rattle.vyrd_memory.specs.declared.op.Variant.{Variant}
-use Rattle.vyrd_memory.specs.Scripts.{Script, stop, perform}
+use Rattle.vyrd_memory.specs.Scripts.{Script, stop, perform, returns, gives_up}
 use Rattle.vyrd_multiset.specs.declared.place.Place.{Place}
 use Rattle.vyrd_multiset.specs.declared.place.Place.TheVariants.{Find, Search, Insert, Change, Both, Undo, Absent, GiveUp, Unlock, Return, Over}
 use Rattle.vyrd_multiset.specs.declared.place.Want.{Want}
@@ -24,7 +24,7 @@ use Rattle.vyrd_multiset.specs.declared.place.Undoing.TheVariants as undoing
 use Rattle.vyrd_multiset.specs.declared.task.Task.{Task}
 use Rattle.vyrd_multiset.specs.declared.progress.MultisetProgress.{MultisetProgress}
 use Rattle.vyrd_multiset.specs.Slots.{bucket_of, first_slot, state_word}
-use Rattle.vyrd_multiset.specs.Procedures.{lock, unlock, returns, gives_up, reserve, find_from, find_unlock, commit_state, inserted, first_bucket, second_bucket, unlock_both, validate_both, commit_both, undo, second_found, first_found, compare, search_from, search_in, deleted, looked_up}
+use Rattle.vyrd_multiset.specs.Procedures.{lock, unlock, reserve, find_from, find_unlock, commit_state, inserted, first_bucket, second_bucket, unlock_both, validate_both, commit_both, undo, second_found, first_found, compare, search_from, search_in, deleted, looked_up}
 
 -- the value for which a slot is wanted
 abbrev pub wanted : Task → Want → ℕ

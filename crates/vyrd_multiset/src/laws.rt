@@ -5,10 +5,9 @@ ghost use Rattle.vyrd_base.specs.declared.header.Header.{Header};
 ghost use Rattle.vyrd_base.specs.declared.subject.Subject.TheVariants.{Multiset};
 ghost use Rattle.vyrd_base.specs.Amounts.{Amounts};
 ghost use Rattle.vyrd_memory.specs.declared.op.Variant.TheVariants.{Correct};
-ghost use Rattle.vyrd_memory.specs.Alone.{Memory, state_in, alone};
+ghost use Rattle.vyrd_memory.specs.Alone.{Memory, state_in, alone, GivesUpWhere};
 ghost use Rattle.vyrd_multiset.specs.Procedures.{insert, insert_pair};
 ghost use Rattle.vyrd_multiset.specs.Room.{free_slots_for, has_room_for_both};
-ghost use Rattle.vyrd_multiset.specs.Replies.{GivesUpWhere};
 
 /// An insert that is played alone replies 0 exactly where the bucket of its value has no free slot.
 pub fn insert_gives_up()

@@ -12,9 +12,11 @@ use Rattle.vyrd_base.specs.declared.verdict.Rule.TheVariants.{TooManyLines, Afte
 use Rattle.vyrd_base.specs.Shape.{◌breaks◌, first_broken}
 use Rattle.vyrd_base.specs.Spelling.{end_line}
 use Rattle.vyrd_base.specs.Lines.{entry_in, header_in}
-use Rattle.vyrd_base.specs.Reading.{Reading, has_any, fault_on, stopped, ended, unfinished_rule, after_end_rule, entry_before, lines_read, header_before, text_read, reading}
+use Rattle.vyrd_base.specs.Reading.{Reading, has_any, stopped, ended, unfinished_rule, after_end_rule, entry_before, lines_read, header_before, text_read, reading}
 use Rattle.vyrd_base.proofs.ReadingGrows.{so_far, some_parts}
 use Rattle.vyrd_base.proofs.LongLines.{long_entry, long_isnt_end, long_header}
+use Rattle.vyrd_base.proofs.TestLaws.{not_below_of}
+use Rattle.vyrd_text.proofs.ReadLaws.{no_fault}
 use Rattle.vyrd_program.specs.Inputs.{read_so_far}
 
 -- the bytes of some parts, each with one byte after it
@@ -35,13 +37,6 @@ size_of_split p (x ∷ xs) = by_test (size_of_split p xs) (p x)
     by_test e true = omega arith
     by_test e false = onto (slice_split p xs) (some_parts p xs) e ∙ omega arith
 
-no_rule : (n : ℕ) (o : Option Rule) → fault_on n o ≡ None → o ≡ None
-no_rule n None e = refl
-no_rule n (Some rule) e = cc
-
-not_below : (a b : ℕ) → nat_lt a b ≡ false → b ≤ a
-not_below a b e = grind (arith, nat_tests)
-
 -- the bytes after the last line feed, where they are no fault
 rest_short : (max n : ℕ) (bad : Rule) (rest : List ℕ) → unfinished_rule (so_far max) n bad rest ≡ None → (length rest ≤ 64) × ((has_any rest && nat_lt max n) ≡ false)
 rest_short max n bad rest e = by_tests (has_any rest && nat_lt max n) (nat_lt 64 (length rest)) refl refl e
@@ -51,35 +46,35 @@ rest_short max n bad rest e = by_tests (has_any rest && nat_lt max n) (nat_lt 64
         → (length rest ≤ 64) × ((has_any rest && nat_lt max n) ≡ false)
     by_tests true long p l none = cc
     by_tests false true p l none = cc
-    by_tests false false p l none = (not_below 64 (length rest) l, p)
+    by_tests false false p l none = (not_below_of 64 (length rest) l, p)
 
 last_short : (max n : ℕ) (bad : Rule) (rest : List ℕ) → n ≤ max + 1 → unfinished_rule (so_far max) n bad rest ≡ None → length rest + 1 ≤ 65 * (max + 1 - n) + 1
 last_short max n bad rest within e = by_rest rest (rest_short max n bad rest e)
   where
     by_rest : (r : List ℕ) → (length r ≤ 64) × ((has_any r && nat_lt max n) ≡ false) → length r + 1 ≤ 65 * (max + 1 - n) + 1
     by_rest [] s = omega arith
-    by_rest (x ∷ xs) s = let low : n ≤ max = not_below max n s.1 in let one : 1 ≤ max + 1 - n = omega arith in omega (arith, s.0)
+    by_rest (x ∷ xs) s = let low : n ≤ max = not_below_of max n s.1 in let one : 1 ≤ max + 1 - n = omega arith in omega (arith, s.0)
 
 -- a line that spells an entry is short
 entry_short : (subject : Subject) (line : List ℕ) (e : Entry) → entry_in subject line ≡ Some e → length line ≤ 64
 entry_short subject line e is = by_test (nat_lt 64 (length line)) refl
   where
     by_test : (b : Bool) → nat_lt 64 (length line) ≡ b → length line ≤ 64
-    by_test false f = not_below 64 (length line) f
+    by_test false f = not_below_of 64 (length line) f
     by_test true f = let long : 64 < length line = grind (arith, nat_tests) in let none = long_entry subject line long in cc
 
 header_short : (line : List ℕ) (h : Header) → header_in line ≡ Ok h → length line ≤ 64
 header_short line h is = by_test (nat_lt 64 (length line)) refl
   where
     by_test : (b : Bool) → nat_lt 64 (length line) ≡ b → length line ≤ 64
-    by_test false f = not_below 64 (length line) f
+    by_test false f = not_below_of 64 (length line) f
     by_test true f = let long : 64 < length line = grind (arith, nat_tests) in let bad = long_header line long in cc
 
 end_short : (line : List ℕ) → bytes_eq line end_line ≡ true → length line ≤ 64
 end_short line is = by_test (nat_lt 64 (length line)) refl
   where
     by_test : (b : Bool) → nat_lt 64 (length line) ≡ b → length line ≤ 64
-    by_test false f = not_below 64 (length line) f
+    by_test false f = not_below_of 64 (length line) f
     by_test true f = let long : 64 < length line = grind (arith, nat_tests) in let isnt = long_isnt_end line long in cc
 
 -- after `end` nothing stands
@@ -100,7 +95,7 @@ nothing_after max n [] (line ∷ lines) e = broken (nat_lt max n) e
 lines_short : (max : ℕ) (subject : Subject) (n : ℕ) (line : List ℕ) (lines : List (List ℕ)) → n ≤ max + 1
     → (lines_read (so_far max) subject n (line ∷ lines)).fault ≡ None → size_of (line ∷ lines) ≤ 65 * (max + 1 - n) + 1
 unfolding size_of
-lines_short max subject n rest [] within e = let s = last_short max n BadEntry rest within (no_rule n _ e) in omega arith
+lines_short max subject n rest [] within e = let s = last_short max n BadEntry rest within (no_fault n _ e) in omega arith
 lines_short max subject n line (next ∷ lines) within e =
     by_tests (λ within' e'. lines_short max subject (n + 1) next lines within' e') (nat_lt max n) (bytes_eq line end_line) refl refl e
   where
@@ -122,15 +117,15 @@ lines_short max subject n line (next ∷ lines) within e =
         → length line + 1 + size_of (next ∷ lines) ≤ 65 * (max + 1 - n) + 1
     by_tests onward true is_end p q e' = cc
     by_tests onward false true p q e' =
-        let low : n ≤ max = not_below max n p in
+        let low : n ≤ max = not_below_of max n p in
         let one : 1 ≤ max + 1 - n = omega arith in
-        omega (arith, end_short line q, nothing_after max (n + 1) next lines (no_rule (n + 1) _ e'))
-    by_tests onward false false p q e' = by_entry onward (not_below max n p) (entry_in subject line) refl e'
+        omega (arith, end_short line q, nothing_after max (n + 1) next lines (no_fault (n + 1) _ e'))
+    by_tests onward false false p q e' = by_entry onward (not_below_of max n p) (entry_in subject line) refl e'
 
 parts_short : (max : ℕ) (parts : List (List ℕ)) → 1 ≤ max → 0 < length parts → (text_read (so_far max) parts).fault ≡ None → size_of parts ≤ 65 * max + 1
 unfolding size_of
 parts_short max [] low some e = absurd (omega arith)
-parts_short max (rest ∷ []) low some e = let s = rest_short max 1 BadHeader rest (no_rule 1 _ e) in omega (arith, s.0)
+parts_short max (rest ∷ []) low some e = let s = rest_short max 1 BadHeader rest (no_fault 1 _ e) in omega (arith, s.0)
 parts_short max (line ∷ next ∷ lines) low some e = by_header (header_in line) refl e
   where
     by_header : (r : Result Header Rule) → header_in line ≡ r

@@ -1,5 +1,5 @@
 -- What is known of the run of a workload that keeps its limits, and of the input that it was read from.
-use Rattle.std.proofs.Common.{◌≡◌, ℕ, true, not, ◌||◌, List, [], ◌∷◌, ◌++◌, length, Option, Some, None, refl, ap, ◌∙◌, sym, subst, arith, inl, inr}
+use Rattle.std.proofs.Common.{◌≡◌, ℕ, true, not, ◌||◌, List, [], ◌∷◌, ◌++◌, length, Option, Some, None, refl, ap, ◌∙◌, sym, subst, arith, inl, inr, append-nil}
 use Rattle.std.specs.Prelude.{◌⊎◌, nat_lt, IfSome, MatchOption}
 use Rattle.std.specs.List.{AllByRecursion}
 use Rattle.vyrd_base.specs.declared.header.Header.{Header}
@@ -10,8 +10,7 @@ use Rattle.vyrd_base.specs.Subjects.{same_subject, subject_of, are_args, are_pad
 use Rattle.vyrd_base.specs.Devices.{IsAtEnd}
 use Rattle.vyrd_base.specs.Histories.{cells_of, is_legal, log_of}
 use Rattle.vyrd_base.specs.Verdicts.{verdict}
-use Rattle.vyrd_base.proofs.ListLaws.{append_nil}
-use Rattle.vyrd_base.proofs.SplitLaws.{both_true, first_true, second_true}
+use Rattle.vyrd_base.proofs.TestLaws.{both_true, first_true, second_true}
 use Rattle.vyrd_text.specs.Written.{is_writable}
 use Rattle.vyrd_memory.specs.Runs.{is_call_of, PlayToTheEnd}
 use Rattle.vyrd_memory.proofs.LegalRuns.{run_is_legal, run_plays}
@@ -25,7 +24,7 @@ use Rattle.vyrd_work.specs.LongInputs.{longest_input}
 use Rattle.vyrd_work.proofs.SoundScripts.{scripts_sound}
 use Rattle.vyrd_work.proofs.SettledLaws.{reading_settled}
 use Rattle.vyrd_live.specs.declared.run.Run.{Run}
-use Rattle.vyrd_program.specs.Inputs.{IsInputRead, IsInputTaken}
+use Rattle.vyrd_program.specs.Inputs.{IsInputRead}
 use Rattle.vyrd_program.specs.Steps.{IsRunByTurns, NamesOnlyRaces}
 
 -- the history of a run by turns is legal, and each script is played to its end in it
@@ -82,15 +81,8 @@ reading_is_input before (Some left) bytes is =
     subst (λ before. IfSome before (λ input. work_reading bytes ≡ work_reading input)) (sym is.told) (by_end is.enough)
   where
     by_end : IsAtEnd (Some left) ⊎ (length bytes ≡ longest_input) → work_reading bytes ≡ work_reading (bytes ++ left)
-    by_end (inl none) = ap work_reading (sym (ap (λ left. bytes ++ left) none ∙ append_nil bytes))
+    by_end (inl none) = ap work_reading (sym (ap (λ left. bytes ++ left) none ∙ append-nil bytes))
     by_end (inr long) = sym (reading_settled bytes left (omega (arith, long)))
-
-pub input_taken : (before after : Option (List ℕ)) (bytes : List ℕ) → IsInputRead before after bytes → IsInputTaken before after
-input_taken before after bytes is = by_end is.enough
-  where
-    by_end : IsAtEnd after ⊎ (length bytes ≡ longest_input) → IsInputTaken before after
-    by_end (inl none) = inl none
-    by_end (inr long) = inr (bytes, is.told, long)
 
 -- what is said where there is a value
 pub of_match : {A : Type 0} (P : Type 0) (Q : A → Type 0) (o : Option A) (x : A) → o ≡ Some x → MatchOption o P Q → Q x

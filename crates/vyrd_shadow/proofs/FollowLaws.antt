@@ -3,7 +3,6 @@ use Rattle.std.proofs.Common.{◌≡◌, ℕ, suc, zero, ◌+◌, ◌<◌, Bool,
 use Rattle.std.specs.Prelude.{◌==◌, unwrap_or, is_some, nat_eq, replicate}
 use Rattle.std.specs.Prelude.{Result, Ok, Err, OnOk}
 use Rattle.std.specs.Option.{option_or}
-use Rattle.std.proofs.lemmas.Bool.Decides.{nat_tests}
 use Rattle.std.proofs.lemmas.List.{length-replicate}
 use Rattle.indexmap.specs.IndexMap.{insert_entry}
 use Rattle.vyrd_base.specs.declared.header.Header.{Header}
@@ -18,7 +17,8 @@ use Rattle.vyrd_base.specs.Callers.{by_caller, open_or_close, has_block}
 use Rattle.vyrd_base.specs.Words.{with_write, block_writes, effects_at, effects, given_to, value_after, words_after}
 use Rattle.vyrd_base.proofs.PlaceLaws.{first_answer-append}
 use Rattle.vyrd_base.proofs.WordLaws.{words_after-write}
-use Rattle.vyrd_base.proofs.BlockLaws.{entry, by_same, other_answer, no_answer, other_writes, own_block}
+use Rattle.vyrd_base.proofs.BlockLaws.{entry, by_same, other_answer, no_answer, other_writes, own_block, own_writes}
+use Rattle.vyrd_base.proofs.ListLaws.{zeros}
 use Rattle.vyrd_shadow.specs.Blocks.{with_writes, with_word, first_written}
 use Rattle.vyrd_shadow.specs.Following.{Kept, HasFollowed, is_open, kept_writes, words_of}
 use Rattle.vyrd_shadow.proofs.KeptWrites.{value_kept, words_kept, AllOnce, once_written, length-with_writes, value_with, differs}
@@ -75,12 +75,6 @@ own_closed c block entries none out = record {
   order = λ e. cc;
   values = λ w e. cc;
 }
-
-same_number : (c : ℕ) → (c == c) ≡ true
-same_number c = grind (arith, nat_tests)
-
-own_writes : (c : ℕ) (kind : Kind) (earlier : List Entry) → block_writes c (entry c kind ∷ earlier) ≡ with_write true kind (block_writes c earlier)
-own_writes c kind earlier = ap (λ b. with_write b kind (block_writes c earlier)) (same_number c)
 
 -- a write leaves blocks open or closed
 block_write : (d c word value : ℕ) (earlier : List Entry) → has_block d (entry c (Write word value) ∷ earlier) ≡ has_block d earlier
@@ -232,12 +226,6 @@ followed_lone_commit kept earlier c = followed_quiet kept earlier c Commit refl 
     by_test : (b : Bool) (writes : List (ℕ × ℕ)) → with_write b Commit writes ≡ writes
     by_test true writes = refl
     by_test false writes = refl
-
--- nothing has been followed
-zeros : (n i : ℕ) → get_or (replicate n zero) i zero ≡ zero
-zeros zero i = refl
-zeros (suc n) zero = refl
-zeros (suc n) (suc i) = zeros n i
 
 alike : (n c : ℕ) (block : Option (List (ℕ × ℕ))) → get_or (replicate n block) c block ≡ block
 alike zero c block = refl

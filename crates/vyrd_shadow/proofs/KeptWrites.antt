@@ -10,10 +10,8 @@ use Rattle.std.proofs.lemmas.List.Elements.{All-nil, All-cons}
 use Rattle.indexmap.specs.IndexMap.{insert_entry}
 use Rattle.vyrd_base.specs.Places.{first_answer}
 use Rattle.vyrd_base.specs.Words.{given_to}
+use Rattle.vyrd_base.proofs.TestLaws.{same_of, flipped, neither_true}
 use Rattle.vyrd_shadow.specs.Blocks.{with_writes, with_word, first_written, AreInRange}
-
-pub equal : (k d : ℕ) → (k == d) ≡ true → k ≡ d
-equal k d e = grind (arith, nat_tests)
 
 pub differs : (k d : ℕ) → (k == d) ≡ false → d ≢ k
 differs k d e = grind (arith, nat_tests)
@@ -36,7 +34,7 @@ swapped v u rest false false apart = refl
 
 other_place : (w k v q u : ℕ) (rest : Option ℕ) → (k == q) ≡ false
     → option_or (given_to w (q, u)) (option_or (given_to w (k, v)) rest) ≡ option_or (given_to w (k, v)) (option_or (given_to w (q, u)) rest)
-other_place w k v q u rest e = swapped v u rest (q == w) (k == w) (λ f g. differs k q e (equal q w f ∙ sym (equal k w g)))
+other_place w k v q u rest e = swapped v u rest (q == w) (k == w) (λ f g. differs k q e (same_of q w f ∙ sym (same_of k w g)))
 
 -- an insertion, by whether the key is the first one
 inserted : (k v q u : ℕ) (es : List (ℕ × ℕ)) (b : Bool) → (k == q) ≡ b → insert_entry nat_eq ((q, u) ∷ es) k v ≡ cond b ((q, v) ∷ es) ((q, u) ∷ insert_entry nat_eq es k v)
@@ -49,7 +47,7 @@ value_kept w k v ((q, u) ∷ es) = by_place (k == q) refl (value_kept w k v es)
   where
     by_place : (b : Bool) → (k == q) ≡ b → first_answer (given_to w) (insert_entry nat_eq es k v) ≡ option_or (given_to w (k, v)) (first_answer (given_to w) es)
         → first_answer (given_to w) (insert_entry nat_eq ((q, u) ∷ es) k v) ≡ option_or (given_to w (k, v)) (option_or (given_to w (q, u)) (first_answer (given_to w) es))
-    by_place true e rest = ap (first_answer (given_to w)) (inserted k v q u es true e) ∙ same_place w k v q u (first_answer (given_to w) es) (equal k q e)
+    by_place true e rest = ap (first_answer (given_to w)) (inserted k v q u es true e) ∙ same_place w k v q u (first_answer (given_to w) es) (same_of k q e)
     by_place false e rest = ap (first_answer (given_to w)) (inserted k v q u es false e) ∙ ap (option_or (given_to w (q, u))) rest ∙ other_place w k v q u (first_answer (given_to w) es) e
 
 -- the words of a block, with one more write
@@ -79,18 +77,11 @@ pub AllOnce : List ℕ → Type 0
 AllOnce [] = Unit {0}
 AllOnce (w ∷ ws) = (list_any (λ other. w == other) ws ≡ false) × AllOnce ws
 
-flipped : (c d : ℕ) → (c == d) ≡ false → (d == c) ≡ false
-flipped c d e = grind (arith, nat_tests)
-
-or_both : (a b : Bool) → (a || b) ≡ false → (a ≡ false) × (b ≡ false)
-or_both true b e = cc
-or_both false b e = (refl, e)
-
 once_push : (ws : List ℕ) (k : ℕ) → AllOnce ws → list_any (λ other. k == other) ws ≡ false → AllOnce (ws ++ k ∷ [])
 unfolding AllOnce
 once_push [] k once new = (refl, tt)
 once_push (w ∷ ws) k once new =
-    let parts = or_both (k == w) (list_any (λ other. k == other) ws) new in
+    let parts = neither_true (k == w) (list_any (λ other. k == other) ws) new in
     (list_any-append (λ other. w == other) ws (k ∷ []) ∙ (λ i. once.0 i || (flipped k w parts.0 i || false)), once_push ws k once.1 parts.1)
 
 once_with : (ws : List ℕ) (k : ℕ) → AllOnce ws → AllOnce (with_word ws k)
@@ -109,7 +100,7 @@ once_written ((word, value) ∷ writes) = once_with (first_written writes) word 
 no_value : (w : ℕ) (es : List (ℕ × ℕ)) → list_any (λ other. w == other) (keys_of es) ≡ false → first_answer (given_to w) es ≡ None
 no_value w [] e = refl
 no_value w ((q, u) ∷ es) e =
-    let parts = or_both (w == q) (list_any (λ other. w == other) (keys_of es)) e in
+    let parts = neither_true (w == q) (list_any (λ other. w == other) (keys_of es)) e in
     ap (λ b. option_or (cond b (Some u) None) (first_answer (given_to w) es)) (flipped w q parts.0) ∙ no_value w es parts.1
 
 pub length-with_writes : (words : List ℕ) (es : List (ℕ × ℕ)) → length (with_writes words es) ≡ length words
@@ -126,7 +117,7 @@ value_with words ((q, u) ∷ es) w low once = by_place (q == w) refl (value_with
     by_place : (b : Bool) → (q == w) ≡ b → get_or (with_writes (set words q u) es) w 0 ≡ unwrap_or (first_answer (given_to w) es) (get_or (set words q u) w 0)
         → get_or (with_writes (set words q u) es) w 0 ≡ unwrap_or (option_or (given_to w (q, u)) (first_answer (given_to w) es)) (get_or words w 0)
     by_place true e rest =
-        let place : q ≡ w = equal q w e in
+        let place : q ≡ w = same_of q w e in
         let none : first_answer (given_to w) es ≡ None = no_value w es (subst (λ x. list_any (λ other. x == other) (keys_of es) ≡ false) place once.0) in
         rest ∙ ap (λ o. unwrap_or o (get_or (set words q u) w 0)) none
         ∙ subst (λ x. get_or (set words x u) w 0 ≡ u) (sym place) (get_or-set_same words w u 0 low)

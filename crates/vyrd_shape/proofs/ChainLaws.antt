@@ -7,6 +7,7 @@ use Rattle.std.proofs.lemmas.List.Sums.{sum_by-set}
 use Rattle.std.specs.List.{sum_by, list_any}
 use Rattle.vyrd_base.specs.Places.{numbers_from}
 use Rattle.vyrd_base.proofs.BlockLaws.{by_same}
+use Rattle.vyrd_base.proofs.ListLaws.{zeros}
 use Rattle.std.proofs.Math.ListN.{get_or-map}
 use Rattle.vyrd_shape.specs.Holding.{Holding, released, is_held_by_another, IsChain, IsLinked, AreLinked}
 
@@ -157,12 +158,6 @@ linked_ends holder by_word links first ends linked = chain_ends holder by_word l
 
 pub holder_falls : (by_word : List ℕ) (w h : ℕ) → get_or by_word w 0 ≡ h → 0 < h → w < length by_word → sum_by (λ x. x) (set by_word w 0) < sum_by (λ x. x) by_word
 holder_falls by_word w h held some low = let e : sum_by (λ x. x) (set by_word w 0) + get_or by_word w 0 ≡ sum_by (λ x. x) by_word + 0 = sum_by-set (λ x. x) by_word w 0 0 low in omega arith
-
--- no word is held
-pub zeros : (n i : ℕ) → get_or (replicate n zero) i zero ≡ zero
-zeros zero i = refl
-zeros (suc n) zero = refl
-zeros (suc n) (suc i) = zeros n i
 
 pub linked_new : (n m : ℕ) → n < 2 ^ 32 → m < 2 ^ 32 → AreLinked (replicate n 0) (replicate n 0) (replicate m 0)
 linked_new n m few few' = record {

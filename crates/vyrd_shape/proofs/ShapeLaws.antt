@@ -18,11 +18,14 @@ use Rattle.vyrd_base.specs.Callers.{Called, by_caller, call_or_return, commit_or
 use Rattle.vyrd_base.specs.Shape.{broken_rule, is_held_by_other}
 use Rattle.vyrd_base.specs.Verdicts.{is_call_open}
 use Rattle.vyrd_base.proofs.BlockLaws.{entry, by_same, own_answer, other_answer, no_answer}
+use Rattle.vyrd_base.proofs.TestLaws.{flipped, same_of}
+use Rattle.vyrd_base.proofs.ListLaws.{zeros}
+use Rattle.vyrd_base.proofs.ShadowLaws.{holds_other}
 use Rattle.vyrd_shape.specs.declared.phase.Phase.{Phase}
 use Rattle.vyrd_shape.specs.Phases.{phase_of}
 use Rattle.vyrd_shape.specs.Holding.{Holding, released, is_held_by_another, holders_after}
 use Rattle.vyrd_shape.specs.Following.{Kept, HasFollowed}
-use Rattle.vyrd_shape.proofs.ChainLaws.{at_most_set, released_at, released_own, released_other, released_le, differs, zeros}
+use Rattle.vyrd_shape.proofs.ChainLaws.{at_most_set, released_at, released_own, released_other, released_le, differs}
 use Rattle.vyrd_shape.proofs.RuleLaws.{write_kept, open_kept}
 
 -- another caller's entry leaves a phase alone
@@ -49,9 +52,6 @@ slice_get-set_other (y ∷ xs) zero (suc j) x h = refl
 slice_get-set_other (y ∷ xs) (suc i) zero x h = refl
 slice_get-set_other (y ∷ xs) (suc i) (suc j) x h = slice_get-set_other xs i j x (λ e. h (ap suc e))
 
-flipped : (c d : ℕ) → (c == d) ≡ false → (d == c) ≡ false
-flipped c d e = grind (arith, nat_tests)
-
 -- a caller's phase goes on, and the others stay
 phases_next : (n : ℕ) (phases : List Phase) (earlier : List Entry) (c : ℕ) (kind : Kind) (next : Phase) → c < length phases
     → next ≡ phase_of c (entry c kind ∷ earlier) → ((d : ℕ) → d < n → slice_get phases d ≡ Some (phase_of d earlier))
@@ -66,13 +66,6 @@ holds_quiet : (d c w : ℕ) (kind : Kind) (earlier : List Entry) → open_or_clo
 holds_quiet d c w kind earlier edge word =
     let block = no_answer d c open_or_close kind earlier edge in
     let wrote = no_answer d c (write_or_open w) kind earlier word in
-    λ i. unwrap_or (block i) false && unwrap_or (wrote i) false
-
--- after another caller's entry
-holds_other : (d c w : ℕ) (kind : Kind) (earlier : List Entry) → (c == d) ≡ false → holds_word d w (entry c kind ∷ earlier) ≡ holds_word d w earlier
-holds_other d c w kind earlier other =
-    let block = other_answer d c open_or_close kind earlier other in
-    let wrote = other_answer d c (write_or_open w) kind earlier other in
     λ i. unwrap_or (block i) false && unwrap_or (wrote i) false
 
 -- and after its own
@@ -190,9 +183,6 @@ whose callers by_word c w earlier high was free some =
     let yet : (get_or by_word w 0 == d + 1) ≡ true = grind (arith, nat_tests) in
     cc)
 
-not_zero : (n : ℕ) → (n == 0) ≡ true → n ≡ 0
-not_zero n e = grind (arith, nat_tests)
-
 -- what is known of the holders before the entry
 record Before (h : Header) (by_word : List ℕ) (c : ℕ) (kind : Kind) (earlier : List Entry) : Type 0 where
   rules : broken_rule h earlier (entry c kind) ≡ None
@@ -205,7 +195,7 @@ held_written : (h : Header) (by_word : List ℕ) (c d w value : ℕ) (earlier : 
     → Held (cond (inside && free) (set by_word w (c + 1)) by_word) d w (entry c (Write w value) ∷ earlier)
 held_written h by_word c d w value earlier before low_d low false free e f = held_write_out by_word c d w value earlier e (before.was d w low_d low)
 held_written h by_word c d w value earlier before low_d low true true e f =
-    held_write_free by_word c d w value earlier e (omega (arith, before.words)) (not_zero (get_or by_word w 0) f) (before.was d w low_d low)
+    held_write_free by_word c d w value earlier e (omega (arith, before.words)) (same_of (get_or by_word w 0) 0 f) (before.was d w low_d low)
 held_written h by_word c d w value earlier before low_d low true false e f =
     held_write_again by_word c d w value earlier e
     (whose h.callers by_word c w earlier (before.high w) (λ x low_x. before.was x w low_x low) (write_kept h c w value earlier before.rules).not_raced f)

@@ -1,15 +1,9 @@
 -- A step of one amount and back.
 use Rattle.std.proofs.Common.{◌≡◌, ◌≤◌, ℕ, ◌+◌, ◌-◌, subst, Bool, true, false, cond, refl, ap, ◌∙◌, sym, arith}
 use Rattle.std.specs.Prelude.{◌==◌}
-use Rattle.std.proofs.lemmas.Bool.Decides.{nat_tests}
 use Rattle.vyrd_base.specs.Amounts.{Amounts, IsAmounts, amount_of, with_amount, plus_amount}
 use Rattle.vyrd_base.proofs.AmountLaws.{amount_of-with_amount, IsAmounts-with_amount, same_amounts}
-
-pub equal_of : (q k : ℕ) → (q == k) ≡ true → q ≡ k
-equal_of q k e = grind (arith, nat_tests)
-
-same_number : (k : ℕ) → (k == k) ≡ true
-same_number k = grind (arith, nat_tests)
+use Rattle.vyrd_base.proofs.TestLaws.{same_of, same_number}
 
 -- the amount that a key was given
 pub amount_given : (s : Amounts) (k a : ℕ) → amount_of (with_amount s k a) k ≡ a
@@ -22,7 +16,7 @@ given_back s k a is =
     (λ q. amount_of-with_amount (with_amount s k a) k (amount_of s k) q ∙ by_key q (q == k) refl)
   where
     by_key : (q : ℕ) (b : Bool) → (q == k) ≡ b → cond b (amount_of s k) (amount_of (with_amount s k a) q) ≡ amount_of s q
-    by_key q true e = ap (amount_of s) (sym (equal_of q k e))
+    by_key q true e = ap (amount_of s) (sym (same_of q k e))
     by_key q false e = amount_of-with_amount s k a q ∙ ap (λ b. cond b a (amount_of s q)) e
 
 -- one more and one less
@@ -36,5 +30,5 @@ pub one_more_at_most : (s : Amounts) (k q : ℕ) → amount_of (plus_amount s k 
 one_more_at_most s k q = subst (λ n. n ≤ amount_of s q + 1) (sym (amount_of-with_amount s k (amount_of s k + 1) q)) (by_key (q == k) refl)
   where
     by_key : (b : Bool) → (q == k) ≡ b → cond b (amount_of s k + 1) (amount_of s q) ≤ amount_of s q + 1
-    by_key true e = let same : amount_of s k ≡ amount_of s q = ap (amount_of s) (sym (equal_of q k e)) in omega arith
+    by_key true e = let same : amount_of s k ≡ amount_of s q = ap (amount_of s) (sym (same_of q k e)) in omega arith
     by_key false e = omega arith

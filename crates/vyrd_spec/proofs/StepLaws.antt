@@ -2,7 +2,6 @@
 use Rattle.std.proofs.Common.{◌≡◌, ℕ, zero, suc, ◌+◌, ◌-◌, ◌*◌, ◌^◌, ◌<◌, ◌≤◌, Bool, true, false, cond, not, Option, Some, None, refl, ap, ◌∙◌, sym, subst, arith}
 use Rattle.std.specs.Prelude.{◌==◌, ◌≢◌, IfSome}
 use Rattle.std.specs.Bool.{then_some}
-use Rattle.std.proofs.lemmas.Bool.Decides.{nat_tests}
 use Rattle.vyrd_base.specs.declared.subject.Subject.TheVariants.{Multiset, Cache, Tree}
 use Rattle.vyrd_base.specs.declared.subject.Method.{Method}
 use Rattle.vyrd_base.specs.declared.subject.Method.TheVariants.{MsInsert, MsInsertPair, MsDelete, MsLookup, CaWrite, CaFlush, CaEvict, CaRead, TrInsert, TrDelete, TrLookup}
@@ -11,8 +10,8 @@ use Rattle.vyrd_base.specs.Amounts.{Amounts, IsAmounts, amount_of, with_amount, 
 use Rattle.vyrd_base.specs.Specification.{next_state, by_reply, is_present}
 use Rattle.vyrd_base.specs.Subjects.{subject_of}
 use Rattle.vyrd_base.proofs.AmountLaws.{amount_of-with_amount, IsAmounts-with_amount}
+use Rattle.vyrd_base.proofs.TestLaws.{same_of, apart_of}
 use Rattle.vyrd_spec.specs.Bounds.{AllAmounts}
-use Rattle.vyrd_spec.proofs.AmountSteps.{equal_of}
 
 some_is : (s t : Amounts) → ◌≡◌ {A = Option Amounts} (Some s) (Some t) → s ≡ t
 some_is s t e = cc
@@ -65,30 +64,21 @@ AllAmounts-with_amount passes s k a all new =
     by_key : (q n : ℕ) → n ≡ cond (q == k) a (amount_of s q) → (b : Bool) → (q == k) ≡ b → n ≢ 0 → passes q n
     by_key q n is true e some =
         let given : n ≡ a = is ∙ ap (λ b. cond b a (amount_of s q)) e in
-        subst (λ m. passes q m) (sym given) (subst (λ x. passes x a) (sym (equal_of q k e)) (new (λ z. some (given ∙ z))))
+        subst (λ m. passes q m) (sym given) (subst (λ x. passes x a) (sym (same_of q k e)) (new (λ z. some (given ∙ z))))
     by_key q n is false e some =
         let kept : n ≡ amount_of s q = is ∙ ap (λ b. cond b a (amount_of s q)) e in
         subst (λ m. passes q m) (sym kept) (all q (λ z. some (kept ∙ z)))
-
-pub AllAmounts-weaker : (P Q : ℕ → ℕ → Type 0) (s : Amounts) → ((k a : ℕ) → P k a → Q k a) → AllAmounts P s → AllAmounts Q s
-AllAmounts-weaker P Q s weaker all = λ q some. weaker q (amount_of s q) (all q some)
 
 -- values below 2^32, of each at most so many
 abbrev pub AreCounts : ℕ → Amounts → Type 0
 AreCounts most s = AllAmounts (λ value count. (value < 2 ^ 32) × (count ≤ most)) s
 
-isnt_zero : (n : ℕ) → (n == 0) ≡ false → n ≢ 0
-isnt_zero n e = grind (arith, nat_tests)
-
-is_zero : (n : ℕ) → (n == 0) ≡ true → n ≡ 0
-is_zero n e = grind (arith, nat_tests)
-
 pub count_at_most : (most : ℕ) (s : Amounts) (q : ℕ) → AreCounts most s → amount_of s q ≤ most
 count_at_most most s q all = by_zero (amount_of s q == 0) refl
   where
     by_zero : (b : Bool) → (amount_of s q == 0) ≡ b → amount_of s q ≤ most
-    by_zero true e = let none = is_zero (amount_of s q) e in omega (arith, none)
-    by_zero false e = (all q (isnt_zero (amount_of s q) e)).1
+    by_zero true e = let none = same_of (amount_of s q) 0 e in omega (arith, none)
+    by_zero false e = (all q (apart_of (amount_of s q) 0 e)).1
 
 weaker_counts : (m n : ℕ) (s : Amounts) → m ≤ n → AreCounts m s → AreCounts n s
 weaker_counts m n s le all = λ q some. let here = all q some in (here.0, omega (arith, here.1))

@@ -1,7 +1,7 @@
 -- The first line has one reading.
 use Rattle.std.proofs.Common.{◌≡◌, ℕ, ◌<◌, ◌^◌, Bool, true, false, cond, ◌&&◌, List, [], ◌∷◌, ◌++◌, Option, Some, None, Err, refl, ap, sym, ◌∙◌, arith}
-use Rattle.std.specs.Prelude.{◌==◌, nat_lt, nat_le, codes, decimal, ok_or}
-use Rattle.std.specs.List.{slice_split, list_all}
+use Rattle.std.specs.Prelude.{nat_lt, nat_le, codes, decimal, ok_or}
+use Rattle.std.specs.List.{list_all}
 use Rattle.std.specs.Str.{bytes_eq}
 use Rattle.std.proofs.lemmas.List.{append_cancel_left}
 use Rattle.std.proofs.lemmas.Bool.Decides.{nat_tests}
@@ -9,15 +9,16 @@ use Rattle.std.proofs.lemmas.Slice.Eq.{bytes_eq-Decides}
 use Rattle.std.proofs.Math.Bool.{Bool-set}
 use Rattle.vyrd_base.specs.declared.header.Header.{Header}
 use Rattle.vyrd_base.specs.declared.subject.Subject.{Subject}
-use Rattle.vyrd_base.specs.declared.subject.Subject.TheVariants.{Multiset, Cache, Tree}
 use Rattle.vyrd_base.specs.declared.verdict.Rule.TheVariants.{BadHeader, UnknownVersion}
 use Rattle.vyrd_base.specs.Limits.{is_sized, is_within}
 use Rattle.vyrd_base.specs.Spelling.{header_line, subject_name}
 use Rattle.vyrd_base.specs.Lines.{fields_of, number_of, subject_called, header_if, header_of, header_spelled, header_from, header_in}
-use Rattle.vyrd_base.proofs.SplitLaws.{lacks, both_true, first_true, second_true, split_at, split-join, number_of_decimal, bytes_same}
+use Rattle.vyrd_base.proofs.SplitLaws.{split-join, number_of_decimal, bytes_same}
 use Rattle.vyrd_base.proofs.LineLaws.{is_plain_field, plain_number, plain_spaces}
+use Rattle.vyrd_base.proofs.TestLaws.{both_true, first_true, second_true, below_of, is_below}
+use Rattle.vyrd_base.proofs.SubjectLaws.{one_name, plain_subject, subject_read}
 use Rattle.vyrd_text.specs.Spelled.{AreLimitsRead, AreNumbersRead}
-use Rattle.vyrd_text.proofs.PartLaws.{is_below, below, one_before_space}
+use Rattle.vyrd_text.proofs.PartLaws.{one_before_space}
 
 small_number : (n most : ℕ) → most < 2 ^ 32 → nat_le n most ≡ true → n < 2 ^ 32
 small_number n most m e = grind (arith, nat_tests)
@@ -47,20 +48,6 @@ not_sized text m n r low small e f bad size callers sized g =
     number_same : (a b : ℕ) → a < 2 ^ 64 → b < 2 ^ 64 → decimal a ≡ decimal b → a ≡ b
     number_same a b l h e = sym (number_of_decimal a l) ∙ ap number_of e ∙ number_of_decimal b h
 
-plain_name : (subject : Subject) → lacks 32 (subject_name subject) ≡ true
-plain_name Multiset = refl
-plain_name Cache = refl
-plain_name Tree = refl
-
--- the name before a space is one
-one_name : (a b : Subject) (r s : List ℕ) → subject_name a ++ 32 ∷ r ≡ subject_name b ++ 32 ∷ s → r ≡ s
-one_name a b r s e =
-    let parts : subject_name a ∷ slice_split (λ x. x == 32) r ≡ subject_name b ∷ slice_split (λ x. x == 32) s =
-    sym (split_at 32 (subject_name a) r (plain_name a)) ∙ ap (slice_split (λ x. x == 32)) e ∙ split_at 32 (subject_name b) s (plain_name b) in
-    let same : subject_name a ≡ subject_name b = cc in
-    let tails : 32 ∷ r ≡ 32 ∷ s = append_cancel_left (subject_name a) (32 ∷ r) (32 ∷ s) (e ∙ ap (λ t. t ++ 32 ∷ s) (sym same)) in
-    cc
-
 -- a version that no subject follows
 pub no_subject : (line r : List ℕ) (m : ℕ) (s : List ℕ) → m < 2 ^ 64 → line ≡ codes "vyrd " ++ r → r ≡ decimal m ++ 32 ∷ s
     → ((subject : Subject) (rest : List ℕ) → s ≡ subject_name subject ++ 32 ∷ rest → ⊥) → AreNumbersRead line None
@@ -76,16 +63,6 @@ no_limits line r m s found t low e f h none version subject size callers small s
     let after = append_cancel_left (codes "vyrd ") r (decimal version ++ 32 ∷ (subject_name subject ++ 32 ∷ (decimal size ++ 32 ∷ decimal callers))) (sym e ∙ g) in
     let is = one_before_space m version s (subject_name subject ++ 32 ∷ (decimal size ++ 32 ∷ decimal callers)) low (omega arith) (sym f ∙ after) in
     none size callers sized (one_name found subject t (decimal size ++ 32 ∷ decimal callers) (sym h ∙ is.1))
-
-subject_read : (subject : Subject) → subject_called (subject_name subject) ≡ Some subject
-subject_read Multiset = refl
-subject_read Cache = refl
-subject_read Tree = refl
-
-plain_subject : (subject : Subject) → is_plain_field (subject_name subject) ≡ true
-plain_subject Multiset = refl
-plain_subject Cache = refl
-plain_subject Tree = refl
 
 -- a line with a version, a subject and limits is read as that header, where the version is known
 pub header_known : (line : List ℕ) (version : ℕ) (subject : Subject) (size callers : ℕ) → AreNumbersRead line (Some (version, subject, size, callers))
@@ -128,7 +105,7 @@ spelled_none line version (Some subject) size callers none = by_test (nat_lt ver
     by_test false e = refl
     by_test true e =
         let same = (bytes_eq-Decides (header_line version subject size callers) line).0 (second_true (nat_lt version (2 ^ 32) && is_sized size callers) _ e) in
-        absurd (none version subject size callers (below version (2 ^ 32) (first_true _ _ (first_true _ _ e))) (second_true (nat_lt version (2 ^ 32)) _ (first_true _ _ e)) (sym same))
+        absurd (none version subject size callers (below_of version (2 ^ 32) (first_true _ _ (first_true _ _ e))) (second_true (nat_lt version (2 ^ 32)) _ (first_true _ _ e)) (sym same))
 
 from_none : (line : List ℕ) (fields : List (List ℕ)) → AreNumbersRead line None → header_from line fields ≡ Err BadHeader
 from_none line [] none = refl

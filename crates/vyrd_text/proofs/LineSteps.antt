@@ -4,6 +4,7 @@ use Rattle.std.specs.Prelude.{◌==◌, nat_lt}
 use Rattle.std.specs.List.{slice_split}
 use Rattle.std.specs.Str.{bytes_eq}
 use Rattle.std.proofs.lemmas.Slice.Eq.{bytes_eq-Decides}
+use Rattle.std.proofs.Math.Bool.{or-true}
 use Rattle.vyrd_base.specs.declared.header.Header.{Header}
 use Rattle.vyrd_base.specs.declared.log.Entry.{Entry}
 use Rattle.vyrd_base.specs.declared.verdict.Rule.{Rule}
@@ -29,10 +30,6 @@ parts_of xs = by_parts (slice_split (λ b. b == 10) xs) refl (split_longer (λ b
     by_parts : (ps : List (List ℕ)) → slice_split (λ b. b == 10) xs ≡ ps → Longer ([] ∷ []) ps → (next : List ℕ) × (lines : List (List ℕ)) × (slice_split (λ b. b == 10) xs ≡ next ∷ lines)
     by_parts [] e h = absurd h
     by_parts (p ∷ ps) e h = (p, ps, e)
-
-or_true : (b : Bool) → (b || true) ≡ true
-or_true true = refl
-or_true false = refl
 
 -- where nothing is wrong yet, lines are read on
 pub fine_on : (r : ReaderState) (input : Input) (lines : List (List ℕ)) → r.fault ≡ None → unless_faulty r input lines r.fault ≡ lines_on input r.line r.header r.ended lines
@@ -129,7 +126,7 @@ module _ (r : ReaderState) (line : List ℕ) (lack : lacks 10 line ≡ true) (fi
       where
         by_end : (b : Bool) → r.ended ≡ b → IsLineTaken (with_line r line) [] (record r { fault = Some (record { line = r.line; rule = TooManyLines }) })
         by_end true is = past_end TooManyLines
-            ((λ i. first_broken ((or_true (has_any line) i && past i breaks TooManyLines) ∷ (or_true (has_any line) i breaks AfterEnd) ∷ []))) is
+            ((λ i. first_broken ((or-true (has_any line) i && past i breaks TooManyLines) ∷ (or-true (has_any line) i breaks AfterEnd) ∷ []))) is
         by_end false is = line_fault (record { line = r.line; rule = TooManyLines })
             (later false is false (10 ∷ [])
             ∙ ap (header_before h) (line_step (so_far r) h r.line line [] lack)
@@ -140,7 +137,7 @@ module _ (r : ReaderState) (line : List ℕ) (lack : lacks 10 line ≡ true) (fi
     module _ (within : nat_lt r.max_lines r.line ≡ false) where
       pub after_end_line : r.ended ≡ true → IsLineTaken (with_line r line) [] (record r { fault = Some (record { line = r.line; rule = AfterEnd }) })
       after_end_line is = past_end AfterEnd
-          ((λ i. first_broken ((or_true (has_any line) i && within i breaks TooManyLines) ∷ (or_true (has_any line) i breaks AfterEnd) ∷ []))) is
+          ((λ i. first_broken ((or-true (has_any line) i && within i breaks TooManyLines) ∷ (or-true (has_any line) i breaks AfterEnd) ∷ []))) is
 
       module _ (not_ended : r.ended ≡ false) where
         -- an entry's line

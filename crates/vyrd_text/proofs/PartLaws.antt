@@ -3,7 +3,6 @@ use Rattle.std.proofs.Common.{◌≡◌, ℕ, ◌<◌, ◌^◌, true, List, ◌�
 use Rattle.std.specs.Prelude.{◌==◌, nat_lt, codes, decimal}
 use Rattle.std.specs.List.{slice_split}
 use Rattle.std.proofs.lemmas.List.{append_cancel_left}
-use Rattle.std.proofs.lemmas.Bool.Decides.{nat_tests}
 use Rattle.std.proofs.lemmas.Fmt.{decimal_injective}
 use Rattle.vyrd_base.specs.declared.subject.Subject.{Subject}
 use Rattle.vyrd_base.specs.declared.subject.Subject.TheVariants.{Multiset}
@@ -15,16 +14,11 @@ use Rattle.vyrd_base.specs.declared.log.Entry.{Entry}
 use Rattle.vyrd_base.specs.Subjects.{subject_of, same_subject}
 use Rattle.vyrd_base.specs.Spelling.{method_name, entry_line, is_entry_of}
 use Rattle.vyrd_base.specs.Lines.{entry_in}
-use Rattle.vyrd_base.proofs.SplitLaws.{both_true, first_true, second_true, split_at, decimal_lacks, no_space}
+use Rattle.vyrd_base.proofs.SplitLaws.{split_at, decimal_lacks, no_space}
 use Rattle.vyrd_base.proofs.LineLaws.{entry_in-entry_line}
 use Rattle.vyrd_base.proofs.ReadingSound.{entry_in_sound}
+use Rattle.vyrd_base.proofs.TestLaws.{both_true, first_true, second_true, below_of, is_below}
 use Rattle.vyrd_text.specs.Spelled.{kind_text, AreArgsRead, IsKindRead}
-
-pub below : (n most : ℕ) → nat_lt n most ≡ true → n < most
-below n most e = grind (arith, nat_tests)
-
-pub is_below : (n most : ℕ) → n < most → nat_lt n most ≡ true
-is_below n most h = grind (arith, nat_tests)
 
 -- the number before a space and what follows the space are one
 pub one_before_space : (m n : ℕ) (r s : List ℕ) → m < 2 ^ 64 → n < 2 ^ 64 → decimal m ++ 32 ∷ r ≡ decimal n ++ 32 ∷ s → (m ≡ n) × (r ≡ s)
@@ -39,8 +33,8 @@ one_before_space m n r s low small e =
 pub no_value : (text : List ℕ) (w : ℕ) (r : List ℕ) → w < 2 ^ 64 → text ≡ decimal w ++ 32 ∷ r → ((n : ℕ) → n < 2 ^ 64 → r ≡ decimal n → ⊥)
     → (subject : Subject) → IsKindRead subject (codes "write " ++ text) None
 no_value text w r low e none subject (Write word value) ok f =
-    let small : word < 2 ^ 32 = below word (2 ^ 32) (first_true _ _ ok) in
-    let fits : value < 2 ^ 64 = below value (2 ^ 64) (second_true (nat_lt word (2 ^ 32)) _ ok) in
+    let small : word < 2 ^ 32 = below_of word (2 ^ 32) (first_true _ _ ok) in
+    let fits : value < 2 ^ 64 = below_of value (2 ^ 64) (second_true (nat_lt word (2 ^ 32)) _ ok) in
     let is = one_before_space w word r (decimal value) low (omega arith) (sym e ∙ append_cancel_left (codes "write ") text (decimal word ++ 32 ∷ decimal value) f) in
     none value fits is.1
 no_value text w r low e none subject (Call method args) ok f = absurd (let h : 119 ≡ 99 = ap (λ t. get_or t 0 0) f in omega (arith, h))
@@ -98,12 +92,12 @@ no_entry subject line none = by_answer (entry_in subject line) refl
 
 -- a line without a number before a space
 pub no_caller : (subject : Subject) (line : List ℕ) → ((n : ℕ) (rest : List ℕ) → n < 2 ^ 32 → line ≡ decimal n ++ 32 ∷ rest → ⊥) → None ≡ entry_in subject line
-no_caller subject line none = no_entry subject line (λ e ok same. none e.caller (kind_text e.kind) (below e.caller (2 ^ 32) (first_true _ _ ok)) (same ∙ entry_line_is e.caller e.kind))
+no_caller subject line none = no_entry subject line (λ e ok same. none e.caller (kind_text e.kind) (below_of e.caller (2 ^ 32) (first_true _ _ ok)) (same ∙ entry_line_is e.caller e.kind))
 
 -- a line that says nothing after its caller
 pub no_kind : (subject : Subject) (line : List ℕ) (caller : ℕ) (rest : List ℕ) → caller < 2 ^ 64 → line ≡ decimal caller ++ 32 ∷ rest → IsKindRead subject rest None → None ≡ entry_in subject line
 no_kind subject line caller rest low is none = no_entry subject line (λ e ok same.
-    let small : e.caller < 2 ^ 32 = below e.caller (2 ^ 32) (first_true _ _ ok) in
+    let small : e.caller < 2 ^ 32 = below_of e.caller (2 ^ 32) (first_true _ _ ok) in
     let parts = one_before_space caller e.caller rest (kind_text e.kind) low (omega arith) (sym is ∙ same ∙ entry_line_is e.caller e.kind) in
     none e.kind (second_true (nat_lt e.caller (2 ^ 32)) _ ok) parts.1)
 

@@ -4,7 +4,8 @@ use Rattle.std.specs.Prelude.{◌==◌, count_by}
 use Rattle.std.proofs.lemmas.List.{take_all, take-append-drop, drop_more, take_rest}
 use Rattle.std.proofs.lemmas.List.Sums.{sum_by-append, sum_by-cons}
 use Rattle.std.proofs.lemmas.Bool.Decides.{nat_tests}
-use Rattle.vyrd_base.proofs.SplitLaws.{lacks, both_true}
+use Rattle.vyrd_base.proofs.SplitLaws.{lacks}
+use Rattle.vyrd_base.proofs.TestLaws.{both_true}
 
 not_true : (b : Bool) → ¬ (b ≡ true) → not b ≡ true
 not_true true h = absurd (h refl)

@@ -98,7 +98,7 @@ at_end false false true bad e = refl
 at_end false false false bad e = refl
 
 -- no fault on a line
-no_fault : (n : ℕ) (o : Option Rule) → fault_on n o ≡ None → o ≡ None
+pub no_fault : (n : ℕ) (o : Option Rule) → fault_on n o ≡ None → o ≡ None
 no_fault n None e = refl
 no_fault n (Some rule) e = cc
 

@@ -2,40 +2,25 @@
 use Rattle.std.proofs.Common.{◌≡◌, ℕ, ◌+◌, ◌<◌, ◌≤◌, Bool, true, false, cond, ◌&&◌, ◌||◌, List, [], ◌∷◌, ◌++◌, length, Option, Some, None, refl, ap, sym, ◌∙◌, arith, length-append}
 use Rattle.std.specs.Prelude.{◌==◌, nat_lt, option_map}
 use Rattle.std.specs.List.{slice_split}
-use Rattle.std.proofs.lemmas.Bool.Decides.{nat_tests}
+use Rattle.std.proofs.Math.Bool.{and-false}
 use Rattle.vyrd_base.specs.declared.header.Header.{Header}
 use Rattle.vyrd_base.specs.declared.verdict.Rule.{Rule}
 use Rattle.vyrd_base.specs.declared.verdict.Rule.TheVariants.{TooManyLines, AfterEnd, BadHeader, BadEntry, NoLineFeed}
 use Rattle.vyrd_base.specs.Shape.{◌breaks◌, first_broken}
 use Rattle.vyrd_base.specs.Reading.{has_any, stopped, ended, unfinished_rule, header_before, fault_on}
 use Rattle.vyrd_base.proofs.SplitLaws.{lacks, lacks-append, split_whole}
+use Rattle.vyrd_base.proofs.TestLaws.{is_below, isnt_below}
 use Rattle.vyrd_text.specs.Readers.{ReaderState, so_far, known, lines_on, goes_on}
 use Rattle.vyrd_text.proofs.LineSteps.{fine_on}
-
-and_false : (b : Bool) → (b && false) ≡ false
-and_false true = refl
-and_false false = refl
 
 -- the rules of an unfinished line, for bytes that may go on
 unfinished_cases : (max n : ℕ) (bad : Rule) (ys : List ℕ) → unfinished_rule (record { max_lines = max; is_whole = false }) n bad ys
     ≡ cond (has_any ys && nat_lt max n) (Some TooManyLines) (cond (nat_lt 64 (length ys)) (Some bad) None)
-unfinished_cases max n bad ys = ap (λ b. cond (has_any ys && nat_lt max n) (Some TooManyLines) (cond (nat_lt 64 (length ys)) (Some bad) (cond b (Some NoLineFeed) None))) (and_false (has_any ys))
+unfinished_cases max n bad ys = ap (λ b. cond (has_any ys && nat_lt max n) (Some TooManyLines) (cond (nat_lt 64 (length ys)) (Some bad) (cond b (Some NoLineFeed) None))) (and-false (has_any ys))
 
 some_bytes : (ys : List ℕ) → 0 < length ys → has_any ys ≡ true
 some_bytes [] h = absurd (omega arith)
 some_bytes (y ∷ ys) h = refl
-
-long_test : (n : ℕ) → 64 < n → nat_lt 64 n ≡ true
-long_test n h = grind (arith, nat_tests)
-
-short_test : (n : ℕ) → n ≤ 64 → nat_lt 64 n ≡ false
-short_test n h = grind (arith, nat_tests)
-
-pub past_test : (max n : ℕ) → max < n → nat_lt max n ≡ true
-past_test max n h = grind (arith, nat_tests)
-
-pub within_test : (max n : ℕ) → n ≤ max → nat_lt max n ≡ false
-within_test max n h = grind (arith, nat_tests)
 
 -- a reader where nothing is wrong, with bytes that don't end its line
 module _ (r : ReaderState) (fine : r.fault ≡ None) (low : 1 ≤ r.max_lines) (one_line : lacks 10 r.unfinished ≡ true) (xs : List ℕ) (lack : lacks 10 xs ≡ true) (some : 0 < length xs) where
@@ -53,14 +38,14 @@ module _ (r : ReaderState) (fine : r.fault ≡ None) (low : 1 ≤ r.max_lines) (
         on
         ∙ ap (λ h. lines_on (so_far r) r.line h r.ended ((r.unfinished ++ xs) ∷ [])) no_header
         ∙ ap (stopped 1) (unfinished_cases r.max_lines 1 BadHeader (r.unfinished ++ xs)
-        ∙ (λ i. cond (any i && within_test r.max_lines 1 low i) (Some TooManyLines) (is i)))
+        ∙ (λ i. cond (any i && isnt_below r.max_lines 1 low i) (Some TooManyLines) (is i)))
         ∙ (λ i. record { header = sym no_header i; entries = []; ended = sym not_ended i; fault = option_map (λ rule. record { line = sym one i; rule = rule }) o })
 
     pub first_long : 64 < length r.unfinished + length xs → goes_on r false xs ≡ known r (Some (record { line = r.line; rule = BadHeader }))
-    first_long h = first_rest (Some BadHeader) (ap (λ b. cond b (Some BadHeader) None) (long_test (length (r.unfinished ++ xs)) (omega (arith, length-append r.unfinished xs))))
+    first_long h = first_rest (Some BadHeader) (ap (λ b. cond b (Some BadHeader) None) (is_below 64 (length (r.unfinished ++ xs)) (omega (arith, length-append r.unfinished xs))))
 
     pub first_short : length r.unfinished + length xs ≤ 64 → goes_on r false xs ≡ known r None
-    first_short h = first_rest None (ap (λ b. cond b (Some BadHeader) None) (short_test (length (r.unfinished ++ xs)) (omega (arith, length-append r.unfinished xs))))
+    first_short h = first_rest None (ap (λ b. cond b (Some BadHeader) None) (isnt_below 64 (length (r.unfinished ++ xs)) (omega (arith, length-append r.unfinished xs))))
 
   module _ (h : Header) (has : r.header ≡ Some h) where
     ended_rest : (o : Option Rule) → r.ended ≡ true → cond (nat_lt r.max_lines r.line) (Some TooManyLines) (Some AfterEnd) ≡ o
@@ -85,18 +70,18 @@ module _ (r : ReaderState) (fine : r.fault ≡ None) (low : 1 ≤ r.max_lines) (
     rest_past past = by_end r.ended refl
       where
         by_end : (b : Bool) → r.ended ≡ b → goes_on r false xs ≡ known r (Some (record { line = r.line; rule = TooManyLines }))
-        by_end true is = ended_rest (Some TooManyLines) is (ap (λ b. cond b (Some TooManyLines) (Some AfterEnd)) (past_test r.max_lines r.line past))
+        by_end true is = ended_rest (Some TooManyLines) is (ap (λ b. cond b (Some TooManyLines) (Some AfterEnd)) (is_below r.max_lines r.line past))
         by_end false is = entry_rest (Some TooManyLines) is
-            (ap (λ b. cond b (Some TooManyLines) (cond (nat_lt 64 (length (r.unfinished ++ xs))) (Some BadEntry) None)) (past_test r.max_lines r.line past))
+            (ap (λ b. cond b (Some TooManyLines) (cond (nat_lt 64 (length (r.unfinished ++ xs))) (Some BadEntry) None)) (is_below r.max_lines r.line past))
 
     module _ (within : r.line ≤ r.max_lines) where
       pub rest_after_end : r.ended ≡ true → goes_on r false xs ≡ known r (Some (record { line = r.line; rule = AfterEnd }))
-      rest_after_end is = ended_rest (Some AfterEnd) is (ap (λ b. cond b (Some TooManyLines) (Some AfterEnd)) (within_test r.max_lines r.line within))
+      rest_after_end is = ended_rest (Some AfterEnd) is (ap (λ b. cond b (Some TooManyLines) (Some AfterEnd)) (isnt_below r.max_lines r.line within))
 
       pub rest_long : r.ended ≡ false → 64 < length r.unfinished + length xs → goes_on r false xs ≡ known r (Some (record { line = r.line; rule = BadEntry }))
-      rest_long is h = entry_rest (Some BadEntry) is (λ i. cond (within_test r.max_lines r.line within i) (Some TooManyLines)
-          (cond (long_test (length (r.unfinished ++ xs)) (omega (arith, length-append r.unfinished xs)) i) (Some BadEntry) None))
+      rest_long is h = entry_rest (Some BadEntry) is (λ i. cond (isnt_below r.max_lines r.line within i) (Some TooManyLines)
+          (cond (is_below 64 (length (r.unfinished ++ xs)) (omega (arith, length-append r.unfinished xs)) i) (Some BadEntry) None))
 
       pub rest_short : r.ended ≡ false → length r.unfinished + length xs ≤ 64 → goes_on r false xs ≡ known r None
-      rest_short is h = entry_rest None is (λ i. cond (within_test r.max_lines r.line within i) (Some TooManyLines)
-          (cond (short_test (length (r.unfinished ++ xs)) (omega (arith, length-append r.unfinished xs)) i) (Some BadEntry) None))
+      rest_short is h = entry_rest None is (λ i. cond (isnt_below r.max_lines r.line within i) (Some TooManyLines)
+          (cond (isnt_below 64 (length (r.unfinished ++ xs)) (omega (arith, length-append r.unfinished xs)) i) (Some BadEntry) None))

@@ -4,7 +4,7 @@ use Rattle.std.specs.Prelude.{slice_get}
 use Rattle.std.proofs.lemmas.List.{get_or-replicate, length-replicate}
 use mathlib.Core.Option.{some, some-injective, some-ne-none}
 use lib.ListN.{get_elem?}
-use Rattle.atomic_table.specs.Table.{State, opening, Splits, Joins}
+use Rattle.atomic_table.specs.Table.{opening, Splits, Joins}
 use Rattle.atomic_table.proofs.Lists.{at_set}
 use Rattle.vyrd_base.specs.Histories.{Cells, is_legal}
 use Rattle.vyrd_trace.specs.Lanes.{part, cells_in}
@@ -16,9 +16,6 @@ use Rattle.vyrd_trace.specs.Records.{first_record, dealer, dealt, own_lane, gath
 use Rattle.vyrd_trace.specs.Rule.{Ghost, HasLane, Knows, Kept}
 use Rattle.vyrd_trace.proofs.CellMoves.{upd, upd_here, upd_else}
 use Rattle.vyrd_trace.proofs.Stays.{apart_from}
-
-abbrev St : Type 0
-St = State (Unit {0}) Record
 
 no_lane : (i : ℕ) (l : Lane) → slice_get [] i ≡ Some l → ⊥
 no_lane zero l e = cc

@@ -1,9 +1,8 @@
 -- A legal history with one event more, and an induction over legal histories from the front.
 use Rattle.std.proofs.Common.{◌≡◌, ℕ, zero, suc, ◌+◌, ◌<◌, ◌≤◌, ◌^◌, true, false, not, ◌&&◌, List, [], ◌∷◌, ◌++◌, map, length, Option, Some, None, refl, sym, ap, ◌∙◌, subst, arith, append-nil, append_assoc}
-use Rattle.std.specs.Prelude.{slice_get, nat_lt, nat_le, ◌==◌, unwrap_or}
+use Rattle.std.specs.Prelude.{slice_get, nat_lt, ◌==◌, unwrap_or}
 use Rattle.std.specs.Option.{option_or}
 use Rattle.std.specs.List.{list_all}
-use Rattle.std.proofs.lemmas.Bool.Decides.{nat_tests}
 use Rattle.std.proofs.lemmas.List.Folds.{list_all-append, list_all-map}
 use Rattle.vyrd_base.specs.declared.log.Kind.{Kind}
 use Rattle.vyrd_base.specs.declared.history.Did.{Did}
@@ -12,7 +11,7 @@ use Rattle.vyrd_base.specs.declared.history.Stamped.{Stamped}
 use Rattle.vyrd_base.specs.Places.{places_after, first_answer, newest_first_onto, newest_first}
 use Rattle.vyrd_base.specs.Histories.{Cells, is_lock, made_of, value_in, is_write, may_do, is_legal_at, is_legal}
 use Rattle.vyrd_base.proofs.PlaceLaws.{with_later, places_after-append, newest_first-push}
-use Rattle.vyrd_base.proofs.SplitLaws.{both_true, first_true, second_true}
+use Rattle.vyrd_base.proofs.TestLaws.{both_true, first_true, second_true, is_below, is_same, below_of, same_of, is_at_most}
 
 -- what an event makes of a cell that had the value v
 abbrev pub value_after : ℕ → ℕ → ℕ → Did → ℕ
@@ -33,30 +32,8 @@ length-newest_first_onto earlier (x ∷ xs) = let r = length-newest_first_onto (
 pub length-newest_first : (xs : List Stamped) → length (newest_first xs) ≡ length xs
 length-newest_first xs = let r = length-newest_first_onto [] xs in omega arith
 
--- what an event may be, from the facts
-is_below : (a b : ℕ) → a < b → nat_lt a b ≡ true
-is_below a b l = grind (arith, nat_tests)
-
-is_within : (a b : ℕ) → a ≤ b → nat_le a b ≡ true
-is_within a b l = grind (arith, nat_tests)
-
-is_same : (a b : ℕ) → a ≡ b → (a == b) ≡ true
-is_same a b e = grind (arith, nat_tests)
-
-pub below_is : (a b : ℕ) → nat_lt a b ≡ true → a < b
-below_is a b e = grind (arith, nat_tests)
-
-within_is : (a b : ℕ) → nat_le a b ≡ true → a ≤ b
-within_is a b e = grind (arith, nat_tests)
-
-pub same_is : (a b : ℕ) → (a == b) ≡ true → a ≡ b
-same_is a b e = grind (arith, nat_tests)
-
-pub lock_is : (z : Cells) (c : ℕ) → is_lock z c ≡ true → (z.plain ≤ c) × (c < z.plain + z.locks)
-lock_is z c e = (within_is z.plain c (first_true _ _ e), below_is c (z.plain + z.locks) (second_true (nat_le z.plain c) _ e))
-
 is_lock_of : (z : Cells) (c : ℕ) → z.plain ≤ c → c < z.plain + z.locks → is_lock z c ≡ true
-is_lock_of z c a b = both_true _ _ (is_within z.plain c a) (is_below c (z.plain + z.locks) b)
+is_lock_of z c a b = both_true _ _ (is_at_most z.plain c a) (is_below c (z.plain + z.locks) b)
 
 pub may_read : (z : Cells) (earlier : List Stamped) (caller c x : ℕ) → c < z.plain → x ≡ value_in earlier c → may_do z earlier caller (Read c x) ≡ true
 may_read z earlier caller c x l e = both_true _ _ (is_below c z.plain l) (is_same x (value_in earlier c) e)
@@ -88,8 +65,8 @@ facts_at : (z : Cells) (earlier : List Stamped) (x : Stamped) (xs : List Stamped
 facts_at z earlier x xs legal =
     let here = first_true (is_legal_at z (record { earlier = earlier; here = x; later = xs })) _ legal in
     let both = first_true _ _ here in (
-      same_is x.number (length earlier) (first_true _ _ both),
-      below_is x.caller z.callers (second_true (x.number == length earlier) _ both),
+      same_of x.number (length earlier) (first_true _ _ both),
+      below_of x.caller z.callers (second_true (x.number == length earlier) _ both),
       second_true (x.number == length earlier && nat_lt x.caller z.callers) _ here,
       second_true (is_legal_at z (record { earlier = earlier; here = x; later = xs })) _ legal,
     )

@@ -11,9 +11,9 @@ use Rattle.vyrd_base.specs.declared.history.Did.TheVariants.{Read, Wrote, Took, 
 use Rattle.vyrd_base.specs.declared.history.Stamped.{Stamped}
 use Rattle.vyrd_base.specs.Places.{newest_first}
 use Rattle.vyrd_base.specs.Histories.{Cells, is_lock, may_do, is_legal}
-use Rattle.vyrd_base.proofs.SplitLaws.{first_true, second_true}
+use Rattle.vyrd_base.proofs.TestLaws.{first_true, second_true, below_of, same_of}
 use Rattle.vyrd_trace.specs.Lanes.{part, last_value, HoldsBy}
-use Rattle.vyrd_trace.proofs.HistoryGrows.{value_after, value_in-snoc, below_is, same_is, numbered, legal_induction}
+use Rattle.vyrd_trace.proofs.HistoryGrows.{value_after, value_in-snoc, numbered, legal_induction}
 
 pub value-snoc : (h : List Stamped) (e : Stamped) (cell : ℕ) → last_value (h ++ e ∷ []) cell ≡ value_after cell (last_value h cell) e.caller e.did
 value-snoc h e cell = value_in-snoc h e cell
@@ -97,16 +97,16 @@ held_step : (z : Cells) (k c : ℕ) (h : List Stamped) (by : ℕ) (d : Did) → 
     × (by ≢ c → HoldsBy (part c h) c k → value_after k (last_value h k) by d ≡ c + 1)
 held_step z k c h by (Read c' x) lock holds may = ((λ _ t. holds t), (λ _ t. holds t))
 held_step z k c h by (Wrote c' x) lock holds may =
-    let a = below_is c' z.plain (first_true _ _ may) in
+    let a = below_of c' z.plain (first_true _ _ may) in
     let no : c' ≢ k = λ e. omega arith in
     rw (ne_eqb c' k no) ((λ _ t. holds t), (λ _ t. holds t))
 held_step z k c h by (Took c') lock holds may = dite (ℕ_discrete c' k)
-    (λ e. let now = same_is (last_value h c') 0 (second_true (is_lock z c') _ may) in
+    (λ e. let now = same_of (last_value h c') 0 (second_true (is_lock z c') _ may) in
     let z0 : last_value h k ≡ 0 = ap (last_value h) (sym e) ∙ now in
     rw (eq-eqb c' k e) ((λ same _. ap (λ n. n + 1) same), (λ _ t. let v = holds t in absurd (omega arith))))
     (λ no. rw (ne_eqb c' k no) ((λ _ t. holds t), (λ _ t. holds t)))
 held_step z k c h by (Gave c') lock holds may = dite (ℕ_discrete c' k)
-    (λ e. let now = same_is (last_value h c') (by + 1) (second_true (is_lock z c') _ may) in
+    (λ e. let now = same_of (last_value h c') (by + 1) (second_true (is_lock z c') _ may) in
     let z0 : last_value h k ≡ by + 1 = ap (last_value h) (sym e) ∙ now in
     rw (eq-eqb c' k e) ((λ same t. t), (λ no t. let v = holds t in absurd (no (omega arith)))))
     (λ no. rw (ne_eqb c' k no) ((λ _ t. holds t), (λ _ t. holds t)))

@@ -1,13 +1,13 @@
--- One more entry in a node.
+-- One isnt_at_most entry in a node.
 use Rattle.std.proofs.Common.{◌≡◌, ℕ, zero, suc, ◌+◌, ◌-◌, ◌<◌, ◌≤◌, List, [], ◌∷◌, ◌++◌, length, take, drop, refl, ap, ◌∙◌, sym, subst, arith}
-use Rattle.std.specs.Prelude.{Bool, true, false, cond, nat_lt, nat_le, insert, Option, None}
-use Rattle.std.proofs.lemmas.Bool.Decides.{nat_tests}
+use Rattle.std.specs.Prelude.{Bool, cond, insert, Option, None}
 use Rattle.std.proofs.lemmas.List.{length-take-le}
 use Rattle.vyrd_base.specs.declared.header.Header.{Header}
 use Rattle.vyrd_base.specs.declared.log.Kind.{Kind}
 use Rattle.vyrd_base.specs.declared.log.Kind.TheVariants.{BlockOpen}
+use Rattle.vyrd_base.proofs.TestLaws.{is_below, isnt_below, isnt_at_most}
 use Rattle.vyrd_memory.specs.declared.act.Act.TheVariants.{Store, Mark}
-use Rattle.vyrd_memory.specs.Scripts.{Script, perform}
+use Rattle.vyrd_memory.specs.Scripts.{Script, perform, returns}
 use Rattle.vyrd_tree.specs.declared.task.Task.{Task}
 use Rattle.vyrd_tree.specs.declared.visit.Ascent.{Ascent}
 use Rattle.vyrd_tree.specs.declared.visit.Errand.{Errand}
@@ -18,30 +18,17 @@ use Rattle.vyrd_tree.specs.Cells.{count_cell, unlock_node}
 use Rattle.vyrd_tree.specs.Walk.{Arrived}
 use Rattle.vyrd_tree.specs.Split.{with_unused, write_entries, place_below, with_entry, add_entry, split, split_entry, split_key, first_key, upper_half}
 use Rattle.vyrd_tree.specs.Ascent.{add_child, ascend_once, ascend}
-use Rattle.vyrd_tree.specs.Procedures.{returns, place_of, insert_in}
+use Rattle.vyrd_tree.specs.Procedures.{place_of, insert_in}
 use Rattle.vyrd_tree.specs.Rests.Errands.{add_rest, next_round, round, after_split, close_for, unsplit}
+use Rattle.vyrd_tree.specs.Laws.Fits.{length_insert}
 
-less : (a b : ℕ) → a < b → nat_lt a b ≡ true
-less a b low = grind (arith, nat_tests)
-
-not_less : (a b : ℕ) → b ≤ a → nat_lt a b ≡ false
-not_less a b high = grind (arith, nat_tests)
-
-more : (a b : ℕ) → b < a → nat_le a b ≡ false
-more a b high = grind (arith, nat_tests)
-
--- the first entries with one more among them
+-- the first entries with one isnt_at_most among them
 insert_in_take : (slots : List (ℕ × ℕ)) (place count : ℕ) (e : ℕ × ℕ) → place ≤ count → count ≤ length slots
     → insert (take count slots) place e ≡ take (suc count) (insert slots place e)
 insert_in_take slots zero count e le fits = refl
 insert_in_take [] (suc p) count e le fits = absurd (omega (arith, le, fits))
 insert_in_take (x ∷ xs) (suc p) zero e le fits = absurd (omega (arith, le))
 insert_in_take (x ∷ xs) (suc p) (suc n) e le fits = ap (λ es. x ∷ es) (insert_in_take xs p n e (omega arith) (omega arith))
-
-length_insert : (xs : List (ℕ × ℕ)) (place : ℕ) (e : ℕ × ℕ) → length (insert xs place e) ≡ suc (length xs)
-length_insert xs zero e = refl
-length_insert [] (suc p) e = refl
-length_insert (x ∷ xs) (suc p) e = ap suc (length_insert xs p e)
 
 pub take_4 : (n : ℕ) (xs : List (ℕ × ℕ)) → n ≤ 4 → take n (take 4 xs) ≡ take n xs
 take_4 n xs few = again 4 n xs few
@@ -89,7 +76,7 @@ added h task v count place key value five four close low len at le is first clos
     ∙ ap (λ k. rewriting h node place (insert (take count slots) place (key, value)) (length (insert (take count slots) place (key, value))) k (returns 1)) closes
     ∙ ap (λ p. rewriting h node p (insert (take count slots) p (key, value)) (length (insert (take count slots) p (key, value))) (close_for v.errand) (returns 1)) at
     ∙ ap (λ b. cond b (add_entry h (visited v count) key value (close_for v.errand) (returns 1)) (filled h task v.errand (visited v count) key value))
-    (sym (less (length (take count slots)) 4 (omega (arith, fits, low))))
+    (sym (is_below (length (take count slots)) 4 (omega (arith, fits, low))))
 
 -- the node of a visit, with these five entries, is split
 abbrev opened : Header → Task → Visit → List (ℕ × ℕ) → ℕ → Script
@@ -114,14 +101,14 @@ overflows h task v count place key value five high few len at is =
     ∙ ap (λ p. opened h task v (insert (take count slots) p (key, value)) p) at
     ∙ ap (λ b. cond b (add_entry h (visited v count) key value (close_for v.errand) (returns 1))
     (opened h task v (with_entry (take count slots) key value) (place_below key (take count slots))))
-    (sym (not_less (length (take count slots)) 4 (omega (arith, fits))))
+    (sym (isnt_below (length (take count slots)) 4 (omega (arith, fits))))
 
 pub added_child : (h : Header) (task : Task) (e : Errand) (a : Ascent) (at : Arrived) (key value : ℕ) → e ≡ errand.Ascent a → a.level < at.level → key ≡ a.key
     → value ≡ a.node.number → add_rest h task e at key value ≡ add_child h a.level a.key a.node.number at (returns 1) (next_round h task a)
 added_child h task e a at key value is above is_key is_value =
     ap (λ x. add_rest h task x at key value) is ∙ ap (λ k. add_rest h task (errand.Ascent a) at k value) is_key
     ∙ ap (add_rest h task (errand.Ascent a) at a.key) is_value
-    ∙ ap (λ b. cond b (unlock_node h at.node (returns 1)) (add_rest h task (errand.Ascent a) at a.key a.node.number)) (sym (more at.level a.level above))
+    ∙ ap (λ b. cond b (unlock_node h at.node (returns 1)) (add_rest h task (errand.Ascent a) at a.key a.node.number)) (sym (isnt_at_most at.level a.level above))
 
 pub inserted_new : (h : Header) (task : Task) (e : Errand) (at : Arrived) (place : Option ℕ) (key value : ℕ) → e ≡ errand.Operation → place ≡ None
     → key ≡ task.key → value ≡ task.value → add_rest h task e at key value ≡ insert_in h task.variant task.key task.value at place

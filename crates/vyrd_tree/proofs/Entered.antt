@@ -1,8 +1,8 @@
 -- A walk comes to a node.
-use Rattle.std.proofs.Common.{◌≡◌, ◌≢◌, ℕ, zero, suc, ◌+◌, ◌-◌, ◌<◌, ◌≤◌, refl, ap, ◌∙◌, sym, subst, arith}
-use Rattle.std.specs.Prelude.{Bool, true, false, cond, nat_lt}
-use Rattle.std.proofs.lemmas.Bool.Decides.{nat_tests}
+use Rattle.std.proofs.Common.{◌≡◌, ◌≢◌, ℕ, zero, suc, ◌+◌, ◌-◌, ◌<◌, refl, ap, ◌∙◌, sym, subst, arith}
+use Rattle.std.specs.Prelude.{Bool, cond}
 use Rattle.vyrd_base.specs.declared.header.Header.{Header}
+use Rattle.vyrd_base.proofs.TestLaws.{is_below}
 use Rattle.vyrd_memory.specs.Scripts.{Script}
 use Rattle.vyrd_tree.specs.declared.task.Task.{Task}
 use Rattle.vyrd_tree.specs.declared.visit.Visit.{Visit}
@@ -11,12 +11,6 @@ use Rattle.vyrd_tree.specs.declared.visit.Visiting.TheVariants.{Lock}
 use Rattle.vyrd_tree.specs.Walk.{visit_node}
 use Rattle.vyrd_tree.specs.Rests.Errands.{arrived_for, walk_on, key_for, toward, lost_for}
 use Rattle.vyrd_tree.specs.Rests.Visits.{visiting_rest}
-
-less : (a b : ℕ) → a < b → nat_lt a b ≡ true
-less a b low = grind (arith, nat_tests)
-
-not_less : (a b : ℕ) → b ≤ a → nat_lt a b ≡ false
-not_less a b high = grind (arith, nat_tests)
 
 -- the visit of a node, with this errand and so many visits left after it
 abbrev visit_of : Header → Task → Errand → ℕ → ℕ → Script
@@ -28,4 +22,4 @@ comes_in h task e zero number v is_errand is_left is_number low some = absurd (s
 comes_in h task e (suc l) number v is_errand is_left is_number low some =
     let fewer : v.left ≡ l = omega (arith, is_left) in
     ap (λ x. visit_of h task x v.left v.node.number) is_errand ∙ ap (λ n. visit_of h task e n v.node.number) fewer ∙ ap (visit_of h task e l) is_number
-    ∙ ap (λ b. cond b (visit_of h task e l number) (lost_for task e)) (sym (less number h.size low))
+    ∙ ap (λ b. cond b (visit_of h task e l number) (lost_for task e)) (sym (is_below number h.size low))

@@ -7,11 +7,11 @@ use Rattle.vyrd_base.specs.declared.header.Header.{Header}
 use Rattle.vyrd_base.specs.declared.subject.Subject.TheVariants.{Tree}
 use Rattle.vyrd_base.specs.TreeView.{level_of, entries_of}
 use Rattle.vyrd_base.specs.Trees.{last_of, nodes, low_of}
-use Rattle.vyrd_base.proofs.SplitLaws.{both_true, first_true, second_true}
+use Rattle.vyrd_base.proofs.TestLaws.{both_true, first_true, second_true, same_of, is_same, isnt_same, is_at_most, at_most_of}
 use Rattle.vyrd_memory.specs.Alone.{Memory, words_in}
 use Rattle.vyrd_memory.proofs.NumberLists.{all_pass, pass_all}
 use Rattle.vyrd_tree.specs.Hanging.{leads_elsewhere, hangs_in, is_hanging}
-use Rattle.vyrd_tree.specs.RightAlone.Counts.{zero_or, same_of, is_same, isnt_same, le_says, is_le}
+use Rattle.vyrd_tree.specs.RightAlone.Counts.{zero_or}
 use Rattle.vyrd_tree.specs.RightAlone.Nodes.{IsTree, entries_at}
 use Rattle.vyrd_tree.specs.RightAlone.Tested.{all_says, all_passes, entries_are, low_is}
 use Rattle.vyrd_tree.specs.RightAlone.Held.{SameWords, same_words_tree, words_same}
@@ -61,7 +61,7 @@ module _ (size : ℕ) (words : List ℕ) (low : ℕ → ℕ) (level key node : �
       two = first_true (nat_le node last && level_of words node == level) (low_of last words node == key) three
 
       used : node ≤ last
-      used = le_says node last (first_true (nat_le node last) (level_of words node == level) two)
+      used = at_most_of node last (first_true (nat_le node last) (level_of words node == level) two)
 
       inner : (n : ℕ) → level_of words n ≢ 0 → leads_elsewhere words node n ≡ true → list_all (λ entry. not (entry.1 == node)) (entries_of words n) ≡ true
       inner n some e = ap (λ b. b || list_all (λ entry. not (entry.1 == node)) (entries_of words n)) (sym (isnt_same (level_of words n) 0 some)) ∙ e
@@ -72,7 +72,7 @@ module _ (size : ℕ) (words : List ℕ) (low : ℕ → ℕ) (level key node : �
       (list_all (leads_elsewhere words node) (nodes last))
       (both_true (nat_le node last && level_of words node == level && low_of last words node == key) (not (key == 0))
       (both_true (nat_le node last && level_of words node == level) (low_of last words node == key)
-      (both_true (nat_le node last) (level_of words node == level) (is_le node last is.in_use) (is_same (level_of words node) level is.level_is))
+      (both_true (nat_le node last) (level_of words node == level) (is_at_most node last is.in_use) (is_same (level_of words node) level is.level_is))
       (is_same (low_of last words node) key (low_is size words low t node is.in_use ∙ is.low_is))) (ap not (isnt_same key 0 is.some)))
       (pass_all (leads_elsewhere words node) 0 (last + 1) (λ n from to. by_level n (omega arith) (zero_or (level_of words n))))
     where

@@ -5,4 +5,3 @@ pub mod Parted
 pub mod Rooms
 pub mod Hangs
 pub mod PassLaws
-pub mod Small

@@ -4,11 +4,9 @@ use Rattle.std.specs.Prelude.{slice_index_or, slice_set}
 use Rattle.std.proofs.lemmas.List.{append-nil, get_or-take, length-take-le}
 use Rattle.std.proofs.Math.Seq.{drop-cons}
 use Rattle.std.proofs.Math.ListN.{drop_of_length-le}
-use mathlib.Core.Path.{fun_ext}
 use Rattle.vyrd_base.specs.declared.header.Header.{Header}
 use Rattle.vyrd_memory.specs.declared.act.Act.TheVariants.{Load}
 use Rattle.vyrd_memory.specs.Scripts.{Script, step}
-use Rattle.vyrd_tree.specs.declared.entries.Entries.{Entries}
 use Rattle.vyrd_tree.specs.declared.node.Word.TheVariants.{Value}
 use Rattle.vyrd_tree.specs.declared.slot.Slot.{Slot}
 use Rattle.vyrd_tree.specs.declared.task.Task.{Task}
@@ -26,39 +24,8 @@ grown [] place key keys low = absurd (omega (arith, low))
 grown (x ∷ xs) zero key keys low = refl
 grown (x ∷ xs) (suc p) key keys low = ap (λ ks. x.0 ∷ ks) (grown xs p key keys (omega arith))
 
--- one more entry
-longer : (slots : List (ℕ × ℕ)) (place : ℕ) (e : ℕ × ℕ) (entries : List (ℕ × ℕ)) → place < length slots
-    → take (suc place) (slice_set slots place e) ++ entries ≡ take place slots ++ e ∷ entries
-longer [] place e entries low = absurd (omega (arith, low))
-longer (x ∷ xs) zero e entries low = refl
-longer (x ∷ xs) (suc p) e entries low = ap (λ es. x ∷ es) (longer xs p e entries (omega arith))
-
--- what comes after a slot isn't changed
-unchanged : (slots : List (ℕ × ℕ)) (place count : ℕ) (e : ℕ × ℕ) → drop (suc place) (take count (slice_set slots place e)) ≡ drop (suc place) (take count slots)
-unchanged [] place count e = refl
-unchanged (x ∷ xs) zero zero e = refl
-unchanged (x ∷ xs) zero (suc n) e = refl
-unchanged (x ∷ xs) (suc p) zero e = refl
-unchanged (x ∷ xs) (suc p) (suc n) e = unchanged xs p n e
-
 one_more : (n : ℕ) → n + 1 ≡ suc n
 one_more n = omega arith
-
-pub key_came : (h : Header) (task : Task) (v : Visit) (slot : Slot) (key : ℕ) (e : Entries) → slot.place < length v.entries.slots
-    → e.slots ≡ slice_set v.entries.slots slot.place (key, 0)
-    → keys_from_rest h task (record v { entries = e }) (slot.place + 1) slot.of
-    ≡ load_keys (slot.of - (slot.place + 1)) v.node.number (slot.place + 1) (λ keys.
-    with_keys h task v slot.of (keys_of (take slot.place v.entries.slots) ++ key ∷ keys))
-key_came h task v slot key e low is =
-    ap (λ es. load_keys (slot.of - (slot.place + 1)) v.node.number (slot.place + 1) (λ keys.
-    with_keys h task v slot.of (keys_of (take (slot.place + 1) es) ++ keys))) is
-    ∙ ap (load_keys (slot.of - (slot.place + 1)) v.node.number (slot.place + 1)) (fun_ext same)
-  where
-    same : (keys : List ℕ) → with_keys h task v slot.of (keys_of (take (slot.place + 1) (slice_set v.entries.slots slot.place (key, 0))) ++ keys)
-        ≡ with_keys h task v slot.of (keys_of (take slot.place v.entries.slots) ++ key ∷ keys)
-    same keys = ap (with_keys h task v slot.of) (
-        ap (λ n. keys_of (take n (slice_set v.entries.slots slot.place (key, 0))) ++ keys) (one_more slot.place)
-        ∙ grown v.entries.slots slot.place key keys low)
 
 pub keys_came : (h : Header) (task : Task) (v : Visit) (place count : ℕ) → place ≤ count → count ≤ place
     → with_keys h task v count (keys_of (take count v.entries.slots)) ≡ keys_from_rest h task v place count
@@ -67,33 +34,6 @@ keys_came h task v place count le ge =
     let none : 0 ≡ count - place = omega arith in
     ap (with_keys h task v count) (ap (λ n. keys_of (take n v.entries.slots)) same ∙ sym (append-nil (keys_of (take place v.entries.slots))))
     ∙ ap (λ n. load_keys n v.node.number place (λ keys. with_keys h task v count (keys_of (take place v.entries.slots) ++ keys))) none
-
--- the slots with one more value
-abbrev valued : Visit → Slot → ℕ → List (ℕ × ℕ)
-valued v slot value = slice_set v.entries.slots slot.place (key_at v.entries.slots slot.place, value)
-
-pub value_came : (h : Header) (task : Task) (v : Visit) (slot : Slot) (value : ℕ) (e : Entries) → slot.place < length v.entries.slots
-    → e.slots ≡ slice_set v.entries.slots slot.place (key_at v.entries.slots slot.place, value)
-    → values_from_rest h task (record v { entries = e }) (slot.place + 1) slot.of
-    ≡ load_values (keys_of (drop (slot.place + 1) (take slot.of v.entries.slots))) v.node.number (slot.place + 1) (λ entries.
-    arrived_for h task v.errand (arrived_at v (take slot.place v.entries.slots ++ (key_at v.entries.slots slot.place, value) ∷ entries)))
-value_came h task v slot value e low is =
-    ap (λ es. load_values (keys_of (drop (slot.place + 1) (take slot.of es))) v.node.number (slot.place + 1) (λ entries.
-    arrived_for h task v.errand (arrived_at v (take (slot.place + 1) es ++ entries)))) is
-    ∙ ap (λ es. load_values (keys_of es) v.node.number (slot.place + 1) (λ entries.
-    arrived_for h task v.errand (arrived_at v (take (slot.place + 1) (valued v slot value) ++ entries)))) after
-    ∙ ap (load_values (keys_of (drop (slot.place + 1) (take slot.of v.entries.slots))) v.node.number (slot.place + 1)) (fun_ext same)
-  where
-    after : drop (slot.place + 1) (take slot.of (valued v slot value)) ≡ drop (slot.place + 1) (take slot.of v.entries.slots)
-    after = ap (λ n. drop n (take slot.of (valued v slot value))) (one_more slot.place)
-        ∙ unchanged v.entries.slots slot.place slot.of (key_at v.entries.slots slot.place, value)
-        ∙ ap (λ n. drop n (take slot.of v.entries.slots)) (sym (one_more slot.place))
-
-    same : (entries : List (ℕ × ℕ)) → arrived_for h task v.errand (arrived_at v (take (slot.place + 1) (valued v slot value) ++ entries))
-        ≡ arrived_for h task v.errand (arrived_at v (take slot.place v.entries.slots ++ (key_at v.entries.slots slot.place, value) ∷ entries))
-    same entries = ap (λ es. arrived_for h task v.errand (arrived_at v es)) (
-        ap (λ n. take n (valued v slot value) ++ entries) (one_more slot.place)
-        ∙ longer v.entries.slots slot.place (key_at v.entries.slots slot.place, value) entries low)
 
 -- the first of the values that are left
 value_first : (slots : List (ℕ × ℕ)) (place count node : ℕ) (loaded : List (ℕ × ℕ) → Script) → place < count → count ≤ length slots

@@ -4,7 +4,7 @@ use Rattle.vyrd_base.specs.declared.header.Header.{Header}
 use Rattle.vyrd_base.specs.declared.log.Kind.{Kind}
 use Rattle.vyrd_base.specs.declared.log.Kind.TheVariants.{BlockOpen}
 use Rattle.vyrd_memory.specs.declared.act.Act.TheVariants.{Store, Mark}
-use Rattle.vyrd_memory.specs.Scripts.{Script, perform}
+use Rattle.vyrd_memory.specs.Scripts.{Script, perform, returns}
 use Rattle.vyrd_tree.specs.declared.node.Node.{Node}
 use Rattle.vyrd_tree.specs.declared.task.Task.{Task}
 use Rattle.vyrd_tree.specs.declared.visit.Ascent.{Ascent}
@@ -15,7 +15,6 @@ use Rattle.vyrd_tree.specs.declared.place.Need.TheVariants as need
 use Rattle.vyrd_tree.specs.Cells.{count_cell, bound_cell, right_cell, unlock_node}
 use Rattle.vyrd_tree.specs.Split.{write_entries, write_node, first_key}
 use Rattle.vyrd_tree.specs.Ascent.{ascend_once, ascend}
-use Rattle.vyrd_tree.specs.Procedures.{returns}
 use Rattle.vyrd_tree.specs.Rests.Errands.{next_round, round, after_split, close_for}
 use Rattle.vyrd_tree.specs.Rests.Unused.{found_for}
 use Rattle.vyrd_tree.proofs.Added.{take_4}

@@ -8,14 +8,14 @@ use Rattle.vyrd_base.specs.declared.subject.Subject.TheVariants.{Tree}
 use Rattle.vyrd_base.specs.declared.subject.Args.{Args}
 use Rattle.vyrd_base.specs.declared.log.Kind.TheVariants.{BlockCommit}
 use Rattle.vyrd_base.specs.Amounts.{Amounts, amount_of, with_amount}
+use Rattle.vyrd_base.proofs.TestLaws.{isnt_below}
 use Rattle.vyrd_memory.specs.declared.op.Variant.TheVariants.{Correct}
-use Rattle.vyrd_memory.specs.Scripts.{Script}
+use Rattle.vyrd_memory.specs.Scripts.{Script, returns, gives_up}
 use Rattle.vyrd_memory.specs.Alone.{Memory, Outcome, state_in, alone}
-use Rattle.vyrd_tree.specs.RightAlone.Counts.{isnt_lt}
 use Rattle.vyrd_tree.specs.Cells.{count_cell, used_cell, used_lock}
 use Rattle.vyrd_tree.specs.Split.{with_unused, add_entry, split_entry, split_key}
 use Rattle.vyrd_tree.specs.Ascent.{ascend, ascend_once}
-use Rattle.vyrd_tree.specs.Procedures.{returns, gives_up, changes_nothing, place_of, insert_new, insert_in, insert_entry}
+use Rattle.vyrd_tree.specs.Procedures.{changes_nothing, place_of, insert_new, insert_in, insert_entry}
 use Rattle.vyrd_tree.specs.Room.{leaf_of}
 use Rattle.vyrd_tree.specs.Hanging.{is_hanging}
 use Rattle.vyrd_tree.specs.Passes.{SplitsLeaf, GoesOnFrom, KeepsState}
@@ -115,7 +115,7 @@ insert_splits_leaf h c args memory state is e small_key small none full room = r
 
         new_key : Each (λ x. x.0 ≢ args.a) (entries_at m n) → Q (alone c (insert_new h Correct args.a args.b (loaded_at m n)) m)
         new_key apart =
-            subst (λ b. Q (alone c (by_room b) m)) (sym (isnt_lt (length (entries_at m n)) 4
+            subst (λ b. Q (alone c (by_room b) m)) (sym (isnt_below (length (entries_at m n)) 4
             (let len = length-entries m n 0 (count_at m n) in omega (arith, len, four))))
             (unused_played h c m Q (changes_nothing h n) splitting (at.free (used_lock h) (omega arith) (omega arith) (omega (arith, fits)))
             (λ none_left. absurd (omega (arith, room, last_same, none_left)))

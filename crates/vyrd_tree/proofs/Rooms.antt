@@ -4,12 +4,11 @@ use Rattle.vyrd_base.specs.declared.header.Header.{Header}
 use Rattle.vyrd_base.specs.declared.subject.Subject.TheVariants.{Tree}
 use Rattle.vyrd_base.specs.Amounts.{Amounts}
 use Rattle.vyrd_memory.specs.declared.op.Variant.TheVariants.{Correct}
-use Rattle.vyrd_memory.specs.Alone.{Memory, Outcome, state_in, alone}
+use Rattle.vyrd_memory.specs.Alone.{Memory, Outcome, state_in, alone, GivesUpWhere}
 use Rattle.vyrd_tree.specs.Procedures.{insert_entry}
 use Rattle.vyrd_tree.specs.Walk.{is_past}
 use Rattle.vyrd_tree.specs.Cells.{count_cell}
 use Rattle.vyrd_tree.specs.Room.{leaf_from, leaf_of, HasNoRoom}
-use Rattle.vyrd_tree.specs.Replies.{GivesUpWhere}
 use Rattle.vyrd_tree.specs.RightAlone.Counts.{zero_or, le_or}
 use Rattle.vyrd_tree.specs.RightAlone.Nodes.{level_at, count_at, bound_at, right_at, last_in, Below, IsTree}
 use Rattle.vyrd_tree.specs.RightAlone.Order.{after_of, after_falls, after_few, next_of, one_cover, zero_low}

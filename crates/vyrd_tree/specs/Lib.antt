@@ -6,7 +6,6 @@ pub mod Procedures
 pub mod Rests
 pub mod Laws
 pub mod Room
-pub mod Replies
 pub mod Hanging
 pub mod Passes
 pub mod RightAlone

@@ -6,9 +6,9 @@ use Rattle.vyrd_base.specs.declared.subject.Args.{Args}
 use Rattle.vyrd_base.specs.Amounts.{Amounts}
 use Rattle.vyrd_base.specs.Specification.{next_state}
 use Rattle.vyrd_memory.specs.declared.op.Variant.TheVariants.{Correct}
-use Rattle.vyrd_memory.specs.Scripts.{Script}
+use Rattle.vyrd_memory.specs.Scripts.{Script, returns}
 use Rattle.vyrd_memory.specs.Alone.{Memory, state_in, alone}
-use Rattle.vyrd_tree.specs.Procedures.{returns, insert_entry}
+use Rattle.vyrd_tree.specs.Procedures.{insert_entry}
 use Rattle.vyrd_tree.specs.Ascent.{ascend, ascend_once}
 use Rattle.vyrd_tree.specs.Hanging.{is_hanging}
 

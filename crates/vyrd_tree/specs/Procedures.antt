@@ -1,25 +1,17 @@
 -- The procedures of the tree, from after the mark of the call to the mark of the return.
 use Rattle.std.specs.Prelude.{ℕ, ◌+◌, ◌==◌, nat_lt, List, length, position, remove, slice_index, map, Option, Some, None, if◌then◌else◌}
 use Rattle.vyrd_base.specs.declared.header.Header.{Header}
-use Rattle.vyrd_base.specs.declared.log.Kind.TheVariants.{Return, Commit, BlockOpen, BlockCommit}
+use Rattle.vyrd_base.specs.declared.log.Kind.TheVariants.{Commit, BlockOpen, BlockCommit}
 use Rattle.vyrd_base.specs.declared.subject.Method.{Method}
 use Rattle.vyrd_base.specs.declared.subject.Method.TheVariants.{TrInsert, TrDelete, TrLookup}
 use Rattle.vyrd_memory.specs.declared.act.Act.TheVariants.{Load, Store, Mark}
 use Rattle.vyrd_memory.specs.declared.op.Op.{Op}
 use Rattle.vyrd_memory.specs.declared.op.Variant.{Variant}
-use Rattle.vyrd_memory.specs.Scripts.{Script, stop, step, perform}
+use Rattle.vyrd_memory.specs.Scripts.{Script, stop, step, perform, returns, gives_up}
 use Rattle.vyrd_tree.specs.Cells.{root_cell, value_cell, unlock_node}
 use Rattle.vyrd_tree.specs.Walk.{Arrived, walk_from}
 use Rattle.vyrd_tree.specs.Split.{with_unused, rewrite, add_entry, split_entry, split_key}
 use Rattle.vyrd_tree.specs.Ascent.{ascend}
-
--- the mark of the return, which ends an operation
-abbrev pub returns : ℕ → Script
-returns reply = perform (Mark (Return reply)) stop
-
--- commit and return 0
-abbrev pub gives_up : Script
-gives_up = perform (Mark Commit) (returns 0)
 
 -- with the node's lock held: commit, unlock it, and return 0
 abbrev pub changes_nothing : Header → ℕ → Script

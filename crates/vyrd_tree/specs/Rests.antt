@@ -9,7 +9,7 @@ use Rattle.std.specs.Prelude.{ℕ, nat_lt, nat_le, if◌then◌else◌}
 use Rattle.vyrd_base.specs.declared.header.Header.{Header}
 use Rattle.vyrd_base.specs.declared.log.Kind.TheVariants.{BlockOpen}
 use Rattle.vyrd_memory.specs.declared.act.Act.TheVariants.{Load, Mark}
-use Rattle.vyrd_memory.specs.Scripts.{Script, stop, step, perform}
+use Rattle.vyrd_memory.specs.Scripts.{Script, stop, step, perform, returns, gives_up}
 use Rattle.vyrd_tree.specs.declared.visit.Errand.TheVariants as errand
 use Rattle.vyrd_tree.specs.declared.place.Place.TheVariants as place
 use Rattle.vyrd_tree.specs.declared.place.Lock.TheVariants as lock
@@ -25,7 +25,7 @@ use Rattle.vyrd_tree.specs.declared.task.Task.{Task}
 use Rattle.vyrd_tree.specs.declared.progress.TreeProgress.{TreeProgress}
 use Rattle.vyrd_tree.specs.Cells.{level_cell, root_cell, unlock_node, unlock_root}
 use Rattle.vyrd_tree.specs.Ascent.{grow_root}
-use Rattle.vyrd_tree.specs.Procedures.{returns, gives_up, changes_nothing}
+use Rattle.vyrd_tree.specs.Procedures.{changes_nothing}
 use Rattle.vyrd_tree.specs.Rests.Errands.{round, walk_on}
 use Rattle.vyrd_tree.specs.Rests.Visits.{visiting_rest}
 use Rattle.vyrd_tree.specs.Rests.Unused.{getting_rest}

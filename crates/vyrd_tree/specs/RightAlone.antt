@@ -28,7 +28,6 @@ pub mod Inserted
 use Rattle.std.proofs.Common.{◌≡◌, ◌≢◌, ℕ, ◌+◌, ◌-◌, ◌<◌, ◌≤◌, ◌^◌, inl, inr, Bool, true, false, cond, not, Option, Some, None, refl, ap, ◌∙◌, sym, subst, arith}
 use Rattle.std.specs.Prelude.{◌==◌, ◌&&◌, nat_lt, IsSome}
 use Rattle.std.specs.Bool.{then_some}
-use Rattle.std.proofs.lemmas.Bool.Decides.{nat_tests}
 use Rattle.vyrd_base.specs.declared.header.Header.{Header}
 use Rattle.vyrd_base.specs.declared.subject.Subject.TheVariants.{Tree}
 use Rattle.vyrd_base.specs.declared.subject.Method.{Method}
@@ -37,14 +36,13 @@ use Rattle.vyrd_base.specs.declared.subject.Args.{Args}
 use Rattle.vyrd_base.specs.Subjects.{subject_of, are_args, is_observer}
 use Rattle.vyrd_base.specs.Amounts.{Amounts, amount_of, with_amount}
 use Rattle.vyrd_base.specs.Specification.{by_reply, is_present, next_state, answer_in}
-use Rattle.vyrd_base.proofs.SplitLaws.{first_true, second_true}
+use Rattle.vyrd_base.proofs.TestLaws.{first_true, second_true, is_same, isnt_same, below_of}
 use Rattle.vyrd_memory.specs.declared.op.Op.{Op}
 use Rattle.vyrd_memory.specs.declared.op.Variant.TheVariants.{Correct}
 use Rattle.vyrd_memory.specs.Scripts.{Script}
 use Rattle.vyrd_memory.specs.Arguments.{are_small}
 use Rattle.vyrd_memory.specs.Alone.{Memory, alone, state_in, state_after, MeetsSpecification, IsRightAlone}
 use Rattle.vyrd_tree.specs.Procedures.{by_method, tree_procedure, lookup, delete, insert_entry}
-use Rattle.vyrd_tree.specs.RightAlone.Counts.{is_same, isnt_same}
 use Rattle.vyrd_tree.specs.RightAlone.Held.{StandsFor, stands_for, stands_so}
 use Rattle.vyrd_tree.specs.RightAlone.Played.{EndsSo, ended_with}
 use Rattle.vyrd_tree.specs.RightAlone.Done.{Meets, lookup_alone, delete_alone}
@@ -133,13 +131,10 @@ by_method_right h CaFlush args is of small_key small c memory s st = absurd (cc)
 by_method_right h CaEvict args is of small_key small c memory s st = absurd (cc)
 by_method_right h CaRead args is of small_key small c memory s st = absurd (cc)
 
-small_of : (n : ℕ) → nat_lt n (2 ^ 32) ≡ true → n < 2 ^ 32
-small_of n e = grind (arith, nat_tests)
-
 -- From a memory that stands for a state an operation of the tree, played alone, ends in one that stands for the next state.
 pub tree_is_right_alone : (h : Header) (op : Op) → h.subject ≡ Tree → subject_of op.method ≡ Tree → are_args h.size op.method op.args ≡ true → are_small op.args ≡ true
     → IsRightAlone h op (tree_procedure h Correct op)
 tree_is_right_alone h op is of args small = λ c memory s e.
     (let two = first_true (nat_lt op.args.a (2 ^ 32) && nat_lt op.args.b (2 ^ 32)) (nat_lt op.args.c (2 ^ 32)) small in
-    by_method_right h op.method op.args is of (small_of op.args.a (first_true (nat_lt op.args.a (2 ^ 32)) (nat_lt op.args.b (2 ^ 32)) two))
-    (small_of op.args.b (second_true (nat_lt op.args.a (2 ^ 32)) (nat_lt op.args.b (2 ^ 32)) two)) c memory s (stands_for h memory s is e))
+    by_method_right h op.method op.args is of (below_of op.args.a (2 ^ 32) (first_true (nat_lt op.args.a (2 ^ 32)) (nat_lt op.args.b (2 ^ 32)) two))
+    (below_of op.args.b (2 ^ 32) (second_true (nat_lt op.args.a (2 ^ 32)) (nat_lt op.args.b (2 ^ 32)) two)) c memory s (stands_for h memory s is e))

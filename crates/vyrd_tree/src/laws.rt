@@ -8,11 +8,10 @@ ghost use Rattle.vyrd_base.specs.Amounts.{Amounts, amount_of};
 ghost use Rattle.vyrd_memory.specs.declared.op.Variant.TheVariants.{Correct};
 ghost use Rattle.vyrd_memory.specs.Arguments.{are_small};
 ghost use Rattle.vyrd_memory.specs.Scripts.{Script};
-ghost use Rattle.vyrd_memory.specs.Alone.{Memory, state_in, alone};
+ghost use Rattle.vyrd_memory.specs.Alone.{Memory, state_in, alone, GivesUpWhere};
 ghost use Rattle.vyrd_tree.specs.Cells.{count_cell, used_cell};
 ghost use Rattle.vyrd_tree.specs.Procedures.{insert_entry};
 ghost use Rattle.vyrd_tree.specs.Room.{leaf_of, HasNoRoom};
-ghost use Rattle.vyrd_tree.specs.Replies.{GivesUpWhere};
 ghost use Rattle.vyrd_tree.specs.Hanging.{is_hanging};
 ghost use Rattle.vyrd_tree.specs.Passes.{SplitsLeaf, KeepsState};
 

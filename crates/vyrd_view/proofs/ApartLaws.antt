@@ -8,6 +8,8 @@ use Rattle.std.specs.Cmp.{unsigned_tied}
 use Rattle.std.proofs.lemmas.Bool.Decides.{nat_tests}
 use Rattle.vyrd_base.specs.Amounts.{Amounts, IsAmounts, amount_of, first_difference}
 use Rattle.vyrd_base.proofs.DifferenceLaws.{first_difference_none, first_difference_some}
+use Rattle.vyrd_base.proofs.TestLaws.{same_number, same_of, apart_of, lower_isnt}
+use Rattle.vyrd_base.proofs.AmountLaws.{first_of_and, second_of_and}
 
 -- the lesser key at the first place where the lists differ
 abbrev pub first_apart : Amounts → Amounts → Option ℕ
@@ -39,14 +41,6 @@ difference_is_least a b = at (first_difference a b) refl
     at None e = first_difference_none a b e
     at (Some k) e = first_difference_some a b k e
 
-first_of_and : (a b : Bool) → T (a && b) → T a
-first_of_and true b p = tt
-first_of_and false b p = p
-
-second_of_and : (a b : Bool) → T (a && b) → T b
-second_of_and true b p = p
-second_of_and false b p = absurd p
-
 amount_of-cons : (x : ℕ × ℕ) (xs : Amounts) (q : ℕ) → amount_of (x ∷ xs) q ≡ cond (q == x.0) x.1 (amount_of xs q)
 amount_of-cons x xs q = ap (λ b. unwrap_or (cond b (Some x.1) (find nat_cmp q xs)) 0) (unsigned_tied q x.0) ∙ by_test (q == x.0)
   where
@@ -63,18 +57,12 @@ absent_below (x ∷ xs) k q le below =
     amount_of-cons x xs q ∙ ap (λ b. cond b x.1 (amount_of xs q)) (apart_from k q x.0 le (first_of_and _ _ below))
     ∙ absent_below xs k q le (second_of_and (is_lt (nat_cmp k x.0)) _ below)
 
-lesser_isnt : (q k : ℕ) → q < k → (q == k) ≡ false
-lesser_isnt q k low = grind (arith, nat_tests)
-
-same_number : (n : ℕ) → (n == n) ≡ true
-same_number n = grind (arith, nat_tests)
-
 at_head : (x : ℕ × ℕ) (xs : Amounts) → amount_of (x ∷ xs) x.0 ≡ x.1
 at_head x xs = amount_of-cons x xs x.0 ∙ ap (λ b. cond b x.1 (amount_of xs x.0)) (same_number x.0)
 
 below_head : (x : ℕ × ℕ) (xs : Amounts) (q : ℕ) → IsAmounts (x ∷ xs) → q < x.0 → amount_of (x ∷ xs) q ≡ 0
 below_head x xs q is low =
-    amount_of-cons x xs q ∙ ap (λ b. cond b x.1 (amount_of xs q)) (lesser_isnt q x.0 low)
+    amount_of-cons x xs q ∙ ap (λ b. cond b x.1 (amount_of xs q)) (lower_isnt q x.0 low)
     ∙ absent_below xs x.0 q (omega arith) (first_of_and _ _ is.rising)
 
 past_head : (x : ℕ × ℕ) (xs : Amounts) → IsAmounts (x ∷ xs) → amount_of xs x.0 ≡ 0
@@ -127,12 +115,6 @@ both_of : (a b : Bool) → (a && b) ≡ true → (a ≡ true) × (b ≡ true)
 both_of true b e = (refl, e)
 both_of false b e = cc
 
-equal_of : (m n : ℕ) → (m == n) ≡ true → m ≡ n
-equal_of m n e = grind (arith, nat_tests)
-
-unequal_of : (m n : ℕ) → (m == n) ≡ false → m ≢ n
-unequal_of m n e = grind (arith, nat_tests)
-
 apart_heads : (x y : ℕ × ℕ) (xs ys : Amounts) → IsAmounts (x ∷ xs) → IsAmounts (y ∷ ys) → (x.0 == y.0 && x.1 == y.1) ≡ false
     → LeastApart (x ∷ xs) (y ∷ ys) (Some (min x.0 y.0))
 apart_heads x y xs ys is it e = by_order (nat_lt x.0 y.0) (nat_lt y.0 x.0) refl refl
@@ -147,7 +129,7 @@ apart_heads x y xs ys is it e = by_order (nat_lt x.0 y.0) (nat_lt y.0 x.0) refl 
         let key : x.0 ≡ y.0 = grind (arith, nat_tests) in
         let same : (x.0 == y.0) ≡ true = ap (λ n. x.0 == n) (sym key) ∙ same_number x.0 in
         let apart : (x.1 == y.1) ≡ false = sym (ap (λ b. b && x.1 == y.1) same) ∙ e in
-        at x.0 (omega arith) (same_key x y xs ys is it key (unequal_of x.1 y.1 apart))
+        at x.0 (omega arith) (same_key x y xs ys is it key (apart_of x.1 y.1 apart))
 
 apart_is_least : (a b : Amounts) → IsAmounts a → IsAmounts b → LeastApart a b (first_apart a b)
 apart_is_least [] [] is it = λ q. refl
@@ -159,7 +141,7 @@ apart_is_least (x ∷ xs) (y ∷ ys) is it = by_test (apart_is_least xs ys (tail
         → LeastApart (x ∷ xs) (y ∷ ys) (cond t (first_apart xs ys) (Some (min x.0 y.0)))
     by_test rest true e =
         let both = both_of (x.0 == y.0) (x.1 == y.1) e in
-        with_same_head x y xs ys (first_apart xs ys) (equal_of x.0 y.0 both.0) (equal_of x.1 y.1 both.1) is it rest
+        with_same_head x y xs ys (first_apart xs ys) (same_of x.0 y.0 both.0) (same_of x.1 y.1 both.1) is it rest
     by_test rest false e = apart_heads x y xs ys is it e
 
 -- the least key that differs is where the lists part
@@ -169,13 +151,6 @@ first_difference-first_apart a b is it = one_least a b (first_difference a b) (f
 -- the lists from one place on
 rest_from : (s : Amounts) (i : ℕ) (x : ℕ × ℕ) → i < length s → x ≡ get_or s i x → drop i s ≡ x ∷ drop (i + 1) s
 rest_from s i x within is = rw (add-one) (drop-cons s i x within ∙ ap (λ y. y ∷ drop (suc i) s) (sym is))
-
-pub apart_onward : (a b : Amounts) (i : ℕ) (x y : ℕ × ℕ) → i < length a → i < length b → x ≡ get_or a i x → y ≡ get_or b i y
-    → x.0 ≡ y.0 → x.1 ≡ y.1 → first_apart (drop (i + 1) a) (drop (i + 1) b) ≡ first_apart (drop i a) (drop i b)
-apart_onward a b i x y in_a in_b is_x is_y key amount =
-    sym (ap (λ s. first_apart s (drop i b)) (rest_from a i x in_a is_x) ∙ ap (first_apart (x ∷ drop (i + 1) a)) (rest_from b i y in_b is_y)
-    ∙ ap (λ t. cond (t && x.1 == y.1) (first_apart (drop (i + 1) a) (drop (i + 1) b)) (Some (min x.0 y.0))) (ap (λ n. x.0 == n) (sym key) ∙ same_number x.0)
-    ∙ ap (λ t. cond t (first_apart (drop (i + 1) a) (drop (i + 1) b)) (Some (min x.0 y.0))) (ap (λ n. x.1 == n) (sym amount) ∙ same_number x.1))
 
 pub apart_here : (a b : Amounts) (i : ℕ) (x y : ℕ × ℕ) → i < length a → i < length b → x ≡ get_or a i x → y ≡ get_or b i y
     → (x.0 == y.0 && x.1 == y.1) ≡ false → first_apart (drop i a) (drop i b) ≡ Some (min x.0 y.0)

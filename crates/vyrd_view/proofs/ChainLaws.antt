@@ -1,10 +1,12 @@
 -- The chain of a tree's leaves, node by node, with a flag for each node that was seen.
-use Rattle.std.proofs.Common.{◌≡◌, ℕ, zero, suc, ◌+◌, ◌-◌, ◌<◌, ◌≤◌, Bool, true, false, ◌||◌, List, [], ◌∷◌, length, get_or, set, refl, ap, ◌∙◌, sym, subst, arith, get_or-set_same, get_or-set_other}
+use Rattle.std.proofs.Common.{◌≡◌, ℕ, zero, suc, ◌+◌, ◌-◌, ◌<◌, Bool, true, false, ◌||◌, List, [], ◌∷◌, length, get_or, set, refl, ap, ◌∙◌, sym, subst, arith, get_or-set_same, get_or-set_other}
 use Rattle.std.specs.Prelude.{◌==◌, ◌≢◌, nat_le, replicate}
 use Rattle.std.specs.List.{list_any}
 use Rattle.std.proofs.lemmas.Bool.Decides.{nat_tests}
+use Rattle.std.proofs.Math.Bool.{or-true}
 use Rattle.vyrd_base.specs.Amounts.{Amounts, collected}
 use Rattle.vyrd_base.specs.TreeView.{right_of, node_parts, damage, chain_parts_from, chain_parts}
+use Rattle.vyrd_base.proofs.TestLaws.{isnt_same, is_same}
 use Rattle.vyrd_view.specs.Added.{added}
 use Rattle.vyrd_view.proofs.AddedLaws.{added-append, added-collected}
 
@@ -42,10 +44,6 @@ pub walk_left : (size : ℕ) (words : List ℕ) (sums : Amounts) (flags : List B
 walk_left size words sums flags turn n more walk =
     let one : size - turn ≡ suc (size - (turn + 1)) = omega arith in subst (λ left. Walk size words sums flags left n) one walk
 
-or_true : (b : Bool) → (b || true) ≡ true
-or_true true = refl
-or_true false = refl
-
 marked : (size n : ℕ) (flags : List Bool) (seen : List ℕ) → n < length flags → Marks size flags seen → Marks size (set flags n true) (n ∷ seen)
 marked size n flags seen within marks q = by_test (n == q) refl
   where
@@ -58,7 +56,7 @@ marked size n flags seen within marks q = by_test (n == q) refl
     by_test : (b : Bool) → (n == q) ≡ b → get_or (set flags n true) q true ≡ (nat_le size q || ((n == q) || list_any (λ m. m == q) seen))
     by_test true e =
         ap (λ k. get_or (set flags n true) k true) (sym (same_of e)) ∙ get_or-set_same flags n true true within
-        ∙ sym (ap (λ b. nat_le size q || (b || list_any (λ m. m == q) seen)) e ∙ or_true (nat_le size q))
+        ∙ sym (ap (λ b. nat_le size q || (b || list_any (λ m. m == q) seen)) e ∙ or-true (nat_le size q))
     by_test false e =
         get_or-set_other flags n q true true (other_of e) ∙ marks q
         ∙ sym (ap (λ b. nat_le size q || (b || list_any (λ m. m == q) seen)) e)
@@ -86,24 +84,18 @@ onward size words sums flags left n walk ends back within is_end is_back =
     ∙ sym (added-append (node_parts words n) (after_node size words left walk.seen n (right == 0) test) sums)
     ∙ walk.rest
 
-zero_is : (n : ℕ) → n ≡ 0 → (n == 0) ≡ true
-zero_is n e = grind (arith, nat_tests)
-
-zero_isnt : (n : ℕ) → n ≢ 0 → (n == 0) ≡ false
-zero_isnt n e = grind (arith, nat_tests)
-
 -- at the node where the chain ends
 pub walk_ends : (size : ℕ) (words : List ℕ) (sums t : Amounts) (flags : List Bool) (left n : ℕ) → Walk size words sums flags (suc left) n → n < length flags
     → t ≡ added sums (node_parts words n) → right_of words n ≡ 0 → t ≡ collected (chain_parts size words)
 walk_ends size words sums t flags left n walk within more ends =
-    more ∙ onward size words sums flags left n walk true (get_or (set flags n true) (right_of words n) true) within (zero_is (right_of words n) ends) refl
+    more ∙ onward size words sums flags left n walk true (get_or (set flags n true) (right_of words n) true) within (is_same (right_of words n) 0 ends) refl
 
 -- at a link past the nodes or back to the chain
 pub walk_breaks : (size : ℕ) (words : List ℕ) (sums t : Amounts) (flags : List Bool) (left n : ℕ) → Walk size words sums flags (suc left) n → n < length flags
     → t ≡ added sums (node_parts words n) → right_of words n ≢ 0 → get_or (set flags n true) (right_of words n) true ≡ true
     → added t damage ≡ collected (chain_parts size words)
 walk_breaks size words sums t flags left n walk within more on back =
-    ap (λ s. added s damage) more ∙ onward size words sums flags left n walk false true within (zero_isnt (right_of words n) on) back
+    ap (λ s. added s damage) more ∙ onward size words sums flags left n walk false true within (isnt_same (right_of words n) 0 on) back
 
 -- at any other link
 pub walk_goes_on : (size : ℕ) (words : List ℕ) (sums t : Amounts) (flags : List Bool) (left n : ℕ) → Walk size words sums flags (suc left) n → n < length flags
@@ -113,14 +105,8 @@ walk_goes_on size words sums t flags left n walk within more on new = record {
   seen = n ∷ walk.seen;
   marks = marked size n flags walk.seen within walk.marks;
   rest = ap (λ s. added s (chain_parts_from size words left (n ∷ walk.seen) (right_of words n))) more
-      ∙ onward size words sums flags left n walk false false within (zero_isnt (right_of words n) on) new;
+      ∙ onward size words sums flags left n walk false false within (isnt_same (right_of words n) 0 on) new;
 }
-
--- after the last turn
-pub walk_done : (size : ℕ) (words : List ℕ) (sums : Amounts) (flags : List Bool) (turn n : ℕ) → size ≤ turn → Walk size words sums flags (size - turn) n
-    → sums ≡ collected (chain_parts size words)
-walk_done size words sums flags turn n past walk =
-    let none : size - turn ≡ 0 = omega arith in (subst (λ left. Walk size words sums flags left n) none walk).rest
 
 -- a node that isn't seen is within the flags
 pub unseen_within : (flags : List Bool) (q : ℕ) → get_or flags q true ≡ false → q < length flags

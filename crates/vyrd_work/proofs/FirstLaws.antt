@@ -1,20 +1,21 @@
 -- The first line has one reading.
 use Rattle.std.proofs.Common.{◌≡◌, ℕ, ◌<◌, ◌^◌, Bool, true, false, cond, List, [], ◌∷◌, ◌++◌, Option, Some, None, refl, ap, sym, ◌∙◌, arith}
-use Rattle.std.specs.Prelude.{◌==◌, codes, decimal}
+use Rattle.std.specs.Prelude.{codes, decimal}
 use Rattle.std.specs.Option.{option_map}
-use Rattle.std.specs.List.{list_all, slice_split}
+use Rattle.std.specs.List.{list_all}
 use Rattle.std.specs.Str.{bytes_eq}
 use Rattle.std.proofs.lemmas.List.{append_cancel_left}
-use Rattle.std.proofs.lemmas.Bool.Decides.{nat_tests}
 use Rattle.std.proofs.lemmas.Slice.Eq.{bytes_eq-Decides}
 use Rattle.vyrd_base.specs.declared.header.Header.{Header}
 use Rattle.vyrd_base.specs.declared.subject.Subject.{Subject}
-use Rattle.vyrd_base.specs.declared.subject.Subject.TheVariants.{Multiset, Cache, Tree}
 use Rattle.vyrd_base.specs.Limits.{is_known_version, is_sized, is_within}
 use Rattle.vyrd_base.specs.Spelling.{subject_name}
 use Rattle.vyrd_base.specs.Lines.{fields_of, number_of, subject_called, header_if, header_of}
-use Rattle.vyrd_base.proofs.SplitLaws.{lacks, both_true, first_true, second_true, split_at, split-join, lacks-join, number_of_decimal, bytes_same}
+use Rattle.vyrd_base.proofs.SplitLaws.{lacks, split-join, lacks-join, number_of_decimal, bytes_same}
 use Rattle.vyrd_base.proofs.LineLaws.{is_plain_field, plain_number, plain_spaces, plain_line_feeds}
+use Rattle.vyrd_base.proofs.TestLaws.{both_true, first_true, second_true}
+use Rattle.vyrd_base.proofs.SubjectLaws.{plain_subject, subject_read, one_name}
+use Rattle.vyrd_base.proofs.ReadingLaws.{known_version}
 use Rattle.vyrd_memory.specs.declared.op.Variant.{Variant}
 use Rattle.vyrd_memory.specs.declared.op.Variant.TheVariants.{Correct, Broken}
 use Rattle.vyrd_text.proofs.PartLaws.{one_before_space}
@@ -38,36 +39,12 @@ no_variant text m n r t low small e g none size callers variant s c f =
     let more = one_before_space n callers t (variant_name variant) small (omega arith) (sym g ∙ is.1) in
     none variant more.1
 
-plain_name : (subject : Subject) → lacks 32 (subject_name subject) ≡ true
-plain_name Multiset = refl
-plain_name Cache = refl
-plain_name Tree = refl
-
--- the name before a space is one
-one_name : (a b : Subject) (r s : List ℕ) → subject_name a ++ 32 ∷ r ≡ subject_name b ++ 32 ∷ s → r ≡ s
-one_name a b r s e =
-    let parts : subject_name a ∷ slice_split (λ x. x == 32) r ≡ subject_name b ∷ slice_split (λ x. x == 32) s =
-    sym (split_at 32 (subject_name a) r (plain_name a)) ∙ ap (slice_split (λ x. x == 32)) e ∙ split_at 32 (subject_name b) s (plain_name b) in
-    let same : subject_name a ≡ subject_name b = cc in
-    let tails : 32 ∷ r ≡ 32 ∷ s = append_cancel_left (subject_name a) (32 ∷ r) (32 ∷ s) (e ∙ ap (λ t. t ++ 32 ∷ s) (sym same)) in
-    cc
-
 -- a line that no bounds end
 pub no_bounds : (line r : List ℕ) (found : Subject) (t : List ℕ) → line ≡ codes "work " ++ r → r ≡ subject_name found ++ 32 ∷ t → AreBoundsRead t None
     → IsFirstRead line None
 no_bounds line r found t e g none subject size callers variant s c f =
     let after = append_cancel_left (codes "work ") r (subject_name subject ++ 32 ∷ (decimal size ++ 32 ∷ (decimal callers ++ 32 ∷ variant_name variant))) (sym e ∙ f) in
     none size callers variant s c (one_name found subject t (decimal size ++ 32 ∷ (decimal callers ++ 32 ∷ variant_name variant)) (sym g ∙ after))
-
-subject_read : (subject : Subject) → subject_called (subject_name subject) ≡ Some subject
-subject_read Multiset = refl
-subject_read Cache = refl
-subject_read Tree = refl
-
-plain_subject : (subject : Subject) → is_plain_field (subject_name subject) ≡ true
-plain_subject Multiset = refl
-plain_subject Cache = refl
-plain_subject Tree = refl
 
 variant_read : (variant : Variant) → variant_called (variant_name variant) ≡ Some variant
 variant_read Correct = refl
@@ -104,9 +81,6 @@ module _ (subject : Subject) (size callers : ℕ) (variant : Variant) (s : size 
       ∙ (λ i. begun_if_spelled line (subject_read subject i) (number_of_decimal size s i) (number_of_decimal callers c i) (variant_read variant i))
       ∙ ap (λ b. cond b (option_map (begun variant) (header_of 1 subject size callers)) None) (bytes_same line)
 
-known : (n : ℕ) → is_known_version n ≡ true → n ≡ 1
-known n e = grind (arith, nat_tests)
-
 sized : (h : Header) → is_sized h.size h.callers ≡ true
 sized h = second_true (is_known_version h.version) _ h.within
 
@@ -122,7 +96,7 @@ begun_in-first_line h variant =
     let s : h.size < 2 ^ 64 = let l = size_fits h in omega (arith, l) in
     let c : h.callers < 2 ^ 64 = let l = callers_fit h in omega (arith, l) in
     begun_known h.subject h.size h.callers variant s c
-    ∙ ap (option_map (begun variant)) (made 1 h.subject h.size h.callers h (known h.version (first_true _ _ h.within)) refl refl refl)
+    ∙ ap (option_map (begun variant)) (made 1 h.subject h.size h.callers h (known_version h.version (first_true _ _ h.within)) refl refl refl)
 
 -- what a first line is read as: a workload of nothing, whose first line it is
 pub record IsBegun (line : List ℕ) (w : Workload) : Type 0 where

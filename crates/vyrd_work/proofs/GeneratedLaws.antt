@@ -1,12 +1,12 @@
 -- Generated workloads, one operation at a time, and that they keep the limits.
-use Rattle.std.proofs.Common.{◌≡◌, ℕ, suc, zero, ◌+◌, ◌-◌, ◌/◌, ◌%◌, ◌<◌, ◌≤◌, ◌^◌, Bool, true, false, cond, ◌&&◌, ◌||◌, List, ◌∷◌, length, refl, ap, sym, ◌∙◌, arith}
+use Rattle.std.proofs.Common.{◌≡◌, ℕ, suc, zero, ◌+◌, ◌-◌, ◌/◌, ◌%◌, ◌<◌, ◌≤◌, ◌^◌, Bool, true, false, cond, ◌&&◌, List, ◌∷◌, length, refl, ap, sym, ◌∙◌, arith}
 use Rattle.std.specs.Prelude.{◌==◌, nat_lt}
 use Rattle.std.specs.List.{AllByRecursion}
-use Rattle.std.proofs.lemmas.Bool.Decides.{nat_tests}
+use Rattle.std.proofs.Math.Bool.{or-true}
 use Rattle.vyrd_base.specs.declared.subject.Subject.TheVariants.{Multiset}
 use Rattle.vyrd_base.specs.declared.subject.Method.TheVariants.{MsInsert, MsInsertPair, MsDelete, MsLookup}
 use Rattle.vyrd_base.specs.Subjects.{subject_of, same_subject, are_args}
-use Rattle.vyrd_base.proofs.SplitLaws.{both_true}
+use Rattle.vyrd_base.proofs.TestLaws.{both_true, is_below}
 use Rattle.vyrd_memory.specs.declared.op.Op.{Op}
 use Rattle.vyrd_work.specs.declared.work.WorkOp.{WorkOp}
 use Rattle.vyrd_memory.specs.Arguments.{are_small}
@@ -29,13 +29,9 @@ op_by a b c v w =
     (cond c (record { method = MsDelete; args = record { a = v; b = 0; c = 0 } })
     (record { method = MsLookup; args = record { a = v; b = 0; c = 0 } })))
 
-or_true : (b : Bool) → (b || true) ≡ true
-or_true true = refl
-or_true false = refl
-
 by_fits : (a b c : Bool) (v w : ℕ) → (same_subject (subject_of (op_by a b c v w).method) Multiset && are_args 64 (op_by a b c v w).method (op_by a b c v w).args) ≡ true
 by_fits true b c v w = refl
-by_fits false true c v w = ap (λ t. t && true && true) (or_true (w == 0))
+by_fits false true c v w = ap (λ t. t && true && true) (or-true (w == 0))
 by_fits false false true v w = refl
 by_fits false false false v w = refl
 
@@ -45,22 +41,16 @@ by_small false true c v w e f = both_true _ _ (both_true _ _ e f) refl
 by_small false false true v w e f = both_true _ _ (both_true _ _ e refl) refl
 by_small false false false v w e f = both_true _ _ (both_true _ _ e refl) refl
 
-small_test : (n : ℕ) → n < 2 ^ 32 → nat_lt n (2 ^ 32) ≡ true
-small_test n h = grind (arith, nat_tests)
-
-caller_test : (n : ℕ) → n < 4 → nat_lt n 4 ≡ true
-caller_test n h = grind (arith, nat_tests)
-
 op_fits : (i x : ℕ) → is_op_of generated_header (work_op_from i x) ≡ true
 op_fits i x =
     let kind = upper x % 8 in
-    both_true _ _ (caller_test (i % 4) (omega arith)) (by_fits (nat_lt kind 3) (kind == 3) (nat_lt kind 6) ((upper x / 8) % 256) (upper x / 2048))
+    both_true _ _ (is_below (i % 4) 4 (omega arith)) (by_fits (nat_lt kind 3) (kind == 3) (nat_lt kind 6) ((upper x / 8) % 256) (upper x / 2048))
 
 op_small : (i x : ℕ) → x < 2147483648 → are_small (work_op_from i x).op.args ≡ true
 op_small i x h =
     let kind = upper x % 8 in
     by_small (nat_lt kind 3) (kind == 3) (nat_lt kind 6) ((upper x / 8) % 256) (upper x / 2048)
-    (small_test ((upper x / 8) % 256) (omega arith)) (small_test (upper x / 2048) (omega arith))
+    (is_below ((upper x / 8) % 256) (2 ^ 32) (omega arith)) (is_below (upper x / 2048) (2 ^ 32) (omega arith))
 
 next_small : (x : ℕ) → next_draw x < 2147483648
 next_small x = omega arith

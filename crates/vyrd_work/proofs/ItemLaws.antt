@@ -16,11 +16,12 @@ use Rattle.vyrd_base.specs.declared.log.Entry.{Entry}
 use Rattle.vyrd_base.specs.Subjects.{arity_of, are_padded, subject_of, same_subject}
 use Rattle.vyrd_base.specs.Spelling.{method_name, arg_fields, end_line, is_kind_of}
 use Rattle.vyrd_base.specs.Lines.{fields_of, method_called, args_from}
-use Rattle.vyrd_base.proofs.SplitLaws.{lacks, both_true, first_true, second_true, split-join, lacks-join, number_of_decimal, bytes_same}
-use Rattle.vyrd_base.proofs.LineLaws.{is_plain_field, plain_number, plain_spaces, plain_line_feeds, call_guess, plain_entry}
+use Rattle.vyrd_base.proofs.SplitLaws.{lacks, split-join, lacks-join, number_of_decimal, bytes_same}
+use Rattle.vyrd_base.proofs.LineLaws.{is_plain_field, plain_number, plain_spaces, plain_line_feeds, call_guess, plain_entry, below_32}
+use Rattle.vyrd_base.proofs.TestLaws.{both_true, first_true, second_true, below_of}
 use Rattle.vyrd_memory.specs.declared.op.Turn.{Turn}
 use Rattle.vyrd_text.specs.Spelled.{call_text, IsCallRead}
-use Rattle.vyrd_text.proofs.PartLaws.{below, one_before_space}
+use Rattle.vyrd_text.proofs.PartLaws.{one_before_space}
 use Rattle.vyrd_work.specs.declared.work.WorkOp.{WorkOp}
 use Rattle.vyrd_work.specs.declared.line.Item.{Item}
 use Rattle.vyrd_work.specs.declared.line.Item.TheVariants as item
@@ -46,9 +47,6 @@ item_in_sound subject line x found = by_guess (guessed_item subject (fields_of l
         → (line ≡ item_line x) × (is_item_of subject x ≡ true)
     by_guess None f = cc
     by_guess (Some y) f = checked y (is_item_of subject y && bytes_eq (item_line y) line) refl f
-
-below_32 : (n : ℕ) → nat_lt n (2 ^ 32) ≡ true → n < 2 ^ 64
-below_32 n e = grind (arith, nat_tests)
 
 pub most_turns : (n : ℕ) → nat_le n 4000000 ≡ true → n < 2 ^ 32
 most_turns n e = grind (arith, nat_tests)
@@ -164,7 +162,7 @@ no_call subject text n r low e none (item.Op o) ok f =
     let after = append_cancel_left (codes "op ") text (decimal o.caller ++ 32 ∷ call_text o.op.method o.op.args) f in
     let is = one_before_space n o.caller r (call_text o.op.method o.op.args) low caller (sym e ∙ after) in
     none o.op.method o.op.args (op_subject subject o ok) (op_padded subject o ok)
-    (below _ _ (op_a subject o ok)) (below _ _ (op_b subject o ok)) (below _ _ (op_c subject o ok)) is.1
+    (below_of _ _ (op_a subject o ok)) (below_of _ _ (op_b subject o ok)) (below_of _ _ (op_c subject o ok)) is.1
 no_call subject text n r low e none (item.Turns t) ok f = absurd (let h : 111 ≡ 116 = ap (λ t. get_or t 0 0) f in omega (arith, h))
 
 -- a caller that no count follows is no turns'

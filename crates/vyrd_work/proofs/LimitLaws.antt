@@ -6,9 +6,10 @@ use Rattle.std.specs.List.{AllByRecursion}
 use Rattle.std.proofs.lemmas.List.Sums.{sum-map, sum_by-cons}
 use Rattle.std.proofs.lemmas.List.{map-append}
 use Rattle.std.proofs.lemmas.Bool.Decides.{nat_tests}
+use Rattle.std.proofs.lemmas.Bool.{not-false}
 use Rattle.vyrd_base.specs.declared.header.Header.{Header}
 use Rattle.vyrd_base.specs.Subjects.{arity_of, are_padded, subject_of, same_subject, are_args}
-use Rattle.vyrd_base.proofs.SplitLaws.{both_true, first_true, second_true}
+use Rattle.vyrd_base.proofs.TestLaws.{both_true, first_true, second_true, above_then, above_of, not_below_of, isnt_at_most, isnt_below, neither_true}
 use Rattle.vyrd_memory.specs.declared.op.Turn.{Turn}
 use Rattle.vyrd_work.specs.declared.work.WorkOp.{WorkOp}
 use Rattle.vyrd_work.specs.declared.line.Item.{Item}
@@ -30,23 +31,9 @@ not_broken false rule rest e = (refl, e)
 below_callers : (callers caller : ℕ) → nat_le callers caller ≡ false → nat_lt caller callers ≡ true
 below_callers callers caller e = grind (arith, nat_tests)
 
-not_false : (b : Bool) → not b ≡ false → b ≡ true
-not_false true e = refl
-not_false false e = cc
-
 none_of_them : (turns : List Turn) → nat_lt 0 (length turns) ≡ false → turns ≡ []
 none_of_them [] e = refl
 none_of_them (t ∷ turns) e = absurd (let h : 0 < length (t ∷ turns) → ⊥ = λ l. grind (arith, nat_tests) in h (omega arith))
-
-fewer : (n : ℕ) → nat_le 200000 n ≡ false → n < 200000
-fewer n e = grind (arith, nat_tests)
-
-no_more : (n : ℕ) → nat_lt 4000000 n ≡ false → n ≤ 4000000
-no_more n e = grind (arith, nat_tests)
-
-neither : (a b : Bool) → (a || b) ≡ false → (a ≡ false) × (b ≡ false)
-neither true b e = cc
-neither false b e = (refl, e)
 
 -- an operation that breaks no rule
 module _ (w : Workload) (o : WorkOp) (is : broken_by w (item.Op o) ≡ None) where
@@ -62,13 +49,13 @@ module _ (w : Workload) (o : WorkOp) (is : broken_by w (item.Op o) ≡ None) whe
   third = not_broken _ OpAfterTurn _ second.1
 
   pub op_fits : same_subject (subject_of o.op.method) w.header.subject ≡ true → is_op_of w.header o ≡ true
-  op_fits same = both_true _ _ (below_callers w.header.callers o.caller first.0) (both_true _ _ same (not_false _ second.0))
+  op_fits same = both_true _ _ (below_callers w.header.callers o.caller first.0) (both_true _ _ same (not-false _ second.0))
 
   pub before_turns : w.turns ≡ []
   before_turns = none_of_them w.turns third.0
 
   pub not_many_ops : length w.ops < 200000
-  not_many_ops = fewer (length w.ops) (not_broken _ TooManyOps _ third.1).0
+  not_many_ops = above_of 200000 (length w.ops) (not_broken _ TooManyOps _ third.1).0
 
 -- turns that break no rule
 module _ (w : Workload) (t : Turn) (is : broken_by w (item.Turns t) ≡ None) where
@@ -77,16 +64,16 @@ module _ (w : Workload) (t : Turn) (is : broken_by w (item.Turns t) ≡ None) wh
   turn_first = not_broken _ CallerRange _ is
 
   turn_second : (nat_le 200000 (length w.turns) ≡ false) × (nat_lt 4000000 (turns_in w.turns + t.count) ≡ false)
-  turn_second = neither _ _ (not_broken _ TooManyTurns _ turn_first.1).0
+  turn_second = neither_true _ _ (not_broken _ TooManyTurns _ turn_first.1).0
 
   pub turn_fits : (nat_le 1 t.count && nat_le t.count 4000000) ≡ true → is_turn_of w.header t ≡ true
   turn_fits counted = both_true _ _ (below_callers w.header.callers t.caller turn_first.0) counted
 
   pub not_many_turns : length w.turns < 200000
-  not_many_turns = fewer (length w.turns) turn_second.0
+  not_many_turns = above_of 200000 (length w.turns) turn_second.0
 
   pub sum_fits : turns_in w.turns + t.count ≤ 4000000
-  sum_fits = no_more (turns_in w.turns + t.count) turn_second.1
+  sum_fits = not_below_of 4000000 (turns_in w.turns + t.count) turn_second.1
 
 pub all_more : {A : Type 0} (P : A → Type 0) (xs : List A) (x : A) → AllByRecursion P xs → P x → AllByRecursion P (xs ++ x ∷ [])
 all_more P [] x all p = (p, tt)
@@ -134,22 +121,13 @@ items_more w (item.Op o) none = ops_items w.ops o w.turns (before_turns w o none
 items_more w (item.Turns t) none =
     ap (λ ts. map item.Op w.ops ++ ts) (map-append item.Turns w.turns (t ∷ [])) ∙ sym (append_assoc (map item.Op w.ops) (map item.Turns w.turns) (item.Turns t ∷ []))
 
-not_below : (callers caller : ℕ) → nat_lt caller callers ≡ true → nat_le callers caller ≡ false
-not_below callers caller e = grind (arith, nat_tests)
-
-few : (n : ℕ) → n < 200000 → nat_le 200000 n ≡ false
-few n h = grind (arith, nat_tests)
-
-enough : (n : ℕ) → n ≤ 4000000 → nat_lt 4000000 n ≡ false
-enough n h = grind (arith, nat_tests)
-
 -- an operation that fits breaks no rule where there is room for it
 pub op_unbroken : (w : Workload) (o : WorkOp) → is_op_of w.header o ≡ true → w.turns ≡ [] → length w.ops < 200000 → broken_by w (item.Op o) ≡ None
 op_unbroken w o fits before room =
-    let caller = not_below w.header.callers o.caller (first_true _ _ fits) in
+    let caller = above_then w.header.callers o.caller (first_true _ _ fits) in
     let args : not (are_args w.header.size o.op.method o.op.args) ≡ false =
     ap not (second_true (same_subject (subject_of o.op.method) w.header.subject) _ (second_true (nat_lt o.caller w.header.callers) _ fits)) in
-    let count = few (length w.ops) room in
+    let count = isnt_at_most 200000 (length w.ops) room in
     λ i. cond (caller i) (Some CallerRange)
     (cond (args i) (Some ArgumentRange) (cond (nat_lt 0 (length (before i))) (Some OpAfterTurn) (cond (count i) (Some TooManyOps) None)))
 
@@ -157,9 +135,9 @@ op_unbroken w o fits before room =
 pub turns_unbroken : (w : Workload) (t : Turn) → is_turn_of w.header t ≡ true → length w.turns < 200000 → turns_in w.turns + t.count ≤ 4000000
     → broken_by w (item.Turns t) ≡ None
 turns_unbroken w t fits room sum =
-    let caller = not_below w.header.callers t.caller (first_true _ _ fits) in
-    let count = few (length w.turns) room in
-    let total = enough (turns_in w.turns + t.count) sum in
+    let caller = above_then w.header.callers t.caller (first_true _ _ fits) in
+    let count = isnt_at_most 200000 (length w.turns) room in
+    let total = isnt_below 4000000 (turns_in w.turns + t.count) sum in
     λ i. cond (caller i) (Some CallerRange) (cond (count i || total i) (Some TooManyTurns) None)
 
 small_caller : (callers caller : ℕ) → callers < 2 ^ 32 → nat_lt caller callers ≡ true → nat_lt caller (2 ^ 32) ≡ true

@@ -12,6 +12,7 @@ use Rattle.vyrd_base.specs.declared.subject.Subject.TheVariants.{Tree}
 use Rattle.vyrd_base.specs.Subjects.{same_subject}
 use Rattle.vyrd_base.specs.Spelling.{end_line}
 use Rattle.vyrd_base.specs.Reading.{has_any}
+use Rattle.vyrd_base.proofs.LongLines.{long_isnt_end}
 use Rattle.vyrd_text.proofs.LineSteps.{parts_of}
 use Rattle.vyrd_work.specs.declared.line.Item.{Item}
 use Rattle.vyrd_work.specs.declared.line.Item.TheVariants as item
@@ -92,17 +93,10 @@ long_first line long = by_answer (begun_in line) refl
         let same = ap length (begun_in_sound line w e).line_is in
         absurd (omega (arith, long, short, same))
 
-long_other : (line : List ℕ) → 64 < length line → bytes_eq line end_line ≡ false
-long_other line long = by_test (bytes_eq line end_line) refl
-  where
-    by_test : (b : Bool) → bytes_eq line end_line ≡ b → b ≡ false
-    by_test true e = let same = ap length ((bytes_eq-Decides line end_line).0 e) in absurd (omega (arith, long, same))
-    by_test false e = refl
-
 long_line : (w : Workload) (n : ℕ) (line : List ℕ) (lines : List (List ℕ)) → 64 < length line → lines_read w n (line ∷ lines) ≡ refused n BadLine
 long_line w n line [] long = ap (refused n) (long_rest BadLine line long)
 long_line w n line (next ∷ lines) long =
-    ap (λ b. cond b (ended w (n + 1) (next ∷ lines)) (then_lines n (next ∷ lines) (line_read w line))) (long_other line long)
+    ap (λ b. cond b (ended w (n + 1) (next ∷ lines)) (then_lines n (next ∷ lines) (line_read w line))) (long_isnt_end line long)
     ∙ ap (λ o. then_lines n (next ∷ lines) (item_read w o)) (long_item w.header.subject line long)
 
 -- what is read after the first line

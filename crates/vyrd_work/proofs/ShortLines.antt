@@ -5,15 +5,14 @@ use Rattle.std.specs.List.{AllByRecursion}
 use Rattle.std.proofs.lemmas.Fmt.{length-decimal-le}
 use Rattle.vyrd_base.specs.declared.header.Header.{Header}
 use Rattle.vyrd_base.specs.declared.subject.Subject.{Subject}
-use Rattle.vyrd_base.specs.declared.subject.Subject.TheVariants.{Multiset, Cache, Tree}
 use Rattle.vyrd_base.specs.Spelling.{subject_name, end_line}
-use Rattle.vyrd_base.proofs.SplitLaws.{both_true, first_true, second_true}
 use Rattle.vyrd_base.proofs.LongLines.{short_entry}
+use Rattle.vyrd_base.proofs.TestLaws.{both_true, first_true, second_true, below_of}
+use Rattle.vyrd_base.proofs.SubjectLaws.{short_subject}
 use Rattle.vyrd_memory.specs.declared.op.Turn.{Turn}
 use Rattle.vyrd_memory.specs.declared.op.Variant.{Variant}
 use Rattle.vyrd_memory.specs.declared.op.Variant.TheVariants.{Correct, Broken}
 use Rattle.vyrd_text.specs.Spelled.{call_text}
-use Rattle.vyrd_text.proofs.PartLaws.{below}
 use Rattle.vyrd_work.specs.declared.work.WorkOp.{WorkOp}
 use Rattle.vyrd_work.specs.declared.line.Item.TheVariants as item
 use Rattle.vyrd_work.specs.Workloads.{Workload, variant_name, work_header_line, item_line, lines_of}
@@ -41,14 +40,9 @@ short_op subject o is =
 
 pub short_turns : (subject : Subject) (t : Turn) → is_item_of subject (item.Turns t) ≡ true → length (item_line (item.Turns t)) ≤ 64
 short_turns subject t is =
-    let caller = short_number t.caller (below _ _ (first_true _ _ is)) in
+    let caller = short_number t.caller (below_of _ _ (first_true _ _ is)) in
     let count = short_number t.count (most_turns t.count (second_true (nat_le 1 t.count) _ (second_true (nat_lt t.caller (2 ^ 32)) _ is))) in
     omega (arith, caller, count, length-append (decimal t.caller) (32 ∷ decimal t.count))
-
-short_subject : (subject : Subject) → length (subject_name subject) ≤ 8
-short_subject Multiset = omega arith
-short_subject Cache = omega arith
-short_subject Tree = omega arith
 
 short_variant : (variant : Variant) → length (variant_name variant) ≤ 7
 short_variant Correct = omega arith

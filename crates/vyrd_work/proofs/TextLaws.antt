@@ -12,7 +12,8 @@ use Rattle.vyrd_base.specs.declared.subject.Subject.TheVariants.{Tree}
 use Rattle.vyrd_base.specs.Subjects.{same_subject}
 use Rattle.vyrd_base.specs.Spelling.{ended_line, end_line}
 use Rattle.vyrd_base.specs.Reading.{has_any}
-use Rattle.vyrd_base.proofs.SplitLaws.{lacks, all_lack, both_true, first_true, second_true, split_at}
+use Rattle.vyrd_base.proofs.SplitLaws.{lacks, all_lack, split_at}
+use Rattle.vyrd_base.proofs.TestLaws.{both_true, first_true, second_true}
 use Rattle.vyrd_memory.specs.declared.op.Turn.{Turn}
 use Rattle.vyrd_memory.specs.declared.op.Variant.{Variant}
 use Rattle.vyrd_work.specs.declared.work.WorkOp.{WorkOp}

@@ -12,7 +12,7 @@ use Rattle.vyrd_base.specs.Layout.{plain_words, lock_words, plain_words_of, lock
 use Rattle.vyrd_base.specs.Amounts.{Amounts, amount_of, with_amount}
 use Rattle.vyrd_base.specs.Views.{Chunk, cached_pair}
 use Rattle.vyrd_base.specs.Standing.{is_sound_chunk}
-use Rattle.vyrd_base.proofs.SplitLaws.{first_true, second_true, same_number}
+use Rattle.vyrd_base.proofs.TestLaws.{first_true, second_true, same_number}
 use Rattle.vyrd_memory.specs.declared.act.Act.TheVariants.{Load}
 use Rattle.vyrd_memory.specs.declared.op.Op.{Op}
 use Rattle.vyrd_memory.specs.declared.op.Variant.TheVariants.{Correct}

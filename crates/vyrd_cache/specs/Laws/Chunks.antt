@@ -1,7 +1,6 @@
 -- How the state changes for which a cache's memory stands, where one chunk changes.
 use Rattle.std.proofs.Common.{◌≡◌, ℕ, ◌+◌, ◌*◌, ◌<◌, ◌≤◌, Bool, true, false, cond, List, [], ◌∷◌, refl, ap, ◌∙◌, sym, subst, arith}
 use Rattle.std.specs.Prelude.{◌≢◌, ◌==◌, ◌&&◌, ◌||◌, not, flat_map}
-use Rattle.std.proofs.lemmas.Bool.Decides.{nat_tests}
 use Rattle.vyrd_base.specs.declared.header.Header.{Header}
 use Rattle.vyrd_base.specs.declared.subject.Subject.TheVariants.{Cache}
 use Rattle.vyrd_base.specs.Places.{numbers_from, numbers_below}
@@ -10,8 +9,8 @@ use Rattle.vyrd_base.specs.Amounts.{Amounts, IsAmounts, amount_of, with_amount, 
 use Rattle.vyrd_base.specs.Views.{Chunk, chunk_at, is_chunk, cached_pair, stored_pair, chunk_parts, parts_of, view_of_words}
 use Rattle.vyrd_base.specs.Standing.{is_sound, is_sound_chunk}
 use Rattle.vyrd_base.proofs.AmountLaws.{amount_of-with_amount, IsAmounts-with_amount, same_amounts}
-use Rattle.vyrd_base.proofs.SplitLaws.{first_true, second_true, same_number}
 use Rattle.vyrd_base.proofs.SumLaws.{given, given_nothing, amount_of-collected, IsAmounts-collected}
+use Rattle.vyrd_base.proofs.TestLaws.{first_true, second_true, same_number, isnt_same, same_of, apart_of}
 use Rattle.vyrd_memory.specs.Alone.{Memory, words_in}
 use Rattle.vyrd_memory.proofs.NumberLists.{all_pass, pass_all}
 use Rattle.vyrd_memory.proofs.PartSums.{given-changed, collected-is}
@@ -92,15 +91,6 @@ pub is_amounts : (h : Header) (memory : Memory) (state : Amounts) → Stands h m
 unfolding view_of_words
 is_amounts h memory state s = subst IsAmounts s.shows (IsAmounts-collected (parts_of h.subject h.size (words_in h memory)))
 
-isnt : (n m : ℕ) → n ≢ m → (n == m) ≡ false
-isnt n m apart = grind (arith, nat_tests)
-
-equal_of : (n m : ℕ) → (n == m) ≡ true → n ≡ m
-equal_of n m e = grind (arith, nat_tests)
-
-differ_of : (n m : ℕ) → (n == m) ≡ false → n ≢ m
-differ_of n m e = grind (arith, nat_tests)
-
 -- what the other chunks give
 abbrev parts_without : Header → Memory → ℕ → ℕ → List (ℕ × ℕ)
 parts_without h memory k j = cond (j == k) [] (part_at h memory j)
@@ -113,9 +103,9 @@ none_without h memory state k is s = given_nothing (parts_without h memory k) k 
     by_place : (j : ℕ) → j < h.size → (b : Bool) → (j == k) ≡ b → given k (parts_without h memory k j) ≡ 0
     by_place j below true e = ap (λ b. given k (cond b [] (part_at h memory j))) e
     by_place j below false e =
-        let apart : k ≢ j = λ same. differ_of j k e (sym same) in
+        let apart : k ≢ j = λ same. apart_of j k e (sym same) in
         ap (λ b. given k (cond b [] (part_at h memory j))) e ∙ given_at h memory k j is below (sound_at h memory state j is s below)
-        ∙ ap (λ b. cond b (shown (chunk_of memory j)) 0) (isnt k j apart)
+        ∙ ap (λ b. cond b (shown (chunk_of memory j)) 0) (isnt_same k j apart)
 
 -- the amount of a chunk's number is the pair that it shows
 pub shown_at : (h : Header) (memory : Memory) (state : Amounts) (k : ℕ) → h.subject ≡ Cache → Stands h memory state → k < h.size
@@ -125,7 +115,7 @@ shown_at h memory state k is s low =
       arith,
       amounts_given h memory state k is s,
       given-changed (part_at h memory) (parts_without h memory k) k 0 h.size k (omega arith) (omega arith)
-          (λ j from to apart. sym (ap (λ b. cond b [] (part_at h memory j)) (isnt j k apart))),
+          (λ j from to apart. sym (ap (λ b. cond b [] (part_at h memory j)) (isnt_same j k apart))),
       here,
       none,
       none_without h memory state k is s,
@@ -171,7 +161,7 @@ amounts_changed h old new state k q is s low leaves sound = by_key (q == k) refl
         given_at h old q k is low (sound_at h old state k is s low) ∙ ap (λ b. cond b (shown (chunk_of old k)) 0) e in
         let after : given q (part_at h new k) ≡ shown (chunk_of new k) = given_at h new q k is low sound ∙ ap (λ b. cond b (shown (chunk_of new k)) 0) e in
         let all : given q (flat_map (part_at h old) (numbers_from 0 h.size)) ≡ shown (chunk_of old k) =
-        sym (amounts_given h old state q is s) ∙ ap (amount_of state) (equal_of q k e) ∙ shown_at h old state k is s low in
+        sym (amounts_given h old state q is s) ∙ ap (amount_of state) (same_of q k e) ∙ shown_at h old state k is s low in
         let now : given q (flat_map (part_at h new) (numbers_from 0 h.size)) ≡ shown (chunk_of new k) = omega (arith, change, before, after, all) in
         now ∙ sym (ap (λ b. cond b (shown (chunk_of new k)) (amount_of state q)) e)
     by_key false e =
@@ -199,19 +189,19 @@ changed_chunk h old new state k is s low leaves free sound = record {
     each_sound j below = by_place (j == k) refl
       where
         by_place : (b : Bool) → (j == k) ≡ b → is_sound_chunk (chunk_of new j) ≡ true
-        by_place true e = ap (λ i. is_sound_chunk (chunk_of new i)) (equal_of j k e) ∙ sound
+        by_place true e = ap (λ i. is_sound_chunk (chunk_of new i)) (same_of j k e) ∙ sound
         by_place false e =
-            ap is_sound_chunk (other_chunk h.size old new k j leaves low below (differ_of j k e)) ∙ sound_at h old state j is s below
+            ap is_sound_chunk (other_chunk h.size old new k j leaves low below (apart_of j k e)) ∙ sound_at h old state j is s below
 
     all_sound : is_sound Cache h.size (words_in h new) ≡ true
     all_sound = pass_all (λ j. is_sound_chunk (chunk_at (words_in h new) j)) 0 h.size (λ j from to.
         let below : j < h.size = omega arith in ap is_sound_chunk (chunk_in h new j is below) ∙ each_sound j below)
 
     by_lock : (lock : ℕ) → plain_words h ≤ lock → lock < plain_words h + lock_words h → (b : Bool) → (lock == 5 * h.size + k) ≡ b → new lock ≡ 0
-    by_lock lock from to true e = ap new (equal_of lock (5 * h.size + k) e) ∙ free
+    by_lock lock from to true e = ap new (same_of lock (5 * h.size + k) e) ∙ free
     by_lock lock from to false e =
         let plain : plain_words h ≡ 5 * h.size = ap (λ s. plain_words_of s h.size) is in
-        let apart = differ_of lock (5 * h.size + k) e in
+        let apart = apart_of lock (5 * h.size + k) e in
         leaves lock (omega arith) (omega arith) (omega arith) (omega arith) (omega arith) apart ∙ s.free lock from to
 
     amounts : (q : ℕ) → given q (flat_map (part_at h new) (numbers_below h.size)) ≡ amount_of (with_amount state k (shown (chunk_of new k))) q
@@ -224,7 +214,7 @@ same_amount state k is =
     (λ q. amount_of-with_amount state k (amount_of state k) q ∙ by_key q (q == k) refl)
   where
     by_key : (q : ℕ) (b : Bool) → (q == k) ≡ b → cond b (amount_of state k) (amount_of state q) ≡ amount_of state q
-    by_key q true e = ap (amount_of state) (sym (equal_of q k e))
+    by_key q true e = ap (amount_of state) (sym (same_of q k e))
     by_key q false e = refl
 
 -- Where the chunk shows the same pair as before, the memory stands for the same state.

@@ -9,13 +9,14 @@ use Rattle.vyrd_base.specs.declared.subject.Method.TheVariants.{TrLookup}
 use Rattle.vyrd_base.specs.declared.log.Kind.TheVariants.{Return, Commit, BlockOpen, BlockClose, BlockCommit}
 use Rattle.vyrd_base.specs.declared.subject.Args.{Args}
 use Rattle.vyrd_base.specs.Subjects.{subject_of}
-use Rattle.vyrd_base.proofs.SplitLaws.{first_true, second_true}
+use Rattle.vyrd_base.proofs.TestLaws.{first_true, second_true}
 use Rattle.vyrd_memory.specs.declared.act.Act.{Act}
 use Rattle.vyrd_memory.specs.declared.act.Act.TheVariants.{Load, Store, Give, Mark}
 use Rattle.vyrd_memory.specs.declared.op.Variant.{Variant}
 use Rattle.vyrd_memory.specs.declared.op.Variant.TheVariants.{Correct, Broken}
 use Rattle.vyrd_memory.specs.Scripts.{Script, step}
 use Rattle.vyrd_memory.specs.Bounds.{is_return, bound_in, bound_of, EndsByReturn}
+use Rattle.vyrd_memory.proofs.TimedActs.{either_in}
 use Rattle.vyrd_cache.specs.Procedures.{state_of, cached_low, cached_high, stored_low, stored_high, lock_of, joined, in_order, procedure_of, put_cached}
 use Rattle.vyrd_cache.specs.Procedures.{put_cached_bare, put_stored, forget, only_commit, fetch, answer_cached, with_lock, write_procedure, flush_procedure}
 use Rattle.vyrd_cache.specs.Procedures.{evict_procedure, read_procedure}
@@ -38,10 +39,6 @@ ends_list (act ∷ next ∷ acts) n few last = (
   λ returns. absurd (not_both (is_return act) (first_true (not (is_return act)) (returns_last (next ∷ acts)) last) returns),
   λ _ answer _. ends_list (next ∷ acts) (n - 1) (omega arith) (second_true (not (is_return act)) (returns_last (next ∷ acts)) last),
 )
-
-either : (n : ℕ) (b : Bool) (x y : Script) → EndsByReturn n x → EndsByReturn n y → EndsByReturn n (cond b x y)
-either n true x y e f = e
-either n false x y e f = f
 
 -- a look at the chunk's state, with the lock held
 looked : (h : Header) (chunk : ℕ) (rest : ℕ → Script) → ((state : ℕ) → EndsByReturn 13 (rest state))
@@ -87,21 +84,21 @@ ends_answer_cached h chunk = two_loads (cached_low chunk) (cached_high chunk) (�
 ends_write : (h : Header) (variant : Variant) (chunk low high : ℕ) → EndsByReturn 15 (write_procedure h variant chunk low high)
 ends_write h Correct chunk low high = (omega arith, λ returns. cc, λ _ _ _. ends_put_cached h chunk low high 14 (omega arith))
 ends_write h Broken chunk low high = looked h chunk _ (λ state.
-    either 13 (state == 2) (put_cached_bare h chunk low high) (put_cached h chunk low high) (ends_put_cached_bare h chunk low high)
+    either_in 13 (state == 2) (put_cached_bare h chunk low high) (put_cached h chunk low high) (ends_put_cached_bare h chunk low high)
     (ends_put_cached h chunk low high 13 (omega arith)))
 
 ends_flush : (h : Header) (chunk : ℕ) → EndsByReturn 15 (flush_procedure h chunk)
 ends_flush h chunk = looked h chunk _ (λ state.
-    either 13 (state == 2) (put_stored h chunk 1) (only_commit h chunk) (ends_put_stored h chunk 1) (ends_only_commit h chunk))
+    either_in 13 (state == 2) (put_stored h chunk 1) (only_commit h chunk) (ends_put_stored h chunk 1) (ends_only_commit h chunk))
 
 ends_evict : (h : Header) (chunk : ℕ) → EndsByReturn 15 (evict_procedure h chunk)
 ends_evict h chunk = looked h chunk _ (λ state.
-    either 13 (state == 2) (put_stored h chunk 0) (cond (state == 0) (only_commit h chunk) (forget h chunk)) (ends_put_stored h chunk 0)
-    (either 13 (state == 0) (only_commit h chunk) (forget h chunk) (ends_only_commit h chunk) (ends_forget h chunk)))
+    either_in 13 (state == 2) (put_stored h chunk 0) (cond (state == 0) (only_commit h chunk) (forget h chunk)) (ends_put_stored h chunk 0)
+    (either_in 13 (state == 0) (only_commit h chunk) (forget h chunk) (ends_only_commit h chunk) (ends_forget h chunk)))
 
 ends_read : (h : Header) (chunk : ℕ) → EndsByReturn 15 (read_procedure h chunk)
 ends_read h chunk = looked h chunk _ (λ state.
-    either 13 (state == 0) (fetch h chunk) (answer_cached h chunk) (ends_fetch h chunk) (ends_answer_cached h chunk))
+    either_in 13 (state == 0) (fetch h chunk) (answer_cached h chunk) (ends_fetch h chunk) (ends_answer_cached h chunk))
 
 pub procedure_ends : (h : Header) (variant : Variant) (method : Method) (args : Args) → h.subject ≡ Cache → subject_of method ≡ Cache
     → EndsByReturn (bound_of h method - 1) (procedure_of h variant method args)

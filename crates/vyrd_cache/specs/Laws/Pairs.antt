@@ -4,7 +4,7 @@ use Rattle.std.specs.Prelude.{◌==◌, ◌||◌, not, nat_lt, nat_le}
 use Rattle.std.proofs.lemmas.Bool.Decides.{nat_tests}
 use Rattle.vyrd_base.specs.Views.{Chunk, is_chunk, pair_amount, cached_pair, stored_pair}
 use Rattle.vyrd_base.specs.Standing.{is_sound_chunk}
-use Rattle.vyrd_base.proofs.SplitLaws.{first_true, second_true, same_number}
+use Rattle.vyrd_base.proofs.TestLaws.{first_true, second_true, same_number, same_of}
 use Rattle.vyrd_cache.specs.Procedures.{joined}
 use Rattle.vyrd_cache.specs.Laws.Chunks.{shown}
 use Rattle.vyrd_cache.specs.Laws.Stores.{with_cached, with_stored, with_state}
@@ -31,15 +31,12 @@ small c sound =
       stored_hi = second_true _ (nat_lt c.stored_hi (2 ^ 32)) formed;
     }
 
-pub equal_of : (n m : ℕ) → (n == m) ≡ true → n ≡ m
-equal_of n m e = grind (arith, nat_tests)
-
 -- a clean chunk's pairs are one
 pub clean : (c : Chunk) → is_sound_chunk c ≡ true → (c.state == 1) ≡ true → cached_pair c ≡ stored_pair c
 clean c sound one =
     let pairs : (not (c.state == 1) || cached_pair c == stored_pair c) ≡ true = second_true (is_chunk c) _ sound in
     let same : (cached_pair c == stored_pair c) ≡ true = sym (ap (λ b. not b || cached_pair c == stored_pair c) one) ∙ pairs in
-    equal_of (cached_pair c) (stored_pair c) same
+    same_of (cached_pair c) (stored_pair c) same
 
 -- a dirty chunk, a clean one and an absent one
 pub dirty_sound : (c : Chunk) (low high : ℕ) → is_sound_chunk c ≡ true → nat_lt low (2 ^ 32) ≡ true → nat_lt high (2 ^ 32) ≡ true
@@ -60,7 +57,7 @@ forgotten_sound c sound = let s = small c sound in rw (s.cached_lo, s.cached_hi,
 
 -- what a dirty chunk shows, an absent one, and one that is neither
 pub shown_dirty : (c : Chunk) → (c.state == 2) ≡ true → shown c ≡ cached_pair c
-shown_dirty c two = ap (λ n. cond (n == 0) (stored_pair c) (cached_pair c)) (equal_of c.state 2 two)
+shown_dirty c two = ap (λ n. cond (n == 0) (stored_pair c) (cached_pair c)) (same_of c.state 2 two)
 
 pub shown_absent : (c : Chunk) → (c.state == 0) ≡ true → shown c ≡ stored_pair c
 shown_absent c none = ap (λ b. cond b (stored_pair c) (cached_pair c)) none

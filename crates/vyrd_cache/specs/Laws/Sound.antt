@@ -1,5 +1,5 @@
 -- Each procedure of a cache is sound.
-use Rattle.std.proofs.Common.{◌≡◌, ℕ, ◌+◌, ◌*◌, ◌<◌, ◌≤◌, ◌^◌, Bool, true, false, cond, [], ◌∷◌, filter, refl, ap, ◌∙◌, sym, subst, arith}
+use Rattle.std.proofs.Common.{◌≡◌, ℕ, ◌+◌, ◌*◌, ◌<◌, ◌^◌, Bool, true, false, cond, [], ◌∷◌, filter, refl, ap, ◌∙◌, sym, subst, arith}
 use Rattle.std.specs.Prelude.{◌==◌, ◌&&◌, ◌||◌, not, nat_lt, nat_le, Some}
 use Rattle.std.proofs.lemmas.Bool.Decides.{nat_tests}
 use Rattle.vyrd_base.specs.declared.header.Header.{Header}
@@ -12,13 +12,14 @@ use Rattle.vyrd_base.specs.declared.log.Kind.TheVariants.{Return, Commit, BlockO
 use Rattle.vyrd_base.specs.Subjects.{subject_of, is_observer, are_args}
 use Rattle.vyrd_base.specs.Layout.{plain_words_of, lock_words_of}
 use Rattle.vyrd_base.specs.Histories.{cells_of, is_plain, is_lock}
-use Rattle.vyrd_base.proofs.SplitLaws.{both_true, second_true, same_number}
+use Rattle.vyrd_base.proofs.TestLaws.{both_true, second_true, same_number, is_below, is_at_most}
 use Rattle.vyrd_memory.specs.declared.act.Act.TheVariants.{Load, Store, Give, Mark}
 use Rattle.vyrd_memory.specs.declared.op.Variant.{Variant}
 use Rattle.vyrd_memory.specs.declared.op.Variant.TheVariants.{Correct, Broken}
 use Rattle.vyrd_memory.specs.Arguments.{are_small}
 use Rattle.vyrd_memory.specs.Scripts.{Script, step}
 use Rattle.vyrd_memory.specs.Soundness.{Standing, IsSound, just_called, may_act, holds}
+use Rattle.vyrd_memory.proofs.Small.{small_b, small_c}
 use Rattle.vyrd_cache.specs.Procedures.{state_of, cached_low, cached_high, stored_low, stored_high, lock_of, joined, in_order, procedure_of, put_cached}
 use Rattle.vyrd_cache.specs.Procedures.{put_cached_bare, put_stored, forget, only_commit, fetch, answer_cached, with_lock, write_procedure, flush_procedure}
 use Rattle.vyrd_cache.specs.Procedures.{evict_procedure, read_procedure}
@@ -31,24 +32,18 @@ holding lock method committed in_block = record { locks = lock ∷ []; called = 
 abbrev unlocked : Method → Bool → Standing
 unlocked method committed = record { locks = []; called = Some method; committed = committed; in_block = false }
 
-less : (a b : ℕ) → a < b → nat_lt a b ≡ true
-less a b low = grind (arith, nat_tests)
-
-at_most : (a b : ℕ) → a ≤ b → nat_le a b ≡ true
-at_most a b low = grind (arith, nat_tests)
-
 plain_cell : (h : Header) (cell : ℕ) → h.subject ≡ Cache → cell < 5 * h.size → is_plain (cells_of h) cell ≡ true
-plain_cell h cell is low = ap (λ s. nat_lt cell (plain_words_of s h.size)) is ∙ less cell (5 * h.size) low
+plain_cell h cell is low = ap (λ s. nat_lt cell (plain_words_of s h.size)) is ∙ is_below cell (5 * h.size) low
 
 lock_cell : (h : Header) (chunk : ℕ) → h.subject ≡ Cache → chunk < h.size → is_lock (cells_of h) (lock_of h chunk) ≡ true
 lock_cell h chunk is low =
     ap (λ s. nat_le (plain_words_of s h.size) (lock_of h chunk) && nat_lt (lock_of h chunk) (plain_words_of s h.size + lock_words_of s h.size)) is
-    ∙ both_true _ _ (at_most (5 * h.size) (5 * h.size + chunk) (omega arith)) (less (5 * h.size + chunk) (5 * h.size + h.size) (omega arith))
+    ∙ both_true _ _ (is_at_most (5 * h.size) (5 * h.size + chunk) (omega arith)) (is_below (5 * h.size + chunk) (5 * h.size + h.size) (omega arith))
 
 may_store : (h : Header) (s : Standing) (method : Method) (cell value : ℕ) → h.subject ≡ Cache → cell < 5 * h.size → value < 2 ^ 63 → s.called ≡ Some method
     → may_act h s (Store cell value) ≡ true
 may_store h s method cell value is low small called =
-    both_true _ _ (both_true _ _ (plain_cell h cell is low) (less value (2 ^ 63) small)) (rw called)
+    both_true _ _ (both_true _ _ (plain_cell h cell is low) (is_below value (2 ^ 63) small)) (rw called)
 
 -- the lock is given back
 given : (h : Header) (chunk : ℕ) (method : Method) (committed : Bool) (rest : Script) → h.subject ≡ Cache → chunk < h.size
@@ -234,13 +229,6 @@ chunk_below size method args of_cache fit = by_method method of_cache fit
     by_method TrInsert of_cache fit = cc
     by_method TrDelete of_cache fit = cc
     by_method TrLookup of_cache fit = cc
-
--- its other arguments are small
-small_b : (args : Args) → are_small args ≡ true → args.b < 2 ^ 32
-small_b args small = grind (arith, nat_tests)
-
-small_c : (args : Args) → are_small args ≡ true → args.c < 2 ^ 32
-small_c args small = grind (arith, nat_tests)
 
 pub procedure_sound : (h : Header) (variant : Variant) (method : Method) (args : Args) → h.subject ≡ Cache → subject_of method ≡ Cache
     → are_args h.size method args ≡ true → are_small args ≡ true → IsSound h (just_called method) (procedure_of h variant method args)

@@ -1,5 +1,5 @@
 -- Each procedure ends in time.
-use Rattle.std.proofs.Common.{◌≡◌, ℕ, zero, suc, ◌+◌, ◌-◌, ◌≤◌, Bool, true, false, cond, Option, Some, None, refl, sym, subst, arith}
+use Rattle.std.proofs.Common.{◌≡◌, ℕ, zero, suc, ◌+◌, ◌-◌, true, false, cond, Option, Some, None, refl, sym, subst, arith}
 use Rattle.std.specs.Prelude.{◌==◌, is_some}
 use Rattle.vyrd_base.specs.declared.header.Header.{Header}
 use Rattle.vyrd_base.specs.declared.subject.Subject.TheVariants.{Multiset}
@@ -7,73 +7,48 @@ use Rattle.vyrd_base.specs.declared.subject.Method.{Method}
 use Rattle.vyrd_base.specs.declared.subject.Method.TheVariants.{MsInsert, MsInsertPair, MsDelete, MsLookup, CaWrite, CaFlush, CaEvict, CaRead, TrInsert, TrDelete, TrLookup}
 use Rattle.vyrd_base.specs.declared.log.Kind.TheVariants.{Commit, BlockOpen, BlockCommit}
 use Rattle.vyrd_base.specs.Subjects.{subject_of, are_args}
-use Rattle.vyrd_memory.specs.declared.act.Act.{Act}
-use Rattle.vyrd_memory.specs.declared.act.Act.TheVariants.{Load, Store, Take, Give, Mark}
+use Rattle.vyrd_memory.specs.declared.act.Act.TheVariants.{Store, Take, Give, Mark}
 use Rattle.vyrd_memory.specs.declared.op.Op.{Op}
 use Rattle.vyrd_memory.specs.declared.op.Variant.{Variant}
 use Rattle.vyrd_memory.specs.declared.op.Variant.TheVariants.{Correct, Broken}
-use Rattle.vyrd_memory.specs.Scripts.{Script, stop, step, perform}
+use Rattle.vyrd_memory.specs.Scripts.{Script, perform, returns, gives_up}
 use Rattle.vyrd_memory.specs.Arguments.{are_small}
-use Rattle.vyrd_memory.specs.Bounds.{bound_in, bound_of, is_return, EndsByReturn}
+use Rattle.vyrd_memory.specs.Bounds.{bound_in, bound_of, EndsByReturn}
+use Rattle.vyrd_memory.proofs.TimedActs.{in_more, loads_in, acts_in, returns_in, gives_up_in}
 use Rattle.vyrd_multiset.specs.Slots.{bucket_of, first_slot, state_word, value_word, lock_of}
-use Rattle.vyrd_multiset.specs.Procedures.{lock, unlock, returns, gives_up, reserve, find_from, find, commit_state, inserted, insert, first_bucket, second_bucket, lock_other, unlock_both, validate_both, commit_both, undo, second_found, first_found, insert_pair, compare, search_from, search_in, deleted, delete, looked_up, lookup, by_method, multiset_procedure}
-
--- there may be more time
-ends_in_more : (n m : ℕ) (script : Script) → n ≤ m → EndsByReturn n script → EndsByReturn m script
-ends_in_more n m stop le ends = ends
-ends_in_more n m (step act rest) le ends =
-    (omega (arith, ends.0), ends.1, λ on answer is. ends_in_more (n - 1) (m - 1) (rest answer) (omega (arith, le)) (ends.2 on answer is))
-
-one_less : (n : ℕ) → n + 1 - 1 ≡ n
-one_less n = omega arith
-
-goes_on : (b : Bool) {A : Type 0} → b ≡ false → b ≡ true → A
-goes_on b e f = absurd (cc)
-
--- one more act
-load_ends : (n cell : ℕ) (rest : ℕ → Script) → ((answer : ℕ) → EndsByReturn n (rest answer)) → EndsByReturn (n + 1) (step (Load cell) rest)
-load_ends n cell rest ends = (omega arith, λ e. cc, λ on answer is. ends_in_more n (n + 1 - 1) (rest answer) (omega arith) (ends answer))
-
-act_ends : (n : ℕ) (act : Act) (later : Script) → is_return act ≡ false → EndsByReturn n later → EndsByReturn (n + 1) (perform act later)
-act_ends n act later on ends = (omega arith, λ e. goes_on (is_return act) on e, λ on answer is. ends_in_more n (n + 1 - 1) later (omega arith) ends)
-
-returns_ends : (reply : ℕ) → EndsByReturn 1 (returns reply)
-returns_ends reply = (omega arith, λ e. refl, λ on. cc)
-
-gives_up_ends : EndsByReturn 2 gives_up
-gives_up_ends = act_ends 1 (Mark Commit) (returns 0) refl (returns_ends 0)
+use Rattle.vyrd_multiset.specs.Procedures.{lock, unlock, reserve, find_from, find, commit_state, inserted, insert, first_bucket, second_bucket, lock_other, unlock_both, validate_both, commit_both, undo, second_found, first_found, insert_pair, compare, search_from, search_in, deleted, delete, looked_up, lookup, by_method, multiset_procedure}
 
 -- finding a slot takes a load for each slot and two stores
 find_from_ends : (n left slot value : ℕ) (found : Option ℕ → Script) → ((slot : Option ℕ) → EndsByReturn n (found slot)) → EndsByReturn (n + 2 + left)
     (find_from left slot value found)
-find_from_ends n zero slot value found ends = ends_in_more n (n + 2 + 0) (found None) (omega arith) (ends None)
+find_from_ends n zero slot value found ends = in_more n (n + 2 + 0) (found None) (omega arith) (ends None)
 find_from_ends n (suc left) slot value found ends =
-    ends_in_more (n + 2 + left + 1) (n + 2 + suc left) (find_from (suc left) slot value found) (omega arith)
-    (load_ends (n + 2 + left) (state_word slot) (λ state. cond (state == 0) (reserve slot value (found (Some slot))) (find_from left (slot + 1) value found))
+    in_more (n + 2 + left + 1) (n + 2 + suc left) (find_from (suc left) slot value found) (omega arith)
+    (loads_in (n + 2 + left) (state_word slot) (λ state. cond (state == 0) (reserve slot value (found (Some slot))) (find_from left (slot + 1) value found))
     (λ state. elim (state == 0) as (λ b. EndsByReturn (n + 2 + left) (cond b (reserve slot value (found (Some slot))) (find_from left (slot + 1) value found))) [
-      | true ↦ ends_in_more (n + 1 + 1) (n + 2 + left) (reserve slot value (found (Some slot))) (omega arith)
-          (act_ends (n + 1) (Store (value_word slot) value) (perform (Store (state_word slot) 1) (found (Some slot))) refl
-          (act_ends n (Store (state_word slot) 1) (found (Some slot)) refl (ends (Some slot))))
+      | true ↦ in_more (n + 1 + 1) (n + 2 + left) (reserve slot value (found (Some slot))) (omega arith)
+          (acts_in (n + 1) (Store (value_word slot) value) (perform (Store (state_word slot) 1) (found (Some slot))) refl
+          (acts_in n (Store (state_word slot) 1) (found (Some slot)) refl (ends (Some slot))))
       | false ↦ find_from_ends n left (slot + 1) value found ends
     ]))
 
 -- a search takes two loads for each slot
 search_from_ends : (n left slot value : ℕ) (ended : Option ℕ → Script) → ((slot : Option ℕ) → EndsByReturn n (ended slot)) → EndsByReturn (n + (left + left))
     (search_from left slot value ended)
-search_from_ends n zero slot value ended ends = ends_in_more n (n + (0 + 0)) (ended None) (omega arith) (ends None)
+search_from_ends n zero slot value ended ends = in_more n (n + (0 + 0)) (ended None) (omega arith) (ends None)
 search_from_ends n (suc left) slot value ended ends =
     let on : EndsByReturn (n + (left + left)) (search_from left (slot + 1) value ended) = search_from_ends n left (slot + 1) value ended ends in
-    ends_in_more (n + (left + left) + 1 + 1) (n + (suc left + suc left)) (search_from (suc left) slot value ended) (omega arith)
-    (load_ends (n + (left + left) + 1) (state_word slot)
+    in_more (n + (left + left) + 1 + 1) (n + (suc left + suc left)) (search_from (suc left) slot value ended) (omega arith)
+    (loads_in (n + (left + left) + 1) (state_word slot)
     (λ state. cond (state == 2) (compare slot value (ended (Some slot)) (search_from left (slot + 1) value ended)) (search_from left (slot + 1) value ended))
     (λ state. elim (state == 2) as (λ b. EndsByReturn (n + (left + left) + 1)
     (cond b (compare slot value (ended (Some slot)) (search_from left (slot + 1) value ended)) (search_from left (slot + 1) value ended))) [
-      | true ↦ load_ends (n + (left + left)) (value_word slot) (λ loaded. cond (loaded == value) (ended (Some slot)) (search_from left (slot + 1) value ended))
+      | true ↦ loads_in (n + (left + left)) (value_word slot) (λ loaded. cond (loaded == value) (ended (Some slot)) (search_from left (slot + 1) value ended))
           (λ loaded. elim (loaded == value) as (λ b. EndsByReturn (n + (left + left)) (cond b (ended (Some slot)) (search_from left (slot + 1) value ended))) [
-            | true ↦ ends_in_more n (n + (left + left)) (ended (Some slot)) (omega arith) (ends (Some slot))
+            | true ↦ in_more n (n + (left + left)) (ended (Some slot)) (omega arith) (ends (Some slot))
             | false ↦ on
           ])
-      | false ↦ ends_in_more (n + (left + left)) (n + (left + left) + 1) (search_from left (slot + 1) value ended) (omega arith) on
+      | false ↦ in_more (n + (left + left)) (n + (left + left) + 1) (search_from left (slot + 1) value ended) (omega arith) on
     ]))
 
 find_ends : (n : ℕ) (h : Header) (variant : Variant) (value : ℕ) (found : Option ℕ → Script) → ((slot : Option ℕ) → EndsByReturn n (found slot)) → EndsByReturn
@@ -81,51 +56,51 @@ find_ends : (n : ℕ) (h : Header) (variant : Variant) (value : ℕ) (found : Op
 find_ends n h Correct value found ends =
     let b : ℕ = bucket_of h value in
     let script : Script = find_from 4 (first_slot b) value (λ slot. unlock h b (found slot)) in
-    ends_in_more (n + 1 + 2 + 4 + 1) (n + 8) (lock h b script) (omega arith)
-    (act_ends (n + 1 + 2 + 4) (Take (lock_of h b)) script refl
-    (find_from_ends (n + 1) 4 (first_slot b) value (λ slot. unlock h b (found slot)) (λ slot. act_ends n (Give (lock_of h b)) (found slot) refl (ends slot))))
+    in_more (n + 1 + 2 + 4 + 1) (n + 8) (lock h b script) (omega arith)
+    (acts_in (n + 1 + 2 + 4) (Take (lock_of h b)) script refl
+    (find_from_ends (n + 1) 4 (first_slot b) value (λ slot. unlock h b (found slot)) (λ slot. acts_in n (Give (lock_of h b)) (found slot) refl (ends slot))))
 find_ends n h Broken value found ends =
-    ends_in_more (n + 2 + 4) (n + 8) (find_from 4 (first_slot (bucket_of h value)) value found) (omega arith)
+    in_more (n + 2 + 4) (n + 8) (find_from 4 (first_slot (bucket_of h value)) value found) (omega arith)
     (find_from_ends n 4 (first_slot (bucket_of h value)) value found ends)
 
 search_in_ends : (n : ℕ) (h : Header) (x : ℕ) (ended : Option ℕ → Script) → ((slot : Option ℕ) → EndsByReturn n (ended slot)) → EndsByReturn (n + 9)
     (search_in h x ended)
 search_in_ends n h x ended ends =
     let b : ℕ = bucket_of h x in
-    ends_in_more (n + (4 + 4) + 1) (n + 9) (search_in h x ended) (omega arith)
-    (act_ends (n + (4 + 4)) (Take (lock_of h b)) (search_from 4 (first_slot b) x ended) refl (search_from_ends n 4 (first_slot b) x ended ends))
+    in_more (n + (4 + 4) + 1) (n + 9) (search_in h x ended) (omega arith)
+    (acts_in (n + (4 + 4)) (Take (lock_of h b)) (search_from 4 (first_slot b) x ended) refl (search_from_ends n 4 (first_slot b) x ended ends))
 
 commit_state_ends : (h : Header) (bucket slot state : ℕ) → EndsByReturn 5 (commit_state h bucket slot state)
 commit_state_ends h bucket slot state =
-    act_ends 4 (Mark BlockOpen) (perform (Store (state_word slot) state) (perform (Mark BlockCommit) (unlock h bucket (returns 1)))) refl
-    (act_ends 3 (Store (state_word slot) state) (perform (Mark BlockCommit) (unlock h bucket (returns 1))) refl
-    (act_ends 2 (Mark BlockCommit) (unlock h bucket (returns 1)) refl
-    (act_ends 1 (Give (lock_of h bucket)) (returns 1) refl (returns_ends 1))))
+    acts_in 4 (Mark BlockOpen) (perform (Store (state_word slot) state) (perform (Mark BlockCommit) (unlock h bucket (returns 1)))) refl
+    (acts_in 3 (Store (state_word slot) state) (perform (Mark BlockCommit) (unlock h bucket (returns 1))) refl
+    (acts_in 2 (Mark BlockCommit) (unlock h bucket (returns 1)) refl
+    (acts_in 1 (Give (lock_of h bucket)) (returns 1) refl (returns_in 1))))
 
 inserted_ends : (h : Header) (x : ℕ) (slot : Option ℕ) → EndsByReturn 6 (inserted h x slot)
-inserted_ends h x None = ends_in_more 2 6 gives_up (omega arith) gives_up_ends
-inserted_ends h x (Some slot) = act_ends 5 (Take (lock_of h (bucket_of h x))) (commit_state h (bucket_of h x) slot 2) refl (commit_state_ends h (bucket_of h x) slot 2)
+inserted_ends h x None = in_more 2 6 gives_up (omega arith) gives_up_in
+inserted_ends h x (Some slot) = acts_in 5 (Take (lock_of h (bucket_of h x))) (commit_state h (bucket_of h x) slot 2) refl (commit_state_ends h (bucket_of h x) slot 2)
 
 unlock_both_ends : (h : Header) (first second : ℕ) → EndsByReturn 3 (unlock_both h first second)
 unlock_both_ends h first second =
     elim (first == second) as (λ b. EndsByReturn 3 (cond b (unlock h first (returns 1)) (unlock h second (unlock h first (returns 1))))) [
-      | true ↦ ends_in_more 2 3 (unlock h first (returns 1)) (omega arith) one
-      | false ↦ act_ends 2 (Give (lock_of h second)) (unlock h first (returns 1)) refl one
+      | true ↦ in_more 2 3 (unlock h first (returns 1)) (omega arith) one
+      | false ↦ acts_in 2 (Give (lock_of h second)) (unlock h first (returns 1)) refl one
     ]
   where
     one : EndsByReturn 2 (unlock h first (returns 1))
-    one = act_ends 1 (Give (lock_of h first)) (returns 1) refl (returns_ends 1)
+    one = acts_in 1 (Give (lock_of h first)) (returns 1) refl (returns_in 1)
 
 validate_both_ends : (h : Header) (first second slot_x slot_y : ℕ) → EndsByReturn 7 (validate_both h first second slot_x slot_y)
 validate_both_ends h first second slot_x slot_y =
-    act_ends 6 (Mark BlockOpen) (perform (Store (state_word slot_x) 2)
+    acts_in 6 (Mark BlockOpen) (perform (Store (state_word slot_x) 2)
     (perform (Store (state_word slot_y) 2) (perform (Mark BlockCommit) (unlock_both h first second)))) refl
-    (act_ends 5 (Store (state_word slot_x) 2) (perform (Store (state_word slot_y) 2) (perform (Mark BlockCommit) (unlock_both h first second))) refl
-    (act_ends 4 (Store (state_word slot_y) 2) (perform (Mark BlockCommit) (unlock_both h first second)) refl
-    (act_ends 3 (Mark BlockCommit) (unlock_both h first second) refl (unlock_both_ends h first second))))
+    (acts_in 5 (Store (state_word slot_x) 2) (perform (Store (state_word slot_y) 2) (perform (Mark BlockCommit) (unlock_both h first second))) refl
+    (acts_in 4 (Store (state_word slot_y) 2) (perform (Mark BlockCommit) (unlock_both h first second)) refl
+    (acts_in 3 (Mark BlockCommit) (unlock_both h first second) refl (unlock_both_ends h first second))))
 
 commit_both_ends : (h : Header) (first second slot_x slot_y : ℕ) → EndsByReturn 9 (commit_both h first second slot_x slot_y)
-commit_both_ends h first second slot_x slot_y = act_ends 8 (Take (lock_of h first)) (lock_other h first second (validate_both h first second slot_x slot_y)) refl other
+commit_both_ends h first second slot_x slot_y = acts_in 8 (Take (lock_of h first)) (lock_other h first second (validate_both h first second slot_x slot_y)) refl other
   where
     inner : EndsByReturn 7 (validate_both h first second slot_x slot_y)
     inner = validate_both_ends h first second slot_x slot_y
@@ -133,44 +108,44 @@ commit_both_ends h first second slot_x slot_y = act_ends 8 (Take (lock_of h firs
     other : EndsByReturn 8 (lock_other h first second (validate_both h first second slot_x slot_y))
     other = elim (first == second) as
         (λ b. EndsByReturn 8 (cond b (validate_both h first second slot_x slot_y) (lock h second (validate_both h first second slot_x slot_y)))) [
-          | true ↦ ends_in_more 7 8 (validate_both h first second slot_x slot_y) (omega arith) inner
-          | false ↦ act_ends 7 (Take (lock_of h second)) (validate_both h first second slot_x slot_y) refl inner
+          | true ↦ in_more 7 8 (validate_both h first second slot_x slot_y) (omega arith) inner
+          | false ↦ acts_in 7 (Take (lock_of h second)) (validate_both h first second slot_x slot_y) refl inner
         ]
 
 undo_ends : (h : Header) (x slot : ℕ) → EndsByReturn 5 (undo h x slot)
 undo_ends h x slot =
-    act_ends 4 (Take (lock_of h (bucket_of h x))) (perform (Store (state_word slot) 0) (unlock h (bucket_of h x) gives_up)) refl
-    (act_ends 3 (Store (state_word slot) 0) (unlock h (bucket_of h x) gives_up) refl
-    (act_ends 2 (Give (lock_of h (bucket_of h x))) gives_up refl gives_up_ends))
+    acts_in 4 (Take (lock_of h (bucket_of h x))) (perform (Store (state_word slot) 0) (unlock h (bucket_of h x) gives_up)) refl
+    (acts_in 3 (Store (state_word slot) 0) (unlock h (bucket_of h x) gives_up) refl
+    (acts_in 2 (Give (lock_of h (bucket_of h x))) gives_up refl gives_up_in))
 
 second_found_ends : (h : Header) (variant : Variant) (x y slot_x : ℕ) (slot : Option ℕ) → EndsByReturn 9 (second_found h variant x y slot_x slot)
-second_found_ends h variant x y slot_x None = ends_in_more 5 9 (undo h x slot_x) (omega arith) (undo_ends h x slot_x)
+second_found_ends h variant x y slot_x None = in_more 5 9 (undo h x slot_x) (omega arith) (undo_ends h x slot_x)
 second_found_ends h variant x y slot_x (Some slot_y) =
     commit_both_ends h (first_bucket variant (bucket_of h x) (bucket_of h y)) (second_bucket variant (bucket_of h x) (bucket_of h y)) slot_x slot_y
 
 first_found_ends : (h : Header) (variant : Variant) (x y : ℕ) (slot : Option ℕ) → EndsByReturn 17 (first_found h variant x y slot)
-first_found_ends h variant x y None = ends_in_more 2 17 gives_up (omega arith) gives_up_ends
+first_found_ends h variant x y None = in_more 2 17 gives_up (omega arith) gives_up_in
 first_found_ends h variant x y (Some slot_x) = find_ends 9 h variant y (second_found h variant x y slot_x) (second_found_ends h variant x y slot_x)
 
 deleted_ends : (h : Header) (x : ℕ) (slot : Option ℕ) → EndsByReturn 5 (deleted h x slot)
-deleted_ends h x None = ends_in_more 3 5 (deleted h x None) (omega arith)
-    (act_ends 2 (Mark Commit) (unlock h (bucket_of h x) (returns 0)) refl (act_ends 1 (Give (lock_of h (bucket_of h x))) (returns 0) refl (returns_ends 0)))
+deleted_ends h x None = in_more 3 5 (deleted h x None) (omega arith)
+    (acts_in 2 (Mark Commit) (unlock h (bucket_of h x) (returns 0)) refl (acts_in 1 (Give (lock_of h (bucket_of h x))) (returns 0) refl (returns_in 0)))
 deleted_ends h x (Some slot) = commit_state_ends h (bucket_of h x) slot 0
 
 looked_up_ends : (h : Header) (x : ℕ) (slot : Option ℕ) → EndsByReturn 2 (looked_up h x slot)
 looked_up_ends h x slot =
     let reply : ℕ = cond (is_some slot) 1 0 in
-    act_ends 1 (Give (lock_of h (bucket_of h x))) (returns reply) refl (returns_ends reply)
+    acts_in 1 (Give (lock_of h (bucket_of h x))) (returns reply) refl (returns_in reply)
 
 by_method_ends : (h : Header) (variant : Variant) (method : Method) (x y : ℕ) → subject_of method ≡ Multiset → EndsByReturn 31 (by_method h variant method x y)
 by_method_ends h variant MsInsert x y of =
-    ends_in_more (6 + 8) 31 (insert h variant x) (omega arith) (find_ends 6 h variant x (inserted h x) (inserted_ends h x))
+    in_more (6 + 8) 31 (insert h variant x) (omega arith) (find_ends 6 h variant x (inserted h x) (inserted_ends h x))
 by_method_ends h variant MsInsertPair x y of =
-    ends_in_more (17 + 8) 31 (insert_pair h variant x y) (omega arith) (find_ends 17 h variant x (first_found h variant x y) (first_found_ends h variant x y))
+    in_more (17 + 8) 31 (insert_pair h variant x y) (omega arith) (find_ends 17 h variant x (first_found h variant x y) (first_found_ends h variant x y))
 by_method_ends h variant MsDelete x y of =
-    ends_in_more (5 + 9) 31 (delete h x) (omega arith) (search_in_ends 5 h x (deleted h x) (deleted_ends h x))
+    in_more (5 + 9) 31 (delete h x) (omega arith) (search_in_ends 5 h x (deleted h x) (deleted_ends h x))
 by_method_ends h variant MsLookup x y of =
-    ends_in_more (2 + 9) 31 (lookup h x) (omega arith) (search_in_ends 2 h x (looked_up h x) (looked_up_ends h x))
+    in_more (2 + 9) 31 (lookup h x) (omega arith) (search_in_ends 2 h x (looked_up h x) (looked_up_ends h x))
 by_method_ends h variant CaWrite x y of = cc
 by_method_ends h variant CaFlush x y of = cc
 by_method_ends h variant CaEvict x y of = cc

@@ -1,9 +1,9 @@
 -- How many slots are free, by what is known of each.
 use Rattle.std.proofs.Common.{◌≡◌, ◌≢◌, ℕ, zero, suc, ◌+◌, ◌*◌, ◌<◌, ◌≤◌, Bool, true, false, cond, refl, ap, subst, arith}
 use Rattle.std.specs.Prelude.{◌==◌}
+use Rattle.vyrd_base.proofs.TestLaws.{same_of, apart_of, isnt_same}
 use Rattle.vyrd_memory.specs.Alone.{Memory}
 use Rattle.vyrd_multiset.specs.Room.{free_from}
-use Rattle.vyrd_multiset.specs.Laws.Tests.{same_of, apart_of, isnt_same}
 
 -- what a slot counts: 1 where it is free
 abbrev counts : Memory → ℕ → ℕ

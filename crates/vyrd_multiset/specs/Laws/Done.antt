@@ -6,19 +6,19 @@ use Rattle.vyrd_base.specs.declared.header.Header.{Header}
 use Rattle.vyrd_base.specs.Amounts.{Amounts, amount_of, with_amount, plus_amount}
 use Rattle.vyrd_base.proofs.SumLaws.{given}
 use Rattle.vyrd_base.specs.declared.log.Kind.TheVariants.{BlockOpen, BlockCommit}
+use Rattle.vyrd_base.proofs.TestLaws.{same_of, apart_of}
 use Rattle.vyrd_memory.specs.declared.act.Act.TheVariants.{Store, Mark}
 use Rattle.vyrd_memory.specs.declared.op.Variant.TheVariants.{Correct}
-use Rattle.vyrd_memory.specs.Scripts.{Script, perform}
+use Rattle.vyrd_memory.specs.Scripts.{Script, perform, returns, gives_up}
 use Rattle.vyrd_memory.specs.Alone.{Memory, with_cell, alone}
 use Rattle.vyrd_memory.proofs.Memories.{changed_cell, other_cell}
 use Rattle.vyrd_multiset.specs.Slots.{bucket_of, first_slot, state_word, lock_of}
-use Rattle.vyrd_multiset.specs.Procedures.{returns, gives_up, lock, unlock, lock_other, validate_both, find_from, find, commit_state, inserted, insert, commit_both, second_found, first_found, insert_pair, search_from, search_in, deleted, delete, looked_up, lookup}
+use Rattle.vyrd_multiset.specs.Procedures.{lock, unlock, lock_other, validate_both, find_from, find, commit_state, inserted, insert, commit_both, second_found, first_found, insert_pair, search_from, search_in, deleted, delete, looked_up, lookup}
 use Rattle.vyrd_multiset.specs.Room.{free_slots_for, has_room_for_both}
 use Rattle.vyrd_multiset.specs.Laws.Sound.{some_size, bucket_low}
 use Rattle.vyrd_multiset.specs.Laws.Slotted.{IsMultiset, changed, made_valid, left_invalid, made_free, is_there, isnt_there}
 use Rattle.vyrd_multiset.specs.Laws.Played.{Ended, take_played, with_reserved, find_from_played, search_from_played}
 use Rattle.vyrd_multiset.specs.Laws.Counted.{free_none, free_some, free_two, free_one_at_most}
-use Rattle.vyrd_multiset.specs.Laws.Tests.{same_of, apart_of}
 
 -- a lock that was free is given back: the cell is as it was
 pub given_back : (before during : Memory) (lock cell : ℕ) → before lock ≡ 0 → (cell ≢ lock → during cell ≡ before cell) → with_cell during lock 0 cell ≡ before cell

@@ -1,12 +1,12 @@
 -- How the parts of the procedures are played alone.
 use Rattle.std.proofs.Common.{◌≡◌, ◌≢◌, ℕ, zero, suc, ◌+◌, ◌*◌, ◌<◌, ◌≤◌, Bool, true, false, cond, Option, Some, None, refl, ap, sym, subst, arith}
 use Rattle.std.specs.Prelude.{◌==◌}
+use Rattle.vyrd_base.proofs.TestLaws.{same_of, apart_of}
 use Rattle.vyrd_memory.specs.declared.act.Act.TheVariants.{Take}
 use Rattle.vyrd_memory.specs.Scripts.{Script, perform}
 use Rattle.vyrd_memory.specs.Alone.{Memory, with_cell, Outcome, alone}
 use Rattle.vyrd_multiset.specs.Slots.{state_word, value_word}
 use Rattle.vyrd_multiset.specs.Procedures.{find_from, reserve, compare, search_from}
-use Rattle.vyrd_multiset.specs.Laws.Tests.{same_of, apart_of}
 
 -- there is an outcome, and this holds of its reply and its memory
 abbrev pub Ended : Option Outcome → (ℕ → Memory → Type 0) → Type 0
@@ -16,10 +16,6 @@ Ended (Some outcome) Q = Q outcome.reply outcome.memory
 pub ended_with : (o : Option Outcome) (Q : ℕ → Memory → Type 0) → Ended o Q → (outcome : Outcome) × (o ≡ Some outcome) × Q outcome.reply outcome.memory
 ended_with None Q e = absurd e
 ended_with (Some outcome) Q e = (outcome, refl, e)
-
-pub ended_more : (o : Option Outcome) (P Q : ℕ → Memory → Type 0) → ((reply : ℕ) (memory : Memory) → P reply memory → Q reply memory) → Ended o P → Ended o Q
-ended_more None P Q more e = e
-ended_more (Some outcome) P Q more e = more outcome.reply outcome.memory e
 
 -- a free lock is taken
 pub take_played : (c lock : ℕ) (later : Script) (memory : Memory) (Q : ℕ → Memory → Type 0) → memory lock ≡ 0

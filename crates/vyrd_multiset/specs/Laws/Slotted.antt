@@ -11,12 +11,12 @@ use Rattle.vyrd_base.specs.Views.{slot_parts, parts_of, view_of_words}
 use Rattle.vyrd_base.specs.Standing.{is_sound_slot, is_sound}
 use Rattle.vyrd_base.proofs.AmountLaws.{amount_of-with_amount, IsAmounts-with_amount}
 use Rattle.vyrd_base.proofs.SumLaws.{given, part_given, given-append, amount_of-collected, amount_of-plus, IsAmounts-collected, given_nothing}
+use Rattle.vyrd_base.proofs.TestLaws.{same_of, same_number, isnt_same}
 use Rattle.vyrd_memory.specs.Alone.{Memory, words_in, state_in}
 use Rattle.vyrd_memory.proofs.NumberLists.{all_pass, pass_all, flat_map_alike}
 use Rattle.vyrd_memory.proofs.PartSums.{given-changed, collected-is}
 use Rattle.vyrd_memory.proofs.Memories.{Stands, word_at, stands, standing}
 use Rattle.vyrd_multiset.specs.Slots.{bucket_of}
-use Rattle.vyrd_multiset.specs.Laws.Tests.{same_of, is_same, isnt_same}
 
 -- what slot i gives
 abbrev pub parts_in : Memory → ℕ → List (ℕ × ℕ)
@@ -189,7 +189,7 @@ given_at_least f q k (suc n) i from to =
 pub is_there : (h : Header) (memory : Memory) (s : Amounts) (i x : ℕ) → IsMultiset h memory s → i < 4 * h.size
     → memory (2 * i) ≡ 2 → memory (2 * i + 1) ≡ x → 1 ≤ amount_of s x
 is_there h memory s i x m low valid has =
-    let one : given x (parts_in memory i) ≡ 1 = gives_one memory i x x valid has ∙ ap (λ b. cond b 1 0) (is_same x) in
+    let one : given x (parts_in memory i) ≡ 1 = gives_one memory i x x valid has ∙ ap (λ b. cond b 1 0) (same_number x) in
     omega (arith, given_at_least (parts_in memory) x 0 (4 * h.size) i (omega arith) (omega (arith, low)), one, m.shows x)
 
 -- a valid slot is freed

@@ -12,15 +12,16 @@ use Rattle.vyrd_base.specs.Limits.{is_within}
 use Rattle.vyrd_base.specs.Subjects.{subject_of, are_args, is_observer}
 use Rattle.vyrd_base.specs.Layout.{plain_words_of, lock_words_of}
 use Rattle.vyrd_base.specs.Histories.{cells_of, is_plain, is_lock}
+use Rattle.vyrd_base.proofs.TestLaws.{both_true, same_number, is_below}
 use Rattle.vyrd_memory.specs.declared.act.Act.TheVariants.{Load, Store, Mark}
 use Rattle.vyrd_memory.specs.declared.op.Op.{Op}
 use Rattle.vyrd_memory.specs.declared.op.Variant.{Variant}
 use Rattle.vyrd_memory.specs.declared.op.Variant.TheVariants.{Correct, Broken}
-use Rattle.vyrd_memory.specs.Scripts.{Script, step, perform}
+use Rattle.vyrd_memory.specs.Scripts.{Script, step, perform, returns, gives_up}
 use Rattle.vyrd_memory.specs.Arguments.{are_small}
 use Rattle.vyrd_memory.specs.Soundness.{Standing, IsSound, just_called, holds}
 use Rattle.vyrd_multiset.specs.Slots.{bucket_of, first_slot, state_word, value_word, lock_of}
-use Rattle.vyrd_multiset.specs.Procedures.{lock, unlock, returns, gives_up, reserve, find_from, find, commit_state, inserted, lock_other, unlock_both, validate_both, commit_both, undo, second_found, first_found, compare, search_from, search_in, deleted, looked_up, by_method, multiset_procedure}
+use Rattle.vyrd_multiset.specs.Procedures.{lock, unlock, reserve, find_from, find, commit_state, inserted, lock_other, unlock_both, validate_both, commit_both, undo, second_found, first_found, compare, search_from, search_in, deleted, looked_up, by_method, multiset_procedure}
 
 -- the size of a header isn't 0
 pub some_size : (h : Header) → 1 ≤ h.size
@@ -33,17 +34,14 @@ some_size h = within h.version h.size h.callers h.within
 pub bucket_low : (h : Header) (value : ℕ) → bucket_of h value < h.size
 bucket_low h value = omega (arith, some_size h)
 
-less : (a b : ℕ) → a < b → (nat_lt a b) ≡ true
-less a b l = grind (arith, nat_tests)
-
 between : (a n b : ℕ) → a ≤ b → b < a + n → (nat_le a b && nat_lt b (a + n)) ≡ true
 between a n b l m = grind (arith, nat_tests)
 
 state_is_plain : (h : Header) → h.subject ≡ Multiset → (slot : ℕ) → slot < 4 * h.size → is_plain (cells_of h) (state_word slot) ≡ true
-state_is_plain h is slot low = ap (λ s. nat_lt (2 * slot) (plain_words_of s h.size)) is ∙ less (2 * slot) (8 * h.size) (omega arith)
+state_is_plain h is slot low = ap (λ s. nat_lt (2 * slot) (plain_words_of s h.size)) is ∙ is_below (2 * slot) (8 * h.size) (omega arith)
 
 value_is_plain : (h : Header) → h.subject ≡ Multiset → (slot : ℕ) → slot < 4 * h.size → is_plain (cells_of h) (value_word slot) ≡ true
-value_is_plain h is slot low = ap (λ s. nat_lt (2 * slot + 1) (plain_words_of s h.size)) is ∙ less (2 * slot + 1) (8 * h.size) (omega arith)
+value_is_plain h is slot low = ap (λ s. nat_lt (2 * slot + 1) (plain_words_of s h.size)) is ∙ is_below (2 * slot + 1) (8 * h.size) (omega arith)
 
 is_its_lock : (h : Header) → h.subject ≡ Multiset → (bucket : ℕ) → bucket < h.size → is_lock (cells_of h) (lock_of h bucket) ≡ true
 is_its_lock h is bucket low =
@@ -54,36 +52,29 @@ is_its_lock h is bucket low =
 abbrev pub holding : List ℕ → Method → Bool → Standing
 holding locks method committed = record { locks = locks; called = Some method; committed = committed; in_block = false }
 
-and_both : (a b : Bool) → a ≡ true → b ≡ true → (a && b) ≡ true
-and_both true b e f = f
-and_both false b e f = e
-
 load_sound : (h : Header) (s : Standing) (cell : ℕ) (rest : ℕ → Script) → is_plain (cells_of h) cell ≡ true → ((answer : ℕ) → IsSound h s (rest answer))
     → IsSound h s (step (Load cell) rest)
 load_sound h s cell rest plain later = (plain, λ answer is. later answer)
 
 store_sound : (h : Header) (s : Standing) (cell value : ℕ) (later : Script) → is_plain (cells_of h) cell ≡ true → value < 2 ^ 63 → is_some s.called ≡ true
     → IsSound h s later → IsSound h s (perform (Store cell value) later)
-store_sound h s cell value later plain low called sound = (and_both _ _ (and_both _ _ plain (less value (2 ^ 63) low)) called, λ answer is. sound)
-
-same_lock : (lock : ℕ) → (lock == lock) ≡ true
-same_lock lock = grind (arith, nat_tests)
+store_sound h s cell value later plain low called sound = (both_true _ _ (both_true _ _ plain (is_below value (2 ^ 63) low)) called, λ answer is. sound)
 
 -- the same lock isn't held any more
 gone : (lock : ℕ) (locks : List ℕ) → filter (λ held. not (held == lock)) (lock ∷ locks) ≡ filter (λ held. not (held == lock)) locks
-gone lock locks = ap (λ b. cond (not b) (lock ∷ filter (λ held. not (held == lock)) locks) (filter (λ held. not (held == lock)) locks)) (same_lock lock)
+gone lock locks = ap (λ b. cond (not b) (lock ∷ filter (λ held. not (held == lock)) locks) (filter (λ held. not (held == lock)) locks)) (same_number lock)
 
 held_first : (lock : ℕ) (locks : List ℕ) (method : Method) (committed : Bool) → holds (holding (lock ∷ locks) method committed) lock ≡ true
-held_first lock locks method committed = ap (λ b. b || list_any (λ held. held == lock) locks) (same_lock lock)
+held_first lock locks method committed = ap (λ b. b || list_any (λ held. held == lock) locks) (same_number lock)
 
 take_first : (h : Header) (bucket : ℕ) (method : Method) (committed : Bool) (later : Script) → h.subject ≡ Multiset → bucket < h.size
     → IsSound h (holding (lock_of h bucket ∷ []) method committed) later → IsSound h (holding [] method committed) (lock h bucket later)
-take_first h bucket method committed later is low sound = (and_both _ _ (is_its_lock h is bucket low) refl, λ answer is. sound)
+take_first h bucket method committed later is low sound = (both_true _ _ (is_its_lock h is bucket low) refl, λ answer is. sound)
 
 give_last : (h : Header) (bucket : ℕ) (method : Method) (committed : Bool) (later : Script) → h.subject ≡ Multiset → bucket < h.size
     → IsSound h (holding [] method committed) later → IsSound h (holding (lock_of h bucket ∷ []) method committed) (unlock h bucket later)
 give_last h bucket method committed later is low sound = (
-  and_both _ _ (is_its_lock h is bucket low) (held_first (lock_of h bucket) [] method committed),
+  both_true _ _ (is_its_lock h is bucket low) (held_first (lock_of h bucket) [] method committed),
   λ answer is. subst (λ locks. IsSound h (holding locks method committed) later) (sym (gone (lock_of h bucket) [])) sound,
 )
 
@@ -221,12 +212,12 @@ commit_both_sound h method first second slot_x slot_y is mutates low_first low_s
         (sym e) last)
     by_test false e =
         let apart : (lock_of h first == lock_of h second) ≡ false = other_lock h first second e in (
-          and_both _ _ (is_its_lock h is second low_second) (ap (λ b. not (b || false)) apart),
+          both_true _ _ (is_its_lock h is second low_second) (ap (λ b. not (b || false)) apart),
           λ answer is'.
               validate_both_sound h method (lock_of h second ∷ lock_of h first ∷ []) first second slot_x slot_y is mutates low_x low_y
               (subst (λ b. IsSound h (holding (lock_of h second ∷ lock_of h first ∷ []) method true)
               (cond b (unlock h first (returns 1)) (unlock h second (unlock h first (returns 1))))) (sym e) (
-                and_both _ _ (is_its_lock h is second low_second) (held_first (lock_of h second) (lock_of h first ∷ []) method true),
+                both_true _ _ (is_its_lock h is second low_second) (held_first (lock_of h second) (lock_of h first ∷ []) method true),
                 λ answer' is''.
                     subst (λ locks. IsSound h (holding locks method true) (unlock h first (returns 1)))
                     (sym (gone (lock_of h second) (lock_of h first ∷ []) ∙ ap (λ b. cond (not b) (lock_of h first ∷ []) []) apart)) last,

@@ -13,21 +13,19 @@ use Rattle.vyrd_base.specs.declared.log.Kind.TheVariants.{Commit, BlockOpen, Blo
 use Rattle.vyrd_base.specs.Subjects.{subject_of}
 use Rattle.vyrd_memory.specs.declared.act.Act.TheVariants.{Load, Store, Take, Give, Mark}
 use Rattle.vyrd_memory.specs.declared.op.Variant.{Variant}
-use Rattle.vyrd_memory.specs.Scripts.{Script, step, perform}
+use Rattle.vyrd_memory.specs.Scripts.{Script, step, perform, returns, gives_up}
 use Rattle.vyrd_memory.specs.Bounds.{is_return, tree_bound, bound_in, bound_of, EndsByReturn}
+use Rattle.vyrd_memory.proofs.TimedActs.{in_more, loads_in, acts_in, either_in, returns_in, gives_up_in}
 use Rattle.vyrd_tree.specs.Cells.{level_cell, count_cell, bound_cell, right_cell, key_cell, value_cell, root_cell, used_cell, lock_of, root_lock, used_lock}
 use Rattle.vyrd_tree.specs.Cells.{unlock_node, unlock_root, unlock_used}
 use Rattle.vyrd_tree.specs.Walk.{Arrived, walk_from}
 use Rattle.vyrd_tree.specs.Split.{with_unused, write_entries, write_node, place_below, with_entry, rewrite, add_entry, lower_half, upper_half, first_key, split}
 use Rattle.vyrd_tree.specs.Split.{split_entry, split_key}
 use Rattle.vyrd_tree.specs.Ascent.{grow_root, add_child, ascend_once, ascend}
-use Rattle.vyrd_tree.specs.Procedures.{returns, gives_up, changes_nothing, walk_down, place_of, reply_of, look_in, lookup, delete_in, delete, insert_new}
+use Rattle.vyrd_tree.specs.Procedures.{changes_nothing, walk_down, place_of, reply_of, look_in, lookup, delete_in, delete, insert_new}
 use Rattle.vyrd_tree.specs.Procedures.{insert_in, insert_entry, by_method}
 use Rattle.vyrd_tree.specs.Laws.Fits.{length_insert, length_remove, two_above, three_below}
-use Rattle.vyrd_tree.specs.Laws.Timed.{in_more, loads_in, acts_in, either_in, returns_in, walk_in}
-
-gave_up_in : EndsByReturn 2 gives_up
-gave_up_in = acts_in 1 (Mark Commit) (returns 0) refl (returns_in 0)
+use Rattle.vyrd_tree.specs.Laws.Timed.{walk_in}
 
 -- a load and a store at most between two acts of the lock
 unused_in : (n : ℕ) (h : Header) (none : Script) (found : ℕ → Script) → EndsByReturn n none → ((new : ℕ) → EndsByReturn n (found new))
@@ -222,10 +220,10 @@ by_method_in : (h : Header) (variant : Variant) (method : Method) (a b : ℕ) �
 by_method_in h variant TrInsert a b of =
     in_more (after_arrival h.size + 24 + 13 * h.size + 1) (17 * (16 * h.size + 40) - 1) (insert_entry h variant a b) (omega arith)
     (down_in (after_arrival h.size + 24) h variant a gives_up (λ at. insert_in h variant a b at (place_of a at.entries))
-    (in_more 2 (after_arrival h.size + 24) gives_up (omega arith) gave_up_in) (λ at few. insert_in_time h variant a b at (place_of a at.entries) few))
+    (in_more 2 (after_arrival h.size + 24) gives_up (omega arith) gives_up_in) (λ at few. insert_in_time h variant a b at (place_of a at.entries) few))
 by_method_in h variant TrDelete a b of =
     in_more (13 + 13 * h.size + 1) (16 * h.size + 40 - 1) (delete h variant a) (omega arith)
-    (down_in 13 h variant a gives_up (λ at. delete_in h at (place_of a at.entries)) (in_more 2 13 gives_up (omega arith) gave_up_in)
+    (down_in 13 h variant a gives_up (λ at. delete_in h at (place_of a at.entries)) (in_more 2 13 gives_up (omega arith) gives_up_in)
     (λ at few. delete_in_time h at (place_of a at.entries) few))
 by_method_in h variant TrLookup a b of =
     in_more (2 + 13 * h.size + 1) (16 * h.size + 40 - 1) (lookup h variant a) (omega arith)

@@ -12,10 +12,11 @@ use Rattle.vyrd_base.specs.declared.log.Kind.{Kind}
 use Rattle.vyrd_base.specs.declared.log.Kind.TheVariants.{BlockOpen, BlockClose, BlockCommit}
 use Rattle.vyrd_base.specs.Limits.{is_within}
 use Rattle.vyrd_base.specs.Subjects.{subject_of, is_observer}
+use Rattle.vyrd_base.proofs.TestLaws.{below_of, above_of}
 use Rattle.vyrd_memory.specs.declared.act.Act.TheVariants.{Load, Store, Mark}
 use Rattle.vyrd_memory.specs.declared.op.Variant.{Variant}
 use Rattle.vyrd_memory.specs.Arguments.{are_small}
-use Rattle.vyrd_memory.specs.Scripts.{Script, step, perform}
+use Rattle.vyrd_memory.specs.Scripts.{Script, step, perform, returns, gives_up}
 use Rattle.vyrd_memory.specs.Soundness.{IsSound, just_called}
 use Rattle.vyrd_tree.specs.Cells.{level_cell, count_cell, bound_cell, right_cell, key_cell, value_cell, root_cell, used_cell, lock_of, root_lock, used_lock}
 use Rattle.vyrd_tree.specs.Cells.{unlock_node, unlock_root, unlock_used}
@@ -23,7 +24,7 @@ use Rattle.vyrd_tree.specs.Walk.{Arrived, walk_from}
 use Rattle.vyrd_tree.specs.Split.{with_unused, write_entries, write_node, place_below, with_entry, rewrite, add_entry, lower_half, upper_half, first_key, split}
 use Rattle.vyrd_tree.specs.Split.{split_entry, split_key}
 use Rattle.vyrd_tree.specs.Ascent.{grow_root, add_child, ascend_once, ascend}
-use Rattle.vyrd_tree.specs.Procedures.{returns, gives_up, changes_nothing, walk_down, place_of, reply_of, look_in, delete_in, insert_new, insert_in, by_method}
+use Rattle.vyrd_tree.specs.Procedures.{changes_nothing, walk_down, place_of, reply_of, look_in, delete_in, insert_new, insert_in, by_method}
 use Rattle.vyrd_tree.specs.Laws.Steps.{holding, IsLock, loads, stores, takes_first, gives_last, takes_second, gives_second, returned, gave_up, either}
 use Rattle.vyrd_tree.specs.Laws.Walks.{node_lock, AreSmallEntries, IsLoaded, walk_sound}
 use Rattle.vyrd_tree.specs.Laws.Fits.{small_take, small_drop, small_insert, small_remove, small_first, length_insert, length_remove, place_fits, place_low}
@@ -42,13 +43,7 @@ the_used_lock h = (omega arith, omega arith)
 the_root_lock : (h : Header) → IsLock h (root_lock h)
 the_root_lock h = (omega arith, omega arith)
 
-lower : (a b : ℕ) → nat_lt a b ≡ true → a < b
-lower a b e = grind (arith, nat_tests)
-
-above : (a b : ℕ) → nat_le a b ≡ false → b < a
-above a b e = grind (arith, nat_tests)
-
--- an unused node, with a lower lock held
+-- an unused node, with a below_of lock held
 unused_sound : (h : Header) (method : Method) (committed : Bool) (lock : ℕ) (none : Script) (found : ℕ → Script) → h.subject ≡ Tree → lock < used_lock h
     → IsSound h (holding (lock ∷ []) method committed false) none
     → ((new : ℕ) → new < h.size → IsSound h (holding (lock ∷ []) method committed false) (found new))
@@ -60,8 +55,8 @@ unused_sound h method committed lock none found is low none_sound found_sound =
     (perform (Store (used_cell h) (used + 1)) (unlock_used h (found (used + 1))))
     (λ full. gives_second h method committed false lock (used_lock h) none is (the_used_lock h) low none_sound)
     (λ room. stores h (used_lock h ∷ lock ∷ []) method committed false (used_cell h) (used + 1) (unlock_used h (found (used + 1))) is (omega arith)
-    (omega (arith, above h.size (used + 1) room, size_fits h))
-    (gives_second h method committed false lock (used_lock h) (found (used + 1)) is (the_used_lock h) low (found_sound (used + 1) (above h.size (used + 1) room))))))
+    (omega (arith, above_of h.size (used + 1) room, size_fits h))
+    (gives_second h method committed false lock (used_lock h) (found (used + 1)) is (the_used_lock h) low (found_sound (used + 1) (above_of h.size (used + 1) room))))))
   where
     got : ℕ → Script
     got used = cond (nat_le h.size (used + 1)) (unlock_used h none) (perform (Store (used_cell h) (used + 1)) (unlock_used h (found (used + 1))))
@@ -123,7 +118,7 @@ add_sound : (h : Header) (method : Method) (before after : Bool) (at : Arrived) 
     → IsLoaded h at → nat_lt (length at.entries) 4 ≡ true → key < 2 ^ 63 → value < 2 ^ 63 → Closes h (lock_of h at.node) method before after close
     → IsSound h (holding [] method after false) later → IsSound h (holding (lock_of h at.node ∷ []) method before false) (add_entry h at key value close later)
 add_sound h method before after at key value close later is loaded room k v closes sound =
-    let some : length at.entries < 4 = lower (length at.entries) 4 room in
+    let some : length at.entries < 4 = below_of (length at.entries) 4 room in
     rewrite_sound h method before after at.node (place_below key at.entries) (with_entry at.entries key value) close later is loaded.node
     (omega (arith, place_fits key at.entries, some)) (omega (arith, length_insert at.entries (place_below key at.entries) (key, value), some))
     (small_insert at.entries (place_below key at.entries) key value k v loaded.small) closes sound
@@ -217,7 +212,7 @@ round_sound h variant method level key node stops next is l k n stops_sound next
     takes_first h method true false (root_lock h) (step (Load (root_cell h)) from) is (the_root_lock h)
     (loads h (holding (root_lock h ∷ []) method true false) (root_cell h) from is (omega arith) (λ root _.
     either h (holding (root_lock h ∷ []) method true false) (nat_lt root h.size) (step (Load (level_cell root)) (over root)) (unlock_root h stops)
-    (λ low. let r : root < h.size = lower root h.size low in
+    (λ low. let r : root < h.size = below_of root h.size low in
     loads h (holding (root_lock h ∷ []) method true false) (level_cell root) (over root) is (omega (arith, r)) (λ top _.
     either h (holding (root_lock h ∷ []) method true false) (nat_le top level) (grow_root h level key node root stops) (unlock_root h (walk root))
     (λ below. grow_sound h method level key node root stops is l k n r stops_sound)

@@ -2,7 +2,6 @@
 use Rattle.std.proofs.Common.{◌≡◌, ℕ, zero, suc, ◌+◌, ◌*◌, ◌^◌, ◌<◌, ◌≤◌, Bool, true, false, cond, not, List, [], ◌∷◌, Some, refl, ap, ◌∙◌, sym, subst, arith}
 use Rattle.std.specs.Prelude.{◌==◌, ◌&&◌, ◌||◌, nat_lt, nat_le, filter}
 use Rattle.std.specs.List.{list_any}
-use Rattle.std.proofs.lemmas.Bool.Decides.{nat_tests}
 use Rattle.vyrd_base.specs.declared.header.Header.{Header}
 use Rattle.vyrd_base.specs.declared.subject.Subject.TheVariants.{Tree}
 use Rattle.vyrd_base.specs.declared.subject.Method.{Method}
@@ -10,24 +9,17 @@ use Rattle.vyrd_base.specs.declared.log.Kind.TheVariants.{Commit}
 use Rattle.vyrd_base.specs.Subjects.{is_observer}
 use Rattle.vyrd_base.specs.Layout.{plain_words_of, lock_words_of}
 use Rattle.vyrd_base.specs.Histories.{cells_of, is_plain, is_lock}
-use Rattle.vyrd_base.proofs.SplitLaws.{both_true, same_number}
+use Rattle.vyrd_base.proofs.TestLaws.{both_true, same_number, is_below, is_at_most, lower_isnt}
 use Rattle.vyrd_memory.specs.declared.act.Act.TheVariants.{Load, Store, Take, Give, Mark}
-use Rattle.vyrd_memory.specs.Scripts.{Script, step, perform}
+use Rattle.vyrd_memory.specs.Scripts.{Script, step, perform, returns, gives_up}
 use Rattle.vyrd_memory.specs.Soundness.{Standing, IsSound, may_act, holds}
-use Rattle.vyrd_tree.specs.Procedures.{returns, gives_up}
 
 -- these locks are held in an execution of the method, and whether that has committed and whether a block is open
 abbrev pub holding : List ℕ → Method → Bool → Bool → Standing
 holding locks method committed in_block = record { locks = locks; called = Some method; committed = committed; in_block = in_block }
 
-pub less : (a b : ℕ) → a < b → nat_lt a b ≡ true
-less a b low = grind (arith, nat_tests)
-
-at_most : (a b : ℕ) → a ≤ b → nat_le a b ≡ true
-at_most a b low = grind (arith, nat_tests)
-
 pub plain_cell : (h : Header) (cell : ℕ) → h.subject ≡ Tree → cell < 12 * h.size + 2 → is_plain (cells_of h) cell ≡ true
-plain_cell h cell is low = ap (λ s. nat_lt cell (plain_words_of s h.size)) is ∙ less cell (12 * h.size + 2) low
+plain_cell h cell is low = ap (λ s. nat_lt cell (plain_words_of s h.size)) is ∙ is_below cell (12 * h.size + 2) low
 
 -- a lock of the tree
 abbrev pub IsLock : Header → ℕ → Type 0
@@ -36,7 +28,7 @@ IsLock h lock = (12 * h.size + 2 ≤ lock) × (lock < 13 * h.size + 4)
 lock_cell : (h : Header) (lock : ℕ) → h.subject ≡ Tree → IsLock h lock → is_lock (cells_of h) lock ≡ true
 lock_cell h lock is fits =
     ap (λ s. nat_le (plain_words_of s h.size) lock && nat_lt lock (plain_words_of s h.size + lock_words_of s h.size)) is
-    ∙ both_true _ _ (at_most (12 * h.size + 2) lock fits.0) (less lock (12 * h.size + 2 + (h.size + 2)) (omega (arith, fits.1)))
+    ∙ both_true _ _ (is_at_most (12 * h.size + 2) lock fits.0) (is_below lock (12 * h.size + 2 + (h.size + 2)) (omega (arith, fits.1)))
 
 -- a load
 pub loads : (h : Header) (s : Standing) (cell : ℕ) (rest : ℕ → Script) → h.subject ≡ Tree → cell < 12 * h.size + 2
@@ -48,7 +40,7 @@ pub stores : (h : Header) (locks : List ℕ) (method : Method) (committed in_blo
     → cell < 12 * h.size + 2 → value < 2 ^ 63 → IsSound h (holding locks method committed in_block) later
     → IsSound h (holding locks method committed in_block) (perform (Store cell value) later)
 stores h locks method committed in_block cell value later is low small sound =
-    (both_true _ _ (both_true _ _ (plain_cell h cell is low) (less value (2 ^ 63) small)) refl, λ _ _. sound)
+    (both_true _ _ (both_true _ _ (plain_cell h cell is low) (is_below value (2 ^ 63) small)) refl, λ _ _. sound)
 
 -- a lock is taken that isn't held
 pub takes : (h : Header) (locks : List ℕ) (method : Method) (committed in_block : Bool) (lock : ℕ) (later : Script) → h.subject ≡ Tree → IsLock h lock
@@ -60,9 +52,9 @@ takes h locks method committed in_block lock later is fits free sound = (both_tr
 pub gives : (h : Header) (locks : List ℕ) (method : Method) (committed in_block : Bool) (lock : ℕ) (later : Script) → h.subject ≡ Tree → IsLock h lock
     → filter (λ held. not (held == lock)) locks ≡ locks → IsSound h (holding locks method committed in_block) later
     → IsSound h (holding (lock ∷ locks) method committed in_block) (perform (Give lock) later)
-gives h locks method committed in_block lock later is fits apart sound = (
+gives h locks method committed in_block lock later is fits lower_isnt sound = (
   both_true _ _ (lock_cell h lock is fits) held,
-  λ _ _. subst (λ locks. IsSound h (holding locks method committed in_block) later) (sym (gone ∙ apart)) sound,
+  λ _ _. subst (λ locks. IsSound h (holding locks method committed in_block) later) (sym (gone ∙ lower_isnt)) sound,
 )
   where
     held : holds (holding (lock ∷ locks) method committed in_block) lock ≡ true
@@ -70,10 +62,6 @@ gives h locks method committed in_block lock later is fits apart sound = (
 
     gone : filter (λ held. not (held == lock)) (lock ∷ locks) ≡ filter (λ held. not (held == lock)) locks
     gone = ap (λ b. cond (not b) (lock ∷ filter (λ held. not (held == lock)) locks) (filter (λ held. not (held == lock)) locks)) (same_number lock)
-
--- two locks are apart
-pub apart : (a b : ℕ) → a < b → (a == b) ≡ false
-apart a b low = grind (arith, nat_tests)
 
 pub takes_first : (h : Header) (method : Method) (committed in_block : Bool) (lock : ℕ) (later : Script) → h.subject ≡ Tree → IsLock h lock
     → IsSound h (holding (lock ∷ []) method committed in_block) later → IsSound h (holding [] method committed in_block) (perform (Take lock) later)
@@ -87,12 +75,12 @@ gives_last h method committed in_block lock later is fits sound = gives h [] met
 pub takes_second : (h : Header) (method : Method) (committed in_block : Bool) (first lock : ℕ) (later : Script) → h.subject ≡ Tree → IsLock h lock → first < lock
     → IsSound h (holding (lock ∷ first ∷ []) method committed in_block) later → IsSound h (holding (first ∷ []) method committed in_block) (perform (Take lock) later)
 takes_second h method committed in_block first lock later is fits higher sound =
-    takes h (first ∷ []) method committed in_block lock later is fits (ap (λ b. b || false) (apart first lock higher)) sound
+    takes h (first ∷ []) method committed in_block lock later is fits (ap (λ b. b || false) (lower_isnt first lock higher)) sound
 
 pub gives_second : (h : Header) (method : Method) (committed in_block : Bool) (first lock : ℕ) (later : Script) → h.subject ≡ Tree → IsLock h lock → first < lock
     → IsSound h (holding (first ∷ []) method committed in_block) later → IsSound h (holding (lock ∷ first ∷ []) method committed in_block) (perform (Give lock) later)
 gives_second h method committed in_block first lock later is fits higher sound =
-    gives h (first ∷ []) method committed in_block lock later is fits (ap (λ b. cond (not b) (first ∷ []) []) (apart first lock higher)) sound
+    gives h (first ∷ []) method committed in_block lock later is fits (ap (λ b. cond (not b) (first ∷ []) []) (lower_isnt first lock higher)) sound
 
 -- the return, after which nothing is in hand
 pub returned : (h : Header) (method : Method) (committed : Bool) (reply : ℕ) → (is_observer method || committed) ≡ true

@@ -1,38 +1,14 @@
 -- Single acts of a procedure that ends in time, and its walks.
-use Rattle.std.proofs.Common.{◌≡◌, ℕ, zero, suc, ◌+◌, ◌-◌, ◌*◌, ◌≤◌, min, Bool, true, false, cond, List, [], ◌∷◌, length, refl, ap, arith}
+use Rattle.std.proofs.Common.{◌≡◌, ℕ, zero, suc, ◌+◌, ◌*◌, ◌≤◌, min, cond, List, [], ◌∷◌, length, refl, ap, arith}
 use Rattle.std.specs.Prelude.{◌==◌, nat_lt}
 use Rattle.vyrd_base.specs.declared.header.Header.{Header}
-use Rattle.vyrd_memory.specs.declared.act.Act.{Act}
 use Rattle.vyrd_memory.specs.declared.act.Act.TheVariants.{Load, Store, Take, Give, Mark}
 use Rattle.vyrd_memory.specs.declared.op.Variant.{Variant}
-use Rattle.vyrd_memory.specs.Scripts.{Script, stop, step, perform}
-use Rattle.vyrd_memory.specs.Bounds.{is_return, EndsByReturn}
+use Rattle.vyrd_memory.specs.Scripts.{Script, step, gives_up}
+use Rattle.vyrd_memory.specs.Bounds.{EndsByReturn}
+use Rattle.vyrd_memory.proofs.TimedActs.{in_more, loads_in, acts_in, either_in}
 use Rattle.vyrd_tree.specs.Cells.{level_cell, count_cell, bound_cell, right_cell, key_cell, value_cell, lock_of, unlock_node}
 use Rattle.vyrd_tree.specs.Walk.{Arrived, load_keys, load_values, child_place, to_child, descend, load_rest, arrive, moves_right, pass_on, visit_node, walk_from}
-use Rattle.vyrd_tree.specs.Procedures.{returns, gives_up}
-
--- there may be more time
-pub in_more : (n m : ℕ) (script : Script) → n ≤ m → EndsByReturn n script → EndsByReturn m script
-in_more n m stop le ends = ends
-in_more n m (step act rest) le ends =
-    (omega (arith, ends.0), ends.1, λ on answer is. in_more (n - 1) (m - 1) (rest answer) (omega (arith, le)) (ends.2 on answer is))
-
-not_both : (b : Bool) → b ≡ false → b ≡ true → ⊥
-not_both b e f = cc
-
--- one more act
-pub loads_in : (n cell : ℕ) (rest : ℕ → Script) → ((answer : ℕ) → EndsByReturn n (rest answer)) → EndsByReturn (n + 1) (step (Load cell) rest)
-loads_in n cell rest ends = (omega arith, λ e. cc, λ on answer is. in_more n (n + 1 - 1) (rest answer) (omega arith) (ends answer))
-
-pub acts_in : (n : ℕ) (act : Act) (later : Script) → is_return act ≡ false → EndsByReturn n later → EndsByReturn (n + 1) (perform act later)
-acts_in n act later on ends = (omega arith, λ e. absurd (not_both (is_return act) on e), λ on answer is. in_more n (n + 1 - 1) later (omega arith) ends)
-
-pub either_in : (n : ℕ) (b : Bool) (x y : Script) → EndsByReturn n x → EndsByReturn n y → EndsByReturn n (cond b x y)
-either_in n true x y e f = e
-either_in n false x y e f = f
-
-pub returns_in : (reply : ℕ) → EndsByReturn 1 (returns reply)
-returns_in reply = (omega arith, λ e. refl, λ on. cc)
 
 keys_in : (n left node place : ℕ) (loaded : List ℕ → Script) → ((keys : List ℕ) → length keys ≡ left → EndsByReturn n (loaded keys))
     → EndsByReturn (n + left) (load_keys left node place loaded)
@@ -73,7 +49,7 @@ arrive_in n node level count bound right arrived few ends =
     (values_in n keys node 0 (λ entries. arrived (record { node = node; level = level; bound = bound; right = right; entries = entries }))
     (λ entries len'. ends (record { node = node; level = level; bound = bound; right = right; entries = entries }) (omega (arith, len, len', few))))))
 
-four_at_most : (n : ℕ) → min n 4 ≤ 4
+pub four_at_most : (n : ℕ) → min n 4 ≤ 4
 four_at_most n = omega arith
 
 -- the loads of level, count, bound and right link

@@ -13,6 +13,7 @@ use Rattle.vyrd_memory.specs.Soundness.{Standing, IsSound}
 use Rattle.vyrd_tree.specs.Cells.{level_cell, count_cell, bound_cell, right_cell, key_cell, value_cell, lock_of, unlock_node}
 use Rattle.vyrd_tree.specs.Walk.{Arrived, load_keys, load_values, child_place, to_child, descend, load_rest, arrive, moves_right, pass_on, visit_node, walk_from}
 use Rattle.vyrd_tree.specs.Laws.Steps.{holding, IsLock, loads, takes_first, gives_last, either}
+use Rattle.vyrd_tree.specs.Laws.Timed.{four_at_most}
 
 -- a node's lock
 pub node_lock : (h : Header) (node : ℕ) → node < h.size → IsLock h (lock_of h node)
@@ -93,9 +94,6 @@ arrive_sound h method committed node level count bound right arrived is low few 
     (λ entries. arrived (record { node = node; level = level; bound = bound; right = right; entries = entries })) is low (omega (arith, len, few)) all
     (λ entries len' small. sound (record { node = node; level = level; bound = bound; right = right; entries = entries })
     (record { node = low; level = l; bound = b; right = r; few = omega (arith, len, len', few); small = small })))
-
-four_at_most : (n : ℕ) → min n 4 ≤ 4
-four_at_most n = omega arith
 
 -- the loads of level, count, bound and right link
 abbrev first_loads : ℕ → (ℕ → ℕ → ℕ → ℕ → Script) → Script

@@ -3,7 +3,7 @@ use Rattle.std.specs.Prelude.{◌≡◌, ℕ, ◌+◌, ◌-◌, nat_lt, List, le
 use Rattle.vyrd_base.specs.declared.header.Header.{Header}
 use Rattle.vyrd_base.specs.declared.log.Kind.{Kind}
 use Rattle.vyrd_base.specs.declared.log.Kind.TheVariants.{BlockClose, BlockCommit}
-use Rattle.vyrd_memory.specs.Scripts.{Script}
+use Rattle.vyrd_memory.specs.Scripts.{Script, returns, gives_up}
 use Rattle.vyrd_tree.specs.declared.visit.Errand.TheVariants as errand
 use Rattle.vyrd_tree.specs.declared.task.Call.TheVariants as call
 use Rattle.vyrd_tree.specs.declared.slot.Slot.{Slot}
@@ -15,7 +15,7 @@ use Rattle.vyrd_tree.specs.Cells.{unlock_node}
 use Rattle.vyrd_tree.specs.Walk.{Arrived, walk_from}
 use Rattle.vyrd_tree.specs.Split.{with_unused, add_entry, split_entry, split_key}
 use Rattle.vyrd_tree.specs.Ascent.{add_child, ascend_once, ascend}
-use Rattle.vyrd_tree.specs.Procedures.{returns, gives_up, changes_nothing, place_of, look_in, delete_in, insert_in}
+use Rattle.vyrd_tree.specs.Procedures.{changes_nothing, place_of, look_in, delete_in, insert_in}
 
 -- the key of a walk
 abbrev pub key_for : Task → Errand → ℕ

@@ -3,7 +3,7 @@ use Rattle.std.specs.Prelude.{ℕ, ◌+◌, nat_le, [], ◌∷◌, Option, Some,
 use Rattle.vyrd_base.specs.declared.header.Header.{Header}
 use Rattle.vyrd_base.specs.declared.log.Kind.TheVariants.{BlockOpen, BlockClose}
 use Rattle.vyrd_memory.specs.declared.act.Act.TheVariants.{Load, Store, Mark}
-use Rattle.vyrd_memory.specs.Scripts.{Script, step, perform}
+use Rattle.vyrd_memory.specs.Scripts.{Script, step, perform, returns}
 use Rattle.vyrd_tree.specs.declared.place.Need.TheVariants as need
 use Rattle.vyrd_tree.specs.declared.place.Getting.TheVariants as getting
 use Rattle.vyrd_tree.specs.declared.node.Node.{Node}
@@ -14,7 +14,6 @@ use Rattle.vyrd_tree.specs.declared.task.Task.{Task}
 use Rattle.vyrd_tree.specs.Cells.{root_cell, used_cell, unlock_node, unlock_root, unlock_used}
 use Rattle.vyrd_tree.specs.Walk.{Arrived}
 use Rattle.vyrd_tree.specs.Split.{with_unused, write_node, split, upper_half, first_key}
-use Rattle.vyrd_tree.specs.Procedures.{returns}
 use Rattle.vyrd_tree.specs.Rests.Errands.{close_for, unsplit, after_split}
 
 -- the node that is full

@@ -5,12 +5,13 @@ use Rattle.std.specs.List.{AllByRecursion as Each}
 use Rattle.vyrd_base.specs.declared.header.Header.{Header}
 use Rattle.vyrd_base.specs.declared.log.Kind.TheVariants.{BlockOpen, BlockClose}
 use Rattle.vyrd_base.specs.Amounts.{Amounts}
+use Rattle.vyrd_base.proofs.TestLaws.{is_below, isnt_below, is_at_most, isnt_at_most}
 use Rattle.vyrd_memory.specs.declared.act.Act.TheVariants.{Load, Store, Mark}
 use Rattle.vyrd_memory.specs.declared.op.Variant.TheVariants.{Correct}
 use Rattle.vyrd_memory.specs.Scripts.{Script, step, perform}
 use Rattle.vyrd_memory.specs.Alone.{Memory, with_cell, Outcome, alone}
 use Rattle.vyrd_memory.proofs.Memories.{other_cell}
-use Rattle.vyrd_tree.specs.RightAlone.Counts.{le_or, is_lt, isnt_lt, is_le, isnt_le}
+use Rattle.vyrd_tree.specs.RightAlone.Counts.{le_or}
 use Rattle.vyrd_tree.specs.RightAlone.Nodes.{level_at, count_at, bound_at, last_in, root_in, BeginsAt, AreEntries, IsChild, IsTree, entries_at}
 use Rattle.vyrd_tree.specs.RightAlone.Order.{one_low, next_of, after_few}
 use Rattle.vyrd_tree.specs.RightAlone.Entries.{Entries, each_both}
@@ -65,7 +66,7 @@ child_added : (h : Header) (c : ℕ) (m : Memory) (low : ℕ → ℕ) (s : Amoun
     → Q (alone c (add_child h level key node (loaded_at m n) ending next) m)
 child_added h c m low s level key node n ending next Q at hangs at_stop at_next =
     subst (λ b. Q (alone c (cond b (unlock_node h n ending) (by_room (nat_lt (length (entries_at m n)) 4))) m))
-    (sym (isnt_le (level_at m n) level (omega (arith, level_is))))
+    (sym (isnt_at_most (level_at m n) level (omega (arith, level_is))))
     (with_room (le_or 4 (length (entries_at m n))))
   where
     by_room : Bool → Script
@@ -115,13 +116,13 @@ child_added h c m low s level key node n ending next Q at hangs at_stop at_next 
 
     with_room : (4 ≤ length (entries_at m n)) ⊎ (length (entries_at m n) < 4) → Q (alone c (by_room (nat_lt (length (entries_at m n)) 4)) m)
     with_room (inr less) =
-        subst (λ b. Q (alone c (by_room b) m)) (sym (is_lt (length (entries_at m n)) 4 less))
+        subst (λ b. Q (alone c (by_room b) m)) (sym (is_below (length (entries_at m n)) 4 less))
         (added_played h c m low s n key (level + 1) node BlockClose ending Q (λ m later. refl) at front back place.2 (omega (arith, less, count_is))
         (λ m' r locks. stopped m'
         (rewritten_shows h.size m m' low s s at.shown n (front ++ (key, node) ∷ back) at.in_use r sound at.shown.formed (λ leaf. absurd (omega (arith, level_is, leaf)))
         (λ q a used leaf off over. refl)) locks))
     with_room (inl full) =
-        subst (λ b. Q (alone c (by_room b) m)) (sym (isnt_lt (length (entries_at m n)) 4 full))
+        subst (λ b. Q (alone c (by_room b) m)) (sym (isnt_below (length (entries_at m n)) 4 full))
         (unused_played h c m Q (unlock_node h n ending) (λ new. split_entry h (loaded_at m n) key node new BlockClose
         (next (level + 1) (split_key (loaded_at m n) key node) new))
         (at.free (used_lock h) (omega arith) (omega arith) (omega (arith, fits)))
@@ -139,7 +140,7 @@ pub round_played : (h : Header) (c : ℕ) (m : Memory) (low : ℕ → ℕ) (s : 
     → Q (alone c (ascend_once h Correct level key node ending next) m)
 round_played h c m low s level key node ending next Q st free hangs at_stop at_next =
     take_played c (root_lock h) under m Q root_free
-    (subst (λ b. Q (alone c (by_root b) held)) (sym (is_lt root h.size (omega (arith, fits, root_used)))) (by_top (le_or (level_at held root) level)))
+    (subst (λ b. Q (alone c (by_root b) held)) (sym (is_below root h.size (omega (arith, fits, root_used)))) (by_top (le_or (level_at held root) level)))
   where
     held : Memory
     held = with_cell m (root_lock h) (c + 1)
@@ -227,8 +228,8 @@ round_played h c m low s level key node ending next Q st free hangs at_stop at_n
             (hanging_same_words h.size m (with_lock h c m n) low level key node (locked_words h c m n) st.tree hangs) at_stop at_next
 
     by_top : (level_at held root ≤ level) ⊎ (level < level_at held root) → Q (alone c (by_level root (nat_le (level_at held root) level)) held)
-    by_top (inl le) = subst (λ b. Q (alone c (by_level root b) held)) (sym (is_le (level_at held root) level le)) (grows le)
-    by_top (inr lt) = subst (λ b. Q (alone c (by_level root b) held)) (sym (isnt_le (level_at held root) level lt)) (walks lt)
+    by_top (inl le) = subst (λ b. Q (alone c (by_level root b) held)) (sym (is_at_most (level_at held root) level le)) (grows le)
+    by_top (inr lt) = subst (λ b. Q (alone c (by_level root b) held)) (sym (isnt_at_most (level_at held root) level lt)) (walks lt)
 
 -- The whole ascent ends in a memory that stands for the same state.
 pub ascend_played : (h : Header) (c : ℕ) (s : Amounts) (ending : Script) (Q : Option Outcome → Type 0) → Stops h c s ending Q

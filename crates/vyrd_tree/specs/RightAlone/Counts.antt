@@ -1,9 +1,9 @@
 -- How many of the numbers in a row pass a test, and the first that does.
 use Rattle.std.proofs.Common.{◌≡◌, ◌≢◌, ℕ, zero, suc, ◌+◌, ◌<◌, ◌≤◌, ◌⊎◌, Bool, true, false, cond, List, [], ◌∷◌, Option, Some, None, refl, ap, ◌∙◌, sym, subst, arith}
-use Rattle.std.specs.Prelude.{◌==◌, nat_lt, nat_le, find, count_by}
-use Rattle.std.proofs.lemmas.Bool.Decides.{nat_tests}
+use Rattle.std.specs.Prelude.{◌==◌, find, count_by}
 use Rattle.std.proofs.lemmas.List.Recursion.{is_count_by}
 use Rattle.vyrd_base.specs.Places.{numbers_from}
+use Rattle.vyrd_base.proofs.TestLaws.{same_of, apart_of, is_same, isnt_same}
 
 -- how many pass, by recursion
 abbrev pub passing : (ℕ → Bool) → List ℕ → ℕ
@@ -12,37 +12,6 @@ passing p (x ∷ xs) = cond (p x) (1 + passing p xs) (passing p xs)
 
 pub count_is : (p : ℕ → Bool) (xs : List ℕ) → count_by p xs ≡ passing p xs
 count_is p xs = sym (is_count_by (passing p) p refl (λ x xs. refl) xs)
-
-pub same_of : (i j : ℕ) → (i == j) ≡ true → i ≡ j
-same_of i j e = grind (arith, nat_tests)
-
-pub apart_of : (i j : ℕ) → (i == j) ≡ false → i ≢ j
-apart_of i j e = grind (arith, nat_tests)
-
-pub is_same : (i j : ℕ) → i ≡ j → (i == j) ≡ true
-is_same i j e = grind (arith, nat_tests)
-
-pub isnt_same : (i j : ℕ) → i ≢ j → (i == j) ≡ false
-isnt_same i j e = grind (arith, nat_tests)
-
--- tests of the order of two numbers
-pub lt_says : (a b : ℕ) → nat_lt a b ≡ true → a < b
-lt_says a b e = grind (arith, nat_tests)
-
-pub le_says : (a b : ℕ) → nat_le a b ≡ true → a ≤ b
-le_says a b e = grind (arith, nat_tests)
-
-pub is_lt : (a b : ℕ) → a < b → nat_lt a b ≡ true
-is_lt a b lt = grind (arith, nat_tests)
-
-pub isnt_lt : (a b : ℕ) → b ≤ a → nat_lt a b ≡ false
-isnt_lt a b le = grind (arith, nat_tests)
-
-pub is_le : (a b : ℕ) → a ≤ b → nat_le a b ≡ true
-is_le a b le = grind (arith, nat_tests)
-
-pub isnt_le : (a b : ℕ) → b < a → nat_le a b ≡ false
-isnt_le a b lt = grind (arith, nat_tests)
 
 pub le_or : (a b : ℕ) → (a ≤ b) ⊎ (b < a)
 le_or a b = grind arith

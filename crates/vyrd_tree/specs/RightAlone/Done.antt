@@ -7,10 +7,10 @@ use Rattle.vyrd_base.specs.declared.header.Header.{Header}
 use Rattle.vyrd_base.specs.declared.log.Kind.TheVariants.{BlockCommit}
 use Rattle.vyrd_base.specs.Amounts.{Amounts, amount_of, with_amount}
 use Rattle.vyrd_base.proofs.AmountLaws.{amount_of-with_amount, IsAmounts-with_amount}
+use Rattle.vyrd_base.proofs.TestLaws.{same_of, apart_of, isnt_same}
 use Rattle.vyrd_memory.specs.declared.op.Variant.TheVariants.{Correct}
-use Rattle.vyrd_memory.specs.Scripts.{Script}
+use Rattle.vyrd_memory.specs.Scripts.{Script, returns, gives_up}
 use Rattle.vyrd_memory.specs.Alone.{Memory, with_cell, Outcome, alone}
-use Rattle.vyrd_tree.specs.RightAlone.Counts.{same_of, apart_of, isnt_same}
 use Rattle.vyrd_tree.specs.RightAlone.Nodes.{level_at, count_at, bound_at, right_at, key_at, value_at, last_in, root_in, IsLeafEntry, AreEntries, AreEntriesAt, IsTree, entries_at, entries_from}
 use Rattle.vyrd_tree.specs.RightAlone.Order.{Covers, one_cover}
 use Rattle.vyrd_tree.specs.RightAlone.Entries.{Entries, gives, gives-append, gives_none, gives_one, entry_gives_none, take_front, found_around, not_found, IsAround, each_back}
@@ -23,7 +23,7 @@ use Rattle.vyrd_tree.specs.RightAlone.Steps.{released, IsAt, is_at, SameLocks, s
 use Rattle.vyrd_tree.specs.Cells.{lock_of}
 use Rattle.vyrd_tree.specs.Walk.{Arrived}
 use Rattle.vyrd_tree.specs.Split.{rewrite}
-use Rattle.vyrd_tree.specs.Procedures.{returns, gives_up, changes_nothing, place_of, value_at as value_in, reply_of, lookup, delete_in, delete, replace_value}
+use Rattle.vyrd_tree.specs.Procedures.{changes_nothing, place_of, value_at as value_in, reply_of, lookup, delete_in, delete, replace_value}
 
 -- The key of a leaf's entry has 2^32 and the entry's value as its amount.
 pub present : (h : Header) (m : Memory) (low : ℕ → ℕ) (s : Amounts) (n key : ℕ) (front back : Entries) (entry : ℕ × ℕ) → IsAt h m low s n key 0

@@ -6,7 +6,7 @@ use Rattle.std.proofs.lemmas.Bool.Decides.{nat_tests}
 use Rattle.std.proofs.lemmas.List.Recursion.{is_count_by}
 use Rattle.vyrd_base.specs.TreeView.{entry_parts}
 use Rattle.vyrd_base.proofs.SumLaws.{given, given-append}
-use Rattle.vyrd_tree.specs.RightAlone.Counts.{same_of, apart_of, is_same, isnt_same}
+use Rattle.vyrd_base.proofs.TestLaws.{same_of, apart_of, is_same, isnt_same}
 use Rattle.vyrd_tree.specs.RightAlone.Nodes.{IsLeafEntry, Rising}
 
 -- the type of lists of entries

@@ -5,11 +5,12 @@ use Rattle.std.specs.List.{AllByRecursion as Each}
 use Rattle.vyrd_base.specs.declared.header.Header.{Header}
 use Rattle.vyrd_base.specs.declared.log.Kind.TheVariants.{BlockCommit}
 use Rattle.vyrd_base.specs.Amounts.{Amounts, amount_of, with_amount}
+use Rattle.vyrd_base.proofs.TestLaws.{is_below, isnt_below}
 use Rattle.vyrd_memory.specs.declared.op.Variant.TheVariants.{Correct}
-use Rattle.vyrd_memory.specs.Scripts.{Script}
+use Rattle.vyrd_memory.specs.Scripts.{Script, returns, gives_up}
 use Rattle.vyrd_memory.specs.Alone.{Memory, with_cell, Outcome, alone}
 use Rattle.vyrd_memory.proofs.Memories.{changed_cell, other_cell}
-use Rattle.vyrd_tree.specs.RightAlone.Counts.{le_or, is_lt, isnt_lt}
+use Rattle.vyrd_tree.specs.RightAlone.Counts.{le_or}
 use Rattle.vyrd_tree.specs.RightAlone.Nodes.{level_at, count_at, bound_at, key_at, value_at, last_in, IsLeafEntry, AreEntries, IsTree, entries_at, entries_from}
 use Rattle.vyrd_tree.specs.RightAlone.Order.{Covers}
 use Rattle.vyrd_tree.specs.RightAlone.Entries.{Entries, gives, gives-append, gives_one, entry_gives_it, entry_gives_none, found_around, not_found, IsAround, each_back}
@@ -25,7 +26,7 @@ use Rattle.vyrd_tree.specs.RightAlone.Done.{present, absent, leaf_changed, nothi
 use Rattle.vyrd_tree.specs.Cells.{used_lock}
 use Rattle.vyrd_tree.specs.Split.{with_unused, add_entry, split_entry, split_key}
 use Rattle.vyrd_tree.specs.Ascent.{ascend}
-use Rattle.vyrd_tree.specs.Procedures.{returns, gives_up, changes_nothing, place_of, replace_value, insert_new, insert_in, insert_entry}
+use Rattle.vyrd_tree.specs.Procedures.{changes_nothing, place_of, replace_value, insert_new, insert_in, insert_entry}
 
 -- an entry gets another value, and nothing else changes
 value_stored : (m : Memory) (node place many v : ℕ) (front : Entries) (entry : ℕ × ℕ) (back : Entries) → place + many ≤ 4 → entries_from m node place many
@@ -212,11 +213,11 @@ module _ (h : Header) (c : ℕ) (before m : Memory) (low : ℕ → ℕ) (s : Amo
 
       by_length : (4 ≤ length (entries_at m n)) ⊎ (length (entries_at m n) < 4) → Q (alone c (by_room (nat_lt (length (entries_at m n)) 4)) m)
       by_length (inr less) =
-          subst (λ b. Q (alone c (by_room b) m)) (sym (is_lt (length (entries_at m n)) 4 less))
+          subst (λ b. Q (alone c (by_room b) m)) (sym (is_below (length (entries_at m n)) 4 less))
           (leaf_gets_entry h c m low s n key value at small_key small apart Q (returns 1) (omega (arith, less, count_is))
           (λ m' st. inr (inl (refl, none, st, (low, n, before_tree, leaf_of, inl (omega (arith, less, count_is, count_same)))))))
       by_length (inl full) =
-          subst (λ b. Q (alone c (by_room b) m)) (sym (isnt_lt (length (entries_at m n)) 4 full)) (full_leaf (t.few n at.in_use) full)
+          subst (λ b. Q (alone c (by_room b) m)) (sym (isnt_below (length (entries_at m n)) 4 full)) (full_leaf (t.few n at.in_use) full)
         where
           full_leaf : count_at m n ≤ 4 → 4 ≤ length (entries_at m n) → Q (alone c (with_unused h (changes_nothing h n) splitting) m)
           full_leaf few full =

@@ -5,11 +5,11 @@ use Rattle.std.specs.List.{list_any, AllByRecursion as Each}
 use Rattle.std.proofs.Math.Path.{fun_ext}
 use Rattle.std.proofs.lemmas.Bool.Decides.{nat_tests}
 use Rattle.vyrd_base.specs.Places.{numbers_from}
+use Rattle.vyrd_base.proofs.TestLaws.{same_of, apart_of}
 use Rattle.vyrd_memory.specs.declared.act.Act.TheVariants.{Take}
 use Rattle.vyrd_memory.specs.Scripts.{Script, perform}
 use Rattle.vyrd_memory.specs.Alone.{Memory, with_cell, Outcome, alone}
 use Rattle.vyrd_memory.proofs.Memories.{changed_cell, other_cell}
-use Rattle.vyrd_tree.specs.RightAlone.Counts.{same_of, apart_of}
 use Rattle.vyrd_tree.specs.RightAlone.Nodes.{key_at, value_at, BeginsAt, entries_from}
 use Rattle.vyrd_tree.specs.RightAlone.Entries.{Entries}
 use Rattle.vyrd_tree.specs.RightAlone.Held.{entries_alike}

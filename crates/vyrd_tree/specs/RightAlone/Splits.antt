@@ -3,8 +3,9 @@ use Rattle.std.proofs.Common.{◌≡◌, ◌≢◌, ℕ, ◌+◌, ◌*◌, ◌<�
 use Rattle.std.specs.Prelude.{◌==◌}
 use Rattle.std.specs.List.{AllByRecursion as Each}
 use Rattle.vyrd_base.specs.Amounts.{Amounts, IsAmounts, amount_of}
+use Rattle.vyrd_base.proofs.TestLaws.{is_same, isnt_same}
 use Rattle.vyrd_memory.specs.Alone.{Memory}
-use Rattle.vyrd_tree.specs.RightAlone.Counts.{le_or, is_same, isnt_same}
+use Rattle.vyrd_tree.specs.RightAlone.Counts.{le_or}
 use Rattle.vyrd_tree.specs.RightAlone.Nodes.{level_at, count_at, bound_at, right_at, last_in, root_in, InRange, AreEntries, AreEntriesAt, IsChild, LeadsOn, HasLeft, IsTree, entries_at, entries_from}
 use Rattle.vyrd_tree.specs.RightAlone.Order.{Covers}
 use Rattle.vyrd_tree.specs.RightAlone.Entries.{Entries, each_more, gives, gives-append, gives_none}

@@ -6,11 +6,12 @@ use Rattle.std.proofs.lemmas.Bool.Decides.{nat_tests}
 use Rattle.vyrd_base.specs.declared.header.Header.{Header}
 use Rattle.vyrd_base.specs.declared.log.Kind.{Kind}
 use Rattle.vyrd_base.specs.Amounts.{Amounts, amount_of}
+use Rattle.vyrd_base.proofs.TestLaws.{same_of, apart_of}
 use Rattle.vyrd_memory.specs.declared.act.Act.TheVariants.{Load, Store, Mark}
 use Rattle.vyrd_memory.specs.Scripts.{Script, step, perform}
 use Rattle.vyrd_memory.specs.Alone.{Memory, with_cell, Outcome, after_kind, alone}
 use Rattle.vyrd_memory.proofs.Memories.{changed_cell, other_cell}
-use Rattle.vyrd_tree.specs.RightAlone.Counts.{le_or, same_of, apart_of}
+use Rattle.vyrd_tree.specs.RightAlone.Counts.{le_or}
 use Rattle.vyrd_tree.specs.RightAlone.Nodes.{level_at, last_in, entries_at, entries_from}
 use Rattle.vyrd_tree.specs.RightAlone.Order.{Covers}
 use Rattle.vyrd_tree.specs.RightAlone.Entries.{Entries, gives, drop_front}

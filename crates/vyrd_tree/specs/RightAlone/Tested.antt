@@ -9,10 +9,10 @@ use Rattle.std.proofs.lemmas.List.{length-map}
 use Rattle.vyrd_base.specs.Places.{numbers_from}
 use Rattle.vyrd_base.specs.TreeView.{level_of, count_of, bound_of, right_of, entries_of}
 use Rattle.vyrd_base.specs.Trees.{root_of, last_of, nodes, leads_to, left_of as find_left, is_first, low_of, is_linked, is_bounded, rises, keys_at, has_sound_keys, is_leaf_entry, is_child_entry, begins_with, has_sound_entries, is_only_first, is_sound_node, is_tree}
-use Rattle.vyrd_base.proofs.SplitLaws.{both_true, first_true, second_true}
+use Rattle.vyrd_base.proofs.TestLaws.{both_true, first_true, second_true, same_of, is_same, isnt_same, below_of, is_below, is_at_most, at_most_of}
 use Rattle.vyrd_memory.specs.Alone.{Memory}
 use Rattle.vyrd_memory.proofs.NumberLists.{all_pass, pass_all}
-use Rattle.vyrd_tree.specs.RightAlone.Counts.{zero_or, le_or, same_of, is_same, isnt_same, passing, count_is, passing_two, passing_one, passing_some, found_passes, none_passes, found_is, none_is, lt_says, le_says, is_lt, is_le}
+use Rattle.vyrd_tree.specs.RightAlone.Counts.{zero_or, le_or, passing, count_is, passing_two, passing_one, passing_some, found_passes, none_passes, found_is, none_is}
 use Rattle.vyrd_tree.specs.RightAlone.Nodes.{level_at, count_at, bound_at, key_at, value_at, Below, InRange, Rising, BeginsAt, AreEntries, AreEntriesAt, IsLeafEntry, IsChild, HasLeft, IsTree, entries_at, entries_from}
 use Rattle.vyrd_tree.specs.RightAlone.Order.{left_of, one_cover}
 use Rattle.vyrd_tree.specs.RightAlone.Entries.{Entries}
@@ -33,7 +33,7 @@ rises_says : (xs : Entries) → rises (map key_of xs) ≡ true → Rising xs
 rises_says [] e = tt
 rises_says (x ∷ []) e = (tt, tt)
 rises_says (x ∷ y ∷ xs) e =
-    let lt : x.0 < y.0 = lt_says x.0 y.0 (first_true (nat_lt x.0 y.0) (rises (map key_of (y ∷ xs))) e) in
+    let lt : x.0 < y.0 = below_of x.0 y.0 (first_true (nat_lt x.0 y.0) (rises (map key_of (y ∷ xs))) e) in
     let later : Rising (y ∷ xs) = rises_says (y ∷ xs) (second_true (nat_lt x.0 y.0) (rises (map key_of (y ∷ xs))) e) in
     ((lt, above xs x.0 y.0 lt later.0), later)
   where
@@ -44,11 +44,11 @@ rises_says (x ∷ y ∷ xs) e =
 rises_passes : (xs : Entries) → Rising xs → rises (map key_of xs) ≡ true
 rises_passes [] r = refl
 rises_passes (x ∷ []) r = refl
-rises_passes (x ∷ y ∷ xs) r = both_true (nat_lt x.0 y.0) (rises (map key_of (y ∷ xs))) (is_lt x.0 y.0 r.0.0) (rises_passes (y ∷ xs) r.1)
+rises_passes (x ∷ y ∷ xs) r = both_true (nat_lt x.0 y.0) (rises (map key_of (y ∷ xs))) (is_below x.0 y.0 r.0.0) (rises_passes (y ∷ xs) r.1)
 
 range_says : (low bound key : ℕ) → (nat_le low key && (bound == 0 || nat_lt key bound)) ≡ true → (low ≤ key) × Below key bound
 range_says low bound key e = (
-  le_says low key (first_true (nat_le low key) (bound == 0 || nat_lt key bound) e),
+  at_most_of low key (first_true (nat_le low key) (bound == 0 || nat_lt key bound) e),
   below bound key
       (second_true (nat_le low key) (bound == 0 || nat_lt key bound) e),
 )
@@ -57,7 +57,7 @@ range_says low bound key e = (
     below bound key e some = grind (arith, nat_tests)
 
 range_passes : (low bound key : ℕ) → (low ≤ key) × Below key bound → (nat_le low key && (bound == 0 || nat_lt key bound)) ≡ true
-range_passes low bound key is = both_true (nat_le low key) (bound == 0 || nat_lt key bound) (is_le low key is.0) (by_zero (zero_or bound))
+range_passes low bound key is = both_true (nat_le low key) (bound == 0 || nat_lt key bound) (is_at_most low key is.0) (by_zero (zero_or bound))
   where
     none : (bound key : ℕ) → bound ≡ 0 → (bound == 0 || nat_lt key bound) ≡ true
     none bound key e = grind (arith, nat_tests)
@@ -71,12 +71,12 @@ range_passes low bound key is = both_true (nat_le low key) (bound == 0 || nat_lt
 
 leaf_says : (entry : ℕ × ℕ) → is_leaf_entry entry ≡ true → IsLeafEntry entry
 leaf_says (key, value) e = record {
-  key_low = lt_says key (2 ^ 32) (first_true (nat_lt key (2 ^ 32)) (nat_lt value (2 ^ 32)) e);
-  value_low = lt_says value (2 ^ 32) (second_true (nat_lt key (2 ^ 32)) (nat_lt value (2 ^ 32)) e);
+  key_low = below_of key (2 ^ 32) (first_true (nat_lt key (2 ^ 32)) (nat_lt value (2 ^ 32)) e);
+  value_low = below_of value (2 ^ 32) (second_true (nat_lt key (2 ^ 32)) (nat_lt value (2 ^ 32)) e);
 }
 
 leaf_passes : (entry : ℕ × ℕ) → IsLeafEntry entry → is_leaf_entry entry ≡ true
-leaf_passes (key, value) is = both_true (nat_lt key (2 ^ 32)) (nat_lt value (2 ^ 32)) (is_lt key (2 ^ 32) is.key_low) (is_lt value (2 ^ 32) is.value_low)
+leaf_passes (key, value) is = both_true (nat_lt key (2 ^ 32)) (nat_lt value (2 ^ 32)) (is_below key (2 ^ 32) is.key_low) (is_below value (2 ^ 32) is.value_low)
 
 begins_says : (low : ℕ) (xs : Entries) → begins_with low (map key_of xs) ≡ true → BeginsAt low xs
 begins_says low [] e = absurd (false_isnt e)
@@ -193,7 +193,7 @@ module _ (size : ℕ) (words : List ℕ) (is : is_tree size words ≡ true) wher
   link_is n used on =
       let e : (nat_le (right_of words n) last && level_of words (right_of words n) == level_of words n) ≡ true = with_link (right_of words n) _
       (second_true (nat_le (count_by (leads_to words n) (nodes last)) 1) _ (linked_is n used)) on in (
-        le_says (right_of words n) last (first_true (nat_le (right_of words n) last) (level_of words (right_of words n) == level_of words n) e),
+        at_most_of (right_of words n) last (first_true (nat_le (right_of words n) last) (level_of words (right_of words n) == level_of words n) e),
         same_of (level_of words (right_of words n)) (level_of words n) (second_true (nat_le (right_of words n) last)
             (level_of words (right_of words n) == level_of words n) e),
       )
@@ -209,7 +209,7 @@ module _ (size : ℕ) (words : List ℕ) (is : is_tree size words ≡ true) wher
     where
       few : passing (leads_to words n) (numbers_from 0 (last + 1)) ≤ 1
       few = subst (λ c. c ≤ 1) (count_is (leads_to words n) (nodes last))
-          (le_says (count_by (leads_to words n) (nodes last)) 1 (first_true (nat_le (count_by (leads_to words n) (nodes last)) 1) _ (linked_is n used)))
+          (at_most_of (count_by (leads_to words n) (nodes last)) 1 (first_true (nat_le (count_by (leads_to words n) (nodes last)) 1) _ (linked_is n used)))
 
       by_order : (x ≤ y) ⊎ (y < x) → x ≤ y
       by_order (inl le) = le
@@ -289,7 +289,7 @@ module _ (size : ℕ) (words : List ℕ) (is : is_tree size words ≡ true) wher
 
   few_is : (n : ℕ) → n ≤ last → count_of words n ≤ 4
   few_is n used =
-      le_says (count_of words n) 4 (first_true (nat_le (count_of words n) 4) (rises (keys_at words n))
+      at_most_of (count_of words n) 4 (first_true (nat_le (count_of words n) 4) (rises (keys_at words n))
       (first_true (nat_le (count_of words n) 4 && rises (keys_at words n)) _ (keys_are n used)))
 
   abbrev in_range_test : ℕ → ℕ → Bool
@@ -310,7 +310,7 @@ module _ (size : ℕ) (words : List ℕ) (is : is_tree size words ≡ true) wher
       three b c d e = (first_true b c (first_true (b && c) d e), second_true b c (first_true (b && c) d e), second_true (b && c) d e)
 
       above : (level : ℕ) → level ≢ 0 → ((level == 0) ≡ false) × (nat_lt 0 level ≡ true)
-      above level some = (isnt_same level 0 some, is_lt 0 level (omega arith))
+      above level some = (isnt_same level 0 some, is_below 0 level (omega arith))
 
       by_zero : (level ≡ 0) ⊎ (level ≢ 0) → (level ≡ 0 → a ≡ true) × (level ≢ 0 → (b ≡ true) × (c ≡ true) × (d ≡ true))
       by_zero (inl none) = (λ none. or_none a (sym (at_zero level none) ∙ e), λ some. absurd (some none))
@@ -337,7 +337,7 @@ module _ (size : ℕ) (words : List ℕ) (is : is_tree size words ≡ true) wher
             (sym (list_all-map (in_range_test n) key_of es) ∙ ranged);
         leaf = λ none. all_says is_leaf_entry IsLeafEntry leaf_says es (levels.0 none);
         inner = λ some. record {
-          two = subst (λ c. 2 ≤ c) (sym (ap length same ∙ length-entries m n 0 (count_at m n))) (le_says 2 (count_of words n) (levels.1 some).0);
+          two = subst (λ c. 2 ≤ c) (sym (ap length same ∙ length-entries m n 0 (count_at m n))) (at_most_of 2 (count_of words n) (levels.1 some).0);
           first = begins_says (low n) es (levels.1 some).1;
           child = all_says (is_child_entry last words (level_of words n)) (IsChild last (level_at m) low (level_at m n)) (child_says (level_of words n)) es
               (levels.1 some).2;
@@ -348,7 +348,7 @@ module _ (size : ℕ) (words : List ℕ) (is : is_tree size words ≡ true) wher
       child_says level (key, child) e =
           let two = first_true (nat_le child last && level_of words child + 1 == level) (low child == key) e in
           record {
-            in_use = le_says child last (first_true (nat_le child last) (level_of words child + 1 == level) two);
+            in_use = at_most_of child last (first_true (nat_le child last) (level_of words child + 1 == level) two);
             lower = same_of (level_of words child + 1) level (second_true (nat_le child last) (level_of words child + 1 == level) two);
             key_is = same_of (low child) key (second_true (nat_le child last && level_of words child + 1 == level) (low child == key) e);
           }
@@ -360,16 +360,16 @@ module _ (size : ℕ) (words : List ℕ) (is : is_tree size words ≡ true) wher
   head_two = first_true (nat_lt last size && nat_le root last) (level_of words 0 == 0) head_three
 
   root_used : root ≤ last
-  root_used = le_says root last (second_true (nat_lt last size) (nat_le root last) head_two)
+  root_used = at_most_of root last (second_true (nat_lt last size) (nat_le root last) head_two)
 
   -- words that pass the tests are a tree
   pub tree_of_words : IsTree size (slice_index words) (low_of (last_of size words) words)
   tree_of_words = record {
-    last_low = lt_says last size (first_true (nat_lt last size) (nat_le root last) head_two);
+    last_low = below_of last size (first_true (nat_lt last size) (nat_le root last) head_two);
     root_in_use = root_used;
     root_first = first_low root root_used (second_true (nat_lt last size && nat_le root last && level_of words 0 == 0) (is_first last words root) head_is);
     zero_leaf = same_of (level_of words 0) 0 (second_true (nat_lt last size && nat_le root last) (level_of words 0 == 0) head_three);
-    highest = λ n used. le_says (level_of words n) (level_of words root)
+    highest = λ n used. at_most_of (level_of words n) (level_of words root)
         (first_true (nat_le (level_of words n) (level_of words root)) (is_sound_node last words n) (node_is n used));
     ends = λ n used none. ends_at (bound_of words n) (right_of words n) (low n) (bounded_is n used) none;
     link = λ n used on. record { in_use = (link_is n used on).0; same_level = (link_is n used on).1; begins = begins_is n used on; above = above_is n used on };
@@ -446,7 +446,7 @@ module _ (size : ℕ) (words : List ℕ) (low : ℕ → ℕ) (t : IsTree size (s
   linked_passes n used =
       both_true (nat_le (count_by (leads_to words n) (nodes last')) 1) (right_of words n == 0 || nat_le (right_of words n) last' && level_of words
       (right_of words n) == level_of words n)
-      (is_le (count_by (leads_to words n) (nodes last')) 1
+      (is_at_most (count_by (leads_to words n) (nodes last')) 1
       (subst (λ c. c ≤ 1) (sym (count_is (leads_to words n) (nodes last'))) (passing_one (leads_to words n) 0 (last' + 1)
       (λ i j from_i to_i from_j to_j e f. let says = leads_says n i e in one_link n i j (omega arith) (omega arith) says.0 (leads_says n j f).0 says.1))))
       (by_right (zero_or (right_of words n)))
@@ -469,7 +469,7 @@ module _ (size : ℕ) (words : List ℕ) (low : ℕ → ℕ) (t : IsTree size (s
       by_right (inr on) =
           let link = t.link n used on in
           or_second (right_of words n == 0) (nat_le (right_of words n) last' && level_of words (right_of words n) == level_of words n)
-          (both_true (nat_le (right_of words n) last') (level_of words (right_of words n) == level_of words n) (is_le (right_of words n) last' link.in_use)
+          (both_true (nat_le (right_of words n) last') (level_of words (right_of words n) == level_of words n) (is_at_most (right_of words n) last' link.in_use)
           (is_same (level_of words (right_of words n)) (level_of words n) link.same_level))
 
   bounded_passes : (n : ℕ) → n ≤ last' → is_bounded last' words n ≡ true
@@ -495,7 +495,7 @@ module _ (size : ℕ) (words : List ℕ) (low : ℕ → ℕ) (t : IsTree size (s
       let few = t.few n used in
       let same : entries_of words n ≡ entries_at m' n = entries_are words n few in
       both_true (nat_le (count_of words n) 4 && rises (keys_at words n)) (list_all (range_test (low_of last' words n)) (keys_at words n))
-      (both_true (nat_le (count_of words n) 4) (rises (keys_at words n)) (is_le (count_of words n) 4 few)
+      (both_true (nat_le (count_of words n) 4) (rises (keys_at words n)) (is_at_most (count_of words n) 4 few)
       (ap (λ xs. rises (map key_of xs)) same ∙ rises_passes (entries_at m' n) es.rise))
       (ap (λ k. list_all (range_test k) (keys_at words n)) (low_is n used)
       ∙ ap (λ xs. list_all (range_test (low n)) (map key_of xs)) same ∙ list_all-map (range_test (low n)) key_of (entries_at m' n)
@@ -520,12 +520,12 @@ module _ (size : ℕ) (words : List ℕ) (low : ℕ → ℕ) (t : IsTree size (s
       inner_so : (level : ℕ) (a b c d : Bool) → level ≢ 0 → b ≡ true → c ≡ true → d ≡ true → ((level == 0 && a) || (nat_lt 0 level && b && c && d)) ≡ true
       inner_so level a b c d some e f g =
           ap (λ t. (t && a) || (nat_lt 0 level && b && c && d)) (isnt_same level 0 some)
-          ∙ both_true (nat_lt 0 level && b && c) d (both_true (nat_lt 0 level && b) c (both_true (nat_lt 0 level) b (is_lt 0 level (omega arith)) e) f) g
+          ∙ both_true (nat_lt 0 level && b && c) d (both_true (nat_lt 0 level && b) c (both_true (nat_lt 0 level) b (is_below 0 level (omega arith)) e) f) g
 
       child_passes : (level : ℕ) (entry : ℕ × ℕ) → IsChild last' (level_at m') low level entry → is_child_entry last' words level entry ≡ true
       child_passes level (key, child) is =
           both_true (nat_le child last' && level_of words child + 1 == level) (low_of last' words child == key)
-          (both_true (nat_le child last') (level_of words child + 1 == level) (is_le child last' is.in_use) (is_same (level_of words child + 1) level is.lower))
+          (both_true (nat_le child last') (level_of words child + 1 == level) (is_at_most child last' is.in_use) (is_same (level_of words child + 1) level is.lower))
           (is_same (low_of last' words child) key (low_is child is.in_use ∙ is.key_is))
 
       by_level : (level_of words n ≡ 0) ⊎ (level_of words n ≢ 0) → has_sound_entries last' words n ≡ true
@@ -538,7 +538,7 @@ module _ (size : ℕ) (words : List ℕ) (low : ℕ → ℕ) (t : IsTree size (s
           let in_ = es.inner some in
           inner_so (level_of words n) (list_all is_leaf_entry (entries_of words n)) (nat_le 2 (count_of words n)) (begins_with (low_of last' words n) (keys_at words n))
           (list_all (is_child_entry last' words (level_of words n)) (entries_of words n)) some
-          (is_le 2 (count_of words n) (subst (λ c. 2 ≤ c) (length-entries m' n 0 (count_at m' n)) in_.two))
+          (is_at_most 2 (count_of words n) (subst (λ c. 2 ≤ c) (length-entries m' n 0 (count_at m' n)) in_.two))
           (ap (λ k. begins_with k (keys_at words n)) (low_is n used) ∙ ap (λ xs. begins_with (low n) (map key_of xs)) same
           ∙ begins_passes (low n) (entries_at m' n) in_.first)
           (ap (list_all (is_child_entry last' words (level_of words n))) same
@@ -588,7 +588,7 @@ module _ (size : ℕ) (words : List ℕ) (low : ℕ → ℕ) (t : IsTree size (s
       both_true (nat_lt last' size && nat_le root' last' && level_of words 0 == 0 && is_first last' words root') (list_all each (nodes last'))
       (both_true (nat_lt last' size && nat_le root' last' && level_of words 0 == 0) (is_first last' words root')
       (both_true (nat_lt last' size && nat_le root' last') (level_of words 0 == 0)
-      (both_true (nat_lt last' size) (nat_le root' last') (is_lt last' size t.last_low) (is_le root' last' t.root_in_use)) (is_same (level_of words 0) 0 t.zero_leaf))
+      (both_true (nat_lt last' size) (nat_le root' last') (is_below last' size t.last_low) (is_at_most root' last' t.root_in_use)) (is_same (level_of words 0) 0 t.zero_leaf))
       (first_is root' t.root_in_use ∙ is_same (low root') 0 t.root_first))
       (pass_all each 0 (last' + 1) (λ n from to. node_passes n (omega arith)))
     where
@@ -597,7 +597,7 @@ module _ (size : ℕ) (words : List ℕ) (low : ℕ → ℕ) (t : IsTree size (s
 
       node_passes : (n : ℕ) → n ≤ last' → each n ≡ true
       node_passes n used =
-          both_true (nat_le (level_of words n) (level_of words root')) (is_sound_node last' words n) (is_le (level_of words n) (level_of words root') (t.highest n used))
+          both_true (nat_le (level_of words n) (level_of words root')) (is_sound_node last' words n) (is_at_most (level_of words n) (level_of words root') (t.highest n used))
           (both_true (is_linked last' words n && is_bounded last' words n && has_sound_keys last' words n && has_sound_entries last' words n)
           (is_only_first last' words n)
           (both_true (is_linked last' words n && is_bounded last' words n && has_sound_keys last' words n) (has_sound_entries last' words n)

@@ -3,12 +3,12 @@ use Rattle.std.proofs.Common.{◌≡◌, ◌≢◌, ℕ, zero, suc, ◌+◌, ◌
 use Rattle.std.specs.Prelude.{◌==◌, ◌||◌, nat_le, flat_map}
 use Rattle.std.specs.Prelude.{slice_index}
 use Rattle.std.specs.List.{list_any}
-use Rattle.std.proofs.lemmas.Bool.Decides.{nat_tests}
 use Rattle.vyrd_base.specs.Places.{numbers_from}
 use Rattle.vyrd_base.specs.TreeView.{right_of, entry_parts, node_parts, damage, chain_parts_from, chain_parts}
 use Rattle.vyrd_base.proofs.SumLaws.{given, given-append}
+use Rattle.vyrd_base.proofs.TestLaws.{is_same, isnt_same, isnt_at_most}
 use Rattle.vyrd_memory.specs.Alone.{Memory}
-use Rattle.vyrd_tree.specs.RightAlone.Counts.{zero_or, le_or, is_same, isnt_same}
+use Rattle.vyrd_tree.specs.RightAlone.Counts.{zero_or, le_or}
 use Rattle.vyrd_tree.specs.RightAlone.Nodes.{level_at, count_at, bound_at, right_at, key_at, value_at, last_in, InRange, LeadsOn, IsTree, entries_at}
 use Rattle.vyrd_tree.specs.RightAlone.Order.{Covers, after_of, after_falls, after_few, one_cover, zero_low}
 use Rattle.vyrd_tree.specs.RightAlone.Entries.{gives, gives_none, each_more}
@@ -86,14 +86,11 @@ step_on size words left seen q n on fresh =
     (isnt_same (right_of words n) 0 on)
     ∙ ap (λ b. given q (node_parts words n) + given q (chain_on size words left seen n false b)) fresh
 
-low_number : (a b : ℕ) → b < a → nat_le a b ≡ false
-low_number a b lt = grind (arith, nat_tests)
-
 fresh_link : (size : ℕ) (words : List ℕ) (low : ℕ → ℕ) (left : ℕ) (seen : List ℕ) (n : ℕ) → IsTree size (slice_index words) low
     → OnChain size (slice_index words) low left (n ∷ seen) (right_of words n)
     → (nat_le size (right_of words n) || list_any (λ y. y == right_of words n) (n ∷ seen)) ≡ false
 fresh_link size words low left seen n t next =
-    ap (λ b. b || list_any (λ y. y == right_of words n) (n ∷ seen)) (low_number size (right_of words n) (let used = next.in_use in let fits = t.last_low in omega arith))
+    ap (λ b. b || list_any (λ y. y == right_of words n) (n ∷ seen)) (isnt_at_most size (right_of words n) (let used = next.in_use in let fits = t.last_low in omega arith))
     ∙ next.unseen (right_of words n) next.in_use (omega arith)
 
 -- the chain from a node on gives nothing to a key below the node's low

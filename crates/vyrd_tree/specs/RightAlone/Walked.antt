@@ -5,12 +5,13 @@ use Rattle.std.specs.Prelude.{◌==◌, nat_lt}
 use Rattle.std.proofs.lemmas.Bool.Decides.{nat_tests}
 use Rattle.vyrd_base.specs.declared.header.Header.{Header}
 use Rattle.vyrd_base.specs.Places.{numbers_from}
+use Rattle.vyrd_base.proofs.TestLaws.{isnt_same, is_below, isnt_below}
 use Rattle.vyrd_memory.specs.declared.act.Act.TheVariants.{Load}
 use Rattle.vyrd_memory.specs.declared.op.Variant.TheVariants.{Correct}
 use Rattle.vyrd_memory.specs.Scripts.{Script, step}
 use Rattle.vyrd_memory.specs.Alone.{Memory, with_cell, Outcome, alone}
 use Rattle.vyrd_memory.proofs.Memories.{other_cell}
-use Rattle.vyrd_tree.specs.RightAlone.Counts.{zero_or, le_or, isnt_same, is_lt, isnt_lt}
+use Rattle.vyrd_tree.specs.RightAlone.Counts.{zero_or, le_or}
 use Rattle.vyrd_tree.specs.RightAlone.Nodes.{level_at, count_at, bound_at, right_at, key_at, value_at, last_in, root_in, Below, AreInner, IsChild, IsTree, entries_at}
 use Rattle.vyrd_tree.specs.RightAlone.Order.{Covers, IsAfter, after_of, after_falls, after_few, next_of}
 use Rattle.vyrd_tree.specs.RightAlone.Entries.{Entries}
@@ -144,10 +145,10 @@ visit_played h c key toward m low n lost visit arrived Q t used from high goes_o
 
     by_level : Below key (bound_at m n) → (level_at m n ≤ toward) ⊎ (toward < level_at m n) → Goal false (nat_lt toward (level_at m n))
     by_level below (inl le) =
-        subst (Goal false) (sym (isnt_lt toward (level_at m n) le))
+        subst (Goal false) (sym (isnt_below toward (level_at m n) le))
         (subst Q (sym (arrive_played c m n arrived)) (there (omega (arith, high, le)) (record { from = from; to = below })))
     by_level below (inr above) =
-        subst (Goal false) (sym (is_lt toward (level_at m n) above)) (descend_played h c key m low n lost visit Q t used (omega (arith, above)) from (down above))
+        subst (Goal false) (sym (is_below toward (level_at m n) above)) (descend_played h c key m low n lost visit Q t used (omega (arith, above)) from (down above))
 
     right : bound_at m n ≢ 0 → bound_at m n ≤ key → Q (alone c (visit (right_at m n)) (with_cell m (lock_of h n) 0))
     right some le =
@@ -225,7 +226,7 @@ walk_arrives h c key toward m low lost arrived Q t free there (suc left) n used 
 
     visited : ((next : ℕ) → next ≤ last_in h.size m → low next ≤ key → toward ≤ level_at m next → after_of (last_in h.size m) m low next < left
         → Q (alone c (visit next) m)) → Q (alone c (walk_from h Correct key toward (suc left) n lost arrived) m)
-    visited later = subst (λ b. Q (alone c (cond b (visit_node h Correct key toward n lost visit arrived) lost) m)) (sym (is_lt n h.size fits)) (goes_on later)
+    visited later = subst (λ b. Q (alone c (cond b (visit_node h Correct key toward n lost visit arrived) lost) m)) (sym (is_below n h.size fits)) (goes_on later)
 
 -- a walk of an operation, from the root
 pub walk_down_arrives : (h : Header) (c key : ℕ) (m : Memory) (low : ℕ → ℕ) (lost : Script) (arrived : Arrived → Script) (Q : Option Outcome → Type 0)

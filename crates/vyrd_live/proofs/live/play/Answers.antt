@@ -6,8 +6,9 @@ use Rattle.vyrd_memory.specs.Scripts.{Script}
 use Rattle.vyrd_trace.specs.declared.plan.Plan.{Plan}
 use Rattle.vyrd_work.specs.Workloads.{workload_of}
 use Rattle.vyrd_work.specs.WorkScripts.{ops_of, work_scripts}
+use Rattle.vyrd_work.proofs.ScriptLaws.{where_ok}
 use Rattle.vyrd_live.specs.Workers.{HavePlayed}
-use Rattle.vyrd_live.proofs.FreshWorkers.{all_fresh, all_callers, scripts_are, all_made, bound_at, in_range, where_ok, both_ok}
+use Rattle.vyrd_live.proofs.FreshWorkers.{all_fresh, all_callers, scripts_are, all_made, bound_at, in_range, both_ok}
 use Rattle.vyrd_live.proofs.live.play.Goals as goal
 
 pub play_all-requires-clause-fresh : goal.play_all-requires-clause-fresh

@@ -1,11 +1,11 @@
-use Rattle.std.proofs.Common.{◌++◌, [], ◌∷◌, take, filter_map, ap, ◌∙◌, sym}
+use Rattle.std.proofs.Common.{◌++◌, [], ◌∷◌, take, filter_map, ap, ◌∙◌, sym, append-nil}
 use Rattle.std.specs.Prelude.{get_or}
 use Rattle.std.specs.List.{cons_option}
 use Rattle.std.proofs.lemmas.List.{take_all}
 use Rattle.vyrd_base.specs.declared.history.Stamped.{Stamped}
 use Rattle.vyrd_base.specs.declared.history.Did.TheVariants.{Read}
 use Rattle.vyrd_base.specs.Histories.{logged, log_of}
-use Rattle.vyrd_base.proofs.ListLaws.{append_nil, filter_map_more}
+use Rattle.vyrd_base.proofs.ListLaws.{filter_map_more}
 use Rattle.vyrd_live.proofs.logged.log_of.Goals.{in-Some+in_ok-push, in_default}
 use Rattle.vyrd_live.proofs.logged.log_of.Goals as goal
 
@@ -21,7 +21,7 @@ loop-event-preserved c =
     elim c.match-entry_of.branch [
       | in-Some+in_ok-push w ↦ ap (λ log. log.items) w.log-is ∙ w.in_ok-push.ensures.items ∙ ap (λ xs. xs ++ w.in-Some.entry ∷ []) c.loop-event.invariant
           ∙ ap (λ o. before ++ cons_option o []) (sym w.in-Some.is ∙ c.entry_of.ensures) ∙ sym more
-      | in_default w ↦ ap (λ log. log.items) w.log-is ∙ c.loop-event.invariant ∙ sym (append_nil before)
+      | in_default w ↦ ap (λ log. log.items) w.log-is ∙ c.loop-event.invariant ∙ sym (append-nil before)
           ∙ ap (λ o. before ++ cons_option o []) (sym w.in_default.is ∙ c.entry_of.ensures) ∙ sym more
     ]
 

@@ -3,7 +3,7 @@ use Rattle.vyrd_base.specs.declared.log.Kind.TheVariants.{BlockOpen}
 use Rattle.vyrd_memory.specs.declared.act.Act.TheVariants.{Mark}
 use Rattle.vyrd_memory.specs.Scripts.{perform}
 use Rattle.vyrd_tree.specs.Cells.{unlock_node}
-use Rattle.vyrd_tree.specs.Procedures.{returns as reply}
+use Rattle.vyrd_memory.specs.Scripts.{returns as reply}
 use Rattle.vyrd_tree.proofs.Added.{added, overflows}
 use Rattle.vyrd_tree.proofs.task.Task.add.Goals as goal
 

@@ -1,0 +1,55 @@
+-- The three subjects and their names: which are the same, how long a name is, and how it is read.
+use Rattle.std.proofs.Common.{◌≡◌, ℕ, ◌≤◌, true, List, ◌∷◌, ◌++◌, length, Some, refl, sym, ap, ◌∙◌, arith}
+use Rattle.std.specs.Prelude.{◌==◌}
+use Rattle.std.specs.List.{slice_split}
+use Rattle.std.proofs.lemmas.List.{append_cancel_left}
+use Rattle.vyrd_base.specs.declared.subject.Subject.{Subject}
+use Rattle.vyrd_base.specs.declared.subject.Subject.TheVariants.{Multiset, Cache, Tree}
+use Rattle.vyrd_base.specs.Subjects.{same_subject}
+use Rattle.vyrd_base.specs.Spelling.{subject_name}
+use Rattle.vyrd_base.specs.Lines.{subject_called}
+use Rattle.vyrd_base.proofs.SplitLaws.{lacks, split_at}
+use Rattle.vyrd_base.proofs.LineLaws.{is_plain_field}
+
+-- subjects that are found to be the same are
+pub same_subjects : (a b : Subject) → same_subject a b ≡ true → a ≡ b
+same_subjects Multiset Multiset e = refl
+same_subjects Cache Cache e = refl
+same_subjects Tree Tree e = refl
+same_subjects Multiset Cache e = cc
+same_subjects Multiset Tree e = cc
+same_subjects Cache Multiset e = cc
+same_subjects Cache Tree e = cc
+same_subjects Tree Multiset e = cc
+same_subjects Tree Cache e = cc
+
+-- a name is a field of its own, and short
+pub plain_subject : (subject : Subject) → is_plain_field (subject_name subject) ≡ true
+plain_subject Multiset = refl
+plain_subject Cache = refl
+plain_subject Tree = refl
+
+pub short_subject : (subject : Subject) → length (subject_name subject) ≤ 8
+short_subject Multiset = omega arith
+short_subject Cache = omega arith
+short_subject Tree = omega arith
+
+-- a name is read as the subject that has it
+pub subject_read : (subject : Subject) → subject_called (subject_name subject) ≡ Some subject
+subject_read Multiset = refl
+subject_read Cache = refl
+subject_read Tree = refl
+
+plain_name : (subject : Subject) → lacks 32 (subject_name subject) ≡ true
+plain_name Multiset = refl
+plain_name Cache = refl
+plain_name Tree = refl
+
+-- the name before a space is one
+pub one_name : (a b : Subject) (r s : List ℕ) → subject_name a ++ 32 ∷ r ≡ subject_name b ++ 32 ∷ s → r ≡ s
+one_name a b r s e =
+    let parts : subject_name a ∷ slice_split (λ x. x == 32) r ≡ subject_name b ∷ slice_split (λ x. x == 32) s =
+    sym (split_at 32 (subject_name a) r (plain_name a)) ∙ ap (slice_split (λ x. x == 32)) e ∙ split_at 32 (subject_name b) s (plain_name b) in
+    let same : subject_name a ≡ subject_name b = cc in
+    let tails : 32 ∷ r ≡ 32 ∷ s = append_cancel_left (subject_name a) (32 ∷ r) (32 ∷ s) (e ∙ ap (λ t. t ++ 32 ∷ s) (sym same)) in
+    cc

@@ -1,0 +1,14 @@
+-- Arguments of 32 bits, one by one.
+use Rattle.std.proofs.Common.{◌≡◌, ◌<◌, ◌^◌, true, arith}
+use Rattle.std.proofs.lemmas.Bool.Decides.{nat_tests}
+use Rattle.vyrd_base.specs.declared.subject.Args.{Args}
+use Rattle.vyrd_memory.specs.Arguments.{are_small}
+
+pub small_a : (args : Args) → are_small args ≡ true → args.a < 2 ^ 32
+small_a args small = grind (arith, nat_tests)
+
+pub small_b : (args : Args) → are_small args ≡ true → args.b < 2 ^ 32
+small_b args small = grind (arith, nat_tests)
+
+pub small_c : (args : Args) → are_small args ≡ true → args.c < 2 ^ 32
+small_c args small = grind (arith, nat_tests)
