@@ -32,10 +32,12 @@ alike k q x e = ap (isnt k) (sym (nat_cmp-IsAntisymmetric q x e))
 pub amount_of-with_amount : (s : Amounts) (k a q : ℕ) → amount_of (with_amount s k a) q ≡ cond (q == k) a (amount_of s q)
 amount_of-with_amount s k a q = by_zero (a == 0) refl
   where
-    by_zero : (b : Bool) → (a == 0) ≡ b → amount_of (cond b (filter (λ entry. not (entry.0 == k)) s) (put nat_cmp k a s)) q ≡ cond (q == k) a (amount_of s q)
+    by_zero : (b : Bool) → (a == 0) ≡ b → amount_of (cond b (filter (λ entry. not (entry.0 == k)) s) (put nat_cmp k a s)) q
+        ≡ cond (q == k) a (amount_of s q)
     by_zero true e = ap (λ o. unwrap_or o 0) (find-where_key nat_cmp (isnt k) q (alike k q) s)
         ∙ found_in k q (q == k) (find nat_cmp q s) refl ∙ ap (λ z. cond (q == k) z (amount_of s q)) (sym (same_of a 0 e))
-    by_zero false e = ap (λ o. unwrap_or o 0) (find-put nat_cmp nat_cmp_total q k a s ∙ ap (λ b. cond b (Some a) (find nat_cmp q s)) (unsigned_tied q k))
+    by_zero false e = ap (λ o. unwrap_or o 0) (find-put nat_cmp nat_cmp_total q k a s
+        ∙ ap (λ b. cond b (Some a) (find nat_cmp q s)) (unsigned_tied q k))
         ∙ put_in a (q == k) (find nat_cmp q s)
 
 kept_filter : (P : ℕ × ℕ → Type 0) (p : ℕ × ℕ → Bool) (s : Amounts) → AllByRecursion P s → AllByRecursion P (filter p s)
@@ -62,7 +64,8 @@ pub IsAmounts-with_amount : (s : Amounts) (k a : ℕ) → IsAmounts s → IsAmou
 IsAmounts-with_amount s k a is = by_zero (a == 0) refl
   where
     by_zero : (b : Bool) → (a == 0) ≡ b → IsAmounts (cond b (filter (λ entry. not (entry.0 == k)) s) (put nat_cmp k a s))
-    by_zero true e = record { rising = is_sorted-where_key nat_cmp (isnt k) s is.rising; some = kept_filter (λ entry. entry.1 ≢ 0) (λ entry. isnt k entry.0) s is.some }
+    by_zero true e = record { rising = is_sorted-where_key nat_cmp (isnt k) s is.rising;
+        some = kept_filter (λ entry. entry.1 ≢ 0) (λ entry. isnt k entry.0) s is.some }
     by_zero false e = record { rising = is_sorted-put nat_cmp nat_cmp_total k a s is.rising; some = kept_put k a s (apart_of a 0 e) is.some }
 
 some_same : (x y : ℕ) → ◌≡◌ {A = Option ℕ} (Some x) (Some y) → x ≡ y
@@ -104,12 +107,14 @@ second_of_and false b p = absurd p
 
 below_push : (x k a : ℕ) (s : Amounts) → x < k → T (below_all nat_cmp x s) → T (below_all nat_cmp x (s ++ (k, a) ∷ []))
 below_push x k a [] low below = and_true (is_lt (nat_cmp x k)) true (subst (λ o. T (is_lt o)) (sym (less_of x k low)) tt) tt
-below_push x k a (e ∷ s) low below = and_true (is_lt (nat_cmp x e.0)) _ (first_of_and _ _ below) (below_push x k a s low (second_of_and (is_lt (nat_cmp x e.0)) _ below))
+below_push x k a (e ∷ s) low below =
+    and_true (is_lt (nat_cmp x e.0)) _ (first_of_and _ _ below) (below_push x k a s low (second_of_and (is_lt (nat_cmp x e.0)) _ below))
 
 rising_push : (k a : ℕ) (s : Amounts) → AllByRecursion (λ entry. entry.0 < k) s → T (is_sorted nat_cmp s) → T (is_sorted nat_cmp (s ++ (k, a) ∷ []))
 rising_push k a [] all rising = tt
 rising_push k a (e ∷ s) all rising =
-    and_true (below_all nat_cmp e.0 (s ++ (k, a) ∷ [])) _ (below_push e.0 k a s all.0 (first_of_and _ _ rising)) (rising_push k a s all.1 (second_of_and (below_all nat_cmp e.0 s) _ rising))
+    and_true (below_all nat_cmp e.0 (s ++ (k, a) ∷ [])) _ (below_push e.0 k a s all.0 (first_of_and _ _ rising))
+      (rising_push k a s all.1 (second_of_and (below_all nat_cmp e.0 s) _ rising))
 
 some_push : (k a : ℕ) (s : Amounts) → a ≢ 0 → AllSome s → AllSome (s ++ (k, a) ∷ [])
 some_push k a [] some all = (some, tt)

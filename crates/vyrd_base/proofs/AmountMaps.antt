@@ -24,7 +24,8 @@ insert_entry-put k v [] = refl
 insert_entry-put k v (e ∷ es) = by_cmp (nat_cmp k e.0) (insert_entry-put k v es)
   where
     by_cmp : (o : Ordering) → insert_entry nat_cmp es k v ≡ put nat_cmp k v es
-        → match_ordering o ((k, v) ∷ e ∷ es) ((e.0, v) ∷ es) (e ∷ insert_entry nat_cmp es k v) ≡ by_order o ((k, v) ∷ e ∷ es) ((e.0, v) ∷ es) (e ∷ put nat_cmp k v es)
+        → match_ordering o ((k, v) ∷ e ∷ es) ((e.0, v) ∷ es) (e ∷ insert_entry nat_cmp es k v)
+          ≡ by_order o ((k, v) ∷ e ∷ es) ((e.0, v) ∷ es) (e ∷ put nat_cmp k v es)
     by_cmp Less rest = refl
     by_cmp Equal rest = refl
     by_cmp Greater rest = ap (λ xs. e ∷ xs) rest
@@ -36,7 +37,8 @@ above_isnt k q h = grind (arith, nat_tests)
 kept_above : (k : ℕ) (es : Amounts) → T (below_all nat_cmp k es) → filter (λ entry. not (entry.0 == k)) es ≡ es
 kept_above k [] h = refl
 kept_above k (e ∷ es) h =
-    ap (λ b. cond (not b) (e ∷ filter (λ entry. not (entry.0 == k)) es) (filter (λ entry. not (entry.0 == k)) es)) (above_isnt k e.0 (first_of_and _ _ h))
+    ap (λ b. cond (not b) (e ∷ filter (λ entry. not (entry.0 == k)) es) (filter (λ entry. not (entry.0 == k)) es))
+      (above_isnt k e.0 (first_of_and _ _ h))
     ∙ ap (λ xs. e ∷ xs) (kept_above k es (second_of_and (is_lt (nat_cmp k e.0)) _ h))
 
 flip : (k q : ℕ) (b : Bool) → (k == q) ≡ b → (q == k) ≡ b
@@ -44,7 +46,8 @@ flip k q true e = grind (arith, nat_tests)
 flip k q false e = grind (arith, nat_tests)
 
 -- what `remove` leaves of keys that rise
-pub remove_entry-filter : (k : ℕ) (es : Amounts) → T (is_sorted nat_cmp es) → remove_entry (is_at (nat_cmp k)) es ≡ filter (λ entry. not (entry.0 == k)) es
+pub remove_entry-filter : (k : ℕ) (es : Amounts) → T (is_sorted nat_cmp es)
+    → remove_entry (is_at (nat_cmp k)) es ≡ filter (λ entry. not (entry.0 == k)) es
 remove_entry-filter k [] rising = refl
 remove_entry-filter k (e ∷ es) rising =
     by_test (remove_entry-filter k es (second_of_and (below_all nat_cmp e.0 es) _ rising)) (k == e.0) refl
@@ -66,7 +69,8 @@ remove_entry-filter k (e ∷ es) rising =
 
 -- an insert of an amount that isn't 0, and a remove
 pub insert-with_amount : (es : Amounts) (k v : ℕ) → v ≢ 0 → insert_entry nat_cmp es k v ≡ with_amount es k v
-insert-with_amount es k v some = insert_entry-put k v es ∙ ap (λ b. cond b (filter (λ entry. not (entry.0 == k)) es) (put nat_cmp k v es)) (sym (isnt_same v 0 some))
+insert-with_amount es k v some = insert_entry-put k v es
+    ∙ ap (λ b. cond b (filter (λ entry. not (entry.0 == k)) es) (put nat_cmp k v es)) (sym (isnt_same v 0 some))
 
 pub remove-with_amount : (es : Amounts) (k : ℕ) → T (is_sorted nat_cmp es) → remove_entry (is_at (nat_cmp k)) es ≡ with_amount es k 0
 remove-with_amount es k rising = remove_entry-filter k es rising

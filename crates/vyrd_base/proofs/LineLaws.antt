@@ -48,10 +48,12 @@ args_2 args e small =
     λ i. record { a = number_of_decimal args.a small.a i; b = number_of_decimal args.b small.b i; c = sym c_is i }
 
 args_3 : (args : Args) → Small args → args_from (decimal args.a ∷ decimal args.b ∷ decimal args.c ∷ []) ≡ args
-args_3 args small = λ i. record { a = number_of_decimal args.a small.a i; b = number_of_decimal args.b small.b i; c = number_of_decimal args.c small.c i }
+args_3 args small = λ i. record { a = number_of_decimal args.a small.a i; b = number_of_decimal args.b small.b i;
+    c = number_of_decimal args.c small.c i }
 
 -- what the range test of a call says
-module _ (same padded : Bool) (args : Args) (e : (same && padded && nat_lt args.a (2 ^ 32) && nat_lt args.b (2 ^ 32) && nat_lt args.c (2 ^ 32)) ≡ true) where
+module _ (same padded : Bool) (args : Args)
+    (e : (same && padded && nat_lt args.a (2 ^ 32) && nat_lt args.b (2 ^ 32) && nat_lt args.c (2 ^ 32)) ≡ true) where
   small_of : Small args
   small_of = record {
     a = below_32 args.a (second_true (same && padded) _ (first_true _ _ (first_true _ _ e)));
@@ -103,7 +105,8 @@ plain_spaces (field ∷ fields) e = both_true _ _ (first_true _ _ (first_true _ 
 
 pub plain_line_feeds : (fields : List (List ℕ)) → list_all is_plain_field fields ≡ true → all_lack 10 fields ≡ true
 plain_line_feeds [] e = refl
-plain_line_feeds (field ∷ fields) e = both_true _ _ (second_true (lacks 32 field) _ (first_true _ _ e)) (plain_line_feeds fields (second_true (is_plain_field field) _ e))
+plain_line_feeds (field ∷ fields) e =
+    both_true _ _ (second_true (lacks 32 field) _ (first_true _ _ e)) (plain_line_feeds fields (second_true (is_plain_field field) _ e))
 
 plain_name : (method : Method) → is_plain_field (method_name method) ≡ true
 plain_name MsInsert = refl
@@ -118,7 +121,8 @@ plain_name TrInsert = refl
 plain_name TrDelete = refl
 plain_name TrLookup = refl
 
-plain_take : (n : ℕ) (numbers : List ℕ) → list_all is_plain_field (map decimal numbers) ≡ true → list_all is_plain_field (map decimal (take n numbers)) ≡ true
+plain_take : (n : ℕ) (numbers : List ℕ) → list_all is_plain_field (map decimal numbers) ≡ true
+    → list_all is_plain_field (map decimal (take n numbers)) ≡ true
 plain_take zero numbers e = refl
 plain_take (suc n) [] e = refl
 plain_take (suc n) (x ∷ numbers) e = both_true _ _ (first_true _ _ e) (plain_take n numbers (second_true (is_plain_field (decimal x)) _ e))
@@ -129,22 +133,28 @@ plain_args method args small = plain_take (arity_of method) (args.a ∷ args.b �
 
 plain_kind : (subject : Subject) (kind : Kind) → is_kind_of subject kind ≡ true → list_all is_plain_field (kind_fields kind) ≡ true
 plain_kind subject (Call method args) e =
-    both_true _ _ (plain_name method) (plain_args method args (small_of (same_subject (subject_of method) subject) (are_padded (arity_of method) args) args e))
+    both_true _ _ (plain_name method)
+      (plain_args method args (small_of (same_subject (subject_of method) subject) (are_padded (arity_of method) args) args e))
 plain_kind subject (Return reply) e = both_true _ _ (plain_number reply (below_64 reply e)) refl
 plain_kind subject (Write word value) e =
-    both_true _ _ (plain_number word (below_32 word (first_true _ _ e))) (both_true _ _ (plain_number value (below_64 value (second_true (nat_lt word (2 ^ 32)) _ e))) refl)
+    both_true _ _ (plain_number word (below_32 word (first_true _ _ e)))
+      (both_true _ _ (plain_number value (below_64 value (second_true (nat_lt word (2 ^ 32)) _ e))) refl)
 plain_kind subject Commit e = refl
 plain_kind subject BlockOpen e = refl
 plain_kind subject BlockClose e = refl
 plain_kind subject BlockCommit e = refl
 
-pub plain_entry : (subject : Subject) (e : Entry) → is_entry_of subject e ≡ true → list_all is_plain_field (decimal e.caller ∷ kind_fields e.kind) ≡ true
+pub plain_entry : (subject : Subject) (e : Entry) → is_entry_of subject e ≡ true
+    → list_all is_plain_field (decimal e.caller ∷ kind_fields e.kind) ≡ true
 plain_entry subject e is =
-    both_true _ _ (plain_number e.caller (below_32 e.caller (first_true _ _ is))) (plain_kind subject e.kind (second_true (nat_lt e.caller (2 ^ 32)) _ is))
+    both_true _ _ (plain_number e.caller (below_32 e.caller (first_true _ _ is)))
+      (plain_kind subject e.kind (second_true (nat_lt e.caller (2 ^ 32)) _ is))
 
 -- an entry's line is one line
 pub entry_line_whole : (subject : Subject) (e : Entry) → is_entry_of subject e ≡ true → lacks 10 (entry_line e) ≡ true
-entry_line_whole subject e is = lacks-join 10 32 (decimal e.caller) (kind_fields e.kind) refl (plain_line_feeds (decimal e.caller ∷ kind_fields e.kind) (plain_entry subject e is))
+entry_line_whole subject e is =
+    lacks-join 10 32 (decimal e.caller) (kind_fields e.kind) refl
+    (plain_line_feeds (decimal e.caller ∷ kind_fields e.kind) (plain_entry subject e is))
 
 -- an entry is read back from its line
 pub entry_in-entry_line : (subject : Subject) (e : Entry) → is_entry_of subject e ≡ true → entry_in subject (entry_line e) ≡ Some e
@@ -154,7 +164,8 @@ entry_in-entry_line subject e is =
     split-join 32 (decimal e.caller) (kind_fields e.kind) (plain_spaces (decimal e.caller ∷ kind_fields e.kind) (plain_entry subject e is)) in
     let guess : guessed_entry subject (fields_of (entry_line e)) ≡ Some e =
     ap (guessed_entry subject) fields
-    ∙ ap (option_map (λ kind. record { caller = number_of (decimal e.caller); kind = kind })) (kind_guess subject e.kind (second_true (nat_lt e.caller (2 ^ 32)) _ is))
+    ∙ ap (option_map (λ kind. record { caller = number_of (decimal e.caller); kind = kind }))
+      (kind_guess subject e.kind (second_true (nat_lt e.caller (2 ^ 32)) _ is))
     ∙ ap (λ c. Some (record { caller = c; kind = e.kind })) (number_of_decimal e.caller (below_32 e.caller (first_true _ _ is))) in
     ap (option_and_then (λ x. cond (is_entry_of subject x && bytes_eq (entry_line x) (entry_line e)) (Some x) None)) guess
     ∙ ap (λ b. cond b (Some e) None) (both_true _ _ is (bytes_same (entry_line e)))

@@ -67,9 +67,12 @@ fewer (suc n) (x ∷ numbers) =
 -- the fields after the caller have at most 52 bytes, with their spaces
 short_kind : (subject : Subject) (kind : Kind) → is_kind_of subject kind ≡ true → spaced_length (kind_fields kind) ≤ 52
 short_kind subject (Call method args) e =
-    let a = short_32 args.a (second_true (same_subject (subject_of method) subject && are_padded (arity_of method) args) _ (first_true _ _ (first_true _ _ e))) in
-    let b = short_32 args.b (second_true (same_subject (subject_of method) subject && are_padded (arity_of method) args && nat_lt args.a (2 ^ 32)) _ (first_true _ _ e)) in
-    let c = short_32 args.c (second_true (same_subject (subject_of method) subject && are_padded (arity_of method) args && nat_lt args.a (2 ^ 32) && nat_lt args.b (2 ^ 32)) _ e) in
+    let a = short_32 args.a (second_true (same_subject (subject_of method) subject && are_padded (arity_of method) args) _
+      (first_true _ _ (first_true _ _ e))) in
+    let b = short_32 args.b (second_true (same_subject (subject_of method) subject && are_padded (arity_of method) args
+      && nat_lt args.a (2 ^ 32)) _ (first_true _ _ e)) in
+    let c = short_32 args.c (second_true (same_subject (subject_of method) subject && are_padded (arity_of method) args
+      && nat_lt args.a (2 ^ 32) && nat_lt args.b (2 ^ 32)) _ e) in
     omega (arith, short_name method, fewer (arity_of method) (args.a ∷ args.b ∷ args.c ∷ []), a, b, c)
 short_kind subject (Return reply) e = omega (arith, short_64 reply e)
 short_kind subject (Write word value) e =
@@ -116,22 +119,27 @@ short_size : (n most : ℕ) → most < 2 ^ 32 → nat_le n most ≡ true → nat
 short_size n most m e = grind (arith, nat_tests)
 
 -- a header's line has at most 64 bytes
-short_header : (version : ℕ) (subject : Subject) (size callers : ℕ) → nat_lt version (2 ^ 32) ≡ true → is_sized size callers ≡ true → length (header_line version subject size callers) ≤ 64
+short_header : (version : ℕ) (subject : Subject) (size callers : ℕ) → nat_lt version (2 ^ 32) ≡ true
+    → is_sized size callers ≡ true → length (header_line version subject size callers) ≤ 64
 short_header version subject size callers v sized =
     let n = short_32 size (short_size size 1024 (omega arith) (second_true (nat_le 1 size) _ (first_true _ _ (first_true _ _ sized)))) in
     let c = short_32 callers (short_size callers 64 (omega arith) (second_true (nat_le 1 size && nat_le size 1024 && nat_le 1 callers) _ sized)) in
     omega (arith, length-join 32 (codes "vyrd" ∷ decimal version ∷ subject_name subject ∷ decimal size ∷ decimal callers ∷ []), short_32 version v, short_subject subject, n, c)
 
-long_spelled : (line : List ℕ) (version : ℕ) (subject : Option Subject) (size callers : ℕ) → 64 < length line → header_spelled line version subject size callers ≡ Err BadHeader
+long_spelled : (line : List ℕ) (version : ℕ) (subject : Option Subject) (size callers : ℕ) → 64 < length line
+    → header_spelled line version subject size callers ≡ Err BadHeader
 long_spelled line version None size callers long = refl
-long_spelled line version (Some subject) size callers long = by_test (nat_lt version (2 ^ 32) && is_sized size callers && bytes_eq (header_line version subject size callers) line) refl
+long_spelled line version (Some subject) size callers long =
+    by_test (nat_lt version (2 ^ 32) && is_sized size callers && bytes_eq (header_line version subject size callers) line) refl
   where
     by_test : (b : Bool) → (nat_lt version (2 ^ 32) && is_sized size callers && bytes_eq (header_line version subject size callers) line) ≡ b
         → cond b (ok_or (header_of version subject size callers) UnknownVersion) (Err BadHeader) ≡ Err BadHeader
     by_test false e = refl
     by_test true e =
-        let same = (bytes_eq-Decides (header_line version subject size callers) line).0 (second_true (nat_lt version (2 ^ 32) && is_sized size callers) _ e) in
-        let short = short_header version subject size callers (first_true _ _ (first_true _ _ e)) (second_true (nat_lt version (2 ^ 32)) _ (first_true _ _ e)) in
+        let same = (bytes_eq-Decides (header_line version subject size callers) line).0
+          (second_true (nat_lt version (2 ^ 32) && is_sized size callers) _ e) in
+        let short = short_header version subject size callers (first_true _ _ (first_true _ _ e))
+          (second_true (nat_lt version (2 ^ 32)) _ (first_true _ _ e)) in
         absurd (omega (arith, ap length same, short))
 
 long_from : (line : List ℕ) (fields : List (List ℕ)) → 64 < length line → header_from line fields ≡ Err BadHeader

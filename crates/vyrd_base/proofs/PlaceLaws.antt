@@ -7,9 +7,11 @@ use Rattle.vyrd_base.specs.Places.{Place, places_after, first_answer, newest_fir
 abbrev pub with_later : {A : Type 0} → List A → Place A → Place A
 with_later more place = record { earlier = place.earlier; here = place.here; later = place.later ++ more }
 
-pub first_answer-append : {A B : Type 0} (f : A → Option B) (xs ys : List A) → first_answer f (xs ++ ys) ≡ option_or (first_answer f xs) (first_answer f ys)
+pub first_answer-append : {A B : Type 0} (f : A → Option B) (xs ys : List A)
+    → first_answer f (xs ++ ys) ≡ option_or (first_answer f xs) (first_answer f ys)
 first_answer-append f [] ys = refl
-first_answer-append f (x ∷ xs) ys = elim (f x) as (λ o. option_or o (first_answer f (xs ++ ys)) ≡ option_or (option_or o (first_answer f xs)) (first_answer f ys)) [
+first_answer-append f (x ∷ xs) ys = elim (f x) as (λ o. option_or o (first_answer f (xs ++ ys))
+    ≡ option_or (option_or o (first_answer f xs)) (first_answer f ys)) [
   | None ↦ first_answer-append f xs ys
   | Some b ↦ refl
 ]
@@ -17,9 +19,11 @@ first_answer-append f (x ∷ xs) ys = elim (f x) as (λ o. option_or o (first_an
 pub places_after-append : {A : Type 0} (earlier xs ys : List A)
     → places_after earlier (xs ++ ys) ≡ map (with_later ys) (places_after earlier xs) ++ places_after (newest_first_onto earlier xs) ys
 places_after-append earlier [] ys = refl
-places_after-append earlier (x ∷ xs) ys = ap (λ rest. record { earlier = earlier; here = x; later = xs ++ ys } ∷ rest) (places_after-append (x ∷ earlier) xs ys)
+places_after-append earlier (x ∷ xs) ys =
+    ap (λ rest. record { earlier = earlier; here = x; later = xs ++ ys } ∷ rest) (places_after-append (x ∷ earlier) xs ys)
 
-pub newest_first_onto-append : {A : Type 0} (earlier xs ys : List A) → newest_first_onto earlier (xs ++ ys) ≡ newest_first_onto (newest_first_onto earlier xs) ys
+pub newest_first_onto-append : {A : Type 0} (earlier xs ys : List A)
+    → newest_first_onto earlier (xs ++ ys) ≡ newest_first_onto (newest_first_onto earlier xs) ys
 newest_first_onto-append earlier [] ys = refl
 newest_first_onto-append earlier (x ∷ xs) ys = newest_first_onto-append (x ∷ earlier) xs ys
 

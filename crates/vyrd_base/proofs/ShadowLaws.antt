@@ -29,7 +29,8 @@ both_none : {A : Type 0} (a b : Option A) → option_or a b ≡ None → (a ≡ 
 both_none None b e = (refl, e)
 both_none (Some a) b e = cc
 
-pub well_formed_after : (h : Header) (earlier xs : List Entry) → WellFormed h earlier → break_after h earlier xs ≡ None → WellFormed h (newest_first_onto earlier xs)
+pub well_formed_after : (h : Header) (earlier xs : List Entry) → WellFormed h earlier → break_after h earlier xs ≡ None
+    → WellFormed h (newest_first_onto earlier xs)
 well_formed_after h earlier [] wf e = wf
 well_formed_after h earlier (x ∷ xs) wf e =
     let parts = both_none (broken_rule h earlier x) (break_after h (x ∷ earlier) xs) e in
@@ -80,7 +81,8 @@ pub record WriteKept (h : Header) (c word : ℕ) (earlier : List Entry) : Type 0
   pub caller : c < h.callers
   pub free : (d : ℕ) → d < h.callers → (d == c) ≡ false → holds_word d word earlier ≡ false
 
-write_kept : (h : Header) (c word value : ℕ) (earlier : List Entry) → broken_rule h earlier (entry c (Write word value)) ≡ None → WriteKept h c word earlier
+write_kept : (h : Header) (c word value : ℕ) (earlier : List Entry) → broken_rule h earlier (entry c (Write word value)) ≡ None
+    → WriteKept h c word earlier
 write_kept h c word value earlier e =
     let kept = all_kept (checks_at h earlier (entry c (Write word value))) e in
     record {
@@ -112,7 +114,8 @@ pub record Sound (h : Header) (w : ℕ) (earlier : List Entry) : Type 0 where
   pub held : (d : ℕ) → d < h.callers → holds_word d w earlier ≡ true → block_value d w earlier ≡ Some (last_logged w earlier)
 
 -- another caller's entry leaves alone what this caller holds and has written
-pub holds_other : (d c w : ℕ) (kind : Kind) (earlier : List Entry) → (c == d) ≡ false → holds_word d w (entry c kind ∷ earlier) ≡ holds_word d w earlier
+pub holds_other : (d c w : ℕ) (kind : Kind) (earlier : List Entry) → (c == d) ≡ false
+    → holds_word d w (entry c kind ∷ earlier) ≡ holds_word d w earlier
 holds_other d c w kind earlier other =
     let block = other_answer d c open_or_close kind earlier other in
     let word = other_answer d c (write_or_open w) kind earlier other in
@@ -129,7 +132,8 @@ record Quiet (w c : ℕ) (kind : Kind) (earlier : List Entry) : Type 0 where
   effect : effects_at earlier c kind ≡ []
   logged : logged_value w kind ≡ None
 
-quiet_sound : (h : Header) (w c : ℕ) (kind : Kind) (earlier : List Entry) → Quiet w c kind earlier → Sound h w earlier → Sound h w (entry c kind ∷ earlier)
+quiet_sound : (h : Header) (w c : ℕ) (kind : Kind) (earlier : List Entry) → Quiet w c kind earlier → Sound h w earlier
+    → Sound h w (entry c kind ∷ earlier)
 quiet_sound h w c kind earlier quiet sound = record {
   free = λ none. ap (λ ws. value_after (ws ++ effects earlier) w) quiet.effect ∙ sound.free (λ d low. sym (holds d) ∙ none d low) ∙ sym last;
   held = λ d low holding. value d ∙ sound.held d low (sym (holds d) ∙ holding) ∙ ap Some (sym last);
@@ -155,12 +159,15 @@ outside_holds true b e = cc
 outside_holds false b e = refl
 
 -- after its own open or close a caller holds no word
-own_edge : (c w : ℕ) (kind : Kind) (earlier : List Entry) (opens : Bool) → open_or_close kind ≡ Some opens → (opens ≡ true → write_or_open w kind ≡ Some false) → holds_word c w (entry c kind ∷ earlier) ≡ false
+own_edge : (c w : ℕ) (kind : Kind) (earlier : List Entry) (opens : Bool) → open_or_close kind ≡ Some opens
+    → (opens ≡ true → write_or_open w kind ≡ Some false) → holds_word c w (entry c kind ∷ earlier) ≡ false
 own_edge c w kind earlier true edge word =
-    ap (λ o. unwrap_or o false && wrote c w (entry c kind ∷ earlier)) (own_answer c open_or_close kind earlier ∙ ap (λ o. option_or o (first_answer (by_caller c open_or_close) earlier)) edge)
+    ap (λ o. unwrap_or o false && wrote c w (entry c kind ∷ earlier)) (own_answer c open_or_close kind earlier
+      ∙ ap (λ o. option_or o (first_answer (by_caller c open_or_close) earlier)) edge)
     ∙ own_wrote c w kind earlier ∙ ap (λ o. unwrap_or (option_or o (first_answer (by_caller c (write_or_open w)) earlier)) false) (word refl)
 own_edge c w kind earlier false edge word =
-    ap (λ o. unwrap_or o false && wrote c w (entry c kind ∷ earlier)) (own_answer c open_or_close kind earlier ∙ ap (λ o. option_or o (first_answer (by_caller c open_or_close) earlier)) edge)
+    ap (λ o. unwrap_or o false && wrote c w (entry c kind ∷ earlier)) (own_answer c open_or_close kind earlier
+      ∙ ap (λ o. option_or o (first_answer (by_caller c open_or_close) earlier)) edge)
 
 never : {b : Bool} → b ≡ false → b ≡ true → ⊥
 never e f = cc
@@ -172,7 +179,8 @@ open_sound h w c earlier outside sound = record {
       (λ same. subst (λ x. holds_word x w earlier ≡ false) same (outside_holds (has_block c earlier) (wrote c w earlier) outside))
       (λ other. sym (holds_other d c w BlockOpen earlier other) ∙ none d low));
   held = λ d low holding. by_same c d
-      (λ same. absurd (never (subst (λ x. holds_word x w (entry c BlockOpen ∷ earlier) ≡ false) same (own_edge c w BlockOpen earlier true refl (λ _. refl))) holding))
+      (λ same. absurd (never (subst (λ x. holds_word x w (entry c BlockOpen ∷ earlier)
+        ≡ false) same (own_edge c w BlockOpen earlier true refl (λ _. refl))) holding))
       (λ other. value_other d c w BlockOpen earlier other ∙ sound.held d low (sym (holds_other d c w BlockOpen earlier other) ∙ holding));
 }
 
@@ -186,7 +194,8 @@ some_of None e = refl
 some_of (Some a) e = cc
 
 -- the end of a block
-close_sound : (h : Header) (w c : ℕ) (kind : Kind) (earlier : List Entry) → c < h.callers → has_block c earlier ≡ true → Closes w c kind earlier → Sound h w earlier → Sound h w (entry c kind ∷ earlier)
+close_sound : (h : Header) (w c : ℕ) (kind : Kind) (earlier : List Entry) → c < h.callers → has_block c earlier ≡ true
+    → Closes w c kind earlier → Sound h w earlier → Sound h w (entry c kind ∷ earlier)
 close_sound h w c kind earlier low_c inside closes sound = record {
   free = λ none. new_value ∙ by_held none (holds_word c w earlier) refl ∙ sym last;
   held = λ d low holding. by_same c d
@@ -200,8 +209,10 @@ close_sound h w c kind earlier low_c inside closes sound = record {
     last : last_logged w (entry c kind ∷ earlier) ≡ last_logged w earlier
     last = ap (λ o. unwrap_or (option_or o (first_answer (λ e. logged_value w e.kind) earlier)) 0) closes.logged
 
-    new_value : value_after (effects (entry c kind ∷ earlier)) w ≡ unwrap_or (option_or (block_value c w earlier) (first_answer (given_to w) (effects earlier))) 0
-    new_value = ap (λ ws. value_after (ws ++ effects earlier) w) closes.effect ∙ ap (λ o. unwrap_or o 0) (first_answer-append (given_to w) (block_writes c earlier) (effects earlier))
+    new_value : value_after (effects (entry c kind ∷ earlier)) w
+        ≡ unwrap_or (option_or (block_value c w earlier) (first_answer (given_to w) (effects earlier))) 0
+    new_value = ap (λ ws. value_after (ws ++ effects earlier) w) closes.effect
+        ∙ ap (λ o. unwrap_or o 0) (first_answer-append (given_to w) (block_writes c earlier) (effects earlier))
 
     -- as the block is open, a word is held where the block has a value for it
     is_held : holds_word c w earlier ≡ is_some (block_value c w earlier)
@@ -217,13 +228,15 @@ close_sound h w c kind earlier low_c inside closes sound = record {
         (λ other. sym (holds_other d c w kind earlier other) ∙ none d low))
 
 -- what a write of another word leaves alone
-other_write : (d c w word value : ℕ) (earlier : List Entry) → (word == w) ≡ false → holds_word d w (entry c (Write word value) ∷ earlier) ≡ holds_word d w earlier
+other_write : (d c w word value : ℕ) (earlier : List Entry) → (word == w) ≡ false
+    → holds_word d w (entry c (Write word value) ∷ earlier) ≡ holds_word d w earlier
 other_write d c w word value earlier other =
     let block = no_answer d c open_or_close (Write word value) earlier refl in
     let wrote_it = no_answer d c (write_or_open w) (Write word value) earlier (ap (λ b. cond b (Some true) None) other) in
     λ i. unwrap_or (block i) false && unwrap_or (wrote_it i) false
 
-other_value : (d c w word value : ℕ) (earlier : List Entry) → (word == w) ≡ false → block_value d w (entry c (Write word value) ∷ earlier) ≡ block_value d w earlier
+other_value : (d c w word value : ℕ) (earlier : List Entry) → (word == w) ≡ false
+    → block_value d w (entry c (Write word value) ∷ earlier) ≡ block_value d w earlier
 other_value d c w word value earlier other = by_same c d
     (λ same. subst (λ x. block_value x w (entry c (Write word value) ∷ earlier) ≡ block_value x w earlier) same
     (own_value c w (Write word value) earlier ∙ ap (λ b. option_or (cond b (Some value) None) (block_value c w earlier)) other))
@@ -233,10 +246,12 @@ skipped : (w word value : ℕ) (writes : List (ℕ × ℕ)) → (word == w) ≡ 
 skipped w word value writes other = ap (λ b. unwrap_or (option_or (cond b (Some value) None) (first_answer (given_to w) writes)) 0) other
 
 -- a write of another word
-write_other_sound : (h : Header) (w c word value : ℕ) (earlier : List Entry) → (word == w) ≡ false → Sound h w earlier → Sound h w (entry c (Write word value) ∷ earlier)
+write_other_sound : (h : Header) (w c word value : ℕ) (earlier : List Entry) → (word == w) ≡ false → Sound h w earlier
+    → Sound h w (entry c (Write word value) ∷ earlier)
 write_other_sound h w c word value earlier other sound = record {
   free = λ none. effect (has_block c earlier) ∙ sound.free (λ d low. sym (other_write d c w word value earlier other) ∙ none d low) ∙ sym last;
-  held = λ d low holding. other_value d c w word value earlier other ∙ sound.held d low (sym (other_write d c w word value earlier other) ∙ holding) ∙ ap Some (sym last);
+  held = λ d low holding. other_value d c w word value earlier other
+      ∙ sound.held d low (sym (other_write d c w word value earlier other) ∙ holding) ∙ ap Some (sym last);
 }
   where
     last : last_logged w (entry c (Write word value) ∷ earlier) ≡ last_logged w earlier
@@ -260,21 +275,24 @@ write_own_sound h w c value earlier kept = by_block (has_block c earlier) refl
     own_block_is = ap (λ o. unwrap_or o false) (no_answer c c open_or_close (Write w value) earlier refl)
 
     own_wrote_is : wrote c w (entry c (Write w value) ∷ earlier) ≡ true
-    own_wrote_is = own_wrote c w (Write w value) earlier ∙ ap (λ b. unwrap_or (option_or (cond b (Some true) None) (first_answer (by_caller c (write_or_open w)) earlier)) false) (same_number w)
+    own_wrote_is = own_wrote c w (Write w value) earlier
+        ∙ ap (λ b. unwrap_or (option_or (cond b (Some true) None) (first_answer (by_caller c (write_or_open w)) earlier)) false) (same_number w)
 
     by_block : (b : Bool) → has_block c earlier ≡ b → Sound h w (entry c (Write w value) ∷ earlier)
     by_block true inside = record {
       free = λ none. absurd (never (none c kept.caller) ((λ i. own_block_is i && own_wrote_is i) ∙ ap (λ b. b && true) inside));
       held = λ d low holding. by_same c d
           (λ same. subst (λ x. block_value x w (entry c (Write w value) ∷ earlier) ≡ Some (last_logged w (entry c (Write w value) ∷ earlier))) same
-          (own_value c w (Write w value) earlier ∙ ap (λ b. option_or (cond b (Some value) None) (block_value c w earlier)) (same_number w) ∙ ap Some (sym last)))
+          (own_value c w (Write w value) earlier
+            ∙ ap (λ b. option_or (cond b (Some value) None) (block_value c w earlier)) (same_number w) ∙ ap Some (sym last)))
           (λ other. absurd (never (not_held d low other) holding));
     }
     by_block false outside = record {
       free = λ none. ap (λ b. value_after (cond b [] ((w, value) ∷ []) ++ effects earlier) w) outside
           ∙ ap (λ b. unwrap_or (option_or (cond b (Some value) None) (first_answer (given_to w) (effects earlier))) 0) (same_number w) ∙ sym last;
       held = λ d low holding. by_same c d
-          (λ same. absurd (never (subst (λ x. holds_word x w (entry c (Write w value) ∷ earlier) ≡ false) same (ap (λ b. b && wrote c w (entry c (Write w value) ∷ earlier)) (own_block_is ∙ outside))) holding))
+          (λ same. absurd (never (subst (λ x. holds_word x w (entry c (Write w value) ∷ earlier)
+            ≡ false) same (ap (λ b. b && wrote c w (entry c (Write w value) ∷ earlier)) (own_block_is ∙ outside))) holding))
           (λ other. absurd (never (not_held d low other) holding));
     }
 
@@ -282,15 +300,21 @@ write_own_sound h w c value earlier kept = by_block (has_block c earlier) refl
 pub caller_kept : (h : Header) (earlier : List Entry) (e : Entry) → broken_rule h earlier e ≡ None → e.caller < h.callers
 caller_kept h earlier e kept = above_of h.callers e.caller (all_kept (checks_at h earlier e) kept).0
 
-step_sound : (h : Header) (w c : ℕ) (kind : Kind) (earlier : List Entry) → broken_rule h earlier (entry c kind) ≡ None → Sound h w earlier → Sound h w (entry c kind ∷ earlier)
-step_sound h w c (Call method args) earlier kept sound = quiet_sound h w c (Call method args) earlier (record { edge = refl; word = refl; writes = refl; effect = refl; logged = refl }) sound
-step_sound h w c (Return reply) earlier kept sound = quiet_sound h w c (Return reply) earlier (record { edge = refl; word = refl; writes = refl; effect = refl; logged = refl }) sound
-step_sound h w c Commit earlier kept sound = quiet_sound h w c Commit earlier (record { edge = refl; word = refl; writes = refl; effect = refl; logged = refl }) sound
+step_sound : (h : Header) (w c : ℕ) (kind : Kind) (earlier : List Entry) → broken_rule h earlier (entry c kind) ≡ None
+    → Sound h w earlier → Sound h w (entry c kind ∷ earlier)
+step_sound h w c (Call method args) earlier kept sound =
+    quiet_sound h w c (Call method args) earlier (record { edge = refl; word = refl; writes = refl; effect = refl; logged = refl }) sound
+step_sound h w c (Return reply) earlier kept sound =
+    quiet_sound h w c (Return reply) earlier (record { edge = refl; word = refl; writes = refl; effect = refl; logged = refl }) sound
+step_sound h w c Commit earlier kept sound =
+    quiet_sound h w c Commit earlier (record { edge = refl; word = refl; writes = refl; effect = refl; logged = refl }) sound
 step_sound h w c BlockOpen earlier kept sound = open_sound h w c earlier (open_kept h c earlier kept) sound
 step_sound h w c BlockClose earlier kept sound =
-    close_sound h w c BlockClose earlier (caller_kept h earlier (entry c BlockClose) kept) (close_kept h c earlier kept) (record { edge = refl; effect = refl; logged = refl }) sound
+    close_sound h w c BlockClose earlier (caller_kept h earlier (entry c BlockClose) kept) (close_kept h c earlier kept)
+        (record { edge = refl; effect = refl; logged = refl }) sound
 step_sound h w c BlockCommit earlier kept sound =
-    close_sound h w c BlockCommit earlier (caller_kept h earlier (entry c BlockCommit) kept) (block_commit_kept h c earlier kept) (record { edge = refl; effect = refl; logged = refl }) sound
+    close_sound h w c BlockCommit earlier (caller_kept h earlier (entry c BlockCommit) kept) (block_commit_kept h c earlier kept)
+        (record { edge = refl; effect = refl; logged = refl }) sound
 step_sound h w c (Write word value) earlier kept sound = by_same word w
     (λ same. subst (λ x. Sound h w (entry c (Write x value) ∷ earlier)) (sym same)
     (write_own_sound h w c value earlier (subst (λ x. WriteKept h c x earlier) same (write_kept h c word value earlier kept))))
@@ -313,17 +337,23 @@ is_some_of (Some a) e = refl
 same_call : (c d : ℕ) (kind : Kind) (earlier : List Entry) → call_or_return kind ≡ None → open_call c (entry d kind ∷ earlier) ≡ open_call c earlier
 same_call c d kind earlier e = ap option_flatten (no_answer c d call_or_return kind earlier e)
 
-own_in_call : (h : Header) (c : ℕ) (kind : Kind) (earlier : List Entry) → broken_rule h earlier (entry c kind) ≡ None → BlockInCall c earlier → BlockInCall c (entry c kind ∷ earlier)
-own_in_call h c (Call method args) earlier kept so = λ inside. ap (λ o. is_some (option_flatten o)) (own_answer c call_or_return (Call method args) earlier)
+own_in_call : (h : Header) (c : ℕ) (kind : Kind) (earlier : List Entry) → broken_rule h earlier (entry c kind) ≡ None
+    → BlockInCall c earlier → BlockInCall c (entry c kind ∷ earlier)
+own_in_call h c (Call method args) earlier kept so =
+    λ inside. ap (λ o. is_some (option_flatten o)) (own_answer c call_or_return (Call method args) earlier)
 own_in_call h c (Return reply) earlier kept so = λ inside.
     absurd (never (all_kept (checks_at h earlier (entry c (Return reply))) kept).1.1.0
     (sym (ap (λ o. unwrap_or o false) (no_answer c c open_or_close (Return reply) earlier refl)) ∙ inside))
 own_in_call h c (Write word value) earlier kept so = λ inside. ap is_some (same_call c c (Write word value) earlier refl)
     ∙ is_some_of (open_call c earlier) (all_kept (checks_at h earlier (entry c (Write word value))) kept).1.0
-own_in_call h c Commit earlier kept so = λ inside. ap is_some (same_call c c Commit earlier refl) ∙ is_some_of (open_call c earlier) (all_kept (checks_at h earlier (entry c Commit)) kept).1.0
-own_in_call h c BlockOpen earlier kept so = λ inside. ap is_some (same_call c c BlockOpen earlier refl) ∙ is_some_of (open_call c earlier) (all_kept (checks_at h earlier (entry c BlockOpen)) kept).1.0
-own_in_call h c BlockClose earlier kept so = λ inside. ap is_some (same_call c c BlockClose earlier refl) ∙ is_some_of (open_call c earlier) (all_kept (checks_at h earlier (entry c BlockClose)) kept).1.0
-own_in_call h c BlockCommit earlier kept so = λ inside. ap is_some (same_call c c BlockCommit earlier refl) ∙ is_some_of (open_call c earlier) (all_kept (checks_at h earlier (entry c BlockCommit)) kept).1.0
+own_in_call h c Commit earlier kept so = λ inside. ap is_some (same_call c c Commit earlier refl)
+    ∙ is_some_of (open_call c earlier) (all_kept (checks_at h earlier (entry c Commit)) kept).1.0
+own_in_call h c BlockOpen earlier kept so = λ inside. ap is_some (same_call c c BlockOpen earlier refl)
+    ∙ is_some_of (open_call c earlier) (all_kept (checks_at h earlier (entry c BlockOpen)) kept).1.0
+own_in_call h c BlockClose earlier kept so = λ inside. ap is_some (same_call c c BlockClose earlier refl)
+    ∙ is_some_of (open_call c earlier) (all_kept (checks_at h earlier (entry c BlockClose)) kept).1.0
+own_in_call h c BlockCommit earlier kept so = λ inside. ap is_some (same_call c c BlockCommit earlier refl)
+    ∙ is_some_of (open_call c earlier) (all_kept (checks_at h earlier (entry c BlockCommit)) kept).1.0
 
 pub block_in_call : (h : Header) (c : ℕ) (earlier : List Entry) → WellFormed h earlier → BlockInCall c earlier
 block_in_call h c [] wf = λ inside. cc
@@ -331,15 +361,18 @@ block_in_call h c (e ∷ earlier) wf = step (block_in_call h c earlier wf.1)
   where
     step : BlockInCall c earlier → BlockInCall c (e ∷ earlier)
     step so = by_same e.caller c
-        (λ same. subst (λ d. broken_rule h earlier (entry d e.kind) ≡ None → BlockInCall c (entry d e.kind ∷ earlier)) (sym same) (λ kept. own_in_call h c e.kind earlier kept so) wf.0)
+        (λ same. subst (λ d. broken_rule h earlier (entry d e.kind) ≡ None
+          → BlockInCall c (entry d e.kind ∷ earlier)) (sym same) (λ kept. own_in_call h c e.kind earlier kept so) wf.0)
         (λ other. λ inside.
         ap (λ o. is_some (option_flatten o)) (other_answer c e.caller call_or_return e.kind earlier other)
         ∙ so (sym (ap (λ o. unwrap_or o false) (other_answer c e.caller open_or_close e.kind earlier other)) ∙ inside))
 
 -- with no call open, each word has the value logged last
-pub words_at_rest : (h : Header) (w : ℕ) (earlier : List Entry) → WellFormed h earlier → is_call_open h earlier ≡ false → value_after (effects earlier) w ≡ last_logged w earlier
+pub words_at_rest : (h : Header) (w : ℕ) (earlier : List Entry) → WellFormed h earlier → is_call_open h earlier ≡ false
+    → value_after (effects earlier) w ≡ last_logged w earlier
 words_at_rest h w earlier wf rest = (well_formed_sound h w earlier wf).free (λ d low.
-    outside_holds (has_block d earlier) (wrote d w earlier) (no_block d (has_block d earlier) refl (none_of (λ c. is_some (open_call c earlier)) 0 h.callers d rest (omega arith) (omega arith))))
+    outside_holds (has_block d earlier) (wrote d w earlier)
+      (no_block d (has_block d earlier) refl (none_of (λ c. is_some (open_call c earlier)) 0 h.callers d rest (omega arith) (omega arith))))
   where
     no_block : (d : ℕ) (b : Bool) → has_block d earlier ≡ b → is_some (open_call d earlier) ≡ false → has_block d earlier ≡ false
     no_block d true e none = absurd (never none (block_in_call h d earlier wf e))

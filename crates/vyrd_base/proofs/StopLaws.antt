@@ -44,7 +44,8 @@ stops_after_end n o = record {
 stops_unfinished : (max n : ℕ) (bad : Rule) (rest : List ℕ) → Stops n (stopped n (unfinished_rule (input_of max true) n bad rest))
 stops_unfinished max n bad rest = by_tests (has_any rest && nat_lt max n) (nat_lt 64 (length rest)) (has_any rest && true)
   where
-    by_tests : (past long some : Bool) → Stops n (stopped n (first_broken ((past breaks TooManyLines) ∷ (long breaks bad) ∷ (some breaks NoLineFeed) ∷ (true breaks NoEnd) ∷ [])))
+    by_tests : (past long some : Bool)
+        → Stops n (stopped n (first_broken ((past breaks TooManyLines) ∷ (long breaks bad) ∷ (some breaks NoLineFeed) ∷ (true breaks NoEnd) ∷ [])))
     by_tests true long some = stops_at n TooManyLines
     by_tests false true some = stops_at n bad
     by_tests false false true = stops_at n NoLineFeed
@@ -57,13 +58,16 @@ stops_with_entry n (Some e) read s = record {
   at_fault = λ is. let found = s.at_fault is in (found.0, found.1, found.2 ∙ omega arith);
 }
 
-lines_stop : (max : ℕ) (subject : Subject) (n : ℕ) (line : List ℕ) (lines : List (List ℕ)) → Stops n (lines_read (input_of max true) subject n (line ∷ lines))
+lines_stop : (max : ℕ) (subject : Subject) (n : ℕ) (line : List ℕ) (lines : List (List ℕ))
+    → Stops n (lines_read (input_of max true) subject n (line ∷ lines))
 lines_stop max subject n rest [] = stops_unfinished max n BadEntry rest
 lines_stop max subject n line (next ∷ lines) =
     by_tests (lines_stop max subject (n + 1) next lines) (nat_lt max n) (bytes_eq line end_line)
   where
-    by_tests : Stops (n + 1) (lines_read (input_of max true) subject (n + 1) (next ∷ lines)) → (past is_end : Bool) → Stops n (cond past (stopped n (Some TooManyLines))
-        (cond is_end (ended (n + 1) (after_end_rule (input_of max true) (n + 1) next lines)) (entry_before n (entry_in subject line) (lines_read (input_of max true) subject (n + 1) (next ∷ lines)))))
+    by_tests : Stops (n + 1) (lines_read (input_of max true) subject (n + 1) (next ∷ lines)) → (past is_end : Bool)
+        → Stops n (cond past (stopped n (Some TooManyLines))
+        (cond is_end (ended (n + 1) (after_end_rule (input_of max true) (n + 1) next lines))
+          (entry_before n (entry_in subject line) (lines_read (input_of max true) subject (n + 1) (next ∷ lines)))))
     by_tests s true is_end = stops_at n TooManyLines
     by_tests s false true = stops_after_end n (after_end_rule (input_of max true) (n + 1) next lines)
     by_tests s false false = stops_with_entry n (entry_in subject line) (lines_read (input_of max true) subject (n + 1) (next ∷ lines)) s
@@ -82,7 +86,8 @@ text_stop max (rest ∷ []) some = stops_without max rest
 text_stop max (line ∷ next ∷ lines) some = by_header (header_in line)
   where
     by_header : (r : Result Header Rule)
-        → TextStops (elim r as (λ _. Reading) [ Ok h ↦ header_before h (lines_read (input_of max true) h.subject 2 (next ∷ lines)) | Err rule ↦ stopped 1 (Some rule) ])
+        → TextStops (elim r as (λ _. Reading) [ Ok h ↦ header_before h
+          (lines_read (input_of max true) h.subject 2 (next ∷ lines)) | Err rule ↦ stopped 1 (Some rule) ])
     by_header (Ok h) = let s = lines_stop max h.subject 2 next lines in headed h refl (record { behind_end = s.behind_end; at_fault = s.at_fault })
     by_header (Err rule) = headless (record { line = 1; rule = rule }) refl refl
 
@@ -104,13 +109,16 @@ isnt_behind line n e = grind (arith, nat_tests)
 by_stop : (h : Header) (entries : List Entry) (is_ended : Bool) (fault : Option TextFault)
     → (is_ended ≡ true → (f : TextFault) → fault ≡ Some f → f.line ≡ 2 + length entries + 1)
     → (is_ended ≡ false → (f : TextFault) × (fault ≡ Some f) × (f.line ≡ 2 + length entries))
-    → unwrap_or (option_or (option_or (verdict_so_far h entries) (cond is_ended (end_verdict h entries) None)) (option_map (λ f. Malformed f.line f.rule) fault)) (accepted entries)
+    → unwrap_or (option_or (option_or (verdict_so_far h entries) (cond is_ended (end_verdict h entries) None))
+      (option_map (λ f. Malformed f.line f.rule) fault)) (accepted entries)
     ≡ verdict_at h entries (option_map_or (λ f. Text f.line f.rule) fault End)
 unfolding verdict_at verdict
-by_stop h entries true None behind at = ap (λ o. unwrap_or o (accepted entries)) (or_none (option_or (verdict_so_far h entries) (end_verdict h entries)))
+by_stop h entries true None behind at =
+    ap (λ o. unwrap_or o (accepted entries)) (or_none (option_or (verdict_so_far h entries) (end_verdict h entries)))
 by_stop h entries true (Some f) behind at =
     unwrap_or-or_some (option_or (verdict_so_far h entries) (end_verdict h entries)) (Malformed f.line f.rule) (accepted entries)
-    ∙ ap (λ b. unwrap_or (option_or (verdict_so_far h entries) (cond b (end_verdict h entries) None)) (Malformed f.line f.rule)) (sym (is_behind f.line (length entries) (behind refl f refl)))
+    ∙ ap (λ b. unwrap_or (option_or (verdict_so_far h entries) (cond b (end_verdict h entries) None)) (Malformed f.line f.rule))
+      (sym (is_behind f.line (length entries) (behind refl f refl)))
 by_stop h entries false None behind at = let found = at refl in absurd (none_is_some found.1)
   where
     none_is_some : {f : TextFault} → None ≡ Some f → ⊥
@@ -120,7 +128,8 @@ by_stop h entries false (Some f) behind at =
     let same : found.0 ≡ f = the_same found.1 in
     let line : f.line ≡ 2 + length entries = ap (λ g. g.line) (sym same) ∙ found.2 in
     unwrap_or-or_some (option_or (verdict_so_far h entries) None) (Malformed f.line f.rule) (accepted entries)
-    ∙ ap (λ b. unwrap_or (option_or (verdict_so_far h entries) (cond b (end_verdict h entries) None)) (Malformed f.line f.rule)) (sym (isnt_behind f.line (length entries) line))
+    ∙ ap (λ b. unwrap_or (option_or (verdict_so_far h entries) (cond b (end_verdict h entries) None)) (Malformed f.line f.rule))
+      (sym (isnt_behind f.line (length entries) line))
   where
     the_same : {g : TextFault} → Some f ≡ Some g → g ≡ f
     the_same e = cc
@@ -128,13 +137,15 @@ by_stop h entries false (Some f) behind at =
 with_header : (read : Reading) (h : Header) → read.header ≡ Some h → Stops 2 read
     → unwrap_or (known_verdict read) (accepted read.entries) ≡ verdict_at h read.entries (stop_of read)
 with_header read h has s =
-    ap (λ o. unwrap_or (option_or (option_and_then (entries_verdict read) o) (option_map (λ f. Malformed f.line f.rule) read.fault)) (accepted read.entries)) has
+    ap (λ o. unwrap_or (option_or (option_and_then (entries_verdict read) o)
+      (option_map (λ f. Malformed f.line f.rule) read.fault)) (accepted read.entries)) has
     ∙ by_stop h read.entries read.ended read.fault s.behind_end s.at_fault
 
 without_header : (read : Reading) (f : TextFault) → read.header ≡ None → read.fault ≡ Some f
     → unwrap_or (known_verdict read) (accepted read.entries) ≡ Malformed f.line f.rule
 without_header read f none at =
-    ap (λ o. unwrap_or (option_or (option_and_then (entries_verdict read) o) (option_map (λ g. Malformed g.line g.rule) read.fault)) (accepted read.entries)) none
+    ap (λ o. unwrap_or (option_or (option_and_then (entries_verdict read) o)
+      (option_map (λ g. Malformed g.line g.rule) read.fault)) (accepted read.entries)) none
     ∙ ap (λ o. unwrap_or (option_map (λ g. Malformed g.line g.rule) o) (accepted read.entries)) at
 
 -- The verdict about a whole input: with a header that of its entries and of how they stop, and else its fault of text.

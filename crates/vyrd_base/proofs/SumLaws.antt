@@ -28,7 +28,8 @@ amount_of-collected (part ∷ parts) q = omega (arith, amount_of-plus (collected
 
 pub IsAmounts-collected : (parts : List (ℕ × ℕ)) → IsAmounts (collected parts)
 IsAmounts-collected [] = record { rising = tt; some = tt }
-IsAmounts-collected (part ∷ parts) = IsAmounts-with_amount (collected parts) part.0 (amount_of (collected parts) part.0 + part.1) (IsAmounts-collected parts)
+IsAmounts-collected (part ∷ parts) = IsAmounts-with_amount (collected parts) part.0 (amount_of (collected parts) part.0 + part.1)
+    (IsAmounts-collected parts)
 
 pub given-append : (q : ℕ) (xs ys : List (ℕ × ℕ)) → given q (xs ++ ys) ≡ given q xs + given q ys
 given-append q [] ys = omega arith
@@ -41,7 +42,8 @@ given_at_most f most q k (suc n) each =
     omega (arith, given-append q (f k) (flat_map f (numbers_from (k + 1) n)), each k, given_at_most f most q (k + 1) n each)
 
 -- what numbers in a row give, where none of them gives anything
-pub given_nothing : (f : ℕ → List (ℕ × ℕ)) (q k n : ℕ) → ((j : ℕ) → k ≤ j → j < k + n → given q (f j) ≡ 0) → given q (flat_map f (numbers_from k n)) ≡ 0
+pub given_nothing : (f : ℕ → List (ℕ × ℕ)) (q k n : ℕ) → ((j : ℕ) → k ≤ j → j < k + n → given q (f j) ≡ 0)
+    → given q (flat_map f (numbers_from k n)) ≡ 0
 given_nothing f q k zero each = refl
 given_nothing f q k (suc n) each =
     omega (

@@ -88,7 +88,8 @@ header_spelled line version None size callers = Err BadHeader
 
 -- a header's line names a version, a subject, a size and a number of callers
 abbrev pub header_from : List ℕ → List (List ℕ) → Result Header Rule
-header_from line (word ∷ version ∷ subject ∷ size ∷ callers ∷ more) = header_spelled line (number_of version) (subject_called subject) (number_of size) (number_of callers)
+header_from line (word ∷ version ∷ subject ∷ size ∷ callers ∷ more) =
+    header_spelled line (number_of version) (subject_called subject) (number_of size) (number_of callers)
 header_from line _ = Err BadHeader
 
 -- the header that a line spells; a header of another version is known as one

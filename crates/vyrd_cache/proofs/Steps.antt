@@ -26,7 +26,8 @@ with_task : (h : Header) (p : CacheProgress) (task : Task) (state : ℕ) → p.t
 with_task h p task state is = ap (λ t. after_state h p t state) (sym is)
 
 -- after the load of the state, by the task and by what was loaded
-pub looked_dirty : (h : Header) (p q : CacheProgress) (state : ℕ) → p.task ≡ LookAndWrite → state ≡ 2 → q ≡ record p { task = BareWrite; place = Unlock }
+pub looked_dirty : (h : Header) (p q : CacheProgress) (state : ℕ) → p.task ≡ LookAndWrite → state ≡ 2
+    → q ≡ record p { task = BareWrite; place = Unlock }
     → rest_of h q ≡ after_state h p p.task state
 looked_dirty h p q state task found is =
     ap (rest_of h) is ∙ ap (after_state h p LookAndWrite) (sym found) ∙ with_task h p LookAndWrite state task
@@ -58,10 +59,12 @@ pub evicted_absent : (h : Header) (p q : CacheProgress) (state : ℕ) → p.task
 evicted_absent h p q state task found is =
     ap (rest_of h) is ∙ ap (after_state h p Evict) (sym found) ∙ with_task h p Evict state task
 
-pub evicted_other : (h : Header) (p q : CacheProgress) (state : ℕ) → p.task ≡ Evict → state ≢ 2 → state ≢ 0 → q ≡ record p { task = Forget; place = Open }
+pub evicted_other : (h : Header) (p q : CacheProgress) (state : ℕ) → p.task ≡ Evict → state ≢ 2 → state ≢ 0
+    → q ≡ record p { task = Forget; place = Open }
     → rest_of h q ≡ after_state h p p.task state
 evicted_other h p q state task two none is =
-    let other : rest_of h (record p { task = Forget; place = Open }) ≡ after_state h p Evict state = rw (isnt_same state 2 two, isnt_same state 0 none) in
+    let other : rest_of h (record p { task = Forget; place = Open }) ≡ after_state h p Evict state = rw (isnt_same state 2 two,
+      isnt_same state 0 none) in
     ap (rest_of h) is ∙ other ∙ with_task h p Evict state task
 
 pub read_absent : (h : Header) (p q : CacheProgress) (state : ℕ) → p.task ≡ Read → state ≡ 0 → q ≡ record p { task = Fetch; place = LoadLow }
@@ -75,7 +78,8 @@ read_other h p q state task found is =
     let other : rest_of h (record p { place = LoadLow }) ≡ after_state h p Read state = rw (isnt_same state 0 found) in
     ap (rest_of h) is ∙ other ∙ with_task h p Read state task
 
-pub decided : (h : Header) (p q : CacheProgress) (state : ℕ) → p.task ≢ LookAndWrite → p.task ≢ Flush → p.task ≢ Evict → p.task ≢ Read → q ≡ record p { place = Open }
+pub decided : (h : Header) (p q : CacheProgress) (state : ℕ) → p.task ≢ LookAndWrite → p.task ≢ Flush → p.task ≢ Evict
+    → p.task ≢ Read → q ≡ record p { place = Open }
     → rest_of h q ≡ after_state h p p.task state
 decided h p q state look flush evict read is =
     ap (rest_of h) is ∙ by_task p.task look flush evict read
@@ -103,7 +107,8 @@ loaded_other h p q high task is = ap (rest_of h) is ∙ by_task p.task task
     by_task _ other = refl
 
 -- a step at a place that is known
-at_place : (h : Header) (p : CacheProgress) (place : Place) (answer : ℕ) (next : Script) → p.place ≡ place → next ≡ after_answer (rest_from h p place) answer
+at_place : (h : Header) (p : CacheProgress) (place : Place) (answer : ℕ) (next : Script) → p.place ≡ place
+    → next ≡ after_answer (rest_from h p place) answer
     → next ≡ after_answer (rest_of h p) answer
 at_place h p place answer next is e = e ∙ ap (λ x. after_answer (rest_from h p x) answer) (sym is)
 
@@ -114,9 +119,11 @@ took_state h p q answer place e = at_place h p LoadState answer (rest_of h q) pl
 pub took_low : (h : Header) (p q : CacheProgress) (answer : ℕ) → p.place ≡ LoadLow → q ≡ record p { place = LoadHigh }
     → rest_of h (record q { low = answer }) ≡ after_answer (rest_of h p) answer
 took_low h p q answer place is =
-    ap (λ r. rest_of h (record r { low = answer })) is ∙ at_place h p LoadLow answer (rest_of h (record p { place = LoadHigh; low = answer })) place refl
+    ap (λ r. rest_of h (record r { low = answer })) is
+      ∙ at_place h p LoadLow answer (rest_of h (record p { place = LoadHigh; low = answer })) place refl
 
-pub took_high : (h : Header) (p q : CacheProgress) (answer : ℕ) → p.place ≡ LoadHigh → rest_of h q ≡ in_order (after_loads h (record p { high = answer }) p.task)
+pub took_high : (h : Header) (p q : CacheProgress) (answer : ℕ) → p.place ≡ LoadHigh
+    → rest_of h q ≡ in_order (after_loads h (record p { high = answer }) p.task)
     → rest_of h q ≡ after_answer (rest_of h p) answer
 took_high h p q answer place e = at_place h p LoadHigh answer (rest_of h q) place e
 

@@ -23,12 +23,14 @@ use Rattle.vyrd_cache.specs.Laws.Ends.{procedure_ends}
 use Rattle.vyrd_cache.specs.Laws.Alone.{procedure_right_alone}
 
 -- each is sound
-pub cache_is_sound : (h : Header) (variant : Variant) (op : Op) → h.subject ≡ Cache → subject_of op.method ≡ Cache → are_args h.size op.method op.args ≡ true
+pub cache_is_sound : (h : Header) (variant : Variant) (op : Op) → h.subject ≡ Cache → subject_of op.method ≡ Cache
+    → are_args h.size op.method op.args ≡ true
     → are_small op.args ≡ true → IsSound h (just_called op.method) (cache_procedure h variant op)
 cache_is_sound h variant op = procedure_sound h variant op.method op.args
 
 -- each comes to its return in time
-pub cache_ends_in_time : (h : Header) (variant : Variant) (op : Op) → h.subject ≡ Cache → subject_of op.method ≡ Cache → are_args h.size op.method op.args ≡ true
+pub cache_ends_in_time : (h : Header) (variant : Variant) (op : Op) → h.subject ≡ Cache → subject_of op.method ≡ Cache
+    → are_args h.size op.method op.args ≡ true
     → are_small op.args ≡ true → EndsByReturn (bound_of h op.method - 1) (cache_procedure h variant op)
 cache_ends_in_time h variant op is of_cache fit small = procedure_ends h variant op.method op.args is of_cache
 

@@ -30,7 +30,8 @@ pub before_call-other : (c d : ℕ) (kind : Kind) (earlier : List Entry) → (d 
 before_call-other c d kind earlier other = ap (λ b. cond (b && is_call kind) earlier (entries_before_call c earlier)) other
 
 -- an entry that neither begins nor ends an execution
-pub open_call-quiet : (c d : ℕ) (kind : Kind) (earlier : List Entry) → call_or_return kind ≡ None → open_call c (entry d kind ∷ earlier) ≡ open_call c earlier
+pub open_call-quiet : (c d : ℕ) (kind : Kind) (earlier : List Entry) → call_or_return kind ≡ None
+    → open_call c (entry d kind ∷ earlier) ≡ open_call c earlier
 open_call-quiet c d kind earlier quiet = ap option_flatten (no_answer c d call_or_return kind earlier quiet)
 
 pub next_reply-quiet : (c d : ℕ) (kind : Kind) (later : List Entry) → returned kind ≡ None → next_reply c (entry d kind ∷ later) ≡ next_reply c later
@@ -60,7 +61,8 @@ count-commit e earlier commits = commit_count-cons e earlier ∙ ap (λ b. cond 
 
 -- the window of states since a call stays where no commit comes
 pub window-quiet : (states : List Amounts) (c : ℕ) (e : Entry) (earlier : List Entry) → is_commit e.kind ≡ false
-    → entries_before_call c (e ∷ earlier) ≡ entries_before_call c earlier → states_since_call states c (e ∷ earlier) ≡ states_since_call states c earlier
+    → entries_before_call c (e ∷ earlier) ≡ entries_before_call c earlier
+      → states_since_call states c (e ∷ earlier) ≡ states_since_call states c earlier
 window-quiet states c e earlier quiet before =
     ap (λ es. drop (commit_count es) (take (commit_count (e ∷ earlier) + 1) states)) before
     ∙ ap (λ n. drop (commit_count (entries_before_call c earlier)) (take (n + 1) states)) (count-quiet e earlier quiet)
@@ -85,7 +87,8 @@ window-commit states c e earlier next commits before here =
     ∙ drop-append-le first (take (commit_count earlier + 1) states) (next ∷ []) long
 
 -- just after a call the window is the state there
-pub window-call : (states : List Amounts) (c : ℕ) (e : Entry) (earlier : List Entry) (state : Amounts) (rest : List Amounts) → is_commit e.kind ≡ false
+pub window-call : (states : List Amounts) (c : ℕ) (e : Entry) (earlier : List Entry) (state : Amounts) (rest : List Amounts)
+    → is_commit e.kind ≡ false
     → entries_before_call c (e ∷ earlier) ≡ earlier → drop (commit_count earlier) states ≡ state ∷ rest
     → states_since_call states c (e ∷ earlier) ≡ state ∷ []
 window-call states c e earlier state rest quiet before going =

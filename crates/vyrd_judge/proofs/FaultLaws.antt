@@ -38,7 +38,8 @@ abbrev pub called_in : Execution → Called
 called_in x = record { method = x.method; args = x.args }
 
 -- what a commit of a kept execution gives, once it has returned
-once_kept : {B : Type 0} (f : Called → ℕ → Option B) (h : Header) (states : List Amounts) (c : ℕ) (kind : Kind) (earlier later : List Entry) (x : Execution)
+once_kept : {B : Type 0} (f : Called → ℕ
+    → Option B) (h : Header) (states : List Amounts) (c : ℕ) (kind : Kind) (earlier later : List Entry) (x : Execution)
     → returned kind ≡ None → IsExecution h states c earlier (entry c kind ∷ later) x
     → once_returned f (committed_at (place_of (entry c kind) earlier later)) ≡ option_and_then (f (called_in x)) x.reply
 once_kept f h states c kind earlier later x unreturned is =
@@ -256,7 +257,8 @@ pub commit_leads : {E : Type 0} {h : Header} {front : List Entry} {at c : ℕ} {
     → IfOk r (PlaceGives h (states_of front) (place_of e (newest_first (take at front)) (drop (at + 1) front)) next new)
 commit_leads {E} {h} {front} {at} {c} {kind} {e} {state} {executions} {x} r next new commits here is same gives =
     if_ok (CommitGives shown x state next executions new)
-    (PlaceGives h (states_of front) (place_of e (newest_first (take at front)) (drop (at + 1) front)) next new) r (λ o given. (leads o given).to) gives
+    (PlaceGives h (states_of front) (place_of e (newest_first (take at front)) (drop (at + 1) front)) next new) r
+      (λ o given. (leads o given).to) gives
   where
     shown : Amounts
     shown = view_of_words h (words_after h (entry c kind ∷ newest_first (take at front)))

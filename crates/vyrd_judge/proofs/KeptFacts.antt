@@ -27,14 +27,16 @@ pub kept_at : (h : Header) (front : List Entry) (at : ℕ) (d : Entry) → at < 
     → broken_rule h (newest_first (take at front)) (get_or front at d) ≡ None
 kept_at h front at d within kept =
     by_parts (first_break h (take at front)) (broken_rule h (newest_first (take at front)) (get_or front at d)) _
-    (sym (first_break-append h (take at front) (get_or front at d ∷ drop (suc at) front)) ∙ sym (ap (first_break h) (split_at_next front at d within)) ∙ kept)
+    (sym (first_break-append h (take at front) (get_or front at d ∷ drop (suc at) front))
+      ∙ sym (ap (first_break h) (split_at_next front at d within)) ∙ kept)
   where
     by_parts : {A : Type 0} (a b c : Option A) → option_or a (option_or b c) ≡ None → b ≡ None
     by_parts None None c e = refl
     by_parts None (Some b) c e = cc
     by_parts (Some a) b c e = cc
 
-pub call_kept : (h : Header) (c : ℕ) (method : Method) (args : Args) (earlier : List Entry) → broken_rule h earlier (entry c (Call method args)) ≡ None
+pub call_kept : (h : Header) (c : ℕ) (method : Method) (args : Args) (earlier : List Entry)
+    → broken_rule h earlier (entry c (Call method args)) ≡ None
     → has_method h method args ≡ true
 call_kept h c method args earlier kept =
     let checks = all_kept (checks_at h earlier (entry c (Call method args))) kept in
@@ -45,7 +47,8 @@ pub record WriteFits (h : Header) (c word value : ℕ) (earlier : List Entry) : 
   pub value_fits : value < 2 ^ 63
   pub unheld : is_held_by_other h c word earlier ≡ false
 
-pub write_kept : (h : Header) (c word value : ℕ) (earlier : List Entry) → broken_rule h earlier (entry c (Write word value)) ≡ None → WriteFits h c word value earlier
+pub write_kept : (h : Header) (c word value : ℕ) (earlier : List Entry)
+    → broken_rule h earlier (entry c (Write word value)) ≡ None → WriteFits h c word value earlier
 write_kept h c word value earlier kept =
     let checks = all_kept (checks_at h earlier (entry c (Write word value))) kept in
     record { word_fits = above_of _ word checks.1.1.0; value_fits = above_of _ value checks.1.1.1.0; unheld = checks.1.1.1.1.0 }

@@ -8,7 +8,8 @@ changed_below f zero xs = xs
 changed_below f (suc n) [] = []
 changed_below f (suc n) (x ∷ xs) = f x ∷ changed_below f n xs
 
-one_more : {A : Type 0} (f : A → A) (n : ℕ) (xs : List A) (d : A) → n < length xs → set (changed_below f n xs) n (f (get_or xs n d)) ≡ changed_below f (suc n) xs
+one_more : {A : Type 0} (f : A → A) (n : ℕ) (xs : List A) (d : A) → n < length xs
+    → set (changed_below f n xs) n (f (get_or xs n d)) ≡ changed_below f (suc n) xs
 one_more f zero [] d within = absurd (omega arith)
 one_more f (suc n) [] d within = absurd (omega arith)
 one_more f zero (x ∷ xs) d within = refl

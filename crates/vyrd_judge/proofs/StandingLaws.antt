@@ -53,7 +53,8 @@ pub going-quiet : (states : List Amounts) (e : Entry) (earlier later : List Entr
     → drop (commit_count (e ∷ earlier)) states ≡ states_from state (commits_after (e ∷ earlier) later)
 going-quiet states e earlier later state quiet going =
     ap (λ n. drop n states) (count-quiet e earlier quiet) ∙ going
-    ∙ ap (λ b. states_from state (cons_option (then_some b (committed_at (record { earlier = earlier; here = e; later = later }))) (commits_after (e ∷ earlier) later))) quiet
+    ∙ ap (λ b. states_from state (cons_option (then_some b (committed_at (record { earlier = earlier; here = e; later = later })))
+      (commits_after (e ∷ earlier) later))) quiet
 
 -- after a commit they go on from the next state, or no later one is known
 going_at : (states : List Amounts) (e : Entry) (earlier later : List Entry) (state : Amounts) (o : Option Amounts) → is_commit e.kind ≡ true
@@ -63,7 +64,8 @@ going_at : (states : List Amounts) (e : Entry) (earlier later : List Entry) (sta
     ≡ state ∷ (elim o as (λ _. List Amounts) [ None ↦ [] | Some next ↦ states_from next (commits_after (e ∷ earlier) later) ])
 going_at states e earlier later state o commits after going =
     going
-    ∙ ap (λ b. states_from state (cons_option (then_some b (committed_at (record { earlier = earlier; here = e; later = later }))) (commits_after (e ∷ earlier) later))) commits
+    ∙ ap (λ b. states_from state (cons_option (then_some b (committed_at (record { earlier = earlier; here = e; later = later })))
+      (commits_after (e ∷ earlier) later))) commits
     ∙ ap (λ a. state ∷ (elim a as (λ _. List Amounts) [ None ↦ [] | Some next ↦ states_from next (commits_after (e ∷ earlier) later) ])) after
 
 pub going-commit : (states : List Amounts) (e : Entry) (earlier later : List Entry) (state next : Amounts) → is_commit e.kind ≡ true
@@ -79,7 +81,8 @@ pub ending-commit : (states : List Amounts) (e : Entry) (earlier later : List En
     → drop (commit_count earlier) states ≡ states_from state (commits_after earlier (e ∷ later))
     → length states ≤ commit_count (e ∷ earlier)
 ending-commit states e earlier later state commits after going =
-    omega (arith, ap length (going_at states e earlier later state None commits after going), length-drop (commit_count earlier) states, count-commit e earlier commits)
+    omega (arith, ap length (going_at states e earlier later state None commits after going),
+      length-drop (commit_count earlier) states, count-commit e earlier commits)
 
 -- an entry inside its caller's execution that isn't its commit
 pub stands_inside : (h : Header) (states : List Amounts) (c : ℕ) (kind : Kind) (earlier later : List Entry) (state : Amounts)
@@ -98,7 +101,8 @@ stands_inside h states c kind earlier later state executions inside unreturned u
 
 -- another caller's execution, beside an entry that isn't a commit
 beside : (h : Header) (states : List Amounts) (c d : ℕ) (kind : Kind) (earlier later : List Entry) (o : Option Execution)
-    → (c == d) ≡ false → is_commit kind ≡ false → IsOpen h states d earlier (entry c kind ∷ later) o → IsOpen h states d (entry c kind ∷ earlier) later o
+    → (c == d) ≡ false → is_commit kind ≡ false → IsOpen h states d earlier (entry c kind ∷ later) o
+      → IsOpen h states d (entry c kind ∷ earlier) later o
 beside h states c d kind earlier later o other quiet is =
     execution_stays h states d (entry c kind) earlier later o (open_call-other d c kind earlier other) (next_reply-other d c kind later other)
     (window-quiet states d (entry c kind) earlier quiet (before_call-other d c kind earlier other)) is
@@ -114,9 +118,11 @@ stands_changed : (h : Header) (states : List Amounts) (c : ℕ) (kind : Kind) (e
 stands_changed h states c kind earlier later state executions o quiet own s = record {
   going = going-quiet states (entry c kind) earlier later state quiet s.going;
   open_calls = λ d within. let old = s.open_calls d within in by_same c d
-      (λ same. subst (λ k. (n : Option Execution) × (slice_get (set executions c o) k ≡ Some n) × IsOpen h states k (entry c kind ∷ earlier) later n) same
+      (λ same. subst (λ k. (n : Option Execution) × (slice_get (set executions c o) k ≡ Some n)
+        × IsOpen h states k (entry c kind ∷ earlier) later n) same
       (o, slice_get-set_same executions c o (slice_get_within executions c old.0 (ap (slice_get executions) same ∙ old.1)), own))
-      (λ other. (old.0, slice_get-set_other executions c d o (not_same c d other) ∙ old.1, beside h states c d kind earlier later old.0 other quiet old.2));
+      (λ other. (old.0, slice_get-set_other executions c d o (not_same c d other) ∙ old.1,
+        beside h states c d kind earlier later old.0 other quiet old.2));
 }
 
 -- a call begins an execution, which sees the state there
@@ -146,7 +152,8 @@ stands_call h states c method args earlier later state executions x has_its_meth
 
     own : IsExecution h states c (e ∷ earlier) later x
     own = record {
-      called = ap option_flatten_of (own_answer c call_or_return (Call method args) earlier) ∙ ap (λ m. Some (record { method = m; args = args })) (sym has_its_method)
+      called = ap option_flatten_of (own_answer c call_or_return (Call method args) earlier)
+        ∙ ap (λ m. Some (record { method = m; args = args })) (sym has_its_method)
           ∙ ap (λ a. Some (record { method = x.method; args = a })) (sym has_its_args);
       allowed = ap (λ m. has_method h m x.args) has_its_method ∙ ap (has_method h method) has_its_args ∙ allowed;
       reply = reply;
@@ -157,17 +164,20 @@ stands_call h states c method args earlier later state executions x has_its_meth
         option_flatten_of o = option_flatten o
 
 -- a return ends one
-pub stands_return : (h : Header) (states : List Amounts) (c reply : ℕ) (earlier later : List Entry) (state : Amounts) (executions : List (Option Execution))
+pub stands_return : (h : Header) (states : List Amounts) (c reply : ℕ) (earlier later : List Entry) (state : Amounts)
+    (executions : List (Option Execution))
     → Stands h states earlier (entry c (Return reply) ∷ later) state executions
     → Stands h states (entry c (Return reply) ∷ earlier) later state (set executions c None)
 stands_return h states c reply earlier later state executions s =
-    stands_changed h states c (Return reply) earlier later state executions None refl (ap option_flatten_of (own_answer c call_or_return (Return reply) earlier)) s
+    stands_changed h states c (Return reply) earlier later state executions None refl
+      (ap option_flatten_of (own_answer c call_or_return (Return reply) earlier)) s
   where
     option_flatten_of : Option (Option Called) → Option Called
     option_flatten_of o = option_flatten o
 
 -- a commit leads to the next state, which all executions see
-pub stands_commit : (h : Header) (states : List Amounts) (c : ℕ) (kind : Kind) (earlier later : List Entry) (state next : Amounts) (executions : List (Option Execution))
+pub stands_commit : (h : Header) (states : List Amounts) (c : ℕ) (kind : Kind) (earlier later : List Entry) (state next : Amounts)
+    (executions : List (Option Execution))
     → call_or_return kind ≡ None → returned kind ≡ None → is_call kind ≡ false → is_commit kind ≡ true
     → state_after state (committed_at (record { earlier = earlier; here = entry c kind; later = later })) ≡ Some next
     → Stands h states earlier (entry c kind ∷ later) state executions
@@ -175,13 +185,15 @@ pub stands_commit : (h : Header) (states : List Amounts) (c : ℕ) (kind : Kind)
 stands_commit h states c kind earlier later state next executions inside unreturned uncalled commits after s =
     let going = going-commit states (entry c kind) earlier later state next commits after s.going in
     let here : slice_get states (commit_count earlier + 1) ≡ Some next =
-    ap (slice_get states) (sym (count-commit (entry c kind) earlier commits)) ∙ state_here states (entry c kind ∷ earlier) next (commits_after (entry c kind ∷ earlier) later) going in
+    ap (slice_get states) (sym (count-commit (entry c kind) earlier commits))
+      ∙ state_here states (entry c kind ∷ earlier) next (commits_after (entry c kind ∷ earlier) later) going in
     record {
       going = going;
       open_calls = λ d within. let o = s.open_calls d within in (
         seeing next o.0,
         slice_get-map (seeing next) executions d ∙ ap (option_map (seeing next)) o.1,
-        execution_sees h states d (entry c kind) earlier later next o.0 (open_call-quiet d c kind earlier inside) (next_reply-quiet d c kind later unreturned)
+        execution_sees h states d (entry c kind) earlier later next o.0 (open_call-quiet d c kind earlier inside)
+          (next_reply-quiet d c kind later unreturned)
             (window-commit states d (entry c kind) earlier next commits (before_call-quiet d c kind earlier uncalled) here) o.2,
       );
     }

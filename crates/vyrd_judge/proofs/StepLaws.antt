@@ -37,7 +37,8 @@ use Rattle.vyrd_judge.proofs.FrontLaws.{newest_next}
 use Rattle.vyrd_judge.proofs.KeptFacts.{WriteFits, kept_at, call_kept, write_kept, return_kept}
 
 -- a caller that is in an execution
-pub running_at : (h : Header) (states : List Amounts) (earlier later : List Entry) (state : Amounts) (executions : List (Option Execution)) (c : ℕ) (called : Called)
+pub running_at : (h : Header) (states : List Amounts) (earlier later : List Entry) (state : Amounts)
+    (executions : List (Option Execution)) (c : ℕ) (called : Called)
     → Stands h states earlier later state executions → c < h.callers → open_call c earlier ≡ Some called
     → (x : Execution) × (slice_get executions c ≡ Some (Some x)) × IsExecution h states c earlier later x
 running_at h states earlier later state executions c called s within runs = let kept = s.open_calls c within in by_option kept.0 kept.1 kept.2
@@ -101,7 +102,8 @@ pub running : {h : Header} {front : List Entry} {at : ℕ} {e : Entry} {state : 
     → (x : Execution) × (slice_get executions e.caller ≡ Some (Some x))
     × IsExecution h (states_of front) e.caller (newest_first (take at front)) (e ∷ drop (at + 1) front) x
 running {h} {front} {at} {e} {state} {executions} {called} here is =
-    running_at h (states_of front) (newest_first (take at front)) (e ∷ drop (at + 1) front) state executions e.caller called here.stands here.within is
+    running_at h (states_of front) (newest_first (take at front))
+      (e ∷ drop (at + 1) front) state executions e.caller called here.stands here.within is
 
 -- an execution of the caller is what was called
 pub called_is : {h : Header} {front : List Entry} {at : ℕ} {e : Entry} {state : Amounts} {executions : List (Option Execution)} {called : Called}
@@ -120,7 +122,8 @@ called_is {called = called} here is x at =
     some_same e = cc
 
 -- what the entry at a place of a front leads to
-pub record Leads (h : Header) (front : List Entry) (at : ℕ) (e : Entry) (state : Amounts) (executions : List (Option Execution)) (o : Outcome) : Type 0 where
+pub record Leads (h : Header) (front : List Entry) (at : ℕ) (e : Entry) (state : Amounts) (executions : List (Option Execution))
+    (o : Outcome) : Type 0 where
   pub to : PlaceGives h (states_of front) (place_of e (newest_first (take at front)) (drop (at + 1) front)) state executions o
 
 -- the same by other names of what is kept and of the outcome
@@ -194,7 +197,8 @@ fault_here h front at e o here fault =
     let within = slice_get_within front at e here in
     let same : get_or front at e ≡ e = get_or_from_slice_get front at e e here in
     let more : suc at ≡ at + 1 = omega arith in
-    let next : newest_first (take (at + 1) front) ≡ e ∷ newest_first (take at front) = newest_next front at e within ∙ ap (λ x. x ∷ newest_first (take at front)) same in
+    let next : newest_first (take (at + 1) front) ≡ e ∷ newest_first (take at front) = newest_next front at e within
+      ∙ ap (λ x. x ∷ newest_first (take at front)) same in
     ap (λ later. first_answer (violation_at h (states_of front)) (places_after (newest_first (take at front)) later))
     (drop-cons front at e within ∙ ap (λ x. x ∷ drop (suc at) front) same ∙ ap (λ n. e ∷ drop n front) more)
     ∙ ap (λ p. option_or (option_map (Violation (line_of (length (newest_first (take at front))))) p)
@@ -204,7 +208,8 @@ fault_here h front at e o here fault =
 
 -- a place that is no fault leads on to those after it
 pub fault_goes : (h : Header) (front : List Entry) (at : ℕ) (e : Entry) → slice_get front at ≡ Some e
-    → fault_at h (states_of front) (place_of e (newest_first (take at front)) (drop (at + 1) front)) ≡ None → fault_from h front at ≡ fault_from h front (at + 1)
+    → fault_at h (states_of front) (place_of e (newest_first (take at front)) (drop (at + 1) front)) ≡ None
+      → fault_from h front at ≡ fault_from h front (at + 1)
 fault_goes h front at e here fault = fault_here h front at e None here fault
 
 length-newest_first_onto : (earlier xs : List Entry) → length (newest_first_onto earlier xs) ≡ length earlier + length xs
@@ -216,7 +221,8 @@ length-newest_first front at within = length-newest_first_onto [] (take at front
 
 -- a place that is a fault
 pub fault_found : (h : Header) (front : List Entry) (at : ℕ) (e : Entry) (why : Why) → slice_get front at ≡ Some e
-    → fault_at h (states_of front) (place_of e (newest_first (take at front)) (drop (at + 1) front)) ≡ Some why → fault_from h front at ≡ Some (Violation (at + 2) why)
+    → fault_at h (states_of front) (place_of e (newest_first (take at front)) (drop (at + 1) front)) ≡ Some why
+      → fault_from h front at ≡ Some (Violation (at + 2) why)
 fault_found h front at e why here fault =
     let within = slice_get_within front at e here in
     fault_here h front at e (Some why) here fault
@@ -229,21 +235,24 @@ pub fault_ends : (h : Header) (front : List Entry) (at : ℕ) (e : Entry) → sl
 fault_ends h front at e here fault short =
     let within = slice_get_within front at e here in
     let same : get_or front at e ≡ e = get_or_from_slice_get front at e e here in
-    let next : e ∷ newest_first (take at front) ≡ newest_first (take (at + 1) front) = sym (newest_next front at e within ∙ ap (λ x. x ∷ newest_first (take at front)) same) in
+    let next : e ∷ newest_first (take at front) ≡ newest_first (take (at + 1) front) = sym (newest_next front at e within
+      ∙ ap (λ x. x ∷ newest_first (take at front)) same) in
     fault_goes h front at e here fault
     ∙ no_fault_beyond h (states_of front) (newest_first (take (at + 1) front)) (drop (at + 1) front)
     (subst (λ es. length (states_of front) ≤ commit_count es) next short)
 
 -- past the last place there is none
 pub fault_past : (h : Header) (front : List Entry) (at : ℕ) → length front ≤ at → fault_from h front at ≡ None
-fault_past h front at past = ap (λ later. first_answer (violation_at h (states_of front)) (places_after (newest_first (take at front)) later)) (drop_of_length-le front past)
+fault_past h front at past = ap (λ later. first_answer (violation_at h (states_of front))
+    (places_after (newest_first (take at front)) later)) (drop_of_length-le front past)
 
 -- before the first place nothing has begun
 pub stands_first : (h : Header) (front : List Entry) (state : Amounts) (executions : List (Option Execution)) → state ≡ start
     → executions ≡ replicate h.callers None → Stands h (states_of front) [] front state executions
 unfolding commits
 stands_first h front state executions is_start empty =
-    let at_start : Stands h (states_of front) [] front start (replicate h.callers None) = record { going = refl; open_calls = λ c within. (None, no_execution h.callers c within, refl) } in
+    let at_start : Stands h (states_of front) [] front start (replicate h.callers None) = record { going = refl;
+      open_calls = λ c within. (None, no_execution h.callers c within, refl) } in
     let with_none : Stands h (states_of front) [] front start executions = subst (Stands h (states_of front) [] front start) (sym empty) at_start in
     subst (λ s. Stands h (states_of front) [] front s executions) (sym is_start) with_none
   where
@@ -259,9 +268,11 @@ some_at (x ∷ xs) zero within = (x, refl)
 some_at (x ∷ xs) (suc at) within = some_at xs at (omega arith)
 
 -- the entries up to the next place
-pub next_is : (front : List Entry) (at : ℕ) (e : Entry) → slice_get front at ≡ Some e → e ∷ newest_first (take at front) ≡ newest_first (take (at + 1) front)
+pub next_is : (front : List Entry) (at : ℕ) (e : Entry) → slice_get front at ≡ Some e
+    → e ∷ newest_first (take at front) ≡ newest_first (take (at + 1) front)
 next_is front at e here =
-    sym (newest_next front at e (slice_get_within front at e here) ∙ ap (λ x. x ∷ newest_first (take at front)) (get_or_from_slice_get front at e e here))
+    sym (newest_next front at e (slice_get_within front at e here)
+      ∙ ap (λ x. x ∷ newest_first (take at front)) (get_or_from_slice_get front at e e here))
 
 -- what the entry leads to, by another name of the header and of the outcome
 pub leads_at : {h k : Header} {front : List Entry} {at : ℕ} {e : Entry} {s : Amounts} {xs : List (Option Execution)} {o o' : Outcome} → k ≡ h → o ≡ o'

@@ -16,17 +16,20 @@ use Rattle.vyrd_base.specs.Front.{front, first_break}
 use Rattle.vyrd_base.specs.Verdicts.{line_of, first_fault, shape_verdict, verdict_so_far, is_call_open, end_verdict, accepted, verdict, verdict_at}
 
 -- a verdict that stands is the verdict wherever the text stops
-pub verdict_standing : (h : Header) (entries : List Entry) (stop : Stop) (v : Verdict) → verdict_so_far h entries ≡ Some v → v ≡ verdict_at h entries stop
+pub verdict_standing : (h : Header) (entries : List Entry) (stop : Stop) (v : Verdict) → verdict_so_far h entries ≡ Some v
+    → v ≡ verdict_at h entries stop
 unfolding verdict_at verdict
 verdict_standing h entries End v stands = sym (ap (λ o. unwrap_or (option_or o (end_verdict h entries)) (accepted entries)) stands)
 verdict_standing h entries (Text line rule) v stands =
     sym (ap (λ o. unwrap_or (option_or o (cond (line == length entries + 3) (end_verdict h entries) None)) (Malformed line rule)) stands)
 
-pub so_far_fault : (h : Header) (entries kept : List Entry) (v : Verdict) → kept ≡ front h entries → first_fault h kept ≡ Some v → verdict_so_far h entries ≡ Some v
+pub so_far_fault : (h : Header) (entries kept : List Entry) (v : Verdict) → kept ≡ front h entries → first_fault h kept ≡ Some v
+    → verdict_so_far h entries ≡ Some v
 unfolding verdict_so_far
 so_far_fault h entries kept v is_front fault = ap (λ o. option_or o (shape_verdict h entries)) (ap (first_fault h) (sym is_front) ∙ fault)
 
-pub so_far_break : (h : Header) (entries kept : List Entry) (n : ℕ) (rule : Rule) → kept ≡ front h entries → length kept ≡ n → first_fault h kept ≡ None
+pub so_far_break : (h : Header) (entries kept : List Entry) (n : ℕ) (rule : Rule) → kept ≡ front h entries → length kept ≡ n
+    → first_fault h kept ≡ None
     → first_break h entries ≡ Some rule → verdict_so_far h entries ≡ Some (Malformed (n + 2) rule)
 unfolding verdict_so_far shape_verdict
 so_far_break h entries kept n rule is_front long none broken =
@@ -34,7 +37,8 @@ so_far_break h entries kept n rule is_front long none broken =
     ∙ ap (option_map (Malformed (line_of (length (front h entries))))) broken
     ∙ ap (λ k. Some (Malformed (k + 2) rule)) (ap length (sym is_front) ∙ long)
 
-pub so_far_none : (h : Header) (entries kept : List Entry) → kept ≡ front h entries → first_fault h kept ≡ None → first_break h entries ≡ None → verdict_so_far h entries ≡ None
+pub so_far_none : (h : Header) (entries kept : List Entry) → kept ≡ front h entries → first_fault h kept ≡ None
+    → first_break h entries ≡ None → verdict_so_far h entries ≡ None
 unfolding verdict_so_far shape_verdict
 so_far_none h entries kept is_front none kept_all =
     ap (λ o. option_or o (shape_verdict h entries)) (ap (first_fault h) (sym is_front) ∙ none)

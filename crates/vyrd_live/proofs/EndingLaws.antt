@@ -39,22 +39,26 @@ pub record HaveEnded (h : Header) (limit : ℕ) (scripts : List Script) (history
   pub each : (c : ℕ) → c < h.callers → HasEnded h limit (script_of scripts c) (slice_index_or endings c Finished) (done_by c history)
   pub others : (c : ℕ) → h.callers ≤ c → (script_of scripts c ≡ stop) × (done_by c history ≡ [])
 
-to_the_end : (h : Header) (limit : ℕ) (script : Script) (ending : Ending) (events : List Did) → ending ≡ Finished → HasEnded h limit script ending events
+to_the_end : (h : Header) (limit : ℕ) (script : Script) (ending : Ending) (events : List Did) → ending ≡ Finished
+    → HasEnded h limit script ending events
     → PlaysToTheEnd script events × HadRoom h limit events
 to_the_end h limit script ending events is ended = subst (λ e. HasEnded h limit script e events) is ended
 
-until_spent : (h : Header) (limit : ℕ) (script : Script) (ending : Ending) (events : List Did) → ending ≡ Spent → HasEnded h limit script ending events
+until_spent : (h : Header) (limit : ℕ) (script : Script) (ending : Ending) (events : List Did) → ending ≡ Spent
+    → HasEnded h limit script ending events
     → StopsForRoom h limit script events
 until_spent h limit script ending events is ended = subst (λ e. HasEnded h limit script e events) is ended
 
-one_of_both : (h : Header) (limit : ℕ) (script : Script) (ending : Ending) (events : List Did) → ending ≢ Memory → HasEnded h limit script ending events
+one_of_both : (h : Header) (limit : ℕ) (script : Script) (ending : Ending) (events : List Did) → ending ≢ Memory
+    → HasEnded h limit script ending events
     → PlaysToTheEnd script events ⊎ StopsForRoom h limit script events
 one_of_both h limit script Finished events isnt ended = inl ended.0
 one_of_both h limit script Spent events isnt ended = inr ended
 one_of_both h limit script Memory events isnt ended = absurd (isnt refl)
 
 -- a caller that there isn't does nothing
-idle : (h : Header) (limit : ℕ) (script : Script) (events : List Did) → script ≡ stop → events ≡ [] → PlaysToTheEnd script events × HadRoom h limit events
+idle : (h : Header) (limit : ℕ) (script : Script) (events : List Did) → script ≡ stop → events ≡ []
+    → PlaysToTheEnd script events × HadRoom h limit events
 idle h limit script events is none =
     subst (λ s. PlaysToTheEnd s events × HadRoom h limit events) (sym is) (subst (λ es. PlaysToTheEnd stop es × HadRoom h limit es) (sym none)
     (record { plays = tt; done = refl }, tt))
@@ -73,7 +77,8 @@ played h limit scripts history endings (Some first) ended is = record {
       (λ low. one_of_both h limit (script_of scripts c) (slice_index_or endings c Finished) (done_by c history) (is.3 c low) (ended.each c low))
       (λ out. let o = ended.others c (omega arith) in inl (idle h limit (script_of scripts c) (done_by c history) o.0 o.1).0);
   in_range = is.0;
-  stopped = until_spent h limit (script_of scripts first) (slice_index_or endings first Finished) (done_by first history) is.1 (ended.each first is.0);
+  stopped = until_spent h limit (script_of scripts first) (slice_index_or endings first Finished) (done_by first history) is.1
+    (ended.each first is.0);
   first = λ c low. (to_the_end h limit (script_of scripts c) (slice_index_or endings c Finished) (done_by c history) (is.2 c low)
       (ended.each c (omega (arith, low, is.0)))).0;
 }

@@ -25,13 +25,15 @@ AreWorkersOf {M} header_of script ahead w workers = All (λ (x : Worker M). IsWo
 -- the hand at a place, by the list of the hands
 hand_at : {M : Type 0} (workers : List (Worker M)) (hands : List HandView) (i : ℕ) (d : Worker M) → first_hands workers ≡ hands → i < length workers
     → slice_index_or hands i d.hand ≡ (slice_index_or workers i d).hand
-hand_at workers hands i d same low = ap (λ (hands : List HandView). slice_index_or hands i d.hand) (sym same) ∙ get_or-map (λ (x : _). x.hand) workers i d d.hand low
+hand_at workers hands i d same low = ap (λ (hands : List HandView). slice_index_or hands i d.hand) (sym same)
+    ∙ get_or-map (λ (x : _). x.hand) workers i d d.hand low
 
 how_many : {M : Type 0} (workers : List (Worker M)) (hands : List HandView) → first_hands workers ≡ hands → length workers ≡ length hands
 how_many workers hands same = sym (length-map workers (λ (x : _). x.hand)) ∙ ap (λ (hands : List HandView). length hands) same
 
 -- none of them has begun
-pub all_fresh : {M : Type 0} (header_of : M → Header) (script : M → Script) (ahead : M → ℕ) (traced : TracedView) (w : Workload) (workers : List (Worker M))
+pub all_fresh : {M : Type 0} (header_of : M → Header) (script : M → Script) (ahead : M
+    → ℕ) (traced : TracedView) (w : Workload) (workers : List (Worker M))
     (hands : List HandView)
     → AreNew traced 0 hands → first_hands workers ≡ hands → AreWorkersOf header_of script ahead w workers → IsMemoryOf w.header traced.plan
     → All (λ (x : Worker M). IsFresh header_of script traced x.machine x.hand) workers
@@ -47,14 +49,16 @@ all_fresh header_of script ahead traced w workers hands new same made memory = �
     }
 
 -- they have all hands, in the order of their callers
-pub all_callers : {M : Type 0} (traced : TracedView) (workers : List (Worker M)) (hands : List HandView) → AreNew traced 0 hands → length hands ≡ traced.plan.callers
+pub all_callers : {M : Type 0} (traced : TracedView) (workers : List (Worker M)) (hands : List HandView) → AreNew traced 0 hands
+    → length hands ≡ traced.plan.callers
     → first_hands workers ≡ hands
     → AreAll traced (first_hands workers)
 all_callers traced workers hands new count same = subst (AreAll traced) (sym same)
     (count, λ i d low. let fresh = new i d low in let e : 0 + i ≡ i = omega arith in (fresh.0, fresh.1 ∙ e))
 
 -- the caller of the worker at a place
-caller_at : {M : Type 0} (traced : TracedView) (workers : List (Worker M)) (hands : List HandView) → AreNew traced 0 hands → first_hands workers ≡ hands
+caller_at : {M : Type 0} (traced : TracedView) (workers : List (Worker M)) (hands : List HandView) → AreNew traced 0 hands
+    → first_hands workers ≡ hands
     → (i : ℕ) (d : Worker M) → i < length workers → (slice_index_or workers i d).hand.caller ≡ i
 caller_at traced workers hands new same i d low =
     let fresh = new i d.hand (omega (arith, low, how_many workers hands same)) in
@@ -68,11 +72,13 @@ scripts_from script f k [] each = refl
 scripts_from script f k (x ∷ workers) each =
     let first : k + 0 ≡ k = omega arith in
     ap (λ s. s ∷ map (λ (x : _). script x.machine) workers) (each 0 x (omega arith) ∙ ap f first)
-    ∙ ap (λ rest. f k ∷ rest) (scripts_from script f (k + 1) workers (λ i d low. let e : k + suc i ≡ k + 1 + i = omega arith in each (suc i) d (omega (arith, low))
+    ∙ ap (λ rest. f k ∷ rest) (scripts_from script f (k + 1) workers (λ i d low. let e : k + suc i ≡ k + 1 + i = omega arith in
+      each (suc i) d (omega (arith, low))
     ∙ ap f e))
 
 -- their scripts are those of the workload
-pub scripts_are : {M : Type 0} (header_of : M → Header) (script : M → Script) (ahead : M → ℕ) (traced : TracedView) (w : Workload) (workers : List (Worker M))
+pub scripts_are : {M : Type 0} (header_of : M → Header) (script : M → Script) (ahead : M
+    → ℕ) (traced : TracedView) (w : Workload) (workers : List (Worker M))
     (hands : List HandView)
     → AreNew traced 0 hands → first_hands workers ≡ hands → AreWorkersOf header_of script ahead w workers → length hands ≡ w.header.callers
     → map (λ (x : Worker M). script x.machine) workers ≡ work_scripts w
@@ -82,7 +88,8 @@ scripts_are header_of script ahead traced w workers hands new same made count =
     ∙ ap (λ n. map (work_script w) (numbers_below n)) (how_many workers hands same ∙ count)
 
 -- their machines were made for the workload's header
-pub all_made : {M : Type 0} (header_of : M → Header) (script : M → Script) (ahead : M → ℕ) (w : Workload) (workers : List (Worker M)) (hands : List HandView)
+pub all_made : {M : Type 0} (header_of : M → Header) (script : M → Script) (ahead : M
+    → ℕ) (w : Workload) (workers : List (Worker M)) (hands : List HandView)
     → first_hands workers ≡ hands → AreWorkersOf header_of script ahead w workers → length hands ≡ w.header.callers
     → AreMadeFor w.header (map (λ (x : Worker M). header_of x.machine) workers)
 all_made header_of script ahead w workers hands same made count = record {
@@ -91,7 +98,8 @@ all_made header_of script ahead w workers hands same made count = record {
 }
 
 -- the bound of a caller's machine is that of the caller's operations
-pub bound_at : {M : Type 0} (header_of : M → Header) (script : M → Script) (ahead : M → ℕ) (traced : TracedView) (w : Workload) (workers : List (Worker M))
+pub bound_at : {M : Type 0} (header_of : M → Header) (script : M → Script) (ahead : M
+    → ℕ) (traced : TracedView) (w : Workload) (workers : List (Worker M))
     (hands : List HandView)
     → AreNew traced 0 hands → first_hands workers ≡ hands → AreWorkersOf header_of script ahead w workers → length hands ≡ w.header.callers
     → (limit : ℕ) (first : Option ℕ) → IfSome first (λ caller. (x : Worker M) → limit < ahead (slice_index_or workers caller x).machine)
@@ -101,7 +109,8 @@ bound_at header_of script ahead traced w workers hands new same made count limit
 bound_at header_of script ahead traced w workers hands new same made count limit (Some caller) long low =
     let within : caller < length workers = omega (arith, low, how_many workers hands same, count) in
     let x = element_of workers caller within in
-    let bound = (made caller x within).bound ∙ ap (λ c. bounds_of w.header (ops_of c w.ops)) (caller_at traced workers hands new same caller x within) in
+    let bound = (made caller x within).bound
+      ∙ ap (λ c. bounds_of w.header (ops_of c w.ops)) (caller_at traced workers hands new same caller x within) in
     omega (arith, long x, bound)
 
 -- the caller that ended a run is one of the header's

@@ -38,8 +38,10 @@ done_by-part c history = of_part c (newest_first history) ∙ ap (map (λ (e : S
 -- a caller that no event has did nothing
 no_part : (c : ℕ) (es : List Stamped) → ((i : ℕ) (e : Stamped) → slice_get es i ≡ Some e → e.caller ≢ c) → part c es ≡ []
 no_part c [] apart = refl
-no_part c (e ∷ es) apart = ap (λ b. cond b (e ∷ part c es) (part c es)) (ne_eqb e.caller c (apart 0 e refl)) ∙ no_part c es (λ i x is. apart (suc i) x is)
+no_part c (e ∷ es) apart = ap (λ b. cond b (e ∷ part c es) (part c es)) (ne_eqb e.caller c (apart 0 e refl))
+    ∙ no_part c es (λ i x is. apart (suc i) x is)
 
 pub nothing_done : (z : Cells) (c : ℕ) (history : List Stamped) → is_legal z history ≡ true → z.callers ≤ c → done_by c history ≡ []
 nothing_done z c history legal out =
-    done_by-part c history ∙ ap dids_of (no_part c history (λ i e is same. let low = (numbered z history legal i e is).1 in absurd (omega (arith, low))))
+    done_by-part c history ∙ ap dids_of (no_part c history (λ i e is same. let low = (numbered z history legal i e is).1 in
+        absurd (omega (arith, low))))

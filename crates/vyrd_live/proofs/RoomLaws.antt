@@ -27,7 +27,8 @@ IsNextBound h act n = (method : Method) (args : Args) → act ≡ Mark (Call met
 -- what ends within n acts ends within more
 more_time : (n m : ℕ) → n ≤ m → (script : Script) → EndsWithin n script → EndsWithin m script
 more_time n m le stop ends = tt
-more_time n m le (step act rest) ends = (omega (arith, ends.0), λ goes answer is. more_time (n - 1) (m - 1) (omega arith) (rest answer) (ends.1 goes answer is))
+more_time n m le (step act rest) ends = (omega (arith, ends.0),
+    λ goes answer is. more_time (n - 1) (m - 1) (omega arith) (rest answer) (ends.1 goes answer is))
 
 has_room : (h : Header) (limit before n : ℕ) (act : Act) → IsNextBound h act n → before + n ≤ limit → HasRoom h limit before act
 has_room h limit before n (Load cell) next room = tt
@@ -55,7 +56,8 @@ room_made h left hand now n in_time next is fits = subst (HasRoomAhead h left) (
     within a b fits = dite (dec_lt a b) (λ l. absurd (fits l)) (λ l. omega arith)
 
 -- an act that has room, once it is done
-pub began_with_room : (h : Header) (limit before : ℕ) (act : Act) (answer : ℕ) (did : Did) → event_of act answer ≡ Some did → HasRoom h limit before act
+pub began_with_room : (h : Header) (limit before : ℕ) (act : Act) (answer : ℕ) (did : Did) → event_of act answer ≡ Some did
+    → HasRoom h limit before act
     → BeginsWithRoom h limit before did
 began_with_room h limit before act answer did e room = elim_did act answer did e room
   where
@@ -68,9 +70,11 @@ began_with_room h limit before act answer did e room = elim_did act answer did e
     elim_did (Take lock) answer did e room = let is : Took lock ≡ did = cc in subst (BeginsWithRoom h limit before) is tt
     elim_did (Give lock) answer did e room = let is : Gave lock ≡ did = cc in subst (BeginsWithRoom h limit before) is tt
     elim_did Done answer did e room = cc
-    elim_did (Mark (Call method args)) answer did e room = let is : Marked (Call method args) ≡ did = cc in subst (BeginsWithRoom h limit before) is room
+    elim_did (Mark (Call method args)) answer did e room = let is : Marked (Call method args) ≡ did = cc in
+        subst (BeginsWithRoom h limit before) is room
     elim_did (Mark (Return reply)) answer did e room = let is : Marked (Return reply) ≡ did = cc in subst (BeginsWithRoom h limit before) is tt
-    elim_did (Mark (Write word value)) answer did e room = let is : Marked (Write word value) ≡ did = cc in subst (BeginsWithRoom h limit before) is tt
+    elim_did (Mark (Write word value)) answer did e room = let is : Marked (Write word value) ≡ did = cc in
+        subst (BeginsWithRoom h limit before) is tt
     elim_did (Mark Commit) answer did e room = let is : Marked Commit ≡ did = cc in subst (BeginsWithRoom h limit before) is tt
     elim_did (Mark BlockOpen) answer did e room = let is : Marked BlockOpen ≡ did = cc in subst (BeginsWithRoom h limit before) is tt
     elim_did (Mark BlockClose) answer did e room = let is : Marked BlockClose ≡ did = cc in subst (BeginsWithRoom h limit before) is tt
@@ -99,7 +103,8 @@ return_answer Done answer ends is = is
 return_answer (Mark kind) answer ends is = is
 
 -- So an operation that goes on still ends in time. `rests` says that none is in hand after a return.
-pub still_in_time : (n : ℕ) (left : Script) (answer : ℕ) → (is_return (next_act left) ≡ true → is_between (after_answer left 0) ≡ true) → IsAnswer (next_act left) answer
+pub still_in_time : (n : ℕ) (left : Script) (answer : ℕ)
+    → (is_return (next_act left) ≡ true → is_between (after_answer left 0) ≡ true) → IsAnswer (next_act left) answer
     → ∥ EndsWithin n left ∥₁ → is_between (after_answer left answer) ≡ false → ∥ EndsWithin (n - 1) (after_answer left answer) ∥₁
 still_in_time n left answer rests is in_time goes = ∥∥₁_map in_time (next_in_time n left answer (no_return (is_return (next_act left)) refl) is)
   where

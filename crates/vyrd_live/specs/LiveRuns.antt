@@ -37,7 +37,8 @@ pub record IsOverrun (h : Header) (limit : ℕ) (scripts : List Script) (caller 
 
 -- Why a live run has no verdict: the limit ended it, and then its history is legal, or there was no memory.
 abbrev pub IsCause : Header → ℕ → List Script → LiveFault → Type 0
-IsCause h limit scripts (Spent overrun) = (is_legal (cells_of h) overrun.history.items ≡ true) × IsOverrun h limit scripts overrun.caller overrun.history.items
+IsCause h limit scripts (Spent overrun) = (is_legal (cells_of h) overrun.history.items ≡ true)
+    × IsOverrun h limit scripts overrun.caller overrun.history.items
 IsCause h limit scripts Memory = ⊤
 
 -- the limit that ended a run allows fewer events than the operations of the named caller may have

@@ -22,14 +22,16 @@ pub record IsFresh {M : Type 0} (header_of : M → Header) (script : M → Scrip
   pub memory : IsMemoryOf (header_of machine) traced.plan
 
 -- the machine is that of the hand's caller in a workload
-pub record IsWorkerOf {M : Type 0} (header_of : M → Header) (script : M → Script) (ahead : M → ℕ) (w : Workload) (machine : M) (hand : HandView) : Type 0 where
+pub record IsWorkerOf {M : Type 0} (header_of : M → Header) (script : M → Script) (ahead : M
+    → ℕ) (w : Workload) (machine : M) (hand : HandView) : Type 0 where
   pub header : header_of machine ≡ w.header
   pub script_is : script machine ≡ work_script w hand.caller
   pub bound : ahead machine ≡ bounds_of w.header (ops_of hand.caller w.ops)
 
 -- What a machine that was played on a hand leaves. Where it stopped for want of room, the limit allows fewer events than the
 -- machine's bound.
-pub record HasWorked {M : Type 0} (header_of : M → Header) (script : M → Script) (ahead : M → ℕ) (traced : TracedView) (machine : M) (before after : HandView)
+pub record HasWorked {M : Type 0} (header_of : M → Header) (script : M → Script) (ahead : M
+    → ℕ) (traced : TracedView) (machine : M) (before after : HandView)
     (ending : Ending) : Type 0 where
   pub hand_of : IsOf traced after
   pub caller : after.caller ≡ before.caller

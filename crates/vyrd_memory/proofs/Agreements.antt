@@ -42,7 +42,8 @@ three_true a b c e = (first_true a b (first_true (a && b) c e), second_true a b 
 pub four_true : (a b c d : Bool) → (a && b && c && d) ≡ true → (a ≡ true) × (b ≡ true) × (c ≡ true) × (d ≡ true)
 four_true a b c d e =
     let front : (a && b && c) ≡ true = first_true (a && b && c) d e in
-    (first_true a b (first_true (a && b) c front), second_true a b (first_true (a && b) c front), second_true (a && b) c front, second_true (a && b && c) d e)
+    (first_true a b (first_true (a && b) c front), second_true a b (first_true (a && b) c front), second_true (a && b) c front,
+      second_true (a && b && c) d e)
 
 -- what is said of a standing with nothing in hand
 pub record Rests (s : Standing) : Type 0 where
@@ -133,7 +134,8 @@ other_entry c d kind s log apart a = record {
   in_block = ap (λ o. unwrap_or o false) (other_answer c d open_or_close kind log apart) ∙ a.in_block;
 }
 
-other_event : (c d : ℕ) (did : Did) (s : Standing) (log : List Entry) → (d == c) ≡ false → Agrees c s log → Agrees c s (cons_option (logged d did) log)
+other_event : (c d : ℕ) (did : Did) (s : Standing) (log : List Entry) → (d == c) ≡ false → Agrees c s log
+    → Agrees c s (cons_option (logged d did) log)
 other_event c d (Read cell value) s log apart a = a
 other_event c d (Wrote cell value) s log apart a = other_entry c d (Write cell value) s log apart a
 other_event c d (Took lock) s log apart a = a
@@ -161,7 +163,8 @@ next_agrees h c d did earlier log true e keeps a =
 next_agrees h c d did earlier log false e keeps a = other_event c d did (standing_in earlier) log e a
 
 -- so where a caller stands is what the log of the history says of it
-pub agrees : (h : Header) (c : ℕ) (earlier : List Stamped) → KeepsTo h (part_of c earlier) → Agrees c (standing_in (part_of c earlier)) (filter_map log_entry earlier)
+pub agrees : (h : Header) (c : ℕ) (earlier : List Stamped) → KeepsTo h (part_of c earlier)
+    → Agrees c (standing_in (part_of c earlier)) (filter_map log_entry earlier)
 agrees h c [] keeps = record { called = refl; committed = refl; in_block = refl }
 agrees h c (e ∷ earlier) keeps =
     next_agrees h c e.caller e.did (part_of c earlier) (filter_map log_entry earlier) (e.caller == c) refl keeps

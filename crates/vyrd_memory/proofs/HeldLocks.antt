@@ -103,7 +103,8 @@ own_held h c (Gave other) s earlier lock may is before = by_place (other == lock
 own_held h c (Marked kind) s earlier lock may is before = mark_held h s kind lock may ∙ before
 
 -- another caller's event gives the lock to nobody else, and takes it from nobody else
-other_held : (cells : Cells) (c d : ℕ) (did : Did) (earlier : List Stamped) (lock : ℕ) → may_do cells earlier d did ≡ true → is_lock cells lock ≡ true → (d == c) ≡ false
+other_held : (cells : Cells) (c d : ℕ) (did : Did) (earlier : List Stamped) (lock : ℕ) → may_do cells earlier d did ≡ true
+    → is_lock cells lock ≡ true → (d == c) ≡ false
     → (value_in earlier lock == c + 1) ≡ (value_with earlier lock d did == c + 1)
 other_held cells c d (Read cell value) earlier lock may is apart = refl
 other_held cells c d (Wrote cell value) earlier lock may is apart =
@@ -115,7 +116,8 @@ other_held cells c d (Took other) earlier lock may is apart = by_place (other ==
         ≡ (unwrap_or (option_or (cond b (Some (d + 1)) None) (first_answer (λ e. made_of lock e.caller e.did) earlier)) 0 == c + 1)
     by_place true e =
         let free : (value_in earlier other == 0) ≡ true = second_true (is_lock cells other) (value_in earlier other == 0) may in
-        free_isnt (value_in earlier lock) c (subst (λ cell. (value_in earlier cell == 0) ≡ true) (same_of other lock e) free) ∙ sym (other_isnt c d apart)
+        free_isnt (value_in earlier lock) c (subst (λ cell. (value_in earlier cell == 0) ≡ true) (same_of other lock e) free)
+          ∙ sym (other_isnt c d apart)
     by_place false e = refl
 other_held cells c d (Gave other) earlier lock may is apart = by_place (other == lock) refl
   where
@@ -123,7 +125,8 @@ other_held cells c d (Gave other) earlier lock may is apart = by_place (other ==
         ≡ (unwrap_or (option_or (cond b (Some 0) None) (first_answer (λ e. made_of lock e.caller e.did) earlier)) 0 == c + 1)
     by_place true e =
         let its : (value_in earlier other == d + 1) ≡ true = second_true (is_lock cells other) (value_in earlier other == d + 1) may in
-        others_isnt (value_in earlier lock) c d (subst (λ cell. (value_in earlier cell == d + 1) ≡ true) (same_of other lock e) its) apart ∙ sym (zero_isnt c)
+        others_isnt (value_in earlier lock) c d
+          (subst (λ cell. (value_in earlier cell == d + 1) ≡ true) (same_of other lock e) its) apart ∙ sym (zero_isnt c)
     by_place false e = refl
 other_held cells c d (Marked kind) earlier lock may is apart = refl
 

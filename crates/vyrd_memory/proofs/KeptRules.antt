@@ -65,7 +65,8 @@ watches c s log a = by_call (open_call c log) ∙ ap (λ o. option_map_or is_obs
     by_call (Some called) = refl
 
 -- a write
-pub write_kept : (h : Header) (c word value : ℕ) (s : Standing) (log : List Entry) → c < h.callers → may_act h s (Store word value) ≡ true → Agrees c s log
+pub write_kept : (h : Header) (c word value : ℕ) (s : Standing) (log : List Entry) → c < h.callers
+    → may_act h s (Store word value) ≡ true → Agrees c s log
     → OnlyRaced (broken_rule h log (entry c (Write word value)))
 write_kept h c word value s log low may a =
     let parts = three_true (is_plain (cells_of h) word) (nat_lt value (2 ^ 63)) (is_some s.called) may in

@@ -35,7 +35,8 @@ legal_before : (cells : Cells) (earlier xs : List Stamped) → AreLegal cells (n
 legal_before cells earlier [] legal = legal
 legal_before cells earlier (x ∷ xs) legal = (legal_before cells (x ∷ earlier) xs legal).1
 
-onto_legal : (cells : Cells) (earlier xs : List Stamped) → AreLegal cells (newest_first_onto earlier xs) → list_all (is_legal_at cells) (places_after earlier xs) ≡ true
+onto_legal : (cells : Cells) (earlier xs : List Stamped) → AreLegal cells (newest_first_onto earlier xs)
+    → list_all (is_legal_at cells) (places_after earlier xs) ≡ true
 onto_legal cells earlier [] legal = refl
 onto_legal cells earlier (x ∷ xs) legal =
     both_true (may_come cells earlier x) (list_all (is_legal_at cells) (places_after (x ∷ earlier) xs))
@@ -73,20 +74,23 @@ abbrev pub value_with : List Stamped → ℕ → ℕ → Did → ℕ
 value_with earlier cell caller did = unwrap_or (option_or (made_of cell caller did) (first_answer (λ e. made_of cell e.caller e.did) earlier)) 0
 
 -- values of plain cells are below 2^63
-next_small : (cells : Cells) (earlier : List Stamped) (cell caller : ℕ) (did : Did) → may_do cells earlier caller did ≡ true → is_plain cells cell ≡ true
+next_small : (cells : Cells) (earlier : List Stamped) (cell caller : ℕ) (did : Did) → may_do cells earlier caller did ≡ true
+    → is_plain cells cell ≡ true
     → value_in earlier cell < 2 ^ 63 → value_with earlier cell caller did < 2 ^ 63
 next_small cells earlier cell caller (Read other value) may plain small = small
 next_small cells earlier cell caller (Wrote other value) may plain small = by_place (other == cell)
   where
     by_place : (b : Bool) → unwrap_or (option_or (cond b (Some value) None) (first_answer (λ e. made_of cell e.caller e.did) earlier)) 0 < 2 ^ 63
-    by_place true = let test : nat_lt value (2 ^ 63) ≡ true = second_true (is_plain cells other) (nat_lt value (2 ^ 63)) may in grind (arith, nat_tests)
+    by_place true = let test : nat_lt value (2 ^ 63) ≡ true = second_true (is_plain cells other) (nat_lt value (2 ^ 63)) may in
+        grind (arith, nat_tests)
     by_place false = small
 next_small cells earlier cell caller (Took other) may plain small = by_place (other == cell) refl
   where
     by_place : (b : Bool) → (other == cell) ≡ b
         → unwrap_or (option_or (cond b (Some (caller + 1)) None) (first_answer (λ e. made_of cell e.caller e.did) earlier)) 0 < 2 ^ 63
     by_place true e =
-        let apart : (cell == other) ≡ false = plain_isnt cells cell other plain (first_true (is_lock cells other) (value_in earlier other == 0) may) in
+        let apart : (cell == other) ≡ false =
+          plain_isnt cells cell other plain (first_true (is_lock cells other) (value_in earlier other == 0) may) in
         absurd (not_both other cell e apart)
       where
         not_both : (a b : ℕ) → (a == b) ≡ true → (b == a) ≡ false → ⊥
@@ -99,7 +103,8 @@ next_small cells earlier cell caller (Gave other) may plain small = by_place (ot
     by_place false = small
 next_small cells earlier cell caller (Marked kind) may plain small = small
 
-pub plain_small : (cells : Cells) (earlier : List Stamped) (cell : ℕ) → AreLegal cells earlier → is_plain cells cell ≡ true → value_in earlier cell < 2 ^ 63
+pub plain_small : (cells : Cells) (earlier : List Stamped) (cell : ℕ) → AreLegal cells earlier → is_plain cells cell ≡ true
+    → value_in earlier cell < 2 ^ 63
 plain_small cells [] cell legal plain = omega arith
 plain_small cells (e ∷ earlier) cell legal plain =
     next_small cells earlier cell e.caller e.did (does cells earlier e legal.0) plain (plain_small cells earlier cell legal.1 plain)
@@ -108,7 +113,8 @@ plain_small cells (e ∷ earlier) cell legal plain =
 answer_is : (cells : Cells) (earlier : List Stamped) (caller : ℕ) (did : Did) → AreLegal cells earlier → may_do cells earlier caller did ≡ true
     → IsAnswer (act_of_event did) (answer_of did)
 answer_is cells earlier caller (Read cell value) legal may =
-    let small : value_in earlier cell < 2 ^ 63 = plain_small cells earlier cell legal (first_true (is_plain cells cell) (value == value_in earlier cell) may) in
+    let small : value_in earlier cell
+      < 2 ^ 63 = plain_small cells earlier cell legal (first_true (is_plain cells cell) (value == value_in earlier cell) may) in
     let same : (value == value_in earlier cell) ≡ true = second_true (is_plain cells cell) (value == value_in earlier cell) may in
     small_too value (value_in earlier cell) same small
   where

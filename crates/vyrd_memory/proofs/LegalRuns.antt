@@ -68,7 +68,8 @@ event_may h c earlier s Done did may held e = cc
 
 -- it is the event that the script wants
 event_plays : (earlier : List Stamped) (act : Act) (did : Did) → event_now earlier act ≡ Some did → event_of act (answer_of did) ≡ Some did
-event_plays earlier (Load cell) did e = subst (λ did. event_of (Load cell) (answer_of did) ≡ Some did) (some_same (Read cell (value_in earlier cell)) did e) refl
+event_plays earlier (Load cell) did e =
+    subst (λ did. event_of (Load cell) (answer_of did) ≡ Some did) (some_same (Read cell (value_in earlier cell)) did e) refl
 event_plays earlier (Store cell value) did e = e
 event_plays earlier (Take lock) did e = by_value (value_in earlier lock == 0) e
   where
@@ -79,7 +80,8 @@ event_plays earlier (Give lock) did e = e
 event_plays earlier (Mark kind) did e = e
 event_plays earlier Done did e = cc
 
-next_may : (h : Header) (s : Standing) (script : Script) (earlier : List Stamped) (did : Did) → IsSound h s script → event_now earlier (next_act script) ≡ Some did
+next_may : (h : Header) (s : Standing) (script : Script) (earlier : List Stamped) (did : Did) → IsSound h s script
+    → event_now earlier (next_act script) ≡ Some did
     → may_act h s (next_act script) ≡ true
 next_may h s stop earlier did sound e = cc
 next_may h s (step act rest) earlier did sound e = sound.0
@@ -90,8 +92,10 @@ no_script [] c high = refl
 no_script (script ∷ scripts) zero high = absurd (omega (arith, high))
 no_script (script ∷ scripts) (suc c) high = no_script scripts c (omega arith)
 
-nothing_left : (scripts : List Script) (c : ℕ) (earlier : List Stamped) → length scripts ≤ c → left_after (script_of scripts c) (part_of c earlier) ≡ stop
-nothing_left scripts c earlier high = ap (λ script. left_after script (part_of c earlier)) (no_script scripts c high) ∙ left_of_stop (part_of c earlier)
+nothing_left : (scripts : List Script) (c : ℕ) (earlier : List Stamped) → length scripts ≤ c
+    → left_after (script_of scripts c) (part_of c earlier) ≡ stop
+nothing_left scripts c earlier high = ap (λ script. left_after script (part_of c earlier)) (no_script scripts c high)
+    ∙ left_of_stop (part_of c earlier)
 
 -- a caller's number is in range or not
 in_range_or_not : {P : Type 0} (c n : ℕ) → (c < n → P) → (n ≤ c → P) → P
@@ -102,25 +106,29 @@ in_range_or_not {P} c n low high = by_test (nat_lt c n) refl
     by_test false e = high (grind (arith, nat_tests))
 
 -- what is left of a caller's script is sound where the caller stands, and its part keeps to what may be done
-pub run_sound : (h : Header) (scripts : List Script) (earlier : List Stamped) (c : ℕ) → AreSoundScripts h scripts → IsRun h scripts earlier → c < h.callers
+pub run_sound : (h : Header) (scripts : List Script) (earlier : List Stamped) (c : ℕ) → AreSoundScripts h scripts
+    → IsRun h scripts earlier → c < h.callers
     → IsSound h (standing_in (part_of c earlier)) (left_after (script_of scripts c) (part_of c earlier))
 run_sound h scripts earlier c sound run low =
     sound_left h (script_of scripts c) (part_of c earlier) (sound.sound c low) (run.plays c) (are_answers (cells_of h) earlier c run.legal)
 
-run_keeps : (h : Header) (scripts : List Script) (earlier : List Stamped) (c : ℕ) → AreSoundScripts h scripts → IsRun h scripts earlier → c < h.callers
+run_keeps : (h : Header) (scripts : List Script) (earlier : List Stamped) (c : ℕ) → AreSoundScripts h scripts
+    → IsRun h scripts earlier → c < h.callers
     → KeepsTo h (part_of c earlier)
 run_keeps h scripts earlier c sound run low =
     sound_keeps h (script_of scripts c) (part_of c earlier) (sound.sound c low) (run.plays c) (are_answers (cells_of h) earlier c run.legal)
 
 -- one event more
-event_runs : (h : Header) (scripts : List Script) (earlier : List Stamped) (c : ℕ) (did : Did) → AreSoundScripts h scripts → IsRun h scripts earlier → c < h.callers
+event_runs : (h : Header) (scripts : List Script) (earlier : List Stamped) (c : ℕ) (did : Did) → AreSoundScripts h scripts
+    → IsRun h scripts earlier → c < h.callers
     → event_now earlier (act_of scripts c earlier) ≡ Some did → IsRun h scripts (record { number = length earlier; caller = c; did = did } ∷ earlier)
 event_runs h scripts earlier c did sound run low e = record {
   legal = (
     both_true (length earlier == length earlier && nat_lt c h.callers) (may_do (cells_of h) earlier c did)
         (both_true (length earlier == length earlier) (nat_lt c h.callers) (same_number (length earlier)) (is_below c h.callers low))
         (event_may h c earlier (standing_in (part_of c earlier)) (act_of scripts c earlier) did
-        (next_may h (standing_in (part_of c earlier)) (left_after (script_of scripts c) (part_of c earlier)) earlier did (run_sound h scripts earlier c sound run low) e)
+        (next_may h (standing_in (part_of c earlier)) (left_after (script_of scripts c) (part_of c earlier)) earlier did
+          (run_sound h scripts earlier c sound run low) e)
         (λ lock is. held_is h c earlier lock run.legal (run_keeps h scripts earlier c sound run low) is)
         e),
     run.legal,
@@ -131,7 +139,8 @@ event_runs h scripts earlier c did sound run low e = record {
     by_caller : (i : ℕ) (b : Bool) → (c == i) ≡ b → Plays (script_of scripts i) (cons_option (cond b (Some did) None) (part_of i earlier))
     by_caller i true is =
         let same : c ≡ i = grind (arith, nat_tests) in
-        (subst (λ i. event_of (act_of scripts i earlier) (answer_of did) ≡ Some did) same (event_plays earlier (act_of scripts c earlier) did e), run.plays i)
+        (subst (λ i. event_of (act_of scripts i earlier) (answer_of did)
+          ≡ Some did) same (event_plays earlier (act_of scripts c earlier) did e), run.plays i)
     by_caller i false is = run.plays i
 
 -- a turn, turns and rounds
@@ -162,7 +171,8 @@ rounds_run h scripts (suc rounds) earlier sound run =
     rounds_run h scripts rounds (after_turns scripts (numbers_below (length scripts)) earlier) sound
     (turns_run h scripts (numbers_below (length scripts)) earlier sound run)
 
-whole_run : (h : Header) (scripts : List Script) (turns : List Turn) (history : List Stamped) → AreSoundScripts h scripts → RunsTo scripts turns history
+whole_run : (h : Header) (scripts : List Script) (turns : List Turn) (history : List Stamped) → AreSoundScripts h scripts
+    → RunsTo scripts turns history
     → IsRun h scripts (newest_first history)
 whole_run h scripts turns history sound to =
     subst (IsRun h scripts) (sym to.history_is)
@@ -170,11 +180,13 @@ whole_run h scripts turns history sound to =
     (turns_run h scripts (turns_of turns) [] sound (record { legal = tt; plays = λ c. tt })))
 
 -- the history of the run is legal, and each script is played to its end
-pub run_is_legal : (h : Header) (scripts : List Script) (turns : List Turn) (history : List Stamped) → AreSoundScripts h scripts → RunsTo scripts turns history
+pub run_is_legal : (h : Header) (scripts : List Script) (turns : List Turn) (history : List Stamped) → AreSoundScripts h scripts
+    → RunsTo scripts turns history
     → is_legal (cells_of h) history ≡ true
 run_is_legal h scripts turns history sound to = legal_history (cells_of h) history (whole_run h scripts turns history sound to).legal
 
-pub run_plays : (h : Header) (scripts : List Script) (turns : List Turn) (history : List Stamped) → AreSoundScripts h scripts → RunsTo scripts turns history
+pub run_plays : (h : Header) (scripts : List Script) (turns : List Turn) (history : List Stamped) → AreSoundScripts h scripts
+    → RunsTo scripts turns history
     → PlayToTheEnd scripts history
 run_plays h scripts turns history sound to c = record {
   plays = (whole_run h scripts turns history sound to).plays c;

@@ -61,4 +61,5 @@ pub calls_fit : (h : Header) (scripts : List Script) (history : List Stamped) �
     → PlayToTheEnd scripts history → AllByRecursion (λ e. is_call_of h e.kind ≡ true) (log_of history)
 calls_fit h scripts history sound is_legal_ played =
     let legal = legal_events (cells_of h) history is_legal_ in
-    (turned h [] (log_of history) (subst (AreCallsOf h) (sym (newest_log history)) (log_fits h (newest_first history) legal (all_keep h scripts history sound legal played)))).1
+    (turned h [] (log_of history) (subst (AreCallsOf h) (sym (newest_log history))
+      (log_fits h (newest_first history) legal (all_keep h scripts history sound legal played)))).1

@@ -29,7 +29,8 @@ word_at h memory cell low = element_below memory (plain_words h + lock_words h) 
 abbrev pub is_free : ℕ → Bool
 is_free lock = lock == 0
 
-free_list : (memory : Memory) (k n : ℕ) → list_all is_free (map memory (numbers_from k n)) ≡ list_all (λ lock. is_free (memory lock)) (numbers_from k n)
+free_list : (memory : Memory) (k n : ℕ)
+    → list_all is_free (map memory (numbers_from k n)) ≡ list_all (λ lock. is_free (memory lock)) (numbers_from k n)
 free_list memory k n = list_all-map is_free memory (numbers_from k n)
 
 locks_are : (h : Header) (memory : Memory) → drop (plain_words h) (words_in h memory) ≡ map memory (numbers_from (plain_words h) (lock_words h))

@@ -17,7 +17,8 @@ element_below f n i low = let e : 0 + i ≡ i = omega arith in element_from f 0 
 
 -- what is left after the first p numbers
 pub drop-from : (f : ℕ → ℕ) (k p n : ℕ) → drop p (map f (numbers_from k (p + n))) ≡ map f (numbers_from (k + p) n)
-drop-from f k zero n = let a : 0 + n ≡ n = omega arith in let b : k ≡ k + 0 = omega arith in ap (λ m. map f (numbers_from k m)) a ∙ ap (λ m. map f (numbers_from m n)) b
+drop-from f k zero n = let a : 0 + n ≡ n = omega arith in let b : k ≡ k + 0 = omega arith in ap (λ m. map f (numbers_from k m)) a
+    ∙ ap (λ m. map f (numbers_from m n)) b
 drop-from f k (suc p) n =
     let a : suc p + n ≡ suc (p + n) = omega arith in
     let b : k + 1 + p ≡ k + suc p = omega arith in
@@ -27,10 +28,12 @@ drop-from f k (suc p) n =
 pub all_pass : (test : ℕ → Bool) (k n : ℕ) → list_all test (numbers_from k n) ≡ true → (i : ℕ) → k ≤ i → i < k + n → test i ≡ true
 all_pass test k zero all i from to = absurd (omega (arith, from, to))
 all_pass test k (suc n) all i from to =
-    by_place (k == i) refl (λ apart. all_pass test (k + 1) n (second_true (test k) (list_all test (numbers_from (k + 1) n)) all) i (omega arith) (omega arith))
+    by_place (k == i) refl (λ apart. all_pass test (k + 1) n (second_true (test k) (list_all test (numbers_from (k + 1) n)) all) i
+      (omega arith) (omega arith))
   where
     by_place : (b : Bool) → (k == i) ≡ b → (k ≢ i → test i ≡ true) → test i ≡ true
-    by_place true e later = let same : i ≡ k = grind (arith, nat_tests) in ap test same ∙ first_true (test k) (list_all test (numbers_from (k + 1) n)) all
+    by_place true e later = let same : i ≡ k = grind (arith, nat_tests) in ap test same
+        ∙ first_true (test k) (list_all test (numbers_from (k + 1) n)) all
     by_place false e later = later (grind (arith, nat_tests))
 
 -- a test that each passes, all do
@@ -41,7 +44,8 @@ pass_all test k (suc n) each =
     (pass_all test (k + 1) n (λ i from to. each i (omega arith) (omega arith)))
 
 -- what two functions give alike
-pub flat_map_alike : {A : Type 0} (f g : ℕ → List A) (k n : ℕ) → ((i : ℕ) → k ≤ i → i < k + n → f i ≡ g i) → flat_map f (numbers_from k n) ≡ flat_map g (numbers_from k n)
+pub flat_map_alike : {A : Type 0} (f g : ℕ → List A) (k n : ℕ) → ((i : ℕ) → k ≤ i → i < k + n → f i ≡ g i)
+    → flat_map f (numbers_from k n) ≡ flat_map g (numbers_from k n)
 flat_map_alike f g k zero same = refl
 flat_map_alike f g k (suc n) same =
     ap (λ xs. xs ++ flat_map f (numbers_from (k + 1) n)) (same k (omega arith) (omega arith))

@@ -36,7 +36,8 @@ still_turns : (scripts : List Script) (callers : List ℕ) (earlier : List Stamp
     → after_turns scripts callers earlier ≡ earlier
 still_turns scripts [] earlier e = refl
 still_turns scripts (c ∷ callers) earlier e =
-    let none = no_event earlier (act_of scripts c earlier) (first_true (is_still scripts earlier c) (list_all (is_still scripts earlier) callers) e) in
+    let none = no_event earlier (act_of scripts c earlier)
+      (first_true (is_still scripts earlier c) (list_all (is_still scripts earlier) callers) e) in
     ap (λ o. after_turns scripts callers (with_event c earlier o)) none
     ∙ still_turns scripts callers earlier (second_true (is_still scripts earlier c) (list_all (is_still scripts earlier) callers) e)
 
@@ -48,14 +49,16 @@ done_still scripts (c ∷ callers) earlier e =
     let done = first_true (is_done (act_of scripts c earlier)) (list_all (λ c. is_done (act_of scripts c earlier)) callers) e in
     both_true (is_still scripts earlier c) (list_all (is_still scripts earlier) callers)
     (ap (λ b. b || is_held_up earlier (act_of scripts c earlier)) done)
-    (done_still scripts callers earlier (second_true (is_done (act_of scripts c earlier)) (list_all (λ c. is_done (act_of scripts c earlier)) callers) e))
+    (done_still scripts callers earlier
+      (second_true (is_done (act_of scripts c earlier)) (list_all (λ c. is_done (act_of scripts c earlier)) callers) e))
 
 -- a round changes nothing
 abbrev AtRest : List Script → List Stamped → Type 0
 AtRest scripts earlier = after_turns scripts (numbers_below (length scripts)) earlier ≡ earlier
 
 done_rests : (scripts : List Script) (earlier : List Stamped) → are_done scripts earlier ≡ true → AtRest scripts earlier
-done_rests scripts earlier done = still_turns scripts (numbers_below (length scripts)) earlier (done_still scripts (numbers_below (length scripts)) earlier done)
+done_rests scripts earlier done =
+    still_turns scripts (numbers_below (length scripts)) earlier (done_still scripts (numbers_below (length scripts)) earlier done)
 
 stuck_rests : (scripts : List Script) (earlier : List Stamped) → are_stuck scripts earlier ≡ true → AtRest scripts earlier
 stuck_rests scripts earlier stuck =
@@ -66,20 +69,23 @@ rounds_at_rest : (scripts : List Script) (n : ℕ) (earlier : List Stamped) → 
 rounds_at_rest scripts zero earlier rest = refl
 rounds_at_rest scripts (suc n) earlier rest = ap (after_rounds scripts n) rest ∙ rounds_at_rest scripts n earlier rest
 
-more_rounds : (scripts : List Script) (m n : ℕ) (earlier : List Stamped) → after_rounds scripts (m + n) earlier ≡ after_rounds scripts n (after_rounds scripts m earlier)
+more_rounds : (scripts : List Script) (m n : ℕ) (earlier : List Stamped)
+    → after_rounds scripts (m + n) earlier ≡ after_rounds scripts n (after_rounds scripts m earlier)
 more_rounds scripts zero n earlier = let e : 0 + n ≡ n = omega arith in ap (λ n. after_rounds scripts n earlier) e
 more_rounds scripts (suc m) n earlier =
     let e : suc m + n ≡ suc (m + n) = omega arith in
     ap (λ n. after_rounds scripts n earlier) e ∙ more_rounds scripts m n (after_turns scripts (numbers_below (length scripts)) earlier)
 
-later_same : (scripts : List Script) (turns : List Turn) (m n : ℕ) → m ≤ n → AtRest scripts (run_for scripts turns m) → run_for scripts turns n ≡ run_for scripts turns m
+later_same : (scripts : List Script) (turns : List Turn) (m n : ℕ) → m ≤ n → AtRest scripts (run_for scripts turns m)
+    → run_for scripts turns n ≡ run_for scripts turns m
 later_same scripts turns m n low rest =
     let e : n ≡ m + (n - m) = omega (arith, low) in
     ap (run_for scripts turns) e ∙ more_rounds scripts m (n - m) (after_turns scripts (turns_of turns) [])
     ∙ rounds_at_rest scripts (n - m) (run_for scripts turns m) rest
 
 -- two runs that are at rest are the same
-same_rest : (scripts : List Script) (turns : List Turn) (m n : ℕ) → AtRest scripts (run_for scripts turns m) → AtRest scripts (run_for scripts turns n)
+same_rest : (scripts : List Script) (turns : List Turn) (m n : ℕ) → AtRest scripts (run_for scripts turns m)
+    → AtRest scripts (run_for scripts turns n)
     → run_for scripts turns m ≡ run_for scripts turns n
 same_rest scripts turns m n first second = by_order (nat_le m n) refl
   where
@@ -99,7 +105,8 @@ no_more (x ∷ xs) = ap (λ ys. x ∷ ys) (no_more xs)
 same_histories : (a b : List Stamped) → newest_first a ≡ newest_first b → a ≡ b
 same_histories a b e = sym (no_more a) ∙ sym (twice [] [] a) ∙ ap newest_first e ∙ twice [] [] b ∙ no_more b
 
-ended_rests : (scripts : List Script) (turns : List Turn) (history : List Stamped) (to : RunsTo scripts turns history) → AtRest scripts (run_for scripts turns to.rounds)
+ended_rests : (scripts : List Script) (turns : List Turn) (history : List Stamped) (to : RunsTo scripts turns history)
+    → AtRest scripts (run_for scripts turns to.rounds)
 ended_rests scripts turns history to = done_rests scripts (run_for scripts turns to.rounds) (ap (are_done scripts) (sym to.history_is) ∙ to.done)
 
 pub one_end : (scripts : List Script) (turns : List Turn) (a b : List Stamped) → RunsTo scripts turns a → RunsTo scripts turns b → a ≡ b
@@ -108,7 +115,8 @@ one_end scripts turns a b first second =
     ∙ same_rest scripts turns first.rounds second.rounds (ended_rests scripts turns a first) (ended_rests scripts turns b second)
     ∙ sym second.history_is)
 
-pub ended_isnt_stuck : (scripts : List Script) (turns : List Turn) (history : List Stamped) → RunsTo scripts turns history → GetsStuck scripts turns → ⊥
+pub ended_isnt_stuck : (scripts : List Script) (turns : List Turn) (history : List Stamped) → RunsTo scripts turns history
+    → GetsStuck scripts turns → ⊥
 ended_isnt_stuck scripts turns history to stuck =
     let same = same_rest scripts turns to.rounds stuck.rounds (ended_rests scripts turns history to)
     (stuck_rests scripts (run_for scripts turns stuck.rounds) stuck.stuck) in

@@ -43,11 +43,14 @@ may_within : (h : Header) (s : Standing) (act : Act) → may_act h s act ≡ tru
 unfolding within_test
 may_within h s (Load cell) may = plain_within (plain_words h) (lock_words h) cell may
 may_within h s (Store cell value) may =
-    let both : (nat_lt cell (plain_words h) && nat_lt value (2 ^ 63)) ≡ true = first_true (is_plain (cells_of h) cell && nat_lt value (2 ^ 63)) (is_some s.called) may in
+    let both : (nat_lt cell (plain_words h) && nat_lt value (2 ^ 63))
+      ≡ true = first_true (is_plain (cells_of h) cell && nat_lt value (2 ^ 63)) (is_some s.called) may in
     let low : nat_lt cell (plain_words h) ≡ true = first_true (nat_lt cell (plain_words h)) (nat_lt value (2 ^ 63)) both in
-    ap (λ b. b && nat_lt value (2 ^ 63)) (plain_within (plain_words h) (lock_words h) cell low) ∙ second_true (nat_lt cell (plain_words h)) (nat_lt value (2 ^ 63)) both
+    ap (λ b. b && nat_lt value (2 ^ 63)) (plain_within (plain_words h) (lock_words h) cell low)
+      ∙ second_true (nat_lt cell (plain_words h)) (nat_lt value (2 ^ 63)) both
 may_within h s (Take lock) may =
-    second_true (nat_le (plain_words h) lock) (nat_lt lock (plain_words h + lock_words h)) (first_true (is_lock (cells_of h) lock) (not (holds s lock)) may)
+    second_true (nat_le (plain_words h) lock) (nat_lt lock (plain_words h + lock_words h))
+      (first_true (is_lock (cells_of h) lock) (not (holds s lock)) may)
 may_within h s (Give lock) may =
     second_true (nat_le (plain_words h) lock) (nat_lt lock (plain_words h + lock_words h)) (first_true (is_lock (cells_of h) lock) (holds s lock) may)
 may_within h s (Mark kind) may = refl
@@ -67,7 +70,8 @@ tested n (Give lock) e = grind (arith, nat_tests)
 tested n (Mark kind) e = tt
 tested n Done e = tt
 
-sound_within : (h : Header) (script : Script) → (s : Standing) × IsSound h s script → within_test (plain_words h + lock_words h) (next_act script) ≡ true
+sound_within : (h : Header) (script : Script) → (s : Standing) × IsSound h s script
+    → within_test (plain_words h + lock_words h) (next_act script) ≡ true
 unfolding within_test
 sound_within h stop sound = refl
 sound_within h (step act rest) sound = may_within h sound.0 act sound.1.0
@@ -75,20 +79,23 @@ sound_within h (step act rest) sound = may_within h sound.0 act sound.1.0
 -- what a sound script does next keeps to its memory
 pub within : (h : Header) (script : Script) (n : ℕ) → n ≡ plain_words h + lock_words h → IsSoundSomewhere h script → IsWithin n (next_act script)
 within h script n e sound =
-    subst (λ n. IsWithin n (next_act script)) (sym e) (tested (plain_words h + lock_words h) (next_act script) (∥∥₁_elim sound (Bool-set _ _) (sound_within h script)))
+    subst (λ n. IsWithin n (next_act script)) (sym e)
+      (tested (plain_words h + lock_words h) (next_act script) (∥∥₁_elim sound (Bool-set _ _) (sound_within h script)))
 
 -- an act finds in the memory what it finds in the history
 pub same_event : (h : Header) (earlier : List Stamped) (act : Act) → IsWithin (plain_words h + lock_words h) act
     → event_in (memory_after h earlier) act ≡ event_now earlier act
 same_event h earlier (Load cell) is = ap (λ value. Some (Read cell value)) (element_below (value_in earlier) (plain_words h + lock_words h) cell is)
 same_event h earlier (Store cell value) is = refl
-same_event h earlier (Take lock) is = ap (λ value. cond (value == 0) (Some (Took lock)) None) (element_below (value_in earlier) (plain_words h + lock_words h) lock is)
+same_event h earlier (Take lock) is =
+    ap (λ value. cond (value == 0) (Some (Took lock)) None) (element_below (value_in earlier) (plain_words h + lock_words h) lock is)
 same_event h earlier (Give lock) is = refl
 same_event h earlier (Mark kind) is = refl
 same_event h earlier Done is = refl
 
 -- one element of a list over numbers is changed
-set_from : (f g : ℕ → ℕ) (k n i v : ℕ) → i < n → g (k + i) ≡ v → ((j : ℕ) → j ≢ k + i → f j ≡ g j) → set (map f (numbers_from k n)) i v ≡ map g (numbers_from k n)
+set_from : (f g : ℕ → ℕ) (k n i v : ℕ) → i < n → g (k + i) ≡ v → ((j : ℕ) → j ≢ k + i → f j ≡ g j)
+    → set (map f (numbers_from k n)) i v ≡ map g (numbers_from k n)
 set_from f g k zero i v low is same = absurd (omega (arith, low))
 set_from f g k (suc n) zero v low is same =
     let here : k + 0 ≡ k = omega arith in
@@ -111,7 +118,8 @@ made_there n cell value o apart = by_place (cell == n) refl
     by_place false e = refl
 
 changed_memory : (h : Header) (e : Stamped) (earlier : List Stamped) (cell value : ℕ) → cell < plain_words h + lock_words h
-    → ((n : ℕ) → made_of n e.caller e.did ≡ cond (cell == n) (Some value) None) → set (memory_after h earlier) cell value ≡ memory_after h (e ∷ earlier)
+    → ((n : ℕ) → made_of n e.caller e.did ≡ cond (cell == n) (Some value) None)
+      → set (memory_after h earlier) cell value ≡ memory_after h (e ∷ earlier)
 changed_memory h e earlier cell value low made =
     let here : 0 + cell ≡ cell = omega arith in
     set_from (value_in earlier) (value_in (e ∷ earlier)) 0 (plain_words h + lock_words h) cell value low
@@ -147,8 +155,10 @@ unfolding WithinMemory
 next_memory h earlier number c (Read cell value) is = refl
 next_memory h earlier number c (Wrote cell value) is =
     changed_memory h (record { number = number; caller = c; did = Wrote cell value }) earlier cell value is.0 (λ n. refl)
-next_memory h earlier number c (Took lock) is = changed_memory h (record { number = number; caller = c; did = Took lock }) earlier lock (c + 1) is (λ n. refl)
-next_memory h earlier number c (Gave lock) is = changed_memory h (record { number = number; caller = c; did = Gave lock }) earlier lock 0 is (λ n. refl)
+next_memory h earlier number c (Took lock) is =
+    changed_memory h (record { number = number; caller = c; did = Took lock }) earlier lock (c + 1) is (λ n. refl)
+next_memory h earlier number c (Gave lock) is =
+    changed_memory h (record { number = number; caller = c; did = Gave lock }) earlier lock 0 is (λ n. refl)
 next_memory h earlier number c (Marked kind) is = refl
 
 small_set : (words : List ℕ) (i v : ℕ) → i < length words → v < 2 ^ 63 → ((cell : ℕ) → slice_index words cell < 2 ^ 63) → (cell : ℕ)
@@ -159,7 +169,8 @@ small_set words i v low small all cell = by_place (cell == i) refl
     by_place true e =
         let same : i ≡ cell = grind (arith, nat_tests) in subst (λ j. slice_index (set words i v) j < 2 ^ 63) same
         (subst (λ x. x < 2 ^ 63) (sym (get_or-set_same words i v 0 low)) small)
-    by_place false e = let apart : cell ≢ i = grind (arith, nat_tests) in subst (λ x. x < 2 ^ 63) (sym (get_or-set_other words i cell v 0 apart)) (all cell)
+    by_place false e = let apart : cell ≢ i = grind (arith, nat_tests) in
+        subst (λ x. x < 2 ^ 63) (sym (get_or-set_other words i cell v 0 apart)) (all cell)
 
 next_small : (words : List ℕ) (c : ℕ) (did : Did) → c < 2 ^ 32 → WithinMemory (length words) did → ((cell : ℕ) → slice_index words cell < 2 ^ 63)
     → (cell : ℕ) → slice_index (words_with words c did) cell < 2 ^ 63
@@ -181,10 +192,12 @@ next_length words c (Marked kind) = refl
 pub slice_get-set : {A : Type 0} (xs : List A) (c i : ℕ) (x : A) → c < length xs → slice_get (set xs c x) i ≡ cond (i == c) (Some x) (slice_get xs i)
 slice_get-set [] c i x low = absurd (omega (arith, low))
 slice_get-set (y ∷ xs) zero zero x low = refl
-slice_get-set (y ∷ xs) zero (suc i) x low = let e : (suc i == 0) ≡ false = grind (arith, nat_tests) in ap (λ b. cond b (Some x) (slice_get xs i)) (sym e)
+slice_get-set (y ∷ xs) zero (suc i) x low = let e : (suc i == 0) ≡ false = grind (arith, nat_tests) in
+    ap (λ b. cond b (Some x) (slice_get xs i)) (sym e)
 slice_get-set (y ∷ xs) (suc c) zero x low = let e : (0 == suc c) ≡ false = grind (arith, nat_tests) in ap (λ b. cond b (Some x) (Some y)) (sym e)
 slice_get-set (y ∷ xs) (suc c) (suc i) x low =
-    let e : (suc i == suc c) ≡ (i == c) = grind (arith, nat_tests) in slice_get-set xs c i x (omega arith) ∙ ap (λ b. cond b (Some x) (slice_get xs i)) (sym e)
+    let e : (suc i == suc c) ≡ (i == c) = grind (arith, nat_tests) in slice_get-set xs c i x (omega arith)
+      ∙ ap (λ b. cond b (Some x) (slice_get xs i)) (sym e)
 
 total-set : {M : Type 0} (ahead : M → ℕ) (machines : List M) (c : ℕ) (m n : M) → slice_get machines c ≡ Some m
     → total ahead (set machines c n) + ahead m ≡ total ahead machines + ahead n
@@ -208,23 +221,27 @@ pub record IsTurn {M : Type 0} (h : Header) (header_of : M → Header) (script :
   pub script_is : script n ≡ after_answer (script m) (answer_of did)
 
 -- the act keeps to the memory
-turn_within : {M : Type 0} (h : Header) (header_of : M → Header) (script : M → Script) (machines : List M) (c : ℕ) (m n : M) (words : List ℕ) (did : Did)
+turn_within : {M : Type 0} (h : Header) (header_of : M → Header) (script : M
+    → Script) (machines : List M) (c : ℕ) (m n : M) (words : List ℕ) (did : Did)
     → IsTurn h header_of script machines c m n words did → IsWithin (plain_words h + lock_words h) (next_act (script m))
 turn_within h header_of script machines c m n words did t =
     within h (script m) (plain_words h + lock_words h) refl (subst (λ h. IsSoundSomewhere h (script m)) (t.ready.made c m t.here) t.sound)
 
-turn_did_within : {M : Type 0} (h : Header) (header_of : M → Header) (script : M → Script) (machines : List M) (c : ℕ) (m n : M) (words : List ℕ) (did : Did)
+turn_did_within : {M : Type 0} (h : Header) (header_of : M → Header) (script : M
+    → Script) (machines : List M) (c : ℕ) (m n : M) (words : List ℕ) (did : Did)
     → IsTurn h header_of script machines c m n words did → WithinMemory (plain_words h + lock_words h) did
 turn_did_within h header_of script machines c m n words did t =
     event_within (plain_words h + lock_words h) words (next_act (script m)) did (turn_within h header_of script machines c m n words did t) t.event
 
-pub next_ready : {M : Type 0} (h : Header) (header_of : M → Header) (script : M → Script) (machines : List M) (c : ℕ) (m n : M) (words : List ℕ) (did : Did)
+pub next_ready : {M : Type 0} (h : Header) (header_of : M → Header) (script : M
+    → Script) (machines : List M) (c : ℕ) (m n : M) (words : List ℕ) (did : Did)
     → IsTurn h header_of script machines c m n words did → IsReady h header_of (set machines c n) (words_with words c did)
 next_ready h header_of script machines c m n words did t = record {
   made = λ i x is. by_place i x (i == c) (sym (slice_get-set machines c i n (slice_get_within machines c m t.here)) ∙ is);
   room = next_length words c did ∙ t.ready.room;
   small =
-      next_small words c did t.caller (subst (λ k. WithinMemory k did) (sym t.ready.room) (turn_did_within h header_of script machines c m n words did t)) t.ready.small;
+      next_small words c did t.caller
+        (subst (λ k. WithinMemory k did) (sym t.ready.room) (turn_did_within h header_of script machines c m n words did t)) t.ready.small;
 }
   where
     by_place : (i : ℕ) (x : _) (b : Bool) → cond b (Some n) (slice_get machines i) ≡ Some x → header_of x ≡ h
@@ -232,21 +249,24 @@ next_ready h header_of script machines c m n words did t = record {
     by_place i x false is = t.ready.made i x is
 
 -- the caller's part has one event more, and the others' are as before
-part_here : (c number : ℕ) (did : Did) (earlier : List Stamped) → part_of c (record { number = number; caller = c; did = did } ∷ earlier) ≡ did ∷ part_of c earlier
+part_here : (c number : ℕ) (did : Did) (earlier : List Stamped)
+    → part_of c (record { number = number; caller = c; did = did } ∷ earlier) ≡ did ∷ part_of c earlier
 part_here c number did earlier = ap (λ b. cons_option (cond b (Some did) None) (part_of c earlier)) (same_number c)
 
 part_there : (i c number : ℕ) (did : Did) (earlier : List Stamped) → (c == i) ≡ false
     → part_of i (record { number = number; caller = c; did = did } ∷ earlier) ≡ part_of i earlier
 part_there i c number did earlier apart = ap (λ b. cons_option (cond b (Some did) None) (part_of i earlier)) apart
 
-pub next_playing : {M : Type 0} (h : Header) (header_of : M → Header) (script : M → Script) (machines : List M) (c number : ℕ) (m n : M) (words : List ℕ)
+pub next_playing : {M : Type 0} (h : Header) (header_of : M → Header) (script : M
+    → Script) (machines : List M) (c number : ℕ) (m n : M) (words : List ℕ)
     (did : Did) (history : List Stamped)
     → IsTurn h header_of script machines c m n words did → (scripts : List Script) → IsPlaying h script scripts machines words history
     → IsPlaying h script scripts (set machines c n) (words_with words c did) (history ++ record { number = number; caller = c; did = did } ∷ [])
 next_playing h header_of script machines c number m n words did history t scripts playing = record {
   count = length-set machines c n ∙ playing.count;
   left =
-      λ i x is. ap_left i (newest_first-push history event) (by_place i x (i == c) refl (sym (slice_get-set machines c i n (slice_get_within machines c m t.here)) ∙ is));
+      λ i x is. ap_left i (newest_first-push history event)
+        (by_place i x (i == c) refl (sym (slice_get-set machines c i n (slice_get_within machines c m t.here)) ∙ is));
   words_are = ap (λ words. words_with words c did) playing.words_are
       ∙ next_memory h (newest_first history) number c did (turn_did_within h header_of script machines c m n words did t)
       ∙ ap (memory_after h) (sym (newest_first-push history event));
@@ -271,13 +291,17 @@ next_playing h header_of script machines c number m n words did history t script
         playing.left i x is ∙ ap (left_after (script_of scripts i)) (sym (part_there i c number did (newest_first history) apart))
 
 -- the act of a machine is that of its caller
-pub act_is : {M : Type 0} (h : Header) (script : M → Script) (scripts : List Script) (machines : List M) (words : List ℕ) (history : List Stamped) (c : ℕ) (m : M)
-    → IsPlaying h script scripts machines words history → slice_get machines c ≡ Some m → act_of scripts c (newest_first history) ≡ next_act (script m)
+pub act_is : {M : Type 0} (h : Header) (script : M
+    → Script) (scripts : List Script) (machines : List M) (words : List ℕ) (history : List Stamped) (c : ℕ) (m : M)
+    → IsPlaying h script scripts machines words history → slice_get machines c ≡ Some m
+      → act_of scripts c (newest_first history) ≡ next_act (script m)
 act_is h script scripts machines words history c m playing here = ap next_act (sym (playing.left c m here))
 
 -- the event of a machine is that of its caller
-pub event_is : {M : Type 0} (h : Header) (script : M → Script) (scripts : List Script) (machines : List M) (words : List ℕ) (history : List Stamped) (c : ℕ) (m : M)
-    → IsPlaying h script scripts machines words history → slice_get machines c ≡ Some m → IsWithin (plain_words h + lock_words h) (next_act (script m))
+pub event_is : {M : Type 0} (h : Header) (script : M
+    → Script) (scripts : List Script) (machines : List M) (words : List ℕ) (history : List Stamped) (c : ℕ) (m : M)
+    → IsPlaying h script scripts machines words history → slice_get machines c ≡ Some m
+      → IsWithin (plain_words h + lock_words h) (next_act (script m))
     → event_now (newest_first history) (act_of scripts c (newest_first history)) ≡ event_in words (next_act (script m))
 event_is h script scripts machines words history c m playing here is =
     ap (event_now (newest_first history)) (act_is h script scripts machines words history c m playing here)
@@ -296,7 +320,8 @@ pub element_here : {M : Type 0} (machines : List M) (c : ℕ) (m : M) → c < le
 element_here machines c m low is = slice_get-get_or machines c m low ∙ ap Some (sym is)
 
 -- a turn with an event is the turn of the definition
-pub turn_is : {M : Type 0} (h : Header) (header_of : M → Header) (script : M → Script) (machines : List M) (c : ℕ) (m n : M) (words : List ℕ) (did : Did)
+pub turn_is : {M : Type 0} (h : Header) (header_of : M → Header) (script : M
+    → Script) (machines : List M) (c : ℕ) (m n : M) (words : List ℕ) (did : Did)
     (history : List Stamped)
     → IsTurn h header_of script machines c m n words did → (scripts : List Script) → IsPlaying h script scripts machines words history
     → newest_first (history ++ record { number = length history; caller = c; did = did } ∷ []) ≡ after_turn scripts c (newest_first history)
@@ -307,22 +332,27 @@ turn_is h header_of script machines c m n words did history t scripts playing =
     (sym (event_is h script scripts machines words history c m playing t.here (turn_within h header_of script machines c m n words did t) ∙ t.event))
 
 -- a turn without an event is too
-pub no_turn_is : {M : Type 0} (h : Header) (header_of : M → Header) (script : M → Script) (machines : List M) (c : ℕ) (m : M) (words : List ℕ) (history : List Stamped)
-    → IsReady h header_of machines words → slice_get machines c ≡ Some m → IsSoundSomewhere (header_of m) (script m) → event_in words (next_act (script m)) ≡ None
+pub no_turn_is : {M : Type 0} (h : Header) (header_of : M → Header) (script : M
+    → Script) (machines : List M) (c : ℕ) (m : M) (words : List ℕ) (history : List Stamped)
+    → IsReady h header_of machines words → slice_get machines c ≡ Some m → IsSoundSomewhere (header_of m) (script m)
+      → event_in words (next_act (script m)) ≡ None
     → (scripts : List Script) → IsPlaying h script scripts machines words history → newest_first history ≡ after_turn scripts c (newest_first history)
 no_turn_is h header_of script machines c m words history ready here sound none scripts playing =
     ap (with_event c (newest_first history)) (sym (event_is h script scripts machines words history c m playing here
     (within h (script m) (plain_words h + lock_words h) refl (subst (λ h. IsSoundSomewhere h (script m)) (ready.made c m here) sound)) ∙ none))
 
 -- the act of a machine that is ready keeps to the memory
-pub machine_within : {M : Type 0} (h : Header) (header_of : M → Header) (script : M → Script) (machines : List M) (c : ℕ) (m : M) (words : List ℕ) (act : Act)
+pub machine_within : {M : Type 0} (h : Header) (header_of : M → Header) (script : M
+    → Script) (machines : List M) (c : ℕ) (m : M) (words : List ℕ) (act : Act)
     → IsReady h header_of machines words → slice_get machines c ≡ Some m → IsSoundSomewhere (header_of m) (script m) → act ≡ next_act (script m)
     → IsWithin (length words) act
 machine_within h header_of script machines c m words act ready here sound is =
-    subst (IsWithin (length words)) (sym is) (within h (script m) (length words) ready.room (subst (λ h. IsSoundSomewhere h (script m)) (ready.made c m here) sound))
+    subst (IsWithin (length words)) (sym is)
+      (within h (script m) (length words) ready.room (subst (λ h. IsSoundSomewhere h (script m)) (ready.made c m here) sound))
 
 -- the turn that has been played
-pub turn_played : {M : Type 0} (h : Header) (header_of : M → Header) (script : M → Script) (machines : List M) (c : ℕ) (m n : M) (words later_words : List ℕ) (did : Did)
+pub turn_played : {M : Type 0} (h : Header) (header_of : M → Header) (script : M
+    → Script) (machines : List M) (c : ℕ) (m n : M) (words later_words : List ℕ) (did : Did)
     (history later_history : List Stamped) → IsTurn h header_of script machines c m n words did → later_words ≡ words_with words c did
     → later_history ≡ history ++ record { number = length history; caller = c; did = did } ∷ []
     → HasPlayed h header_of script (c ∷ []) (scene machines words history) (scene (set machines c n) later_words later_history)
@@ -330,14 +360,17 @@ turn_played h header_of script machines c m n words later_words did history late
   ready = subst (IsReady h header_of (set machines c n)) (sym words_are) (next_ready h header_of script machines c m n words did t);
   count = length-set machines c n;
   plays = λ scripts playing. subst (λ words. IsPlaying h script scripts (set machines c n) words later_history) (sym words_are)
-      (subst (IsPlaying h script scripts (set machines c n) (words_with words c did)) (sym history_is) (next_playing h header_of script machines c (length history) m n words did history t scripts playing));
+      (subst (IsPlaying h script scripts (set machines c n) (words_with words c did)) (sym history_is)
+        (next_playing h header_of script machines c (length history) m n words did history t scripts playing));
   history = λ scripts playing. ap newest_first history_is ∙ turn_is h header_of script machines c m n words did history t scripts playing;
 }
 
 -- a turn without an event has been played too
-pub no_turn_played : {M : Type 0} (h : Header) (header_of : M → Header) (script : M → Script) (machines : List M) (c : ℕ) (m : M) (words later_words : List ℕ)
+pub no_turn_played : {M : Type 0} (h : Header) (header_of : M → Header) (script : M
+    → Script) (machines : List M) (c : ℕ) (m : M) (words later_words : List ℕ)
     (history : List Stamped)
-    → IsReady h header_of machines words → slice_get machines c ≡ Some m → IsSoundSomewhere (header_of m) (script m) → event_in words (next_act (script m)) ≡ None
+    → IsReady h header_of machines words → slice_get machines c ≡ Some m → IsSoundSomewhere (header_of m) (script m)
+      → event_in words (next_act (script m)) ≡ None
     → later_words ≡ words
     → HasPlayed h header_of script (c ∷ []) (scene machines words history) (scene machines later_words history)
 no_turn_played h header_of script machines c m words later_words history ready here sound none words_are = record {

@@ -60,7 +60,8 @@ unfolding first_break
 first_break_only h entries only = break_only h [] entries only
 
 -- one event more
-event_only : (h : Header) (c : ℕ) (did : Did) (s : Standing) (log : List Entry) → c < h.callers → may_act h s (act_of_event did) ≡ true → Agrees c s log
+event_only : (h : Header) (c : ℕ) (did : Did) (s : Standing) (log : List Entry) → c < h.callers
+    → may_act h s (act_of_event did) ≡ true → Agrees c s log
     → AreOnlyRaced h log → AreOnlyRaced h (cons_option (logged c did) log)
 event_only h c (Read cell value) s log low may a only = only
 event_only h c (Wrote cell value) s log low may a only = (write_kept h c cell value s log low may a, only)
@@ -98,7 +99,8 @@ pub none_open : (h : Header) (earlier : List Stamped) → AllKeep h earlier → 
     → is_call_open h (filter_map log_entry earlier) ≡ false
 none_open h earlier keep rest = none_any (λ c. is_some (open_call c (filter_map log_entry earlier))) 0 h.callers (λ c from to.
     let low : c < h.callers = omega arith in
-    isnt_open c (standing_in (part_of c earlier)) (filter_map log_entry earlier) (agrees h c earlier (keep c low)) (ap (λ s. is_none s.called) (rest c low)))
+    isnt_open c (standing_in (part_of c earlier)) (filter_map log_entry earlier) (agrees h c earlier (keep c low))
+      (ap (λ s. is_none s.called) (rest c low)))
 
 -- a fault is no broken rule
 fault_isnt : (h : Header) (states : List Amounts) (ps : List (Place Entry)) (line : ℕ) (rule : Rule)
@@ -107,7 +109,8 @@ fault_isnt h states [] line rule e = cc
 fault_isnt h states (place ∷ ps) line rule e = by_fault (fault_at h states place) (fault_isnt h states ps line rule) e
   where
     by_fault : (o : Option Why) → (first_answer (violation_at h states) ps ≡ Some (Malformed line rule) → ⊥)
-        → option_or (option_map (Violation (line_of (position_of place))) o) (first_answer (violation_at h states) ps) ≡ Some (Malformed line rule) → ⊥
+        → option_or (option_map (Violation (line_of (position_of place))) o) (first_answer (violation_at h states) ps)
+          ≡ Some (Malformed line rule) → ⊥
     by_fault None later e = later e
     by_fault (Some why) later e = cc
 
@@ -129,7 +132,8 @@ accepted_isnt : (entries : List Entry) (line : ℕ) (rule : Rule) → accepted e
 unfolding accepted
 accepted_isnt entries line rule e = cc
 
-named_is_broken : (h : Header) (entries : List Entry) (line : ℕ) (rule : Rule) → is_call_open h (newest_first entries) ≡ false → verdict h entries ≡ Malformed line rule
+named_is_broken : (h : Header) (entries : List Entry) (line : ℕ) (rule : Rule) → is_call_open h (newest_first entries) ≡ false
+    → verdict h entries ≡ Malformed line rule
     → first_break h entries ≡ Some rule
 unfolding verdict verdict_so_far shape_verdict end_verdict
 named_is_broken h entries line rule closed e =
@@ -138,7 +142,8 @@ named_is_broken h entries line rule closed e =
     (accepted entries) line rule (first_fault_isnt h (front h entries) line rule) closed (accepted_isnt entries line rule) e
 
 -- in a legal history sound scripts that are played keep to what may be done, and at their end nothing is in hand
-pub all_keep : (h : Header) (scripts : List Script) (history : List Stamped) → AreSoundScripts h scripts → AreLegal (cells_of h) (newest_first history)
+pub all_keep : (h : Header) (scripts : List Script) (history : List Stamped) → AreSoundScripts h scripts
+    → AreLegal (cells_of h) (newest_first history)
     → PlayToTheEnd scripts history → AllKeep h (newest_first history)
 all_keep h scripts history sound legal played c low =
     let part = part_of c (newest_first history) in
@@ -149,7 +154,8 @@ all_rest : (h : Header) (scripts : List Script) (history : List Stamped) → Are
 all_rest h scripts history sound legal played c low =
     let part = part_of c (newest_first history) in
     rests_at_stop h (standing_in part) (left_after (script_of scripts c) part)
-    (sound_left h (script_of scripts c) part (sound.sound c low) (played c).plays (are_answers (cells_of h) (newest_first history) c legal)) (played c).done
+    (sound_left h (script_of scripts c) part (sound.sound c low) (played c).plays
+      (are_answers (cells_of h) (newest_first history) c legal)) (played c).done
 
 -- so a broken rule that is named is that of raced blocks
 pub only_races : (h : Header) (scripts : List Script) (history : List Stamped) → AreSoundScripts h scripts → is_legal (cells_of h) history ≡ true

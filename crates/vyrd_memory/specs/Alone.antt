@@ -68,4 +68,5 @@ pub record MeetsSpecification (h : Header) (op : Op) (script : Script) (c : ℕ)
 
 -- so it does whoever calls it, and from whatever state
 abbrev pub IsRightAlone : Header → Op → Script → Type 0
-IsRightAlone h op script = (c : ℕ) (memory : Memory) (state : Amounts) → state_in h memory ≡ Some state → MeetsSpecification h op script c memory state
+IsRightAlone h op script = (c : ℕ) (memory : Memory) (state : Amounts) → state_in h memory ≡ Some state
+    → MeetsSpecification h op script c memory state

@@ -65,7 +65,8 @@ no_call h s Done called may = may_isnt may
     may_isnt : false ≡ true → true ≡ false
     may_isnt e = sym e
 no_call h s (Mark (Call method args)) called may =
-    absurd (not_both s.called called (idle_called s (second_true (same_subject (subject_of method) h.subject && are_args h.size method args) (is_at_rest s) may)))
+    absurd (not_both s.called called
+      (idle_called s (second_true (same_subject (subject_of method) h.subject && are_args h.size method args) (is_at_rest s) may)))
   where
     not_both : (o : Option Method) → is_some o ≡ true → is_none o ≡ true → ⊥
     not_both None some none = cc
@@ -74,7 +75,8 @@ no_call h s (Mark (Call method args)) called may =
     idle_called : (s : Standing) → is_at_rest s ≡ true → is_none s.called ≡ true
     idle_called s e =
         second_true (holds_none s) (is_none s.called)
-        (first_true (holds_none s && is_none s.called) (not s.committed) (first_true (holds_none s && is_none s.called && not s.committed) (not s.in_block) e))
+        (first_true (holds_none s && is_none s.called) (not s.committed)
+          (first_true (holds_none s && is_none s.called && not s.committed) (not s.in_block) e))
 no_call h s (Mark (Return reply)) called may = refl
 no_call h s (Mark (Write word value)) called may = refl
 no_call h s (Mark Commit) called may = refl
@@ -97,7 +99,8 @@ still_called s (Mark BlockOpen) called goes = called
 still_called s (Mark BlockClose) called goes = called
 still_called s (Mark BlockCommit) called goes = called
 
-next_in_hand : (h : Header) (n : ℕ) (script : Script) (answer : ℕ) → is_return (next_act script) ≡ false → IsAnswer (next_act script) answer → IsInHand h n script
+next_in_hand : (h : Header) (n : ℕ) (script : Script) (answer : ℕ) → is_return (next_act script) ≡ false
+    → IsAnswer (next_act script) answer → IsInHand h n script
     → IsInHand h (n - 1) (after_answer script answer)
 next_in_hand h n stop answer goes is_answer is = absurd is.ends
 next_in_hand h n (step act rest) answer goes is_answer is = record {
@@ -114,7 +117,8 @@ isnt_call h n (step act rest) is = no_call h is.standing act is.called is.sound.
 pub in_hand_isnt_between : (h : Header) (n : ℕ) (script : Script) → InHand h n script → is_between script ≡ false
 in_hand_isnt_between h n script hand = ∥∥₁_elim hand (Bool-set _ _) (isnt_call h n script)
 
-pub in_hand_next : (h : Header) (n : ℕ) (script : Script) (answer : ℕ) → InHand h n script → is_return (next_act script) ≡ false → IsAnswer (next_act script) answer
+pub in_hand_next : (h : Header) (n : ℕ) (script : Script) (answer : ℕ) → InHand h n script → is_return (next_act script) ≡ false
+    → IsAnswer (next_act script) answer
     → InHand h (n - 1) (after_answer script answer)
 in_hand_next h n script answer hand goes is_answer = ∥∥₁_map hand (next_in_hand h n script answer goes is_answer)
 
@@ -122,10 +126,12 @@ pub stop_of : (script : Script) → is_stop script ≡ true → script ≡ stop
 stop_of stop e = refl
 stop_of (step act rest) e = cc
 
-over : (h : Header) (n : ℕ) (script : Script) (answer : ℕ) → is_return (next_act script) ≡ true → IsAnswer (next_act script) answer → IsInHand h n script
+over : (h : Header) (n : ℕ) (script : Script) (answer : ℕ) → is_return (next_act script) ≡ true
+    → IsAnswer (next_act script) answer → IsInHand h n script
     → is_stop (after_answer script answer) ≡ true
 over h n stop answer ends is_answer is = absurd is.ends
-over h n (step act rest) answer ends is_answer is = let zero : answer ≡ 0 = zero_answer act answer ends is_answer in ap (λ a. is_stop (rest a)) zero ∙ is.ends.1 ends
+over h n (step act rest) answer ends is_answer is = let zero : answer ≡ 0 = zero_answer act answer ends is_answer in
+    ap (λ a. is_stop (rest a)) zero ∙ is.ends.1 ends
   where
     zero_answer : (act : Act) (answer : ℕ) → is_return act ≡ true → IsAnswer act answer → answer ≡ 0
     zero_answer (Load cell) answer ends is_answer = cc
@@ -135,6 +141,8 @@ over h n (step act rest) answer ends is_answer is = let zero : answer ≡ 0 = ze
     zero_answer Done answer ends is_answer = cc
     zero_answer (Mark kind) answer ends is_answer = is_answer
 
-pub in_hand_over : (h : Header) (n : ℕ) (script : Script) (answer : ℕ) → InHand h n script → is_return (next_act script) ≡ true → IsAnswer (next_act script) answer
+pub in_hand_over : (h : Header) (n : ℕ) (script : Script) (answer : ℕ) → InHand h n script → is_return (next_act script) ≡ true
+    → IsAnswer (next_act script) answer
     → after_answer script answer ≡ stop
-in_hand_over h n script answer hand ends is_answer = stop_of (after_answer script answer) (∥∥₁_elim hand (Bool-set _ _) (over h n script answer ends is_answer))
+in_hand_over h n script answer hand ends is_answer =
+    stop_of (after_answer script answer) (∥∥₁_elim hand (Bool-set _ _) (over h n script answer ends is_answer))

@@ -35,15 +35,18 @@ AreBounded h body = (op : Op) → is_callable h op ≡ true → EndsByReturn (bo
 
 followed-sound : (h : Header) (s : Standing) (a b : Script) → IsSound h s a → IsSound h at_rest b → IsSound h s (followed_by a b)
 followed-sound h s stop b first then_ = subst (λ s. IsSound h s b) (sym first) then_
-followed-sound h s (step act rest) b first then_ = (first.0, λ answer is. followed-sound h (after_act s act) (rest answer) b (first.1 answer is) then_)
+followed-sound h s (step act rest) b first then_ =
+    (first.0, λ answer is. followed-sound h (after_act s act) (rest answer) b (first.1 answer is) then_)
 
 -- the mark of its call may be left
-callable_mark : (h : Header) (op : Op) → is_callable h op ≡ true → (same_subject (subject_of op.method) h.subject && are_args h.size op.method op.args) ≡ true
+callable_mark : (h : Header) (op : Op) → is_callable h op ≡ true
+    → (same_subject (subject_of op.method) h.subject && are_args h.size op.method op.args) ≡ true
 callable_mark h op e = first_true (same_subject (subject_of op.method) h.subject && are_args h.size op.method op.args) (are_small op.args) e
 
 pub callable_method : (h : Header) (op : Op) → is_callable h op ≡ true → subject_of op.method ≡ h.subject
 callable_method h op e =
-    same_subjects (subject_of op.method) h.subject (first_true (same_subject (subject_of op.method) h.subject) (are_args h.size op.method op.args) (callable_mark h op e))
+    same_subjects (subject_of op.method) h.subject
+      (first_true (same_subject (subject_of op.method) h.subject) (are_args h.size op.method op.args) (callable_mark h op e))
 
 pub callable_args : (h : Header) (op : Op) → is_callable h op ≡ true → are_args h.size op.method op.args ≡ true
 callable_args h op e = second_true (same_subject (subject_of op.method) h.subject) (are_args h.size op.method op.args) (callable_mark h op e)
@@ -51,12 +54,14 @@ callable_args h op e = second_true (same_subject (subject_of op.method) h.subjec
 pub callable_small : (h : Header) (op : Op) → is_callable h op ≡ true → are_small op.args ≡ true
 callable_small h op e = second_true (same_subject (subject_of op.method) h.subject && are_args h.size op.method op.args) (are_small op.args) e
 
-pub operations-sound : (h : Header) (body : Op → Script) (ops : List Op) → AreSound h body → are_callable h ops ≡ true → IsSound h at_rest (operations body ops)
+pub operations-sound : (h : Header) (body : Op → Script) (ops : List Op) → AreSound h body → are_callable h ops ≡ true
+    → IsSound h at_rest (operations body ops)
 operations-sound h body [] each callable = refl
 operations-sound h body (op ∷ ops) each callable = (
   both_true (same_subject (subject_of op.method) h.subject && are_args h.size op.method op.args) true
       (callable_mark h op (first_true (is_callable h op) (are_callable h ops) callable)) refl,
-  λ answer is. followed-sound h (just_called op.method) (body op) (operations body ops) (each op (first_true (is_callable h op) (are_callable h ops) callable))
+  λ answer is. followed-sound h (just_called op.method) (body op) (operations body ops)
+    (each op (first_true (is_callable h op) (are_callable h ops) callable))
       (operations-sound h body ops each (second_true (is_callable h op) (are_callable h ops) callable)),
 )
 
@@ -90,7 +95,9 @@ pub operations-in_time : (h : Header) (body : Op → Script) (ops : List Op) →
     → EndsWithin (first_bound h ops) (operations body ops)
 operations-in_time h body [] each callable = tt
 operations-in_time h body (op ∷ ops) each callable =
-    (bound_is_some h.subject h.size op.method, λ goes answer is. followed-ends (bound_of h op.method - 1) (body op) (operations body ops) (each op (first_true (is_callable h op) (are_callable h ops) callable)))
+    (bound_is_some h.subject h.size op.method,
+      λ goes answer is. followed-ends (bound_of h op.method - 1) (body op) (operations body ops)
+      (each op (first_true (is_callable h op) (are_callable h ops) callable)))
 
 -- what comes next of the operation in hand comes next of all
 pub followed-next : (a b : Script) → next_act a ≢ Done → next_act (followed_by a b) ≡ next_act a
@@ -106,7 +113,8 @@ followed-goes_on stop b goes = absurd (goes refl)
 followed-goes_on (step act rest) b goes = λ e. cc
 
 -- the call of the next operation has its bound
-pub operations-bound : (h : Header) (body : Op → Script) (ops : List Op) (method : Method) (args : Args) → next_act (operations body ops) ≡ Mark (Call method args)
+pub operations-bound : (h : Header) (body : Op → Script) (ops : List Op) (method : Method) (args : Args)
+    → next_act (operations body ops) ≡ Mark (Call method args)
     → first_bound h ops ≡ bound_of h method
 operations-bound h body [] method args e = cc
 operations-bound h body (op ∷ ops) method args e = let same : op.method ≡ method = cc in ap (bound_of h) same
@@ -153,7 +161,8 @@ pub player_between : {P : Type 0} (h : Header) (n : ℕ) (rest : P → Script) (
 player_between h n rest None body ops hand = operations-between body ops
 player_between h n rest (Some p) body ops hand = hand_isnt_between h n rest p body ops hand
 
-pub player_bound : {P : Type 0} (h : Header) (n : ℕ) (rest : P → Script) (progress : Option P) (body : Op → Script) (ops : List Op) (method : Method) (args : Args)
+pub player_bound : {P : Type 0} (h : Header) (n : ℕ) (rest : P → Script) (progress : Option P) (body : Op
+    → Script) (ops : List Op) (method : Method) (args : Args)
     → HandIs h n rest progress → next_act (player_script rest progress body ops) ≡ Mark (Call method args)
     → (if is_some progress then n else first_bound h ops) ≡ bound_of h method
 player_bound h n rest None body ops method args hand e = operations-bound h body ops method args e
@@ -166,7 +175,8 @@ player_within h n later None ops sum = omega (arith, sum, first_bound-within h o
 player_within h n later (Some p) ops sum = omega arith
 
 -- after the return of an operation the next one begins, or none is left
-operations-rests : (body : Op → Script) (ops : List Op) → is_return (next_act (operations body ops)) ≡ true → is_between (after_answer (operations body ops) 0) ≡ true
+operations-rests : (body : Op → Script) (ops : List Op) → is_return (next_act (operations body ops)) ≡ true
+    → is_between (after_answer (operations body ops) 0) ≡ true
 operations-rests body [] ends = cc
 operations-rests body (op ∷ ops) ends = cc
 
@@ -179,18 +189,22 @@ return_answered Done ends = cc
 return_answered (Mark kind) ends = refl
 
 pub player_rests : {P : Type 0} (h : Header) (n : ℕ) (rest : P → Script) (progress : Option P) (body : Op → Script) (ops : List Op)
-    → HandIs h n rest progress → is_return (next_act (player_script rest progress body ops)) ≡ true → is_between (after_answer (player_script rest progress body ops) 0) ≡ true
+    → HandIs h n rest progress → is_return (next_act (player_script rest progress body ops)) ≡ true
+      → is_between (after_answer (player_script rest progress body ops) 0) ≡ true
 player_rests h n rest None body ops hand ends = operations-rests body ops ends
 player_rests h n rest (Some p) body ops hand ends =
     let goes = in_hand_goes_on h n (rest p) hand in
     let ends' : is_return (next_act (rest p)) ≡ true = sym (ap is_return (followed-next (rest p) (operations body ops) goes)) ∙ ends in
-    ap is_between (followed-after (rest p) (operations body ops) 0 goes ∙ ap (λ s. followed_by s (operations body ops)) (in_hand_over h n (rest p) 0 hand ends' (return_answered (next_act (rest p)) ends')))
+    ap is_between (followed-after (rest p) (operations body ops) 0 goes
+      ∙ ap (λ s. followed_by s (operations body ops)) (in_hand_over h n (rest p) 0 hand ends' (return_answered (next_act (rest p)) ends')))
     ∙ operations-between body ops
 
 pub player_done : {P : Type 0} (h : Header) (n later : ℕ) (rest : P → Script) (progress : Option P) (body : Op → Script) (ops : List Op)
-    → later ≡ bounds_of h ops → HandIs h n rest progress → (is_none progress ≡ true → n ≡ 0) → player_script rest progress body ops ≡ stop → n + later ≡ 0
+    → later ≡ bounds_of h ops → HandIs h n rest progress → (is_none progress ≡ true → n ≡ 0)
+      → player_script rest progress body ops ≡ stop → n + later ≡ 0
 player_done h n later rest None body ops sum hand idle e = omega (arith, sum, operations-done h body ops e, idle refl)
-player_done h n later rest (Some p) body ops sum hand idle e = absurd (followed-goes_on (rest p) (operations body ops) (in_hand_goes_on h n (rest p) hand) e)
+player_done h n later rest (Some p) body ops sum hand idle e =
+    absurd (followed-goes_on (rest p) (operations body ops) (in_hand_goes_on h n (rest p) hand) e)
 
 pub player_wants : {P : Type 0} (h : Header) (n : ℕ) (rest : P → Script) (progress : Option P) (p : P) (body : Op → Script) (ops : List Op)
     → HandIs h n rest progress → progress ≡ Some p → next_act (player_script rest progress body ops) ≡ next_act (rest p)
@@ -198,7 +212,8 @@ player_wants h n rest None p body ops hand e = cc
 player_wants h n rest (Some x) p body ops hand e =
     let same : x ≡ p = cc in followed-next (rest x) (operations body ops) (in_hand_goes_on h n (rest x) hand) ∙ ap (λ p. next_act (rest p)) same
 
-pub player_goes_on : {P : Type 0} (h : Header) (n : ℕ) (rest : P → Script) (progress : Option P) (body : Op → Script) (ops : List Op) (answer : ℕ) (new : Script)
+pub player_goes_on : {P : Type 0} (h : Header) (n : ℕ) (rest : P → Script) (progress : Option P) (body : Op
+    → Script) (ops : List Op) (answer : ℕ) (new : Script)
     → HandIs h n rest progress → is_some progress ≡ true → new ≡ after_answer (option_map_or rest progress stop) answer
     → followed_by new (operations body ops) ≡ after_answer (player_script rest progress body ops) answer
 player_goes_on h n rest None body ops answer new hand some e = cc

@@ -54,7 +54,8 @@ pub record IsReady {M : Type 0} (h : Header) (header_of : M → Header) (machine
   pub small : (cell : ℕ) → slice_index words cell < 2 ^ 63
 
 -- Each machine is where its script is after its events, and the words are those that the history leaves.
-pub record IsPlaying {M : Type 0} (h : Header) (script : M → Script) (scripts : List Script) (machines : List M) (words : List ℕ) (history : List Stamped) : Type 0 where
+pub record IsPlaying {M : Type 0} (h : Header) (script : M
+    → Script) (scripts : List Script) (machines : List M) (words : List ℕ) (history : List Stamped) : Type 0 where
   pub count : length machines ≡ length scripts
   pub left : (i : ℕ) (m : M) → slice_get machines i ≡ Some m → script m ≡ left_after (script_of scripts i) (part_of i (newest_first history))
   pub words_are : words ≡ memory_after h (newest_first history)

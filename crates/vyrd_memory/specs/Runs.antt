@@ -62,4 +62,5 @@ TurnsHaveOneEnd = (scripts : List Script) (turns : List Turn) (a b : List Stampe
 
 -- A run by turns that ends doesn't get stuck.
 abbrev pub EndedRunsArentStuck : Type 0
-EndedRunsArentStuck = (scripts : List Script) (turns : List Turn) (history : List Stamped) → RunsTo scripts turns history → GetsStuck scripts turns → ⊥
+EndedRunsArentStuck = (scripts : List Script) (turns : List Turn) (history : List Stamped) → RunsTo scripts turns history
+    → GetsStuck scripts turns → ⊥

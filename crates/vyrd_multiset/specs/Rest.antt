@@ -73,7 +73,8 @@ pairing_rest h first second slot_x slot_y pairing.LockOther = lock h second (val
 pairing_rest h first second slot_x slot_y pairing.Open = validate_both h first second slot_x slot_y
 pairing_rest h first second slot_x slot_y pairing.StoreFirst =
     perform (Store (state_word slot_x) 2) (perform (Store (state_word slot_y) 2) (perform (Mark BlockCommit) (unlock_both h first second)))
-pairing_rest h first second slot_x slot_y pairing.StoreSecond = perform (Store (state_word slot_y) 2) (perform (Mark BlockCommit) (unlock_both h first second))
+pairing_rest h first second slot_x slot_y pairing.StoreSecond =
+    perform (Store (state_word slot_y) 2) (perform (Mark BlockCommit) (unlock_both h first second))
 pairing_rest h first second slot_x slot_y pairing.Close = perform (Mark BlockCommit) (unlock_both h first second)
 pairing_rest h first second slot_x slot_y pairing.UnlockOther = unlock h second (unlock h first (returns 1))
 pairing_rest h first second slot_x slot_y pairing.Unlock = unlock h first (returns 1)

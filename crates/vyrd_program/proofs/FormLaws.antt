@@ -18,8 +18,10 @@ count_of_decimal n small =
     ∙ ap (λ b. b && nat_le 1 n && nat_le n 200000) (bytes_same (decimal n))
 
 -- a number that is out of range, and one in range
-pub no_count : (n : ℕ) (word : List ℕ) → n < 2 ^ 32 → word ≡ decimal n → in_range n ≡ false → ◌≡◌ {A = Option ℕ} None (cond (is_count word) (Some (number_of word)) None)
-no_count n word small is out = sym (ap (λ word. cond (is_count word) (Some (number_of word)) None) is ∙ ap (λ b. cond b (Some (number_of (decimal n))) None) (count_of_decimal n small ∙ out))
+pub no_count : (n : ℕ) (word : List ℕ) → n < 2 ^ 32 → word ≡ decimal n → in_range n ≡ false
+    → ◌≡◌ {A = Option ℕ} None (cond (is_count word) (Some (number_of word)) None)
+no_count n word small is out = sym (ap (λ word. cond (is_count word) (Some (number_of word)) None) is
+    ∙ ap (λ b. cond b (Some (number_of (decimal n))) None) (count_of_decimal n small ∙ out))
 
 pub a_count : (n : ℕ) (word : List ℕ) → n < 2 ^ 32 → word ≡ decimal n → in_range n ≡ true → Some n ≡ cond (is_count word) (Some (number_of word)) None
 a_count n word small is fits = sym (ap (λ word. cond (is_count word) (Some (number_of word)) None) is

@@ -54,15 +54,18 @@ log_judged max (Some input) (Some left) header entries stop low log = by_end log
     whole : input ≡ log.taken ++ left
     whole = same_bytes input (log.taken ++ left) log.told
 
-    by_end : (IsAtEnd (Some left) × IsReadAs (read_whole max log.taken) header entries stop) ⊎ ((has_fault max log.taken ≡ true) × IsReadAs (read_so_far max log.taken) header entries stop)
+    by_end : (IsAtEnd (Some left) × IsReadAs (read_whole max log.taken) header entries stop)
+        ⊎ ((has_fault max log.taken ≡ true) × IsReadAs (read_so_far max log.taken) header entries stop)
         → verdict_read header entries stop ≡ text_verdict max input
     by_end (inl ended) =
         let all : input ≡ log.taken = whole ∙ ap (λ xs. log.taken ++ xs) ended.0 ∙ no_more_bytes log.taken in
         of_reading max input (read_whole max log.taken) header entries stop (ap (read_whole max) all) ended.1
-    by_end (inr broken) = of_reading max input (read_so_far max log.taken) header entries stop (ap (read_whole max) whole ∙ fault_of_whole max log.taken left low broken.0) broken.1
+    by_end (inr broken) = of_reading max input (read_so_far max log.taken) header entries stop (ap (read_whole max) whole
+        ∙ fault_of_whole max log.taken left low broken.0) broken.1
 
 -- What was taken is no more than one read past the shortest beginning with a fault.
-taken_enough : (max : ℕ) (taken left first more : List ℕ) → ((f m : List ℕ) → taken ≡ f ++ m → has_fault max f ≡ true → length taken ≤ length f + longest_read)
+taken_enough : (max : ℕ) (taken left first more : List ℕ)
+    → ((f m : List ℕ) → taken ≡ f ++ m → has_fault max f ≡ true → length taken ≤ length f + longest_read)
     → taken ++ left ≡ first ++ more → has_fault max first ≡ true → length taken ≤ length first + longest_read
 taken_enough max taken left first more bound same faulty = by_length (nat_le (length first) (length taken)) refl
   where
@@ -94,7 +97,8 @@ log_consumed max (Some input) (Some left) header entries stop log = record {
     whole : input ≡ log.taken ++ left
     whole = same_bytes input (log.taken ++ left) log.told
 
-    enough_of : (IsAtEnd (Some left) × IsReadAs (read_whole max log.taken) header entries stop) ⊎ ((has_fault max log.taken ≡ true) × IsReadAs (read_so_far max log.taken) header entries stop)
+    enough_of : (IsAtEnd (Some left) × IsReadAs (read_whole max log.taken) header entries stop)
+        ⊎ ((has_fault max log.taken ≡ true) × IsReadAs (read_so_far max log.taken) header entries stop)
         → (left ≡ []) ⊎ (has_fault max log.taken ≡ true)
     enough_of (inl ended) = inl ended.0
     enough_of (inr broken) = inr broken.0

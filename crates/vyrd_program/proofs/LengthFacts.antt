@@ -33,22 +33,26 @@ size_of_split p (x ∷ xs) = by_test (size_of_split p xs) (p x)
     onto [] some e = absurd (omega arith)
     onto (q ∷ qs) some e = omega arith
 
-    by_test : size_of (slice_split p xs) ≡ length xs + 1 → (b : Bool) → size_of (cond b ([] ∷ slice_split p xs) (onto_first x (slice_split p xs))) ≡ length (x ∷ xs) + 1
+    by_test : size_of (slice_split p xs) ≡ length xs + 1 → (b : Bool)
+        → size_of (cond b ([] ∷ slice_split p xs) (onto_first x (slice_split p xs))) ≡ length (x ∷ xs) + 1
     by_test e true = omega arith
     by_test e false = onto (slice_split p xs) (some_parts p xs) e ∙ omega arith
 
 -- the bytes after the last line feed, where they are no fault
-rest_short : (max n : ℕ) (bad : Rule) (rest : List ℕ) → unfinished_rule (so_far max) n bad rest ≡ None → (length rest ≤ 64) × ((has_any rest && nat_lt max n) ≡ false)
+rest_short : (max n : ℕ) (bad : Rule) (rest : List ℕ) → unfinished_rule (so_far max) n bad rest ≡ None
+    → (length rest ≤ 64) × ((has_any rest && nat_lt max n) ≡ false)
 rest_short max n bad rest e = by_tests (has_any rest && nat_lt max n) (nat_lt 64 (length rest)) refl refl e
   where
     by_tests : (past long : Bool) → (has_any rest && nat_lt max n) ≡ past → nat_lt 64 (length rest) ≡ long
-        → first_broken ((past breaks TooManyLines) ∷ (long breaks bad) ∷ ((has_any rest && false) breaks NoLineFeed) ∷ (false breaks NoEnd) ∷ []) ≡ None
+        → first_broken ((past breaks TooManyLines) ∷ (long breaks bad) ∷ ((has_any rest
+          && false) breaks NoLineFeed) ∷ (false breaks NoEnd) ∷ []) ≡ None
         → (length rest ≤ 64) × ((has_any rest && nat_lt max n) ≡ false)
     by_tests true long p l none = cc
     by_tests false true p l none = cc
     by_tests false false p l none = (not_below_of 64 (length rest) l, p)
 
-last_short : (max n : ℕ) (bad : Rule) (rest : List ℕ) → n ≤ max + 1 → unfinished_rule (so_far max) n bad rest ≡ None → length rest + 1 ≤ 65 * (max + 1 - n) + 1
+last_short : (max n : ℕ) (bad : Rule) (rest : List ℕ) → n ≤ max + 1 → unfinished_rule (so_far max) n bad rest ≡ None
+    → length rest + 1 ≤ 65 * (max + 1 - n) + 1
 last_short max n bad rest within e = by_rest rest (rest_short max n bad rest e)
   where
     by_rest : (r : List ℕ) → (length r ≤ 64) × ((has_any r && nat_lt max n) ≡ false) → length r + 1 ≤ 65 * (max + 1 - n) + 1
@@ -105,15 +109,18 @@ lines_short max subject n line (next ∷ lines) within e =
     Onward : Type 0
     Onward = n + 1 ≤ max + 1 → after.fault ≡ None → size_of (next ∷ lines) ≤ 65 * (max + 1 - (n + 1)) + 1
 
-    one_line : n ≤ max → length line ≤ 64 → size_of (next ∷ lines) ≤ 65 * (max + 1 - (n + 1)) + 1 → length line + 1 + size_of (next ∷ lines) ≤ 65 * (max + 1 - n) + 1
+    one_line : n ≤ max → length line ≤ 64 → size_of (next ∷ lines) ≤ 65 * (max + 1 - (n + 1)) + 1
+        → length line + 1 + size_of (next ∷ lines) ≤ 65 * (max + 1 - n) + 1
     one_line low short more = let fewer : max + 1 - n ≡ (max + 1 - (n + 1)) + 1 = omega arith in omega arith
 
-    by_entry : Onward → n ≤ max → (o : Option Entry) → entry_in subject line ≡ o → (entry_before n o after).fault ≡ None → length line + 1 + size_of (next ∷ lines) ≤ 65 * (max + 1 - n) + 1
+    by_entry : Onward → n ≤ max → (o : Option Entry) → entry_in subject line ≡ o → (entry_before n o after).fault ≡ None
+        → length line + 1 + size_of (next ∷ lines) ≤ 65 * (max + 1 - n) + 1
     by_entry onward low None is e' = cc
     by_entry onward low (Some entry) is e' = one_line low (entry_short subject line entry is) (onward (omega arith) e')
 
     by_tests : Onward → (past is_end : Bool) → nat_lt max n ≡ past → bytes_eq line end_line ≡ is_end
-        → (cond past (stopped n (Some TooManyLines)) (cond is_end (ended (n + 1) (after_end_rule (so_far max) (n + 1) next lines)) (entry_before n (entry_in subject line) after))).fault ≡ None
+        → (cond past (stopped n (Some TooManyLines))
+          (cond is_end (ended (n + 1) (after_end_rule (so_far max) (n + 1) next lines)) (entry_before n (entry_in subject line) after))).fault ≡ None
         → length line + 1 + size_of (next ∷ lines) ≤ 65 * (max + 1 - n) + 1
     by_tests onward true is_end p q e' = cc
     by_tests onward false true p q e' =
@@ -122,14 +129,16 @@ lines_short max subject n line (next ∷ lines) within e =
         omega (arith, end_short line q, nothing_after max (n + 1) next lines (no_fault (n + 1) _ e'))
     by_tests onward false false p q e' = by_entry onward (not_below_of max n p) (entry_in subject line) refl e'
 
-parts_short : (max : ℕ) (parts : List (List ℕ)) → 1 ≤ max → 0 < length parts → (text_read (so_far max) parts).fault ≡ None → size_of parts ≤ 65 * max + 1
+parts_short : (max : ℕ) (parts : List (List ℕ)) → 1 ≤ max → 0 < length parts → (text_read (so_far max) parts).fault ≡ None
+    → size_of parts ≤ 65 * max + 1
 unfolding size_of
 parts_short max [] low some e = absurd (omega arith)
 parts_short max (rest ∷ []) low some e = let s = rest_short max 1 BadHeader rest (no_fault 1 _ e) in omega (arith, s.0)
 parts_short max (line ∷ next ∷ lines) low some e = by_header (header_in line) refl e
   where
     by_header : (r : Result Header Rule) → header_in line ≡ r
-        → (elim r as (λ _. Reading) [ Ok h ↦ header_before h (lines_read (so_far max) h.subject 2 (next ∷ lines)) | Err rule ↦ stopped 1 (Some rule) ]).fault ≡ None
+        → (elim r as (λ _. Reading) [ Ok h ↦ header_before h
+          (lines_read (so_far max) h.subject 2 (next ∷ lines)) | Err rule ↦ stopped 1 (Some rule) ]).fault ≡ None
         → length line + 1 + size_of (next ∷ lines) ≤ 65 * max + 1
     by_header (Ok h) is e' =
         let more = lines_short max h.subject 2 next lines (omega arith) e' in

@@ -26,7 +26,8 @@ no_more_bytes [] = refl
 no_more_bytes (x ∷ xs) = ap (λ ys. x ∷ ys) (no_more_bytes xs)
 
 -- bytes that were taken, and then a piece
-pub taken_more : (before between after : Option (List ℕ)) (taken piece : List ℕ) → IsTaken before taken between → IsTaken between piece after → IsTaken before (taken ++ piece) after
+pub taken_more : (before between after : Option (List ℕ)) (taken piece : List ℕ) → IsTaken before taken between
+    → IsTaken between piece after → IsTaken before (taken ++ piece) after
 taken_more before between None taken piece first then =
     first ∙ ap (option_map (λ left. taken ++ left)) then
 taken_more before between (Some left) taken piece first then =
@@ -60,7 +61,8 @@ begins_with taken piece first more within same =
     ∙ take-append-add first more (length taken - length first)
 
 -- Where bytes have no fault and a piece follows, a beginning of all with a fault is no shorter than they.
-pub begins_later : (max : ℕ) (taken piece first more : List ℕ) → 1 ≤ max → has_fault max taken ≡ false → taken ++ piece ≡ first ++ more → has_fault max first ≡ true
+pub begins_later : (max : ℕ) (taken piece first more : List ℕ) → 1 ≤ max → has_fault max taken ≡ false
+    → taken ++ piece ≡ first ++ more → has_fault max first ≡ true
     → length taken ≤ length first
 begins_later max taken piece first more low fine same faulty = by_length (nat_le (length taken) (length first)) refl
   where
@@ -69,7 +71,8 @@ begins_later max taken piece first more low fine same faulty = by_length (nat_le
     by_length false e =
         let shorter : length first < length taken = grind (arith, nat_tests) in
         let begins : taken ≡ first ++ take (length taken - length first) more = begins_with taken piece first more (omega arith) same in
-        let bad : has_fault max taken ≡ true = ap (has_fault max) begins ∙ fault_lasts max first (take (length taken - length first) more) low faulty in
+        let bad : has_fault max taken ≡ true = ap (has_fault max) begins
+          ∙ fault_lasts max first (take (length taken - length first) more) low faulty in
         absurd (both (has_fault max taken) bad fine)
       where
         both : (b : Bool) → b ≡ true → b ≡ false → ⊥
@@ -77,7 +80,8 @@ begins_later max taken piece first more low fine same faulty = by_length (nat_le
         both false e f = cc
 
 -- before the first read
-pub reading_starts : (before : Option (List ℕ)) (reader : ReaderState) (entries : List Entry) → 1 ≤ reader.max_lines → HasRead reader [] → entries ≡ []
+pub reading_starts : (before : Option (List ℕ)) (reader : ReaderState) (entries : List Entry) → 1 ≤ reader.max_lines
+    → HasRead reader [] → entries ≡ []
     → IsReading before before reader entries 0
 unfolding reading
 reading_starts before reader entries low read none = record {
@@ -94,7 +98,8 @@ reading_starts before reader entries low read none = record {
 pub record Fed (old new : ReaderState) (piece : List ℕ) (before after : List Entry) : Type 0 where
   pub limit : new.max_lines ≡ old.max_lines
   pub read : (bytes : List ℕ) → HasRead old bytes → HasRead new (bytes ++ piece)
-  pub grown : (bytes : List ℕ) → HasRead old bytes → IsGrownBy before (read_so_far old.max_lines bytes).entries after (read_so_far old.max_lines (bytes ++ piece)).entries
+  pub grown : (bytes : List ℕ) → HasRead old bytes
+      → IsGrownBy before (read_so_far old.max_lines bytes).entries after (read_so_far old.max_lines (bytes ++ piece)).entries
 
 length_piece : (n : ℕ) (buffer : List ℕ) → n ≤ length buffer → length (take n buffer) ≡ n
 length_piece n buffer within = length-take n buffer ∙ omega arith
@@ -103,8 +108,10 @@ kept_more : (before after e e' : List Entry) → before ≡ e → IsGrownBy befo
 kept_more before after e e' same grown = grown.one ∙ ap (λ es. es ++ grown.more) same ∙ sym grown.other
 
 -- without a fault the reading goes on
-pub reading_goes_on : (before old_rest new_rest : Option (List ℕ)) (old new : ReaderState) (old_entries new_entries : List Entry) (buffer : List ℕ) (n rounds : ℕ)
-    → IsReading before old_rest old old_entries rounds → Gives old_rest n buffer new_rest → 0 < n → Fed old new (take n buffer) old_entries new_entries
+pub reading_goes_on : (before old_rest new_rest : Option (List ℕ)) (old new : ReaderState) (old_entries new_entries : List Entry)
+    (buffer : List ℕ) (n rounds : ℕ)
+    → IsReading before old_rest old old_entries rounds → Gives old_rest n buffer new_rest → 0 < n
+      → Fed old new (take n buffer) old_entries new_entries
     → ((bytes : List ℕ) → HasRead old bytes → (read_so_far old.max_lines (bytes ++ take n buffer)).fault ≡ None)
     → IsReading before new_rest new new_entries (rounds + 1)
 reading_goes_on before old_rest new_rest old new old_entries new_entries buffer n rounds r gives some fed fine =
@@ -114,14 +121,17 @@ reading_goes_on before old_rest new_rest old new old_entries new_entries buffer 
       told = taken_more before old_rest new_rest r.taken piece r.told gives.bytes;
       read = fed.read r.taken r.read;
       low = subst (λ m. 1 ≤ m) (sym fed.limit) r.low;
-      kept = kept_more old_entries new_entries _ _ r.kept (fed.grown r.taken r.read) ∙ ap (λ m. (read_so_far m (r.taken ++ piece)).entries) (sym fed.limit);
+      kept = kept_more old_entries new_entries _ _ r.kept (fed.grown r.taken r.read)
+        ∙ ap (λ m. (read_so_far m (r.taken ++ piece)).entries) (sym fed.limit);
       fine = ap (λ m. has_fault m (r.taken ++ piece)) fed.limit ∙ ap is_some (fine r.taken r.read);
       rounds_taken = omega (arith, length-append r.taken piece, length_piece n buffer gives.within, r.rounds_taken);
     }
 
 -- at a fault it stops
-pub reading_breaks : (before old_rest new_rest : Option (List ℕ)) (old new : ReaderState) (old_entries new_entries : List Entry) (buffer : List ℕ) (n rounds line : ℕ) (rule : Rule)
-    → IsReading before old_rest old old_entries rounds → Gives old_rest n buffer new_rest → length buffer ≤ longest_read → Fed old new (take n buffer) old_entries new_entries
+pub reading_breaks : (before old_rest new_rest : Option (List ℕ)) (old new : ReaderState) (old_entries new_entries : List Entry)
+    (buffer : List ℕ) (n rounds line : ℕ) (rule : Rule)
+    → IsReading before old_rest old old_entries rounds → Gives old_rest n buffer new_rest → length buffer ≤ longest_read
+      → Fed old new (take n buffer) old_entries new_entries
     → ((bytes : List ℕ) → HasRead old bytes → (read_so_far old.max_lines (bytes ++ take n buffer)).fault ≡ Some (record { line = line; rule = rule }))
     → IsLogRead old.max_lines before new_rest new.header new_entries (Text line rule)
 reading_breaks before old_rest new_rest old new old_entries new_entries buffer n rounds line rule r gives short fed broken =
@@ -139,17 +149,20 @@ reading_breaks before old_rest new_rest old new old_entries new_entries buffer n
         },
       );
       no_more = λ first more same faulty.
-          omega (arith, begins_later old.max_lines r.taken piece first more r.low r.fine same faulty, length-append r.taken piece, length_piece n buffer gives.within, gives.within);
+          omega (arith, begins_later old.max_lines r.taken piece first more r.low r.fine same faulty, length-append r.taken piece,
+            length_piece n buffer gives.within, gives.within);
     }
 
 -- at the source's end it stops too
-pub reading_ends : (before old_rest new_rest : Option (List ℕ)) (reader : ReaderState) (entries : List Entry) (buffer : List ℕ) (rounds : ℕ) (stop : Stop)
+pub reading_ends : (before old_rest new_rest : Option (List ℕ)) (reader : ReaderState) (entries : List Entry) (buffer : List ℕ)
+    (rounds : ℕ) (stop : Stop)
     → IsReading before old_rest reader entries rounds → Gives old_rest 0 buffer new_rest → IsAtEnd new_rest
     → ((bytes : List ℕ) → HasRead reader bytes → stop ≡ stop_of (read_whole reader.max_lines bytes))
     → IsLogRead reader.max_lines before new_rest reader.header entries stop
 reading_ends before old_rest new_rest reader entries buffer rounds stop r gives ended stops =
     let same = whole_same reader.max_lines r.taken in
-    let told : IsTaken before r.taken new_rest = subst (λ bytes. IsTaken before bytes new_rest) (no_more_bytes r.taken) (taken_more before old_rest new_rest r.taken [] r.told gives.bytes) in
+    let told : IsTaken before r.taken new_rest =
+      subst (λ bytes. IsTaken before bytes new_rest) (no_more_bytes r.taken) (taken_more before old_rest new_rest r.taken [] r.told gives.bytes) in
     record {
       taken = r.taken;
       told = told;
@@ -162,7 +175,8 @@ reading_ends before old_rest new_rest reader entries buffer rounds stop r gives 
         },
       );
       no_more = λ first more whole faulty.
-          let bad : has_fault reader.max_lines r.taken ≡ true = ap (has_fault reader.max_lines) whole ∙ fault_lasts reader.max_lines first more r.low faulty in
+          let bad : has_fault reader.max_lines r.taken ≡ true = ap (has_fault reader.max_lines) whole
+            ∙ fault_lasts reader.max_lines first more r.low faulty in
           absurd (both (has_fault reader.max_lines r.taken) bad r.fine);
     }
   where

@@ -35,7 +35,8 @@ played_run : (w : Workload) (run : Run) → KeepsLimits w → IsRunByTurns w run
 played_run w run limits is = run_plays w.header (work_scripts w) w.turns run.history.items (scripts_sound w limits) is.history
 
 -- a verdict about a legal history of played scripts names no rule but that of races
-pub names_only_races : (w : Workload) (run : Run) → KeepsLimits w → is_legal (cells_of w.header) run.history.items ≡ true → PlayToTheEnd (work_scripts w) run.history.items
+pub names_only_races : (w : Workload) (run : Run) → KeepsLimits w → is_legal (cells_of w.header) run.history.items ≡ true
+    → PlayToTheEnd (work_scripts w) run.history.items
     → run.verdict ≡ verdict w.header (log_of run.history.items) → NamesOnlyRaces run
 names_only_races w run limits legal played is = λ line rule e.
     only_races w.header (work_scripts w) run.history.items (scripts_sound w limits) legal played line rule (sym is ∙ e)
@@ -49,7 +50,8 @@ call_is_writable h e fits = by_kind e.kind fits
   where
     by_kind : (kind : Kind) → is_call_of h kind ≡ true → is_writable h.subject (record { caller = e.caller; kind = kind }) ≡ true
     by_kind (Call method args) fits =
-        let range : are_args h.size method args ≡ true = second_true (same_subject (subject_of method) h.subject) (are_args h.size method args) fits in
+        let range : are_args h.size method args
+          ≡ true = second_true (same_subject (subject_of method) h.subject) (are_args h.size method args) fits in
         both_true (same_subject (subject_of method) h.subject) (are_padded (arity_of method) args)
         (first_true (same_subject (subject_of method) h.subject) (are_args h.size method args) fits)
         (first_true (are_padded (arity_of method) args) (not (takes_chunk method) || nat_lt args.a h.size) range)
@@ -60,12 +62,14 @@ call_is_writable h e fits = by_kind e.kind fits
     by_kind BlockClose fits = refl
     by_kind BlockCommit fits = refl
 
-all_writable : (h : Header) (entries : List Entry) → AllByRecursion (λ e. is_call_of h e.kind ≡ true) entries → AllByRecursion (λ e. is_writable h.subject e ≡ true) entries
+all_writable : (h : Header) (entries : List Entry) → AllByRecursion (λ e. is_call_of h e.kind ≡ true) entries
+    → AllByRecursion (λ e. is_writable h.subject e ≡ true) entries
 all_writable h [] fit = tt
 all_writable h (e ∷ entries) fit = (call_is_writable h e fit.0, all_writable h entries fit.1)
 
 -- the log of such a history can be written
-pub log_is_writable : (w : Workload) (run : Run) → KeepsLimits w → is_legal (cells_of w.header) run.history.items ≡ true → PlayToTheEnd (work_scripts w) run.history.items
+pub log_is_writable : (w : Workload) (run : Run) → KeepsLimits w → is_legal (cells_of w.header) run.history.items ≡ true
+    → PlayToTheEnd (work_scripts w) run.history.items
     → AllByRecursion (λ e. is_writable w.header.subject e ≡ true) (log_of run.history.items)
 log_is_writable w run limits legal played =
     all_writable w.header (log_of run.history.items) (calls_fit w.header (work_scripts w) run.history.items (scripts_sound w limits) legal played)
@@ -75,7 +79,8 @@ pub run_is_writable : (w : Workload) (run : Run) → KeepsLimits w → IsRunByTu
 run_is_writable w run limits is = log_is_writable w run limits (legal_run w run limits is) (played_run w run limits is)
 
 -- what was read of an input says what the whole input says
-pub reading_is_input : (before after : Option (List ℕ)) (bytes : List ℕ) → IsInputRead before after bytes → IfSome before (λ input. work_reading bytes ≡ work_reading input)
+pub reading_is_input : (before after : Option (List ℕ)) (bytes : List ℕ) → IsInputRead before after bytes
+    → IfSome before (λ input. work_reading bytes ≡ work_reading input)
 reading_is_input before None bytes is = subst (λ before. IfSome before (λ input. work_reading bytes ≡ work_reading input)) (sym is.told) tt
 reading_is_input before (Some left) bytes is =
     subst (λ before. IfSome before (λ input. work_reading bytes ≡ work_reading input)) (sym is.told) (by_end is.enough)

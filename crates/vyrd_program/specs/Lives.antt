@@ -57,13 +57,15 @@ abbrev pub IsLiveStatus : ℕ → Type 0
 IsLiveStatus status = (status ≤ 2) ⊎ (status ≡ 7) ⊎ (status ≡ 9)
 
 -- the sink has taken the text of that answer
-pub record IsLived (log : Bool) (input : Option (List ℕ)) (status : ℕ) (run : Option Run) (spent : Option Overrun) (before after : Option (List ℕ)) : Type 0 where
+pub record IsLived (log : Bool) (input : Option (List ℕ)) (status : ℕ) (run : Option Run) (spent : Option Overrun)
+    (before after : Option (List ℕ)) : Type 0 where
   pub text : List ℕ
   pub answers : AnswersLive log input status text run spent
   pub written : Appends before after text
 
 -- the sink has taken some of the first bytes of it
-pub record IsLivedInPart (log : Bool) (input : Option (List ℕ)) (run : Option Run) (spent : Option Overrun) (before after : Option (List ℕ)) : Type 0 where
+pub record IsLivedInPart (log : Bool) (input : Option (List ℕ)) (run : Option Run) (spent : Option Overrun)
+    (before after : Option (List ℕ)) : Type 0 where
   pub status : ℕ
   pub text : List ℕ
   pub answers : AnswersLive log input status text run spent

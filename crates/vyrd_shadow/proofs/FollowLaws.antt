@@ -27,9 +27,11 @@ use Rattle.vyrd_shadow.proofs.KeptWrites.{value_kept, words_kept, AllOnce, once_
 pub record Own (c : ℕ) (block : Option (List (ℕ × ℕ))) (entries : List Entry) : Type 0 where
   pub opened : is_some block ≡ has_block c entries
   pub order : has_block c entries ≡ true → words_of (unwrap_or block []) ≡ first_written (block_writes c entries)
-  pub values : (w : ℕ) → has_block c entries ≡ true → first_answer (given_to w) (unwrap_or block []) ≡ first_answer (given_to w) (block_writes c entries)
+  pub values : (w : ℕ) → has_block c entries ≡ true
+      → first_answer (given_to w) (unwrap_or block []) ≡ first_answer (given_to w) (block_writes c entries)
 
-own_of : (kept : Kept) (earlier : List Entry) → HasFollowed kept earlier → (c : ℕ) → c < kept.header.callers → Own c (get_or kept.blocks c None) earlier
+own_of : (kept : Kept) (earlier : List Entry) → HasFollowed kept earlier → (c : ℕ) → c < kept.header.callers
+    → Own c (get_or kept.blocks c None) earlier
 own_of kept earlier followed c low = record {
   opened = followed.blocks c low;
   order = followed.order c low;
@@ -37,7 +39,8 @@ own_of kept earlier followed c low = record {
 }
 
 -- words and blocks make what is kept
-followed_from : (kept : Kept) (earlier : List Entry) → kept.words ≡ words_after kept.header earlier → ((c : ℕ) → c < kept.header.callers → Own c (get_or kept.blocks c None) earlier) → HasFollowed kept earlier
+followed_from : (kept : Kept) (earlier : List Entry) → kept.words ≡ words_after kept.header earlier
+    → ((c : ℕ) → c < kept.header.callers → Own c (get_or kept.blocks c None) earlier) → HasFollowed kept earlier
 followed_from kept earlier words own = record {
   words = words;
   blocks = λ c low. (own c low).opened;
@@ -46,7 +49,8 @@ followed_from kept earlier words own = record {
 }
 
 -- a block whose caller's notions are the same
-own_same : (c : ℕ) (block : Option (List (ℕ × ℕ))) (earlier later : List Entry) → has_block c later ≡ has_block c earlier → block_writes c later ≡ block_writes c earlier
+own_same : (c : ℕ) (block : Option (List (ℕ × ℕ))) (earlier later : List Entry) → has_block c later ≡ has_block c earlier
+    → block_writes c later ≡ block_writes c earlier
     → Own c block earlier → Own c block later
 own_same c block earlier later inside writes own = record {
   opened = own.opened ∙ sym inside;
@@ -55,21 +59,25 @@ own_same c block earlier later inside writes own = record {
 }
 
 -- another caller's entry
-own_other : (d c : ℕ) (kind : Kind) (block : Option (List (ℕ × ℕ))) (earlier : List Entry) → (c == d) ≡ false → Own d block earlier → Own d block (entry c kind ∷ earlier)
+own_other : (d c : ℕ) (kind : Kind) (block : Option (List (ℕ × ℕ))) (earlier : List Entry) → (c == d) ≡ false
+    → Own d block earlier → Own d block (entry c kind ∷ earlier)
 own_other d c kind block earlier other own = own_same d block earlier (entry c kind ∷ earlier)
     (ap (λ o. unwrap_or o false) (other_answer d c open_or_close kind earlier other)) (other_writes d c kind earlier other) own
 
 -- the caller's own block is replaced
-own_next : (n : ℕ) (blocks : List (Option (List (ℕ × ℕ)))) (earlier : List Entry) (c : ℕ) (kind : Kind) (block : Option (List (ℕ × ℕ))) → c < length blocks
+own_next : (n : ℕ) (blocks : List (Option (List (ℕ × ℕ)))) (earlier : List Entry) (c : ℕ) (kind : Kind)
+    (block : Option (List (ℕ × ℕ))) → c < length blocks
     → Own c block (entry c kind ∷ earlier) → ((d : ℕ) → d < n → Own d (get_or blocks d None) earlier)
     → (d : ℕ) → d < n → Own d (get_or (set blocks c block) d None) (entry c kind ∷ earlier)
 own_next n blocks earlier c kind block low own all = λ d low_d. by_same c d
     (λ same. subst (λ x. Own x (get_or (set blocks c block) x None) (entry c kind ∷ earlier)) same
     (subst (λ b. Own c b (entry c kind ∷ earlier)) (sym (get_or-set_same blocks c block None low)) own))
-    (λ other. subst (λ b. Own d b (entry c kind ∷ earlier)) (sym (get_or-set_other blocks c d block None (differs c d other))) (own_other d c kind (get_or blocks d None) earlier other (all d low_d)))
+    (λ other. subst (λ b. Own d b (entry c kind ∷ earlier)) (sym (get_or-set_other blocks c d block None (differs c d other)))
+      (own_other d c kind (get_or blocks d None) earlier other (all d low_d)))
 
 -- a closed block
-own_closed : (c : ℕ) (block : Option (List (ℕ × ℕ))) (entries : List Entry) → is_some block ≡ false → has_block c entries ≡ false → Own c block entries
+own_closed : (c : ℕ) (block : Option (List (ℕ × ℕ))) (entries : List Entry) → is_some block ≡ false → has_block c entries ≡ false
+    → Own c block entries
 own_closed c block entries none out = record {
   opened = none ∙ sym out;
   order = λ e. cc;
@@ -81,8 +89,10 @@ block_write : (d c word value : ℕ) (earlier : List Entry) → has_block d (ent
 block_write d c word value earlier = ap (λ o. unwrap_or o false) (no_answer d c open_or_close (Write word value) earlier refl)
 
 -- a write outside a block
-pub followed_through : (kept : Kept) (earlier : List Entry) (c word value : ℕ) (changed : List ℕ) → c < kept.header.callers → word < plain_words kept.header → is_open kept c ≡ false
-    → HasFollowed kept earlier → HasFollowed (record { header = kept.header; words = set kept.words word value; blocks = kept.blocks; changed = changed }) (entry c (Write word value) ∷ earlier)
+pub followed_through : (kept : Kept) (earlier : List Entry) (c word value : ℕ) (changed : List ℕ) → c < kept.header.callers
+    → word < plain_words kept.header → is_open kept c ≡ false
+    → HasFollowed kept earlier → HasFollowed (record { header = kept.header; words = set kept.words word value;
+      blocks = kept.blocks; changed = changed }) (entry c (Write word value) ∷ earlier)
 followed_through kept earlier c word value changed low low_w closed followed =
     let out : has_block c earlier ≡ false = sym (followed.blocks c low) ∙ closed in
     followed_from _ _
@@ -93,26 +103,33 @@ followed_through kept earlier c word value changed low low_w closed followed =
     (λ other. own_other d c (Write word value) (get_or kept.blocks d None) earlier other (own_of kept earlier followed d low_d)))
 
 -- a write in a block doesn't count yet
-words_held : (h : Header) (earlier : List Entry) (c word value : ℕ) → has_block c earlier ≡ true → words_after h (entry c (Write word value) ∷ earlier) ≡ words_after h earlier
+words_held : (h : Header) (earlier : List Entry) (c word value : ℕ) → has_block c earlier ≡ true
+    → words_after h (entry c (Write word value) ∷ earlier) ≡ words_after h earlier
 unfolding words_after
-words_held h earlier c word value inside = ap (λ b. map (value_after (cond b [] ((word, value) ∷ []) ++ effects earlier)) (numbers_below (plain_words h))) inside
+words_held h earlier c word value inside =
+    ap (λ b. map (value_after (cond b [] ((word, value) ∷ []) ++ effects earlier)) (numbers_below (plain_words h))) inside
 
 own_kept : (c word value : ℕ) (block : Option (List (ℕ × ℕ))) (earlier : List Entry) → has_block c earlier ≡ true → Own c block earlier
     → Own c (Some (insert_entry nat_eq (unwrap_or block []) word value)) (entry c (Write word value) ∷ earlier)
 own_kept c word value block earlier inside own = record {
   opened = sym (block_write c c word value earlier ∙ inside);
-  order = λ e. words_kept word value (unwrap_or block []) ∙ ap (λ ws. with_word ws word) (own.order inside) ∙ ap first_written (sym (own_writes c (Write word value) earlier));
-  values = λ w e. value_kept w word value (unwrap_or block []) ∙ ap (option_or (given_to w (word, value))) (own.values w inside) ∙ ap (first_answer (given_to w)) (sym (own_writes c (Write word value) earlier));
+  order = λ e. words_kept word value (unwrap_or block []) ∙ ap (λ ws. with_word ws word) (own.order inside)
+      ∙ ap first_written (sym (own_writes c (Write word value) earlier));
+  values = λ w e. value_kept w word value (unwrap_or block []) ∙ ap (option_or (given_to w (word, value))) (own.values w inside)
+      ∙ ap (first_answer (given_to w)) (sym (own_writes c (Write word value) earlier));
 }
 
 pub followed_kept : (kept : Kept) (earlier : List Entry) (c word value : ℕ) → c < kept.header.callers → c < length kept.blocks → is_open kept c ≡ true
     → HasFollowed kept earlier
-    → HasFollowed (record { header = kept.header; words = kept.words; blocks = set kept.blocks c (Some (insert_entry nat_eq (kept_writes kept c) word value)); changed = kept.changed }) (entry c (Write word value) ∷ earlier)
+    → HasFollowed (record { header = kept.header; words = kept.words;
+      blocks = set kept.blocks c (Some (insert_entry nat_eq (kept_writes kept c) word value)); changed = kept.changed })
+      (entry c (Write word value) ∷ earlier)
 followed_kept kept earlier c word value low low' opened followed =
     let inside : has_block c earlier ≡ true = sym (followed.blocks c low) ∙ opened in
     followed_from _ _
     (followed.words ∙ sym (words_held kept.header earlier c word value inside))
-    (own_next kept.header.callers kept.blocks earlier c (Write word value) _ low' (own_kept c word value (get_or kept.blocks c None) earlier inside (own_of kept earlier followed c low)) (own_of kept earlier followed))
+    (own_next kept.header.callers kept.blocks earlier c (Write word value) _ low'
+      (own_kept c word value (get_or kept.blocks c None) earlier inside (own_of kept earlier followed c low)) (own_of kept earlier followed))
 
 -- a block is opened
 words_open : (h : Header) (earlier : List Entry) (c : ℕ) → words_after h (entry c BlockOpen ∷ earlier) ≡ words_after h earlier
@@ -127,13 +144,15 @@ own_open c earlier = record {
 }
 
 pub followed_open : (kept : Kept) (earlier : List Entry) (c : ℕ) → c < length kept.blocks → HasFollowed kept earlier
-    → HasFollowed (record { header = kept.header; words = kept.words; blocks = set kept.blocks c (Some []); changed = kept.changed }) (entry c BlockOpen ∷ earlier)
+    → HasFollowed (record { header = kept.header; words = kept.words; blocks = set kept.blocks c (Some []);
+      changed = kept.changed }) (entry c BlockOpen ∷ earlier)
 followed_open kept earlier c low followed =
     followed_from _ _ (followed.words ∙ sym (words_open kept.header earlier c))
     (own_next kept.header.callers kept.blocks earlier c BlockOpen (Some []) low (own_open c earlier) (own_of kept earlier followed))
 
 -- lists of numbers by their places
-is_map : (words : List ℕ) (f : ℕ → ℕ) (k n : ℕ) → length words ≡ n → ((i : ℕ) → i < n → get_or words i 0 ≡ f (k + i)) → words ≡ map f (numbers_from k n)
+is_map : (words : List ℕ) (f : ℕ → ℕ) (k n : ℕ) → length words ≡ n → ((i : ℕ) → i < n → get_or words i 0 ≡ f (k + i))
+    → words ≡ map f (numbers_from k n)
 is_map [] f k zero size all = refl
 is_map [] f k (suc n) size all = absurd (omega arith)
 is_map (x ∷ words) f k zero size all = absurd (omega arith)
@@ -150,19 +169,22 @@ at_map f k (suc n) (suc i) low = at_map f (k + 1) n i (omega arith) ∙ ap f (om
 -- a look-up in two lists of effects
 value_append : (first rest : List (ℕ × ℕ)) (w : ℕ) → value_after (first ++ rest) w ≡ unwrap_or (first_answer (given_to w) first) (value_after rest w)
 value_append first rest w = ap (λ o. unwrap_or o 0) (first_answer-append (given_to w) first rest)
-    ∙ elim (first_answer (given_to w) first) as (λ o. unwrap_or (option_or o (first_answer (given_to w) rest)) 0 ≡ unwrap_or o (unwrap_or (first_answer (given_to w) rest) 0)) [
+    ∙ elim (first_answer (given_to w) first) as (λ o. unwrap_or (option_or o (first_answer (given_to w) rest)) 0
+      ≡ unwrap_or o (unwrap_or (first_answer (given_to w) rest) 0)) [
       | None ↦ refl
       | Some v ↦ refl
     ]
 
 -- a block's writes take effect
-words_close : (h : Header) (earlier : List Entry) (c : ℕ) (kind : Kind) (words : List ℕ) (writes : List (ℕ × ℕ)) → effects_at earlier c kind ≡ block_writes c earlier
+words_close : (h : Header) (earlier : List Entry) (c : ℕ) (kind : Kind) (words : List ℕ) (writes : List (ℕ × ℕ))
+    → effects_at earlier c kind ≡ block_writes c earlier
     → length words ≡ plain_words h → words ≡ words_after h earlier → AllOnce (words_of writes)
     → ((w : ℕ) → first_answer (given_to w) writes ≡ first_answer (given_to w) (block_writes c earlier))
     → with_writes words writes ≡ words_after h (entry c kind ∷ earlier)
 unfolding words_after
 words_close h earlier c kind words writes ends size is once values =
-    is_map (with_writes words writes) (value_after (effects_at earlier c kind ++ effects earlier)) 0 (plain_words h) (length-with_writes words writes ∙ size)
+    is_map (with_writes words writes) (value_after (effects_at earlier c kind ++ effects earlier)) 0 (plain_words h)
+      (length-with_writes words writes ∙ size)
     (λ i low.
     let place : 0 + i ≡ i = omega arith in
     let was : get_or words i 0 ≡ value_after (effects earlier) i
@@ -174,36 +196,48 @@ words_close h earlier c kind words writes ends size is once values =
     ∙ ap (value_after (effects_at earlier c kind ++ effects earlier)) (sym place))
 
 -- a block ends, with a commit or without
-followed_end : (kept : Kept) (earlier : List Entry) (c : ℕ) (kind : Kind) (changed : List ℕ) → effects_at earlier c kind ≡ block_writes c earlier → open_or_close kind ≡ Some false
-    → c < kept.header.callers → c < length kept.blocks → length kept.words ≡ plain_words kept.header → is_open kept c ≡ true → HasFollowed kept earlier
-    → HasFollowed (record { header = kept.header; words = with_writes kept.words (kept_writes kept c); blocks = set kept.blocks c None; changed = changed }) (entry c kind ∷ earlier)
+followed_end : (kept : Kept) (earlier : List Entry) (c : ℕ) (kind : Kind) (changed : List ℕ)
+    → effects_at earlier c kind ≡ block_writes c earlier → open_or_close kind ≡ Some false
+    → c < kept.header.callers → c < length kept.blocks → length kept.words ≡ plain_words kept.header → is_open kept c ≡ true
+      → HasFollowed kept earlier
+    → HasFollowed (record { header = kept.header; words = with_writes kept.words (kept_writes kept c);
+      blocks = set kept.blocks c None; changed = changed }) (entry c kind ∷ earlier)
 followed_end kept earlier c kind changed ends edge low low' size opened followed =
     let inside : has_block c earlier ≡ true = sym (followed.blocks c low) ∙ opened in
     let once : AllOnce (words_of (kept_writes kept c)) = subst AllOnce (sym (followed.order c low inside)) (once_written (block_writes c earlier)) in
-    let out : has_block c (entry c kind ∷ earlier) ≡ false = own_block c kind earlier ∙ ap (λ o. unwrap_or (option_or o (first_answer (by_caller c open_or_close) earlier)) false) edge in
+    let out : has_block c (entry c kind ∷ earlier) ≡ false = own_block c kind earlier
+      ∙ ap (λ o. unwrap_or (option_or o (first_answer (by_caller c open_or_close) earlier)) false) edge in
     followed_from _ _
     (words_close kept.header earlier c kind kept.words (kept_writes kept c) ends size followed.words once (λ w. followed.values c w low inside))
-    (own_next kept.header.callers kept.blocks earlier c kind None low' (own_closed c None (entry c kind ∷ earlier) refl out) (own_of kept earlier followed))
+    (own_next kept.header.callers kept.blocks earlier c kind None low' (own_closed c None (entry c kind ∷ earlier) refl out)
+      (own_of kept earlier followed))
 
 pub followed_close : (kept : Kept) (earlier : List Entry) (c : ℕ) (changed : List ℕ)
-    → c < kept.header.callers → c < length kept.blocks → length kept.words ≡ plain_words kept.header → is_open kept c ≡ true → HasFollowed kept earlier
-    → HasFollowed (record { header = kept.header; words = with_writes kept.words (kept_writes kept c); blocks = set kept.blocks c None; changed = changed }) (entry c BlockClose ∷ earlier)
+    → c < kept.header.callers → c < length kept.blocks → length kept.words ≡ plain_words kept.header → is_open kept c ≡ true
+      → HasFollowed kept earlier
+    → HasFollowed (record { header = kept.header; words = with_writes kept.words (kept_writes kept c);
+      blocks = set kept.blocks c None; changed = changed }) (entry c BlockClose ∷ earlier)
 followed_close kept earlier c changed = followed_end kept earlier c BlockClose changed refl refl
 
 pub followed_commit : (kept : Kept) (earlier : List Entry) (c : ℕ) (changed : List ℕ)
-    → c < kept.header.callers → c < length kept.blocks → length kept.words ≡ plain_words kept.header → is_open kept c ≡ true → HasFollowed kept earlier
-    → HasFollowed (record { header = kept.header; words = with_writes kept.words (kept_writes kept c); blocks = set kept.blocks c None; changed = changed }) (entry c BlockCommit ∷ earlier)
+    → c < kept.header.callers → c < length kept.blocks → length kept.words ≡ plain_words kept.header → is_open kept c ≡ true
+      → HasFollowed kept earlier
+    → HasFollowed (record { header = kept.header; words = with_writes kept.words (kept_writes kept c);
+      blocks = set kept.blocks c None; changed = changed }) (entry c BlockCommit ∷ earlier)
 followed_commit kept earlier c changed = followed_end kept earlier c BlockCommit changed refl refl
 
 -- an entry that is no write and touches no block
-followed_quiet : (kept : Kept) (earlier : List Entry) (c : ℕ) (kind : Kind) → words_after kept.header (entry c kind ∷ earlier) ≡ words_after kept.header earlier → open_or_close kind ≡ None
+followed_quiet : (kept : Kept) (earlier : List Entry) (c : ℕ) (kind : Kind)
+    → words_after kept.header (entry c kind ∷ earlier) ≡ words_after kept.header earlier → open_or_close kind ≡ None
     → ((b : Bool) (writes : List (ℕ × ℕ)) → with_write b kind writes ≡ writes) → HasFollowed kept earlier → HasFollowed kept (entry c kind ∷ earlier)
 followed_quiet kept earlier c kind words edge writes followed =
     followed_from kept (entry c kind ∷ earlier) (followed.words ∙ sym words)
     (λ d low. own_same d (get_or kept.blocks d None) earlier (entry c kind ∷ earlier)
-    (ap (λ o. unwrap_or o false) (no_answer d c open_or_close kind earlier edge)) (writes (c == d) (block_writes d earlier)) (own_of kept earlier followed d low))
+    (ap (λ o. unwrap_or o false) (no_answer d c open_or_close kind earlier edge)) (writes (c == d) (block_writes d earlier))
+      (own_of kept earlier followed d low))
 
-pub followed_call : (kept : Kept) (earlier : List Entry) (c : ℕ) (method : Method) (args : Args) → HasFollowed kept earlier → HasFollowed kept (entry c (Call method args) ∷ earlier)
+pub followed_call : (kept : Kept) (earlier : List Entry) (c : ℕ) (method : Method) (args : Args) → HasFollowed kept earlier
+    → HasFollowed kept (entry c (Call method args) ∷ earlier)
 unfolding words_after
 followed_call kept earlier c method args = followed_quiet kept earlier c (Call method args) refl refl by_test
   where
@@ -211,7 +245,8 @@ followed_call kept earlier c method args = followed_quiet kept earlier c (Call m
     by_test true writes = refl
     by_test false writes = refl
 
-pub followed_return : (kept : Kept) (earlier : List Entry) (c reply : ℕ) → HasFollowed kept earlier → HasFollowed kept (entry c (Return reply) ∷ earlier)
+pub followed_return : (kept : Kept) (earlier : List Entry) (c reply : ℕ) → HasFollowed kept earlier
+    → HasFollowed kept (entry c (Return reply) ∷ earlier)
 unfolding words_after
 followed_return kept earlier c reply = followed_quiet kept earlier c (Return reply) refl refl by_test
   where
@@ -232,10 +267,12 @@ alike zero c block = refl
 alike (suc n) zero block = refl
 alike (suc n) (suc c) block = alike n c block
 
-pub followed_none : (h : Header) (changed : List ℕ) → HasFollowed (record { header = h; words = replicate (plain_words h) 0; blocks = replicate h.callers None; changed = changed }) []
+pub followed_none : (h : Header) (changed : List ℕ)
+    → HasFollowed (record { header = h; words = replicate (plain_words h) 0; blocks = replicate h.callers None; changed = changed }) []
 unfolding words_after
 followed_none h changed = followed_from _ _
-    (is_map (replicate (plain_words h) 0) (value_after []) 0 (plain_words h) (length-replicate {A = ℕ} (plain_words h) 0) (λ i low. zeros (plain_words h) i))
+    (is_map (replicate (plain_words h) 0) (value_after []) 0 (plain_words h) (length-replicate {A = ℕ} (plain_words h) 0)
+      (λ i low. zeros (plain_words h) i))
     (λ c low. own_closed c (get_or (replicate h.callers None) c None) [] (ap is_some (alike h.callers c None)) refl)
 
 -- what follows from an `Ok`

@@ -16,17 +16,21 @@ use Rattle.vyrd_shadow.specs.Blocks.{with_writes, with_word, first_written, AreI
 pub differs : (k d : ℕ) → (k == d) ≡ false → d ≢ k
 differs k d e = grind (arith, nat_tests)
 
-twice : (v u : ℕ) (rest : Option ℕ) (b : Bool) → option_or (cond b (Some v) None) rest ≡ option_or (cond b (Some v) None) (option_or (cond b (Some u) None) rest)
+twice : (v u : ℕ) (rest : Option ℕ) (b : Bool)
+    → option_or (cond b (Some v) None) rest ≡ option_or (cond b (Some v) None) (option_or (cond b (Some u) None) rest)
 twice v u rest true = refl
 twice v u rest false = refl
 
-same_place : (w k v q u : ℕ) (rest : Option ℕ) → k ≡ q → option_or (given_to w (q, v)) rest ≡ option_or (given_to w (k, v)) (option_or (given_to w (q, u)) rest)
+same_place : (w k v q u : ℕ) (rest : Option ℕ) → k ≡ q
+    → option_or (given_to w (q, v)) rest ≡ option_or (given_to w (k, v)) (option_or (given_to w (q, u)) rest)
 same_place w k v q u rest e =
-    subst (λ x. option_or (cond (x == w) (Some v) None) rest ≡ option_or (cond (k == w) (Some v) None) (option_or (cond (x == w) (Some u) None) rest)) e
+    subst (λ x. option_or (cond (x == w) (Some v) None) rest
+      ≡ option_or (cond (k == w) (Some v) None) (option_or (cond (x == w) (Some u) None) rest)) e
     (twice v u rest (k == w))
 
 swapped : (v u : ℕ) (rest : Option ℕ) (a b : Bool) → (a ≡ true → b ≡ true → ⊥)
-    → option_or (cond a (Some u) None) (option_or (cond b (Some v) None) rest) ≡ option_or (cond b (Some v) None) (option_or (cond a (Some u) None) rest)
+    → option_or (cond a (Some u) None) (option_or (cond b (Some v) None) rest)
+      ≡ option_or (cond b (Some v) None) (option_or (cond a (Some u) None) rest)
 swapped v u rest true true apart = absurd (apart refl refl)
 swapped v u rest true false apart = refl
 swapped v u rest false true apart = refl
@@ -37,18 +41,24 @@ other_place : (w k v q u : ℕ) (rest : Option ℕ) → (k == q) ≡ false
 other_place w k v q u rest e = swapped v u rest (q == w) (k == w) (λ f g. differs k q e (same_of q w f ∙ sym (same_of k w g)))
 
 -- an insertion, by whether the key is the first one
-inserted : (k v q u : ℕ) (es : List (ℕ × ℕ)) (b : Bool) → (k == q) ≡ b → insert_entry nat_eq ((q, u) ∷ es) k v ≡ cond b ((q, v) ∷ es) ((q, u) ∷ insert_entry nat_eq es k v)
+inserted : (k v q u : ℕ) (es : List (ℕ × ℕ)) (b : Bool) → (k == q) ≡ b
+    → insert_entry nat_eq ((q, u) ∷ es) k v ≡ cond b ((q, v) ∷ es) ((q, u) ∷ insert_entry nat_eq es k v)
 inserted k v q u es b e = ap (λ b. cond b ((q, v) ∷ es) ((q, u) ∷ insert_entry nat_eq es k v)) e
 
 -- the value of a word among the writes of a block, with one more
-pub value_kept : (w k v : ℕ) (es : List (ℕ × ℕ)) → first_answer (given_to w) (insert_entry nat_eq es k v) ≡ option_or (given_to w (k, v)) (first_answer (given_to w) es)
+pub value_kept : (w k v : ℕ) (es : List (ℕ × ℕ))
+    → first_answer (given_to w) (insert_entry nat_eq es k v) ≡ option_or (given_to w (k, v)) (first_answer (given_to w) es)
 value_kept w k v [] = refl
 value_kept w k v ((q, u) ∷ es) = by_place (k == q) refl (value_kept w k v es)
   where
-    by_place : (b : Bool) → (k == q) ≡ b → first_answer (given_to w) (insert_entry nat_eq es k v) ≡ option_or (given_to w (k, v)) (first_answer (given_to w) es)
-        → first_answer (given_to w) (insert_entry nat_eq ((q, u) ∷ es) k v) ≡ option_or (given_to w (k, v)) (option_or (given_to w (q, u)) (first_answer (given_to w) es))
-    by_place true e rest = ap (first_answer (given_to w)) (inserted k v q u es true e) ∙ same_place w k v q u (first_answer (given_to w) es) (same_of k q e)
-    by_place false e rest = ap (first_answer (given_to w)) (inserted k v q u es false e) ∙ ap (option_or (given_to w (q, u))) rest ∙ other_place w k v q u (first_answer (given_to w) es) e
+    by_place : (b : Bool) → (k == q) ≡ b
+        → first_answer (given_to w) (insert_entry nat_eq es k v) ≡ option_or (given_to w (k, v)) (first_answer (given_to w) es)
+        → first_answer (given_to w) (insert_entry nat_eq ((q, u) ∷ es) k v)
+          ≡ option_or (given_to w (k, v)) (option_or (given_to w (q, u)) (first_answer (given_to w) es))
+    by_place true e rest = ap (first_answer (given_to w)) (inserted k v q u es true e)
+        ∙ same_place w k v q u (first_answer (given_to w) es) (same_of k q e)
+    by_place false e rest = ap (first_answer (given_to w)) (inserted k v q u es false e) ∙ ap (option_or (given_to w (q, u))) rest
+        ∙ other_place w k v q u (first_answer (given_to w) es) e
 
 -- the words of a block, with one more write
 pub words_kept : (k v : ℕ) (es : List (ℕ × ℕ)) → keys_of (insert_entry nat_eq es k v) ≡ with_word (keys_of es) k
@@ -59,8 +69,10 @@ words_kept k v ((q, u) ∷ es) = by_place (k == q) refl (words_kept k v es)
     pushed true = refl
     pushed false = refl
 
-    by_place : (b : Bool) → (k == q) ≡ b → keys_of (insert_entry nat_eq es k v) ≡ with_word (keys_of es) k → keys_of (insert_entry nat_eq ((q, u) ∷ es) k v) ≡ with_word (q ∷ keys_of es) k
-    by_place true e rest = ap keys_of (inserted k v q u es true e) ∙ ap (λ b. cond (b || list_any (λ other. k == other) (keys_of es)) (q ∷ keys_of es) ((q ∷ keys_of es) ++ k ∷ [])) (sym e)
+    by_place : (b : Bool) → (k == q) ≡ b → keys_of (insert_entry nat_eq es k v) ≡ with_word (keys_of es) k
+        → keys_of (insert_entry nat_eq ((q, u) ∷ es) k v) ≡ with_word (q ∷ keys_of es) k
+    by_place true e rest = ap keys_of (inserted k v q u es true e)
+        ∙ ap (λ b. cond (b || list_any (λ other. k == other) (keys_of es)) (q ∷ keys_of es) ((q ∷ keys_of es) ++ k ∷ [])) (sym e)
     by_place false e rest = ap keys_of (inserted k v q u es false e) ∙ ap (λ t. q ∷ t) rest ∙ pushed (list_any (λ other. k == other) (keys_of es))
         ∙ ap (λ b. cond (b || list_any (λ other. k == other) (keys_of es)) (q ∷ keys_of es) ((q ∷ keys_of es) ++ k ∷ [])) (sym e)
 
@@ -114,11 +126,13 @@ unfolding AllOnce
 value_with words [] w low once = refl
 value_with words ((q, u) ∷ es) w low once = by_place (q == w) refl (value_with (set words q u) es w (omega (arith, length-set words q u)) once.1)
   where
-    by_place : (b : Bool) → (q == w) ≡ b → get_or (with_writes (set words q u) es) w 0 ≡ unwrap_or (first_answer (given_to w) es) (get_or (set words q u) w 0)
+    by_place : (b : Bool) → (q == w) ≡ b
+        → get_or (with_writes (set words q u) es) w 0 ≡ unwrap_or (first_answer (given_to w) es) (get_or (set words q u) w 0)
         → get_or (with_writes (set words q u) es) w 0 ≡ unwrap_or (option_or (given_to w (q, u)) (first_answer (given_to w) es)) (get_or words w 0)
     by_place true e rest =
         let place : q ≡ w = same_of q w e in
-        let none : first_answer (given_to w) es ≡ None = no_value w es (subst (λ x. list_any (λ other. x == other) (keys_of es) ≡ false) place once.0) in
+        let none : first_answer (given_to w) es
+          ≡ None = no_value w es (subst (λ x. list_any (λ other. x == other) (keys_of es) ≡ false) place once.0) in
         rest ∙ ap (λ o. unwrap_or o (get_or (set words q u) w 0)) none
         ∙ subst (λ x. get_or (set words x u) w 0 ≡ u) (sym place) (get_or-set_same words w u 0 low)
         ∙ ap (λ b. unwrap_or (option_or (cond b (Some u) None) (first_answer (given_to w) es)) (get_or words w 0)) (sym e)
@@ -134,7 +148,8 @@ below_set (a ∷ l) zero x m all low (suc q) = all (suc q)
 below_set (a ∷ l) (suc w) x m all low zero = all zero
 below_set (a ∷ l) (suc w) x m all low (suc q) = below_set l w x m (λ p. all (suc p)) low q
 
-pub below_with : (words : List ℕ) (n : ℕ) (es : List (ℕ × ℕ)) → ((q : ℕ) → get_or words q 0 < 2 ^ 63) → AreInRange n es → (q : ℕ) → get_or (with_writes words es) q 0 < 2 ^ 63
+pub below_with : (words : List ℕ) (n : ℕ) (es : List (ℕ × ℕ)) → ((q : ℕ) → get_or words q 0 < 2 ^ 63) → AreInRange n es → (q : ℕ)
+    → get_or (with_writes words es) q 0 < 2 ^ 63
 below_with words n [] all in_range q = all q
 below_with words n ((w, v) ∷ es) all in_range q = below_with (set words w v) n es (below_set words w v (2 ^ 63) all in_range.1) in_range.2 q
 

@@ -21,7 +21,8 @@ record Rest (h : Header) (words changed : List ℕ) (count capacity : ℕ) : Typ
   changed_words : All (λ w. w < plain_words h) changed
   room : length changed + count ≤ capacity
 
-sound_set : (h : Header) (words : List ℕ) (blocks : List (Option (List (ℕ × ℕ)))) (changed : List ℕ) (count capacity : ℕ) → IsSound h words blocks changed count capacity
+sound_set : (h : Header) (words : List ℕ) (blocks : List (Option (List (ℕ × ℕ)))) (changed : List ℕ) (count capacity : ℕ)
+    → IsSound h words blocks changed count capacity
     → (c : ℕ) (block : Option (List (ℕ × ℕ))) → c < h.callers → AreInRange (plain_words h) (unwrap_or block [])
     → (words' changed' : List ℕ) (count' capacity' : ℕ) → count' + length (unwrap_or (get_or blocks c None) []) ≡ count + length (unwrap_or block [])
     → Rest h words' changed' count' capacity' → IsSound h words' (set blocks c block) changed' count' capacity'
@@ -31,8 +32,10 @@ sound_set h words blocks changed count capacity sound c block low in_range words
   values = rest.values;
   writes = λ d. by_same c d
       (λ same. subst (λ x. AreInRange (plain_words h) (unwrap_or (get_or (set blocks c block) x None) [])) same
-      (subst (λ b. AreInRange (plain_words h) (unwrap_or b [])) (sym (get_or-set_same blocks c block None (omega (arith, sound.all_blocks)))) in_range))
-      (λ other. subst (λ b. AreInRange (plain_words h) (unwrap_or b [])) (sym (get_or-set_other blocks c d block None (differs c d other))) (sound.writes d));
+      (subst (λ b. AreInRange (plain_words h) (unwrap_or b []))
+        (sym (get_or-set_same blocks c block None (omega (arith, sound.all_blocks)))) in_range))
+      (λ other. subst (λ b. AreInRange (plain_words h) (unwrap_or b []))
+        (sym (get_or-set_other blocks c d block None (differs c d other))) (sound.writes d));
   changed_words = rest.changed_words;
   counted =
       let sums : kept_count (set blocks c block) + length (unwrap_or (get_or blocks c None) []) ≡ kept_count blocks + length (unwrap_or block [])
@@ -49,16 +52,20 @@ kept_at_most blocks c low =
     omega (arith, sums)
 
 -- one more write is kept back
-pub sound_kept : (h : Header) (words : List ℕ) (blocks : List (Option (List (ℕ × ℕ)))) (changed : List ℕ) (count capacity : ℕ) → IsSound h words blocks changed count capacity
+pub sound_kept : (h : Header) (words : List ℕ) (blocks : List (Option (List (ℕ × ℕ)))) (changed : List ℕ) (count capacity : ℕ)
+    → IsSound h words blocks changed count capacity
     → (c word value : ℕ) (read block : Option (List (ℕ × ℕ))) → c < h.callers → word < plain_words h → value < 2 ^ 63
     → read ≡ get_or blocks c None → block ≡ Some (insert_entry nat_eq (unwrap_or read []) word value)
-    → (changed' : List ℕ) (more count' capacity' : ℕ) → changed' ≡ changed → length (unwrap_or block []) ≡ length (unwrap_or read []) + more → count' ≡ count + more → length changed' + count' ≤ capacity'
+    → (changed' : List ℕ) (more count' capacity' : ℕ) → changed' ≡ changed
+      → length (unwrap_or block []) ≡ length (unwrap_or read []) + more → count' ≡ count + more → length changed' + count' ≤ capacity'
     → IsSound h words (set blocks c block) changed' count' capacity'
 sound_kept h words blocks changed count capacity sound c word value read block low low_w small is new changed' more count' capacity' same longer counts room =
     let size : length (unwrap_or read []) ≡ length (unwrap_or (get_or blocks c None) []) = ap (λ b. length (unwrap_or b [])) is in
-    let in_range : AreInRange (plain_words h) (unwrap_or read []) = subst (λ b. AreInRange (plain_words h) (unwrap_or b [])) (sym is) (sound.writes c) in
+    let in_range : AreInRange (plain_words h) (unwrap_or read []) =
+      subst (λ b. AreInRange (plain_words h) (unwrap_or b [])) (sym is) (sound.writes c) in
     let more_in_range = in_range_kept (plain_words h) word value (unwrap_or read []) low_w small in_range in
-    sound_set h words blocks changed count capacity sound c block low (subst (λ b. AreInRange (plain_words h) (unwrap_or b [])) (sym new) more_in_range)
+    sound_set h words blocks changed count capacity sound c block low
+      (subst (λ b. AreInRange (plain_words h) (unwrap_or b [])) (sym new) more_in_range)
     words changed' count' capacity' (omega arith)
     (record {
       all_words = sound.all_words;
@@ -68,9 +75,11 @@ sound_kept h words blocks changed count capacity sound c word value read block l
     })
 
 -- a block's writes take effect
-pub sound_closed : (h : Header) (words : List ℕ) (blocks : List (Option (List (ℕ × ℕ)))) (changed : List ℕ) (count capacity : ℕ) → IsSound h words blocks changed count capacity
+pub sound_closed : (h : Header) (words : List ℕ) (blocks : List (Option (List (ℕ × ℕ)))) (changed : List ℕ) (count capacity : ℕ)
+    → IsSound h words blocks changed count capacity
     → (c : ℕ) → c < h.callers → (count' capacity' : ℕ) → count' ≡ count - length (unwrap_or (get_or blocks c None) []) → capacity ≤ capacity'
-    → IsSound h (with_writes words (unwrap_or (get_or blocks c None) [])) (set blocks c None) (changed ++ keys_of (unwrap_or (get_or blocks c None) [])) count' capacity'
+    → IsSound h (with_writes words (unwrap_or (get_or blocks c None) [])) (set blocks c None)
+      (changed ++ keys_of (unwrap_or (get_or blocks c None) [])) count' capacity'
 sound_closed h words blocks changed count capacity sound c low count' capacity' counts more =
     let writes = unwrap_or (get_or blocks c None) [] in
     let few = kept_at_most blocks c (omega (arith, low, sound.all_blocks)) in
@@ -79,12 +88,14 @@ sound_closed h words blocks changed count capacity sound c low count' capacity' 
     (record {
       all_words = length-with_writes words writes ∙ sound.all_words;
       values = below_with words (plain_words h) writes sound.values (sound.writes c);
-      changed_words = All-append (λ w. w < plain_words h) changed (keys_of writes) sound.changed_words (keys_below (plain_words h) writes (sound.writes c));
+      changed_words = All-append (λ w. w < plain_words h) changed (keys_of writes) sound.changed_words
+          (keys_below (plain_words h) writes (sound.writes c));
       room = omega (arith, few, sound.counted, sound.room, length-append changed (keys_of writes), length-map writes (λ e. e.0));
     })
 
 -- words that were lent whole have the writes of the block that was read
-pub effect_is : (n : ℕ) (new lent words : List ℕ) (read block : Option (List (ℕ × ℕ))) → n ≡ length words → lent ≡ words → read ≡ block → new ≡ with_writes lent (unwrap_or read [])
+pub effect_is : (n : ℕ) (new lent words : List ℕ) (read block : Option (List (ℕ × ℕ))) → n ≡ length words → lent ≡ words
+    → read ≡ block → new ≡ with_writes lent (unwrap_or read [])
     → take n (new ++ drop (length new) words) ≡ with_writes words (unwrap_or block [])
 effect_is n new lent words read block size same is effect =
     let whole : new ≡ with_writes words (unwrap_or block []) = effect ∙ (λ i. with_writes (same i) (unwrap_or (is i) [])) in

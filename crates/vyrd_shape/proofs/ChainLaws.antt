@@ -51,11 +51,13 @@ chain_other h by_word links first (v ∷ ws) w x y free other chain =
 chain_link : (h : ℕ) (by_word links : List ℕ) (first : ℕ) (ws : List ℕ) (w y : ℕ)
     → get_or by_word w 0 ≢ h → IsChain h by_word links first ws → IsChain h by_word (set links w y) first ws
 chain_link h by_word links first ws w y free chain =
-    subst (λ b. IsChain h b (set links w y) first ws) (set-get_or by_word w 0) (chain_other h by_word links first ws w (get_or by_word w 0) y free free chain)
+    subst (λ b. IsChain h b (set links w y) first ws) (set-get_or by_word w 0)
+      (chain_other h by_word links first ws w (get_or by_word w 0) y free free chain)
 
 -- a free word is put before the holder's words
 pub chain_more : (h : ℕ) (by_word links : List ℕ) (first : ℕ) (ws : List ℕ) (w : ℕ)
-    → w < length by_word → w < length links → get_or by_word w 0 ≡ 0 → 0 ≢ h → IsChain h by_word links first ws → IsChain h (set by_word w h) (set links w first) (w + 1) (w ∷ ws)
+    → w < length by_word → w < length links → get_or by_word w 0 ≡ 0 → 0 ≢ h → IsChain h by_word links first ws
+      → IsChain h (set by_word w h) (set links w first) (w + 1) (w ∷ ws)
 chain_more h by_word links first ws w low low' free some chain =
     let back : set (set by_word w h) w 0 ≡ by_word = set-set_same by_word w h 0 ∙ ap (set by_word w) (sym free) ∙ set-get_or by_word w 0 in
     let free' : get_or by_word w 0 ≢ h = λ e. some (sym free ∙ e) in
@@ -96,7 +98,8 @@ chain_released g h by_word links first (w ∷ ws) some other chain =
     = map-set (released g) by_word w 0 ∙ ap (set (map (released g) by_word) w) (released_zero g) in (
       chain.0,
       released_at g by_word w ∙ ap (released g) chain.1 ∙ released_other g h other,
-      subst (λ b. IsChain h b links (get_or links w 0) ws) moved (chain_released g h (set by_word w 0) links (get_or links w 0) ws some other chain.2),
+      subst (λ b. IsChain h b links (get_or links w 0) ws) moved
+        (chain_released g h (set by_word w 0) links (get_or links w 0) ws some other chain.2),
     )
 
 -- after it has let go, a holder has no word
@@ -116,7 +119,8 @@ released_absent g [] none = refl
 released_absent g (x ∷ l) none = λ i. released_other g x (none 0) i ∷ released_absent g l (λ w. none (suc w)) i
 
 -- where the links end, the list is released
-pub chain_ends : (g : ℕ) (by_word links : List ℕ) (first : ℕ) (ws : List ℕ) → first ≡ 0 → IsChain g by_word links first ws → map (released g) by_word ≡ by_word
+pub chain_ends : (g : ℕ) (by_word links : List ℕ) (first : ℕ) (ws : List ℕ) → first ≡ 0 → IsChain g by_word links first ws
+    → map (released g) by_word ≡ by_word
 chain_ends g by_word links first [] ends chain = released_absent g by_word chain.1
 chain_ends g by_word links first (w ∷ ws) ends chain = absurd (omega (arith, chain.0))
 
@@ -137,7 +141,8 @@ within_list [] w h held some = absurd (omega arith)
 within_list (x ∷ l) zero h held some = omega arith
 within_list (x ∷ l) (suc w) h held some = let e = within_list l w h held some in omega arith
 
-pub head_of : (holder : ℕ) (by_word links : List ℕ) (first : ℕ) → 0 < holder → 0 < first → IsLinked holder by_word links first → Head holder by_word links first
+pub head_of : (holder : ℕ) (by_word links : List ℕ) (first : ℕ) → 0 < holder → 0 < first → IsLinked holder by_word links first
+    → Head holder by_word links first
 head_of holder by_word links first some more linked = by_words linked.words linked.chain
   where
     by_words : (ws : List ℕ) → IsChain holder by_word links first ws → Head holder by_word links first
@@ -153,11 +158,14 @@ head_of holder by_word links first some more linked = by_words linked.words link
           };
         }
 
-pub linked_ends : (holder : ℕ) (by_word links : List ℕ) (first : ℕ) → first ≡ 0 → IsLinked holder by_word links first → map (released holder) by_word ≡ by_word
+pub linked_ends : (holder : ℕ) (by_word links : List ℕ) (first : ℕ) → first ≡ 0 → IsLinked holder by_word links first
+    → map (released holder) by_word ≡ by_word
 linked_ends holder by_word links first ends linked = chain_ends holder by_word links first linked.words ends linked.chain
 
-pub holder_falls : (by_word : List ℕ) (w h : ℕ) → get_or by_word w 0 ≡ h → 0 < h → w < length by_word → sum_by (λ x. x) (set by_word w 0) < sum_by (λ x. x) by_word
-holder_falls by_word w h held some low = let e : sum_by (λ x. x) (set by_word w 0) + get_or by_word w 0 ≡ sum_by (λ x. x) by_word + 0 = sum_by-set (λ x. x) by_word w 0 0 low in omega arith
+pub holder_falls : (by_word : List ℕ) (w h : ℕ) → get_or by_word w 0 ≡ h → 0 < h → w < length by_word
+    → sum_by (λ x. x) (set by_word w 0) < sum_by (λ x. x) by_word
+holder_falls by_word w h held some low = let e : sum_by (λ x. x) (set by_word w 0) + get_or by_word w 0
+    ≡ sum_by (λ x. x) by_word + 0 = sum_by-set (λ x. x) by_word w 0 0 low in omega arith
 
 pub linked_new : (n m : ℕ) → n < 2 ^ 32 → m < 2 ^ 32 → AreLinked (replicate n 0) (replicate n 0) (replicate m 0)
 linked_new n m few few' = record {
@@ -194,7 +202,8 @@ linked_hold by_word links firsts c w low low_c free linked = record {
   few_words = omega (arith, linked.few_words, length-set by_word w (c + 1));
   few_callers = omega (arith, linked.few_callers, length-set firsts c (w + 1));
   lengths = length-set links w (get_or firsts c 0) ∙ linked.lengths ∙ sym (length-set by_word w (c + 1));
-  holders = λ q. let e = at_most_set by_word w (c + 1) (length firsts) linked.holders (omega arith) q in omega (arith, e, length-set firsts c (w + 1));
+  holders = λ q. let e = at_most_set by_word w (c + 1) (length firsts) linked.holders (omega arith) q in
+    omega (arith, e, length-set firsts c (w + 1));
   chains = λ d low_d. by_same d c (λ same. own d same) (λ other. others d (omega (arith, low_d, length-set firsts c (w + 1))) other);
 }
   where
@@ -207,12 +216,15 @@ linked_hold by_word links firsts c w low low_c free linked = record {
         (subst (λ f. IsLinked (c + 1) (set by_word w (c + 1)) (set links w (get_or firsts c 0)) f) (sym (get_or-set_same firsts c (w + 1) 0 low_c))
         (record { words = w ∷ was.words; chain = now }))
 
-    others : (d : ℕ) → d < length firsts → (d == c) ≡ false → IsLinked (d + 1) (set by_word w (c + 1)) (set links w (get_or firsts c 0)) (get_or (set firsts c (w + 1)) d 0)
+    others : (d : ℕ) → d < length firsts → (d == c) ≡ false
+        → IsLinked (d + 1) (set by_word w (c + 1)) (set links w (get_or firsts c 0)) (get_or (set firsts c (w + 1)) d 0)
     others d low_d other =
         let was = linked.chains d low_d in
         let now : IsChain (d + 1) (set by_word w (c + 1)) (set links w (get_or firsts c 0)) (get_or firsts d 0) was.words
-        = chain_other (d + 1) by_word links (get_or firsts d 0) was.words w (c + 1) (get_or firsts c 0) (λ e. some_one d (sym free ∙ e)) (λ e. apart_one c d other (sym e)) was.chain in
-        subst (λ f. IsLinked (d + 1) (set by_word w (c + 1)) (set links w (get_or firsts c 0)) f) (sym (get_or-set_other firsts c d (w + 1) 0 (differs c d other)))
+        = chain_other (d + 1) by_word links (get_or firsts d 0) was.words w (c + 1) (get_or firsts c 0)
+          (λ e. some_one d (sym free ∙ e)) (λ e. apart_one c d other (sym e)) was.chain in
+        subst (λ f. IsLinked (d + 1) (set by_word w (c + 1)) (set links w (get_or firsts c 0)) f)
+          (sym (get_or-set_other firsts c d (w + 1) 0 (differs c d other)))
         (record { words = was.words; chain = now })
 
 pub released_le : (g n m : ℕ) → n ≤ m → released g n ≤ m
@@ -225,7 +237,8 @@ linked_release by_word links firsts c low_c linked = record {
   few_words = omega (arith, linked.few_words, length-map by_word (released (c + 1)));
   few_callers = omega (arith, linked.few_callers, length-set firsts c 0);
   lengths = linked.lengths ∙ sym (length-map by_word (released (c + 1)));
-  holders = λ q. let e = released_le (c + 1) (get_or by_word q 0) (length firsts) (linked.holders q) in omega (arith, e, released_at (c + 1) by_word q, length-set firsts c 0);
+  holders = λ q. let e = released_le (c + 1) (get_or by_word q 0) (length firsts) (linked.holders q) in
+    omega (arith, e, released_at (c + 1) by_word q, length-set firsts c 0);
   chains = λ d low_d. by_same d c (λ same. own d same) (λ other. others d (omega (arith, low_d, length-set firsts c 0)) other);
 }
   where
@@ -259,7 +272,8 @@ any_number p k (suc n) d here low high = by_same k d
 
 pub no_number : (p : ℕ → Bool) (k n : ℕ) → ((d : ℕ) → d < k + n → p d ≡ false) → list_any p (numbers_from k n) ≡ false
 no_number p k zero none = refl
-no_number p k (suc n) none = ap (λ b. b || list_any p (numbers_from (k + 1) n)) (none k (omega arith)) ∙ no_number p (k + 1) n (λ d low. none d (omega arith))
+no_number p k (suc n) none = ap (λ b. b || list_any p (numbers_from (k + 1) n)) (none k (omega arith))
+    ∙ no_number p (k + 1) n (λ d low. none d (omega arith))
 
 -- nobody holds the word
 pub another_none : (holding : Holding) (c w : ℕ) → get_or holding.by_word w 0 ≡ 0 → is_held_by_another holding c w ≡ false
@@ -272,7 +286,8 @@ another_none holding c w free = no_number (λ d. not (d == c) && (get_or holding
     and_false false = refl
 
 -- a caller holds the word, perhaps this one
-pub another_is : (holding : Holding) (c w e : ℕ) → get_or holding.by_word w 0 ≡ e + 1 → e < holding.callers → is_held_by_another holding c w ≡ not (e == c)
+pub another_is : (holding : Holding) (c w e : ℕ) → get_or holding.by_word w 0 ≡ e + 1 → e < holding.callers
+    → is_held_by_another holding c w ≡ not (e == c)
 another_is holding c w e held low = by_same e c
     (λ same. no_number (λ d. not (d == c) && (get_or holding.by_word w 0 == d + 1)) 0 holding.callers (λ d low. by_same d c
     (λ is. let here : (d == c) ≡ true = grind (arith, nat_tests) in ap (λ b. not b && (get_or holding.by_word w 0 == d + 1)) here)

@@ -40,14 +40,16 @@ pub record WriteKept (h : Header) (c word value : ℕ) (earlier : List Entry) : 
   pub value_low : value < 2 ^ 63
   pub not_raced : (d : ℕ) → d < h.callers → (d == c) ≡ false → holds_word d word earlier ≡ false
 
-pub write_kept : (h : Header) (c word value : ℕ) (earlier : List Entry) → broken_rule h earlier (entry c (Write word value)) ≡ None → WriteKept h c word value earlier
+pub write_kept : (h : Header) (c word value : ℕ) (earlier : List Entry)
+    → broken_rule h earlier (entry c (Write word value)) ≡ None → WriteKept h c word value earlier
 write_kept h c word value earlier e =
     let kept = (all_kept (checks_at h earlier (entry c (Write word value))) e).1 in
     record {
       one_open = kept.0;
       word_low = above_of (plain_words h) word kept.1.0;
       value_low = above_of (2 ^ 63) value kept.1.1.0;
-      not_raced = λ d low other. held_false (d == c) (holds_word d word earlier) (no_such_number (λ x. not (x == c) && holds_word x word earlier) h.callers d kept.1.1.1.0 low) other;
+      not_raced = λ d low other. held_false (d == c) (holds_word d word earlier)
+          (no_such_number (λ x. not (x == c) && holds_word x word earlier) h.callers d kept.1.1.1.0 low) other;
     }
 
 pub record CommitKept (c : ℕ) (earlier : List Entry) : Type 0 where

@@ -57,8 +57,10 @@ phases_next : (n : ℕ) (phases : List Phase) (earlier : List Entry) (c : ℕ) (
     → next ≡ phase_of c (entry c kind ∷ earlier) → ((d : ℕ) → d < n → slice_get phases d ≡ Some (phase_of d earlier))
     → (d : ℕ) → d < n → slice_get (set phases c next) d ≡ Some (phase_of d (entry c kind ∷ earlier))
 phases_next n phases earlier c kind next low is all = λ d low_d. by_same c d
-    (λ same. subst (λ x. slice_get (set phases c next) x ≡ Some (phase_of x (entry c kind ∷ earlier))) same (slice_get-set_same phases c next low ∙ ap Some is))
-    (λ other. slice_get-set_other phases c d next (differs c d (flipped c d other)) ∙ all d low_d ∙ ap Some (sym (phase_of-other d c kind earlier other)))
+    (λ same. subst (λ x. slice_get (set phases c next) x ≡ Some (phase_of x (entry c kind ∷ earlier))) same
+      (slice_get-set_same phases c next low ∙ ap Some is))
+    (λ other. slice_get-set_other phases c d next (differs c d (flipped c d other)) ∙ all d low_d
+      ∙ ap Some (sym (phase_of-other d c kind earlier other)))
 
 -- what a caller holds after an entry that touches no block and not this word
 holds_quiet : (d c w : ℕ) (kind : Kind) (earlier : List Entry) → open_or_close kind ≡ None → write_or_open w kind ≡ None
@@ -84,7 +86,8 @@ Held by_word d w earlier = holds_word d w earlier ≡ (get_or by_word w 0 == d +
 no_block_no_word : (c w : ℕ) (earlier : List Entry) → has_block c earlier ≡ false → holds_word c w earlier ≡ false
 no_block_no_word c w earlier e = ap (λ b. b && unwrap_or (first_answer (by_caller c (write_or_open w)) earlier) false) e
 
-held_open : (by_word : List ℕ) (c d w : ℕ) (earlier : List Entry) → has_block c earlier ≡ false → Held by_word d w earlier → Held by_word d w (entry c BlockOpen ∷ earlier)
+held_open : (by_word : List ℕ) (c d w : ℕ) (earlier : List Entry) → has_block c earlier ≡ false → Held by_word d w earlier
+    → Held by_word d w (entry c BlockOpen ∷ earlier)
 held_open by_word c d w earlier free was = by_same c d
     (λ same. subst (λ x. Held by_word x w (entry c BlockOpen ∷ earlier)) same
     (holds_own c w BlockOpen earlier ∙ sym (no_block_no_word c w earlier free) ∙ subst (λ x. Held by_word x w earlier) (sym same) was))
@@ -97,7 +100,8 @@ never_one g n some = by_same n g
 
 still_one : (g n h : ℕ) → h ≢ g → h ≢ 0 → (released g n == h) ≡ (n == h)
 still_one g n h other some = by_same n g
-    (λ same. ap (λ x. released g x == h) same ∙ ap (λ x. x == h) (released_own g) ∙ (let a : (0 == h) ≡ false = grind (arith, nat_tests) in let b : (n == h) ≡ false = grind (arith, nat_tests) in a ∙ sym b))
+    (λ same. ap (λ x. released g x == h) same ∙ ap (λ x. x == h) (released_own g)
+      ∙ (let a : (0 == h) ≡ false = grind (arith, nat_tests) in let b : (n == h) ≡ false = grind (arith, nat_tests) in a ∙ sym b))
     (λ apart. ap (λ x. x == h) (released_other g n (differs g n apart)))
 
 next_apart : (c d : ℕ) → (c == d) ≡ false → d + 1 ≢ c + 1
@@ -109,7 +113,8 @@ held_end by_word c d w kind earlier edge was =
     by_same c d
     (λ same. subst (λ x. Held (map (released (c + 1)) by_word) x w (entry c kind ∷ earlier)) same
     (holds_own c w kind earlier
-    ∙ ap (λ o. unwrap_or (option_or o (first_answer (by_caller c open_or_close) earlier)) false && unwrap_or (option_or (write_or_open w kind) (first_answer (by_caller c (write_or_open w)) earlier)) false) edge
+    ∙ ap (λ o. unwrap_or (option_or o (first_answer (by_caller c open_or_close) earlier)) false
+      && unwrap_or (option_or (write_or_open w kind) (first_answer (by_caller c (write_or_open w)) earlier)) false) edge
     ∙ sym (never_one (c + 1) (get_or by_word w 0) (λ e. absurd (omega arith)))
     ∙ ap (λ x. x == c + 1) (sym (released_at (c + 1) by_word w))))
     (λ other. holds_other d c w kind earlier other ∙ was
@@ -136,7 +141,8 @@ held_write_out : (by_word : List ℕ) (c d w value : ℕ) (earlier : List Entry)
     → Held by_word d w earlier → Held by_word d w (entry c (Write w value) ∷ earlier)
 held_write_out by_word c d w value earlier out was = by_same c d
     (λ same. subst (λ x. Held by_word x w (entry c (Write w value) ∷ earlier)) same
-    (holds_own c w (Write w value) earlier ∙ ap (λ b. b && unwrap_or (option_or (write_or_open w (Write w value)) (first_answer (by_caller c (write_or_open w)) earlier)) false) out
+    (holds_own c w (Write w value) earlier
+      ∙ ap (λ b. b && unwrap_or (option_or (write_or_open w (Write w value)) (first_answer (by_caller c (write_or_open w)) earlier)) false) out
     ∙ sym (no_block_no_word c w earlier out) ∙ subst (λ x. Held by_word x w earlier) (sym same) was))
     (λ other. holds_other d c w (Write w value) earlier other ∙ was)
 
@@ -147,7 +153,8 @@ now_holds c w value earlier inside =
     ∙ (λ i. inside i && unwrap_or (option_or (cond (same i) (Some true) None) (first_answer (by_caller c (write_or_open w)) earlier)) false)
 
 -- the word itself, of a caller in a block, where nobody held the word
-held_write_free : (by_word : List ℕ) (c d w value : ℕ) (earlier : List Entry) → has_block c earlier ≡ true → w < length by_word → get_or by_word w 0 ≡ 0
+held_write_free : (by_word : List ℕ) (c d w value : ℕ) (earlier : List Entry) → has_block c earlier ≡ true → w < length by_word
+    → get_or by_word w 0 ≡ 0
     → Held by_word d w earlier → Held (set by_word w (c + 1)) d w (entry c (Write w value) ∷ earlier)
 held_write_free by_word c d w value earlier inside low free was = by_same c d
     (λ same. subst (λ x. Held (set by_word w (c + 1)) x w (entry c (Write w value) ∷ earlier)) same
@@ -156,7 +163,8 @@ held_write_free by_word c d w value earlier inside low free was = by_same c d
     ∙ ap (λ x. x == c + 1) (sym (get_or-set_same by_word w (c + 1) 0 low))))
     (λ other. holds_other d c w (Write w value) earlier other ∙ was
     ∙ ap (λ x. x == d + 1) free
-    ∙ (let apart : d ≢ c = differs c d (flipped c d other) in let a : (0 == d + 1) ≡ false = grind (arith, nat_tests) in let b : (c + 1 == d + 1) ≡ false = grind (arith, nat_tests) in a ∙ sym b)
+    ∙ (let apart : d ≢ c = differs c d (flipped c d other) in let a : (0 == d + 1) ≡ false = grind (arith, nat_tests) in
+      let b : (c + 1 == d + 1) ≡ false = grind (arith, nat_tests) in a ∙ sym b)
     ∙ ap (λ x. x == d + 1) (sym (get_or-set_same by_word w (c + 1) 0 low)))
 
 -- the word itself, of a caller in a block that holds it already
@@ -198,38 +206,48 @@ held_written h by_word c d w value earlier before low_d low true true e f =
     held_write_free by_word c d w value earlier e (omega (arith, before.words)) (same_of (get_or by_word w 0) 0 f) (before.was d w low_d low)
 held_written h by_word c d w value earlier before low_d low true false e f =
     held_write_again by_word c d w value earlier e
-    (whose h.callers by_word c w earlier (before.high w) (λ x low_x. before.was x w low_x low) (write_kept h c w value earlier before.rules).not_raced f)
+    (whose h.callers by_word c w earlier (before.high w) (λ x low_x. before.was x w low_x low)
+      (write_kept h c w value earlier before.rules).not_raced f)
     (before.was d w low_d low)
 
 held_next : (h : Header) (by_word : List ℕ) (c : ℕ) (kind : Kind) (earlier : List Entry) → Before h by_word c kind earlier
     → (d w : ℕ) → d < h.callers → w < plain_words h → Held (holders_after by_word (has_block c earlier) c kind) d w (entry c kind ∷ earlier)
 unfolding written
-held_next h by_word c (Call method args) earlier before d w low_d low = holds_quiet d c w (Call method args) earlier refl refl ∙ before.was d w low_d low
+held_next h by_word c (Call method args) earlier before d w low_d low = holds_quiet d c w (Call method args) earlier refl refl
+    ∙ before.was d w low_d low
 held_next h by_word c (Return reply) earlier before d w low_d low = holds_quiet d c w (Return reply) earlier refl refl ∙ before.was d w low_d low
 held_next h by_word c Commit earlier before d w low_d low = holds_quiet d c w Commit earlier refl refl ∙ before.was d w low_d low
-held_next h by_word c BlockOpen earlier before d w low_d low = held_open by_word c d w earlier (open_kept h c earlier before.rules).no_block (before.was d w low_d low)
+held_next h by_word c BlockOpen earlier before d w low_d low =
+    held_open by_word c d w earlier (open_kept h c earlier before.rules).no_block (before.was d w low_d low)
 held_next h by_word c BlockClose earlier before d w low_d low = held_end by_word c d w BlockClose earlier refl (before.was d w low_d low)
 held_next h by_word c BlockCommit earlier before d w low_d low = held_end by_word c d w BlockCommit earlier refl (before.was d w low_d low)
 held_next h by_word c (Write word value) earlier before d w low_d low = by_same word w
     (λ same. at_word d w low_d low same)
     (λ other. elsewhere other)
   where
-    at_word : (d w : ℕ) → d < h.callers → w < plain_words h → word ≡ w → Held (holders_after by_word (has_block c earlier) c (Write word value)) d w (entry c (Write word value) ∷ earlier)
+    at_word : (d w : ℕ) → d < h.callers → w < plain_words h → word ≡ w
+        → Held (holders_after by_word (has_block c earlier) c (Write word value)) d w (entry c (Write word value) ∷ earlier)
     at_word d w low_d low same =
         subst (λ x. Held (holders_after by_word (has_block c earlier) c (Write word value)) d x (entry c (Write word value) ∷ earlier)) same
         (held_written h by_word c d word value earlier before low_d (omega arith) (has_block c earlier) (get_or by_word word 0 == 0) refl refl)
 
-    elsewhere : (word == w) ≡ false → Held (holders_after by_word (has_block c earlier) c (Write word value)) d w (entry c (Write word value) ∷ earlier)
-    elsewhere other = held_write_other by_word (has_block c earlier && (get_or by_word word 0 == 0)) c d w word value earlier other (before.was d w low_d low)
+    elsewhere : (word == w) ≡ false
+        → Held (holders_after by_word (has_block c earlier) c (Write word value)) d w (entry c (Write word value) ∷ earlier)
+    elsewhere other = held_write_other by_word (has_block c earlier
+        && (get_or by_word word 0 == 0)) c d w word value earlier other (before.was d w low_d low)
 
-high_next : (by_word : List ℕ) (inside : Bool) (c n : ℕ) (kind : Kind) → c < n → ((w : ℕ) → get_or by_word w 0 ≤ n) → (w : ℕ) → get_or (holders_after by_word inside c kind) w 0 ≤ n
+high_next : (by_word : List ℕ) (inside : Bool) (c n : ℕ) (kind : Kind) → c < n → ((w : ℕ) → get_or by_word w 0 ≤ n) → (w : ℕ)
+    → get_or (holders_after by_word inside c kind) w 0 ≤ n
 high_next by_word inside c n (Call method args) low high w = high w
 high_next by_word inside c n (Return reply) low high w = high w
 high_next by_word inside c n Commit low high w = high w
 high_next by_word inside c n BlockOpen low high w = high w
-high_next by_word inside c n BlockClose low high w = let e = released_le (c + 1) (get_or by_word w 0) n (high w) in omega (arith, e, released_at (c + 1) by_word w)
-high_next by_word inside c n BlockCommit low high w = let e = released_le (c + 1) (get_or by_word w 0) n (high w) in omega (arith, e, released_at (c + 1) by_word w)
-high_next by_word inside c n (Write word value) low high w = elim (inside && (get_or by_word word 0 == 0)) as (λ b. get_or (cond b (set by_word word (c + 1)) by_word) w 0 ≤ n) [
+high_next by_word inside c n BlockClose low high w = let e = released_le (c + 1) (get_or by_word w 0) n (high w) in
+    omega (arith, e, released_at (c + 1) by_word w)
+high_next by_word inside c n BlockCommit low high w = let e = released_le (c + 1) (get_or by_word w 0) n (high w) in
+    omega (arith, e, released_at (c + 1) by_word w)
+high_next by_word inside c n (Write word value) low high w =
+    elim (inside && (get_or by_word word 0 == 0)) as (λ b. get_or (cond b (set by_word word (c + 1)) by_word) w 0 ≤ n) [
   | true ↦ at_most_set by_word word (c + 1) n high (omega arith) w
   | false ↦ high w
 ]
@@ -238,9 +256,11 @@ high_next by_word inside c n (Write word value) low high w = elim (inside && (ge
 pub followed_next : (kept : Kept) (earlier : List Entry) (c : ℕ) (kind : Kind) (next : Phase)
     → c < kept.header.callers → length kept.phases ≡ kept.header.callers → length kept.holders ≡ plain_words kept.header
     → next ≡ phase_of c (entry c kind ∷ earlier) → broken_rule kept.header earlier (entry c kind) ≡ None → HasFollowed kept earlier
-    → HasFollowed (record { header = kept.header; phases = set kept.phases c next; holders = holders_after kept.holders (has_block c earlier) c kind }) (entry c kind ∷ earlier)
+    → HasFollowed (record { header = kept.header; phases = set kept.phases c next;
+      holders = holders_after kept.holders (has_block c earlier) c kind }) (entry c kind ∷ earlier)
 followed_next kept earlier c kind next low phases words is rules followed =
-    let before : Before kept.header kept.holders c kind earlier = record { rules = rules; words = words; high = followed.callers; was = followed.holders } in
+    let before : Before kept.header kept.holders c kind earlier = record { rules = rules; words = words; high = followed.callers;
+      was = followed.holders } in
     record {
       phases = phases_next kept.header.callers kept.phases earlier c kind next (omega arith) is followed.phases;
       holders = held_next kept.header kept.holders c kind earlier before;
@@ -267,7 +287,8 @@ same_any p q k zero same = refl
 same_any p q k (suc n) same = λ i. same k (omega arith) i || same_any p q (k + 1) n (λ d low. same d (omega arith)) i
 
 -- whether another caller holds the word, by the definition and by the holders
-pub raced_is : (kept : Kept) (earlier : List Entry) (holding : Holding) (c w : ℕ) → holding.callers ≡ kept.header.callers → holding.by_word ≡ kept.holders
+pub raced_is : (kept : Kept) (earlier : List Entry) (holding : Holding) (c w : ℕ) → holding.callers ≡ kept.header.callers
+    → holding.by_word ≡ kept.holders
     → w < plain_words kept.header → HasFollowed kept earlier → is_held_by_other kept.header c w earlier ≡ is_held_by_another holding c w
 raced_is kept earlier holding c w callers words low followed =
     same_any (λ d. not (d == c) && holds_word d w earlier) (λ d. not (d == c) && (get_or kept.holders w 0 == d + 1)) 0 kept.header.callers
@@ -282,7 +303,8 @@ open_is earlier (phase ∷ phases) k all =
     let first : phase ≡ phase_of (k + 0) earlier = cc (all 0 (omega arith)) in
     let here : phase ≡ phase_of k earlier = first ∙ ap (λ c. phase_of c earlier) (omega arith) in
     let rest = open_is earlier phases (k + 1) (λ i low. all (suc i) (omega arith) ∙ ap (λ c. Some (phase_of c earlier)) (omega arith)) in
-    (λ i. is_some (here i).open_method || rest i) ∙ ap (λ b. b || list_any (λ c. is_some (open_call c earlier)) (numbers_from (k + 1) (length phases))) (is_some_map (open_call k earlier))
+    (λ i. is_some (here i).open_method || rest i)
+      ∙ ap (λ b. b || list_any (λ c. is_some (open_call c earlier)) (numbers_from (k + 1) (length phases))) (is_some_map (open_call k earlier))
   where
     is_some_map : (o : Option Called) → is_some (option_map (λ called. called.method) o) ≡ is_some o
     is_some_map None = refl
@@ -303,7 +325,8 @@ if_none None e p = p
 if_none (Some x) e p = cc
 
 -- the rule where a word is held by another caller, and where none of this is so
-pub raced_rule : (o : Option Rule) (raced : Bool) (rule : Option Rule) → is_none o ≡ true → raced ≡ true → option_or o (then_some raced BlockRaced) ≡ rule → Some BlockRaced ≡ rule
+pub raced_rule : (o : Option Rule) (raced : Bool) (rule : Option Rule) → is_none o ≡ true → raced ≡ true
+    → option_or o (then_some raced BlockRaced) ≡ rule → Some BlockRaced ≡ rule
 raced_rule None true rule e f is = is
 raced_rule None false rule e f is = cc
 raced_rule (Some other) raced rule e f is = cc
@@ -313,6 +336,7 @@ clear_rule None true rule f is = cc
 clear_rule None false rule f is = is
 clear_rule (Some other) raced rule f is = is
 
-pub first_rule : (o : Option Rule) (raced : Bool) (rule : Option Rule) → is_none o ≡ false → option_or o (then_some raced BlockRaced) ≡ rule → o ≡ rule
+pub first_rule : (o : Option Rule) (raced : Bool) (rule : Option Rule) → is_none o ≡ false
+    → option_or o (then_some raced BlockRaced) ≡ rule → o ≡ rule
 first_rule None raced rule e is = cc
 first_rule (Some other) raced rule e is = is

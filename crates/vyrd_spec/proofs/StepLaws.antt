@@ -33,7 +33,8 @@ where_allowed Q true s h = h
 where_allowed Q false s h = tt
 
 -- a step leaves amounts
-pub next_state-formed : (method : Method) (args : Args) (reply : ℕ) (s t : Amounts) → IsAmounts s → next_state method args reply s ≡ Some t → IsAmounts t
+pub next_state-formed : (method : Method) (args : Args) (reply : ℕ) (s t : Amounts) → IsAmounts s
+    → next_state method args reply s ≡ Some t → IsAmounts t
 next_state-formed MsInsert args reply s t is = by_replies IsAmounts reply _ _ _ t is (IsAmounts-with_amount s args.a (amount_of s args.a + 1) is) tt
 next_state-formed MsInsertPair args reply s t is =
     let one = IsAmounts-with_amount s args.a (amount_of s args.a + 1) is in
@@ -48,7 +49,8 @@ next_state-formed CaFlush args reply s t is = by_replies IsAmounts reply _ _ _ t
 next_state-formed CaEvict args reply s t is = by_replies IsAmounts reply _ _ _ t tt is tt
 next_state-formed TrInsert args reply s t is =
     let set : IsAmounts (with_amount s args.a (2 ^ 32 + args.b)) = IsAmounts-with_amount s args.a (2 ^ 32 + args.b) is in
-    by_replies IsAmounts reply _ _ _ t is (where_allowed IsAmounts (not (is_present s args.a)) _ set) (where_allowed IsAmounts (is_present s args.a) _ set)
+    by_replies IsAmounts reply _ _ _ t is (where_allowed IsAmounts (not (is_present s args.a)) _ set)
+      (where_allowed IsAmounts (is_present s args.a) _ set)
 next_state-formed TrDelete args reply s t is =
     by_replies IsAmounts reply _ _ _ t (where_allowed IsAmounts (not (is_present s args.a)) s is)
     (where_allowed IsAmounts (is_present s args.a) (with_amount s args.a 0) (IsAmounts-with_amount s args.a 0 is)) tt
@@ -57,7 +59,8 @@ next_state-formed CaRead args reply s t is = λ e. cc
 next_state-formed TrLookup args reply s t is = λ e. cc
 
 -- what holds of each key with its amount holds after a key gets an amount of which it holds
-pub AllAmounts-with_amount : (passes : ℕ → ℕ → Type 0) (s : Amounts) (k a : ℕ) → AllAmounts passes s → (a ≢ 0 → passes k a) → AllAmounts passes (with_amount s k a)
+pub AllAmounts-with_amount : (passes : ℕ → ℕ → Type 0) (s : Amounts) (k a : ℕ) → AllAmounts passes s → (a ≢ 0 → passes k a)
+    → AllAmounts passes (with_amount s k a)
 AllAmounts-with_amount passes s k a all new =
     λ q. by_key q (amount_of (with_amount s k a) q) (amount_of-with_amount s k a q) (q == k) refl
   where
@@ -130,7 +133,8 @@ pub next_state-pairs : (method : Method) (args : Args) (reply : ℕ) (s t : Amou
     → args.a < 2 ^ 32 → args.b < 2 ^ 32 → args.c < 2 ^ 32 → ArePairs s → next_state method args reply s ≡ Some t → ArePairs t
 next_state-pairs CaWrite args reply s t of low low_b low_c all =
     by_replies ArePairs reply _ _ _ t tt
-    (AllAmounts-with_amount (λ chunk pair. (chunk < 2 ^ 32) × (pair < 2 ^ 64)) s args.a (args.c * 2 ^ 32 + args.b) all (λ some. (low, omega arith))) tt
+    (AllAmounts-with_amount (λ chunk pair. (chunk < 2 ^ 32) × (pair < 2 ^ 64)) s args.a (args.c * 2 ^ 32 + args.b) all
+      (λ some. (low, omega arith))) tt
 next_state-pairs CaFlush args reply s t of low low_b low_c all = by_replies ArePairs reply _ _ _ t tt all tt
 next_state-pairs CaEvict args reply s t of low low_b low_c all = by_replies ArePairs reply _ _ _ t tt all tt
 next_state-pairs CaRead args reply s t of low low_b low_c all = λ e. cc
@@ -151,12 +155,15 @@ pub next_state-values : (method : Method) (args : Args) (reply : ℕ) (s t : Amo
     → args.a < 2 ^ 32 → args.b < 2 ^ 32 → AreValues s → next_state method args reply s ≡ Some t → AreValues t
 next_state-values TrInsert args reply s t of low low_b all =
     let set : AreValues (with_amount s args.a (2 ^ 32 + args.b)) =
-    AllAmounts-with_amount (λ key amount. (key < 2 ^ 32) × (2 ^ 32 ≤ amount) × (amount < 2 ^ 33)) s args.a (2 ^ 32 + args.b) all (λ some. (low, omega arith, omega arith)) in
-    by_replies AreValues reply _ _ _ t all (where_allowed AreValues (not (is_present s args.a)) _ set) (where_allowed AreValues (is_present s args.a) _ set)
+    AllAmounts-with_amount (λ key amount. (key < 2 ^ 32) × (2 ^ 32 ≤ amount) × (amount < 2 ^ 33)) s args.a (2 ^ 32 + args.b) all
+      (λ some. (low, omega arith, omega arith)) in
+    by_replies AreValues reply _ _ _ t all (where_allowed AreValues (not (is_present s args.a)) _ set)
+      (where_allowed AreValues (is_present s args.a) _ set)
 next_state-values TrDelete args reply s t of low low_b all =
     let gone : AreValues (with_amount s args.a 0) =
     AllAmounts-with_amount (λ key amount. (key < 2 ^ 32) × (2 ^ 32 ≤ amount) × (amount < 2 ^ 33)) s args.a 0 all (λ some. absurd (some refl)) in
-    by_replies AreValues reply _ _ _ t (where_allowed AreValues (not (is_present s args.a)) s all) (where_allowed AreValues (is_present s args.a) _ gone) tt
+    by_replies AreValues reply _ _ _ t (where_allowed AreValues (not (is_present s args.a)) s all)
+      (where_allowed AreValues (is_present s args.a) _ gone) tt
 next_state-values TrLookup args reply s t of low low_b all = λ e. cc
 next_state-values MsInsert args reply s t of low low_b all = cc
 next_state-values MsInsertPair args reply s t of low low_b all = cc

@@ -30,13 +30,15 @@ pub small_callers : (size callers : ℕ) → is_sized size callers ≡ true → 
 small_callers size callers e = small_number callers 64 (omega arith) (second_true (nat_le 1 size && nat_le size 1024 && nat_le 1 callers) _ e)
 
 -- a size that no number of callers follows
-pub no_callers : (text : List ℕ) (m : ℕ) (r : List ℕ) → m < 2 ^ 64 → text ≡ decimal m ++ 32 ∷ r → ((n : ℕ) → n < 2 ^ 32 → r ≡ decimal n → ⊥) → AreLimitsRead text None
+pub no_callers : (text : List ℕ) (m : ℕ) (r : List ℕ) → m < 2 ^ 64 → text ≡ decimal m ++ 32 ∷ r
+    → ((n : ℕ) → n < 2 ^ 32 → r ≡ decimal n → ⊥) → AreLimitsRead text None
 no_callers text m r low e none size callers sized f =
     let is = one_before_space m size r (decimal callers) low (let h = small_size size callers sized in omega (arith, h)) (sym e ∙ f) in
     none callers (small_callers size callers sized) is.1
 
 -- numbers that aren't within the limits
-pub not_sized : (text : List ℕ) (m n : ℕ) (r : List ℕ) → m < 2 ^ 64 → n < 2 ^ 64 → text ≡ decimal m ++ 32 ∷ r → r ≡ decimal n → is_sized m n ≡ false → AreLimitsRead text None
+pub not_sized : (text : List ℕ) (m n : ℕ) (r : List ℕ) → m < 2 ^ 64 → n < 2 ^ 64 → text ≡ decimal m ++ 32 ∷ r → r ≡ decimal n
+    → is_sized m n ≡ false → AreLimitsRead text None
 not_sized text m n r low small e f bad size callers sized g =
     let s = small_size size callers sized in
     let c = small_callers size callers sized in
@@ -72,7 +74,8 @@ header_known line version subject size callers is =
     ap (λ l. header_from l (fields_of l)) is.2
     ∙ ap (header_from text) fields
     ∙ (λ i. header_spelled text (number_of_decimal version v i) (subject_read subject i) (number_of_decimal size s i) (number_of_decimal callers c i))
-    ∙ ap (λ b. cond b (ok_or (header_of version subject size callers) UnknownVersion) (Err BadHeader)) (both_true _ _ (both_true _ _ (is_below version (2 ^ 32) is.0) is.1) (bytes_same text))
+    ∙ ap (λ b. cond b (ok_or (header_of version subject size callers) UnknownVersion) (Err BadHeader))
+      (both_true _ _ (both_true _ _ (is_below version (2 ^ 32) is.0) is.1) (bytes_same text))
   where
     text : List ℕ
     text = header_line version subject size callers
@@ -90,22 +93,27 @@ header_known line version subject size callers is =
     parts = decimal version ∷ subject_name subject ∷ decimal size ∷ decimal callers ∷ []
 
     plain : list_all is_plain_field (codes "vyrd" ∷ parts) ≡ true
-    plain = both_true _ _ (plain_number version v) (both_true _ _ (plain_subject subject) (both_true _ _ (plain_number size s) (both_true _ _ (plain_number callers c) refl)))
+    plain = both_true _ _ (plain_number version v)
+        (both_true _ _ (plain_subject subject) (both_true _ _ (plain_number size s) (both_true _ _ (plain_number callers c) refl)))
 
     fields : fields_of text ≡ codes "vyrd" ∷ parts
     fields = split-join 32 (codes "vyrd") parts (plain_spaces (codes "vyrd" ∷ parts) plain)
 
 -- a line without them is none
-spelled_none : (line : List ℕ) (version : ℕ) (subject : Option Subject) (size callers : ℕ) → AreNumbersRead line None → header_spelled line version subject size callers ≡ Err BadHeader
+spelled_none : (line : List ℕ) (version : ℕ) (subject : Option Subject) (size callers : ℕ) → AreNumbersRead line None
+    → header_spelled line version subject size callers ≡ Err BadHeader
 spelled_none line version None size callers none = refl
-spelled_none line version (Some subject) size callers none = by_test (nat_lt version (2 ^ 32) && is_sized size callers && bytes_eq (header_line version subject size callers) line) refl
+spelled_none line version (Some subject) size callers none =
+    by_test (nat_lt version (2 ^ 32) && is_sized size callers && bytes_eq (header_line version subject size callers) line) refl
   where
     by_test : (b : Bool) → (nat_lt version (2 ^ 32) && is_sized size callers && bytes_eq (header_line version subject size callers) line) ≡ b
         → cond b (ok_or (header_of version subject size callers) UnknownVersion) (Err BadHeader) ≡ Err BadHeader
     by_test false e = refl
     by_test true e =
-        let same = (bytes_eq-Decides (header_line version subject size callers) line).0 (second_true (nat_lt version (2 ^ 32) && is_sized size callers) _ e) in
-        absurd (none version subject size callers (below_of version (2 ^ 32) (first_true _ _ (first_true _ _ e))) (second_true (nat_lt version (2 ^ 32)) _ (first_true _ _ e)) (sym same))
+        let same = (bytes_eq-Decides (header_line version subject size callers) line).0
+          (second_true (nat_lt version (2 ^ 32) && is_sized size callers) _ e) in
+        absurd (none version subject size callers (below_of version (2 ^ 32) (first_true _ _ (first_true _ _ e)))
+          (second_true (nat_lt version (2 ^ 32)) _ (first_true _ _ e)) (sym same))
 
 from_none : (line : List ℕ) (fields : List (List ℕ)) → AreNumbersRead line None → header_from line fields ≡ Err BadHeader
 from_none line [] none = refl
@@ -120,18 +128,23 @@ unfolding header_in
 header_unknown line none = sym (from_none line (fields_of line) none)
 
 -- the header that was made is the one with the numbers
-made_if : (h : Header) (b : Bool) (e : is_within h.version h.size h.callers ≡ b) → b ≡ true → Some h ≡ header_if h.version h.subject h.size h.callers b e
-made_if h true e t = ap (λ w. Some (record { version = h.version; subject = h.subject; size = h.size; callers = h.callers; within = w })) (Bool-set _ _ h.within e)
+made_if : (h : Header) (b : Bool) (e : is_within h.version h.size h.callers ≡ b) → b ≡ true
+    → Some h ≡ header_if h.version h.subject h.size h.callers b e
+made_if h true e t = ap (λ w. Some (record { version = h.version; subject = h.subject; size = h.size; callers = h.callers;
+    within = w })) (Bool-set _ _ h.within e)
 made_if h false e t = cc
 
-pub made : (version : ℕ) (subject : Subject) (size callers : ℕ) (h : Header) → h.version ≡ version → h.subject ≡ subject → h.size ≡ size → h.callers ≡ callers
+pub made : (version : ℕ) (subject : Subject) (size callers : ℕ) (h : Header) → h.version ≡ version → h.subject ≡ subject
+    → h.size ≡ size → h.callers ≡ callers
     → header_of version subject size callers ≡ Some h
 made version subject size callers h v s n c =
     (λ i. header_of (sym v i) (sym s i) (sym n i) (sym c i)) ∙ sym (made_if h (is_within h.version h.size h.callers) refl h.within)
 
-not_made_if : (version : ℕ) (subject : Subject) (size callers : ℕ) (b : Bool) (e : is_within version size callers ≡ b) → ¬ (is_within version size callers ≡ true) → header_if version subject size callers b e ≡ None
+not_made_if : (version : ℕ) (subject : Subject) (size callers : ℕ) (b : Bool) (e : is_within version size callers ≡ b)
+    → ¬ (is_within version size callers ≡ true) → header_if version subject size callers b e ≡ None
 not_made_if version subject size callers true e no_header = absurd (no_header e)
 not_made_if version subject size callers false e no_header = refl
 
-pub not_made : (version : ℕ) (subject : Subject) (size callers : ℕ) → ¬ (is_within version size callers ≡ true) → header_of version subject size callers ≡ None
+pub not_made : (version : ℕ) (subject : Subject) (size callers : ℕ) → ¬ (is_within version size callers ≡ true)
+    → header_of version subject size callers ≡ None
 not_made version subject size callers no_header = not_made_if version subject size callers (is_within version size callers) refl no_header

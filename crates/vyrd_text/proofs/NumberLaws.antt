@@ -12,7 +12,8 @@ use Rattle.vyrd_base.proofs.SplitLaws.{no_space}
 use Rattle.vyrd_text.specs.Fields.{after_field, IsDigitField, HasNoDigitField, IsNumberField, HasNoNumberField}
 
 -- the digits at the front don't reach past the field
-digits_within : (k : ℕ) (ds : List ℕ) (rest : Option (List ℕ)) → AllDigits 10 (take k (ds ++ after_field rest)) → k ≤ length (ds ++ after_field rest) → k ≤ length ds
+digits_within : (k : ℕ) (ds : List ℕ) (rest : Option (List ℕ)) → AllDigits 10 (take k (ds ++ after_field rest))
+    → k ≤ length (ds ++ after_field rest) → k ≤ length ds
 digits_within zero ds rest all h = omega arith
 digits_within (suc k) [] None all h = absurd (omega arith)
 digits_within (suc k) [] (Some r) all h = absurd (no_space all.0)
@@ -21,7 +22,8 @@ digits_within (suc k) (d ∷ ds) rest all h =
     omega arith
 
 -- the first byte that is neither a digit nor a space isn't the end of the field
-bad_byte_at : (i : ℕ) (ds : List ℕ) (rest : Option (List ℕ)) → AllDigits 10 ds → AllDigits 10 (take i (ds ++ after_field rest)) → i < length (ds ++ after_field rest)
+bad_byte_at : (i : ℕ) (ds : List ℕ) (rest : Option (List ℕ)) → AllDigits 10 ds → AllDigits 10 (take i (ds ++ after_field rest))
+    → i < length (ds ++ after_field rest)
     → get_or (ds ++ after_field rest) i 0 ≢ 32 → ¬ (digit_value (get_or (ds ++ after_field rest) i 0) < 10) → ⊥
 bad_byte_at zero [] None all front h space digit = absurd (omega arith)
 bad_byte_at zero [] (Some r) all front h space digit = space refl
@@ -31,7 +33,8 @@ bad_byte_at (suc i) [] (Some r) all front h space digit = no_space front.0
 bad_byte_at (suc i) (d ∷ ds) rest all front h space digit = bad_byte_at i ds rest all.1 front.1 (omega arith) space digit
 
 -- digits before the end of the text or a space are the whole field
-field_end : (k : ℕ) (ds : List ℕ) (rest : Option (List ℕ)) → AllDigits 10 ds → AllDigits 10 (take k (ds ++ after_field rest)) → k ≤ length (ds ++ after_field rest)
+field_end : (k : ℕ) (ds : List ℕ) (rest : Option (List ℕ)) → AllDigits 10 ds → AllDigits 10 (take k (ds ++ after_field rest))
+    → k ≤ length (ds ++ after_field rest)
     → (k < length (ds ++ after_field rest) → get_or (ds ++ after_field rest) k 0 ≡ 32) → k ≡ length ds
 field_end zero [] rest all front h ended = refl
 field_end zero (d ∷ ds) rest all front h ended =
@@ -52,7 +55,8 @@ module _ (text ds : List ℕ) (rest : Option (List ℕ)) (e : text ≡ ds ++ aft
       → 2 ^ 64 ≤ digits_value 10 (take i text) * 10 + digit_value (get_or text i 0) → ⊥
   too_large i front h digit small large =
       let all_more : AllDigits 10 (take (i + 1) text) = digits_more 10 text i h front digit in
-      let value_more : digits_value 10 (take (i + 1) text) ≡ digits_value 10 (take i text) * 10 + digit_value (get_or text i 0) = digits_value_more 10 text i h in
+      let value_more : digits_value 10 (take (i + 1) text) ≡ digits_value 10 (take i text) * 10 + digit_value (get_or text i 0) =
+        digits_value_more 10 text i h in
       let within : i + 1 ≤ length ds = digits_within (i + 1) ds rest (rw e at all_more) (rw e at (let l : i + 1 ≤ length text = omega arith in l)) in
       let same : take (i + 1) text ≡ take (i + 1) ds = ap (take (i + 1)) e ∙ take-append-le (i + 1) ds (after_field rest) within in
       let part : digits_value 10 (take (i + 1) ds) ≤ digits_value 10 ds = digits_value-take-le 10 ds (i + 1) (omega arith) in
@@ -73,8 +77,10 @@ no_number text none n rest small e =
     none (decimal n) rest (digits_of_decimal n small) (omega arith) e
 
 -- the digits of a number are its field
-pub number_end : (text : List ℕ) (value end n : ℕ) (rest : Option (List ℕ)) → IsDigitField text value end → n < 2 ^ 64 → text ≡ decimal n ++ after_field rest → end ≡ length (decimal n)
-number_end text value end n rest field small e = field_is text (decimal n) rest e (digits_of_decimal n small) end field.digits field.within field.ended
+pub number_end : (text : List ℕ) (value end n : ℕ) (rest : Option (List ℕ)) → IsDigitField text value end → n < 2 ^ 64
+    → text ≡ decimal n ++ after_field rest → end ≡ length (decimal n)
+number_end text value end n rest field small e =
+    field_is text (decimal n) rest e (digits_of_decimal n small) end field.digits field.within field.ended
 
 -- an empty field is no number
 pub empty_field : (text : List ℕ) (value end : ℕ) → IsDigitField text value end → end ≡ 0 → HasNoNumberField text
@@ -96,11 +102,13 @@ leading_zero text value end field long first n rest small e =
     omega (arith, is, first_zero n small (sym same ∙ first))
 
 -- digits that are canonical are the number's spelling
-number_found : (text : List ℕ) (value end : ℕ) → IsDigitField text value end → value < 2 ^ 64 → 0 < end → (get_or (take end text) 0 0 ≡ 48 → length (take end text) ≡ 1) → IsNumberField text value end
+number_found : (text : List ℕ) (value end : ℕ) → IsDigitField text value end → value < 2 ^ 64 → 0 < end
+    → (get_or (take end text) 0 0 ≡ 48 → length (take end text) ≡ 1) → IsNumberField text value end
 number_found text value end field small some canonical =
     let many : length (take end text) ≡ end = length-take-le end text field.within in
     let spelled : decimal (digits_value 10 (take end text)) ≡ take end text =
-    decimal-digits_value (numerals_by_value (AllDigits 10) tells_digits) (take end text) field.digits (omega arith) canonical (omega (arith, field.value_is)) in
+    decimal-digits_value (numerals_by_value (AllDigits 10) tells_digits) (take end text) field.digits (omega arith) canonical
+      (omega (arith, field.value_is)) in
     record {
       within = field.within;
       spelled = sym spelled ∙ ap decimal (sym field.value_is);
@@ -112,13 +120,15 @@ pub one_digit : (text : List ℕ) (value end : ℕ) → IsDigitField text value 
 one_digit text value end field small one = number_found text value end field small (omega arith) (λ e. length-take-le end text field.within ∙ one)
 
 -- and so are more that don't begin with 0
-pub more_digits : (text : List ℕ) (value end : ℕ) → IsDigitField text value end → value < 2 ^ 64 → 0 < end → get_or text 0 0 ≢ 48 → IsNumberField text value end
+pub more_digits : (text : List ℕ) (value end : ℕ) → IsDigitField text value end → value < 2 ^ 64 → 0 < end → get_or text 0 0 ≢ 48
+    → IsNumberField text value end
 more_digits text value end field small some first =
     let same : get_or (take end text) 0 0 ≡ get_or text 0 0 = get_or-take end text 0 0 some in
     number_found text value end field small some (λ e. absurd (first (sym same ∙ e)))
 
 -- the number of a field is one, and so is what stands after it
-pub one_number : (text : List ℕ) (m end n : ℕ) (rest : Option (List ℕ)) → IsNumberField text m end → m < 2 ^ 64 → n < 2 ^ 64 → text ≡ decimal n ++ after_field rest
+pub one_number : (text : List ℕ) (m end n : ℕ) (rest : Option (List ℕ)) → IsNumberField text m end → m < 2 ^ 64 → n < 2 ^ 64
+    → text ≡ decimal n ++ after_field rest
     → (end ≡ length (decimal n)) × (m ≡ n)
 one_number text m end n rest field low small e =
     let digits : AllDigits 10 (take end text) = rw field.spelled (digits_of_decimal m low) in

@@ -24,7 +24,8 @@ use Rattle.vyrd_text.specs.Spelled.{kind_text, AreArgsRead, IsKindRead}
 pub one_before_space : (m n : ℕ) (r s : List ℕ) → m < 2 ^ 64 → n < 2 ^ 64 → decimal m ++ 32 ∷ r ≡ decimal n ++ 32 ∷ s → (m ≡ n) × (r ≡ s)
 one_before_space m n r s low small e =
     let parts : decimal m ∷ slice_split (λ b. b == 32) r ≡ decimal n ∷ slice_split (λ b. b == 32) s =
-    sym (split_at 32 (decimal m) r (decimal_lacks 32 m no_space low)) ∙ ap (slice_split (λ b. b == 32)) e ∙ split_at 32 (decimal n) s (decimal_lacks 32 n no_space small) in
+    sym (split_at 32 (decimal m) r (decimal_lacks 32 m no_space low)) ∙ ap (slice_split (λ b. b == 32)) e
+      ∙ split_at 32 (decimal n) s (decimal_lacks 32 n no_space small) in
     let same : decimal m ≡ decimal n = cc in
     let tails : 32 ∷ r ≡ 32 ∷ s = append_cancel_left (decimal m) (32 ∷ r) (32 ∷ s) (e ∙ ap (λ t. t ++ 32 ∷ s) (sym same)) in
     (decimal_injective m n low small same, cc)
@@ -45,18 +46,21 @@ no_value text w r low e none subject BlockClose ok f = absurd (let h : 119 ≡ 9
 no_value text w r low e none subject BlockCommit ok f = absurd (let h : 119 ≡ 99 = ap (λ t. get_or t 0 0) f in omega (arith, h))
 
 -- one number before a space and no number after it are not two arguments
-pub no_second : (text : List ℕ) (m : ℕ) (r : List ℕ) → m < 2 ^ 64 → text ≡ decimal m ++ 32 ∷ r → ((n : ℕ) → n < 2 ^ 32 → r ≡ decimal n → ⊥) → AreArgsRead 2 text None
+pub no_second : (text : List ℕ) (m : ℕ) (r : List ℕ) → m < 2 ^ 64 → text ≡ decimal m ++ 32 ∷ r
+    → ((n : ℕ) → n < 2 ^ 32 → r ≡ decimal n → ⊥) → AreArgsRead 2 text None
 no_second text m r low e none args padded a b c f =
     let is = one_before_space m args.a r (decimal args.b) low (omega arith) (sym e ∙ f) in
     none args.b b is.1
 
 -- nor three
-pub no_middle : (text : List ℕ) (m : ℕ) (r : List ℕ) → m < 2 ^ 64 → text ≡ decimal m ++ 32 ∷ r → ((n : ℕ) (s : List ℕ) → n < 2 ^ 32 → r ≡ decimal n ++ 32 ∷ s → ⊥) → AreArgsRead 3 text None
+pub no_middle : (text : List ℕ) (m : ℕ) (r : List ℕ) → m < 2 ^ 64 → text ≡ decimal m ++ 32 ∷ r
+    → ((n : ℕ) (s : List ℕ) → n < 2 ^ 32 → r ≡ decimal n ++ 32 ∷ s → ⊥) → AreArgsRead 3 text None
 no_middle text m r low e none args padded a b c f =
     let is = one_before_space m args.a r (decimal args.b ++ 32 ∷ decimal args.c) low (omega arith) (sym e ∙ f) in
     none args.b (decimal args.c) b is.1
 
-pub no_third : (text : List ℕ) (m n : ℕ) (r s : List ℕ) → m < 2 ^ 64 → n < 2 ^ 64 → text ≡ decimal m ++ 32 ∷ r → r ≡ decimal n ++ 32 ∷ s → ((k : ℕ) → k < 2 ^ 32 → s ≡ decimal k → ⊥) → AreArgsRead 3 text None
+pub no_third : (text : List ℕ) (m n : ℕ) (r s : List ℕ) → m < 2 ^ 64 → n < 2 ^ 64 → text ≡ decimal m ++ 32 ∷ r
+    → r ≡ decimal n ++ 32 ∷ s → ((k : ℕ) → k < 2 ^ 32 → s ≡ decimal k → ⊥) → AreArgsRead 3 text None
 no_third text m n r s low small e f none args padded a b c g =
     let is = one_before_space m args.a r (decimal args.b ++ 32 ∷ decimal args.c) low (omega arith) (sym e ∙ g) in
     let more = one_before_space n args.b s (decimal args.c) small (omega arith) (sym f ∙ is.1) in
@@ -83,7 +87,8 @@ entry_line_is caller BlockClose = refl
 entry_line_is caller BlockCommit = refl
 
 -- a line that is no entry's
-pub no_entry : (subject : Subject) (line : List ℕ) → ((e : Entry) → is_entry_of subject e ≡ true → line ≡ entry_line e → ⊥) → None ≡ entry_in subject line
+pub no_entry : (subject : Subject) (line : List ℕ) → ((e : Entry) → is_entry_of subject e ≡ true → line ≡ entry_line e → ⊥)
+    → None ≡ entry_in subject line
 no_entry subject line none = by_answer (entry_in subject line) refl
   where
     by_answer : (o : Option Entry) → entry_in subject line ≡ o → None ≡ o
@@ -91,18 +96,22 @@ no_entry subject line none = by_answer (entry_in subject line) refl
     by_answer (Some x) e = let is = entry_in_sound subject line x e in absurd (none x is.1 is.0)
 
 -- a line without a number before a space
-pub no_caller : (subject : Subject) (line : List ℕ) → ((n : ℕ) (rest : List ℕ) → n < 2 ^ 32 → line ≡ decimal n ++ 32 ∷ rest → ⊥) → None ≡ entry_in subject line
-no_caller subject line none = no_entry subject line (λ e ok same. none e.caller (kind_text e.kind) (below_of e.caller (2 ^ 32) (first_true _ _ ok)) (same ∙ entry_line_is e.caller e.kind))
+pub no_caller : (subject : Subject) (line : List ℕ) → ((n : ℕ) (rest : List ℕ) → n < 2 ^ 32 → line ≡ decimal n ++ 32 ∷ rest → ⊥)
+    → None ≡ entry_in subject line
+no_caller subject line none = no_entry subject line
+    (λ e ok same. none e.caller (kind_text e.kind) (below_of e.caller (2 ^ 32) (first_true _ _ ok)) (same ∙ entry_line_is e.caller e.kind))
 
 -- a line that says nothing after its caller
-pub no_kind : (subject : Subject) (line : List ℕ) (caller : ℕ) (rest : List ℕ) → caller < 2 ^ 64 → line ≡ decimal caller ++ 32 ∷ rest → IsKindRead subject rest None → None ≡ entry_in subject line
+pub no_kind : (subject : Subject) (line : List ℕ) (caller : ℕ) (rest : List ℕ) → caller < 2 ^ 64
+    → line ≡ decimal caller ++ 32 ∷ rest → IsKindRead subject rest None → None ≡ entry_in subject line
 no_kind subject line caller rest low is none = no_entry subject line (λ e ok same.
     let small : e.caller < 2 ^ 32 = below_of e.caller (2 ^ 32) (first_true _ _ ok) in
     let parts = one_before_space caller e.caller rest (kind_text e.kind) low (omega arith) (sym is ∙ same ∙ entry_line_is e.caller e.kind) in
     none e.kind (second_true (nat_lt e.caller (2 ^ 32)) _ ok) parts.1)
 
 -- a line that is an entry's
-pub entry_read : (subject : Subject) (line : List ℕ) (caller : ℕ) (kind : Kind) (rest : List ℕ) → caller < 2 ^ 32 → line ≡ decimal caller ++ 32 ∷ rest → IsKindRead subject rest (Some kind)
+pub entry_read : (subject : Subject) (line : List ℕ) (caller : ℕ) (kind : Kind) (rest : List ℕ) → caller < 2 ^ 32
+    → line ≡ decimal caller ++ 32 ∷ rest → IsKindRead subject rest (Some kind)
     → Some (record { caller = caller; kind = kind }) ≡ entry_in subject line
 entry_read subject line caller kind rest low is read =
     let entry : Entry = record { caller = caller; kind = kind } in

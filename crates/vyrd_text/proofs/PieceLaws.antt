@@ -25,7 +25,8 @@ is_byte : (b : ℕ) → (b == 10) ≡ true → b ≡ 10
 is_byte b e = grind (arith, nat_tests)
 
 -- and after it stands the rest
-pub parts_at : (xs : List ℕ) (k : ℕ) → k < length xs → (get_or xs k 0 == 10) ≡ true → xs ≡ take k xs ++ 10 ∷ take (length xs - (k + 1)) (drop (k + 1) xs)
+pub parts_at : (xs : List ℕ) (k : ℕ) → k < length xs → (get_or xs k 0 == 10) ≡ true
+    → xs ≡ take k xs ++ 10 ∷ take (length xs - (k + 1)) (drop (k + 1) xs)
 parts_at xs k h e =
     sym (take-append-drop k xs) ∙ ap (λ t. take k xs ++ t) (drop_more xs k 0 h
     ∙ (λ i. is_byte (get_or xs k 0) e i ∷ sym (take_rest xs (k + 1)) i))

@@ -22,22 +22,27 @@ abbrev pub entries_of : ReaderState → List ℕ → List Entry
 entries_of r bytes = (reading (so_far r) bytes).entries
 
 -- what the reader makes of nothing more is what the bytes say
-read_now : (r : ReaderState) (bytes : List ℕ) (is_whole : Bool) (es : List Entry) → Follows r es bytes → reading (record { max_lines = r.max_lines; is_whole = is_whole }) bytes ≡ with_entries es (goes_on r is_whole [])
-read_now r bytes is_whole es follows = ap (reading (record { max_lines = r.max_lines; is_whole = is_whole })) (sym (append-nil bytes)) ∙ follows is_whole []
+read_now : (r : ReaderState) (bytes : List ℕ) (is_whole : Bool) (es : List Entry) → Follows r es bytes
+    → reading (record { max_lines = r.max_lines; is_whole = is_whole }) bytes ≡ with_entries es (goes_on r is_whole [])
+read_now r bytes is_whole es follows =
+    ap (reading (record { max_lines = r.max_lines; is_whole = is_whole })) (sym (append-nil bytes)) ∙ follows is_whole []
 
 -- a reader that has read bytes reports their fault
 noticed_of : (r : ReaderState) (bytes : List ℕ) → HasRead r bytes → IsNoticed r
 noticed_of r bytes has =
-    let now : reading (so_far r) bytes ≡ with_entries (entries_of r bytes) (goes_on r false []) = read_now r bytes false (entries_of r bytes) has.follows in
+    let now : reading (so_far r) bytes ≡ with_entries (entries_of r bytes) (goes_on r false []) =
+      read_now r bytes false (entries_of r bytes) has.follows in
     let none : (goes_on r false []).entries ≡ [] =
-    append_cancel_left (entries_of r bytes) (goes_on r false []).entries [] (sym (ap (λ read. read.entries) now) ∙ sym (append-nil (entries_of r bytes))) in
+    append_cancel_left (entries_of r bytes) (goes_on r false []).entries [] (sym (ap (λ read. read.entries) now)
+      ∙ sym (append-nil (entries_of r bytes))) in
     let header : (goes_on r false []).header ≡ r.header = sym (ap (λ read. read.header) now) ∙ sym has.header in
     let done : (goes_on r false []).ended ≡ r.ended = sym (ap (λ read. read.ended) now) ∙ sym has.ended in
     let fault : (goes_on r false []).fault ≡ r.fault = sym (ap (λ read. read.fault) now) ∙ sym has.fault in
     λ i. record { header = header i; entries = none i; ended = done i; fault = fault i }
 
 -- bytes were fed to a reader that had read some
-module _ (old new : ReaderState) (bytes piece : List ℕ) (before after : List Entry) (has : HasRead old bytes) (fed : IsFed old piece before after new) where
+module _ (old new : ReaderState) (bytes piece : List ℕ) (before after : List Entry) (has : HasRead old bytes)
+    (fed : IsFed old piece before after new) where
   abbrev es : List Entry
   es = entries_of old bytes ++ fed.found
 
@@ -78,11 +83,13 @@ unless (Err (Malformed line rule)) p = p
 unless (Err Memory) p = tt
 
 -- nothing more is fed to a reader with a fault
-pub faulty_fed : (r : ReaderState) (f : TextFault) (piece : List ℕ) (entries : List Entry) → 1 ≤ r.max_lines → r.fault ≡ Some f → IsFed r piece entries entries r
+pub faulty_fed : (r : ReaderState) (f : TextFault) (piece : List ℕ) (entries : List Entry) → 1 ≤ r.max_lines → r.fault ≡ Some f
+    → IsFed r piece entries entries r
 faulty_fed r f piece entries low is = record { found = []; grown = sym (append-nil entries); taken = faulty_taken r f piece low is }
 
 -- a whole line more was fed
-pub fed_then : (a b c : ReaderState) (xs ys : List ℕ) (before middle after hs : List Entry) → IsFed a xs before middle b → IsTaken b ys hs c → after ≡ middle ++ hs → IsFed a (xs ++ ys) before after c
+pub fed_then : (a b c : ReaderState) (xs ys : List ℕ) (before middle after hs : List Entry) → IsFed a xs before middle b
+    → IsTaken b ys hs c → after ≡ middle ++ hs → IsFed a (xs ++ ys) before after c
 fed_then a b c xs ys before middle after hs fed taken grown = record {
   found = fed.found ++ hs;
   grown = grown ∙ ap (λ t. t ++ hs) fed.grown ∙ append_assoc before fed.found hs;
@@ -90,8 +97,10 @@ fed_then a b c xs ys before middle after hs fed taken grown = record {
 }
 
 -- the rules at the end of the input
-at_end : (a b h : Bool) (bad : Rule) → cond a (Some TooManyLines) (cond b (Some bad) (cond (h && false) (Some NoLineFeed) (cond false (Some NoEnd) None))) ≡ None
-    → cond a (Some TooManyLines) (cond b (Some bad) (cond (h && true) (Some NoLineFeed) (cond true (Some NoEnd) None))) ≡ Some (cond h NoLineFeed NoEnd)
+at_end : (a b h : Bool) (bad : Rule)
+    → cond a (Some TooManyLines) (cond b (Some bad) (cond (h && false) (Some NoLineFeed) (cond false (Some NoEnd) None))) ≡ None
+    → cond a (Some TooManyLines) (cond b (Some bad) (cond (h && true) (Some NoLineFeed) (cond true (Some NoEnd) None)))
+      ≡ Some (cond h NoLineFeed NoEnd)
 at_end true b h bad e = cc
 at_end false true h bad e = cc
 at_end false false true bad e = refl
@@ -121,10 +130,13 @@ module _ (r : ReaderState) (bytes : List ℕ) (has : HasRead r bytes) where
         sym (ap (λ o. (unless_faulty r (so_far r) (slice_split (λ b. b == 10) (r.unfinished ++ [])) o).fault) fine)
         ∙ ap (λ read. read.fault) (noticed_of r bytes has) ∙ fine
 
-    at_whole : (reading (whole r) bytes) ≡ with_entries (entries_of r bytes) (lines_on (whole r) r.line r.header r.ended (slice_split (λ b. b == 10) (r.unfinished ++ [])))
-    at_whole = whole_read ∙ ap (λ o. with_entries (entries_of r bytes) (unless_faulty r (whole r) (slice_split (λ b. b == 10) (r.unfinished ++ [])) o)) fine
+    at_whole : (reading (whole r) bytes)
+        ≡ with_entries (entries_of r bytes) (lines_on (whole r) r.line r.header r.ended (slice_split (λ b. b == 10) (r.unfinished ++ [])))
+    at_whole = whole_read ∙ ap (λ o. with_entries (entries_of r bytes)
+        (unless_faulty r (whole r) (slice_split (λ b. b == 10) (r.unfinished ++ [])) o)) fine
 
-    ended_lines : (h : Header) (lines : List (List ℕ)) → (lines_on (so_far r) r.line (Some h) true lines).fault ≡ None → (lines_on (whole r) r.line (Some h) true lines).fault ≡ None
+    ended_lines : (h : Header) (lines : List (List ℕ)) → (lines_on (so_far r) r.line (Some h) true lines).fault ≡ None
+        → (lines_on (whole r) r.line (Some h) true lines).fault ≡ None
     ended_lines h [] e = e
     ended_lines h (line ∷ lines) e = e
 
@@ -153,16 +165,20 @@ module _ (r : ReaderState) (bytes : List ℕ) (has : HasRead r bytes) where
       one = ap (slice_split (λ b. b == 10)) (append-nil r.unfinished) ∙ split_whole 10 r.unfinished one_line
 
       -- a text that ends before `end`
-      pub unfinished_at_end : (r.header ≡ None → r.line ≡ 1) → (reading (whole r) bytes).fault ≡ Some (record { line = r.line; rule = cond (has_any r.unfinished) NoLineFeed NoEnd })
+      pub unfinished_at_end : (r.header ≡ None → r.line ≡ 1)
+          → (reading (whole r) bytes).fault ≡ Some (record { line = r.line; rule = cond (has_any r.unfinished) NoLineFeed NoEnd })
       unfinished_at_end first = by_header r.header refl
         where
-          by_header : (o : Option Header) → r.header ≡ o → (reading (whole r) bytes).fault ≡ Some (record { line = r.line; rule = cond (has_any r.unfinished) NoLineFeed NoEnd })
+          by_header : (o : Option Header) → r.header ≡ o
+              → (reading (whole r) bytes).fault ≡ Some (record { line = r.line; rule = cond (has_any r.unfinished) NoLineFeed NoEnd })
           by_header None is =
               let known_none = (λ i. (lines_on (so_far r) r.line (sym is i) r.ended (sym one i)).fault) ∙ nothing_wrong in
               ap (λ read. read.fault) at_whole ∙ (λ i. (lines_on (whole r) r.line (is i) r.ended (one i)).fault)
-              ∙ ap (fault_on 1) (at_end (has_any r.unfinished && nat_lt r.max_lines 1) (nat_lt 64 (length r.unfinished)) (has_any r.unfinished) BadHeader (no_fault 1 _ known_none))
+              ∙ ap (fault_on 1) (at_end (has_any r.unfinished && nat_lt r.max_lines 1) (nat_lt 64 (length r.unfinished))
+                (has_any r.unfinished) BadHeader (no_fault 1 _ known_none))
               ∙ ap (λ n. Some (record { line = n; rule = cond (has_any r.unfinished) NoLineFeed NoEnd })) (sym (first is))
           by_header (Some h) is =
               let known_none = (λ i. (lines_on (so_far r) r.line (sym is i) (sym not_ended i) (sym one i)).fault) ∙ nothing_wrong in
               ap (λ read. read.fault) at_whole ∙ (λ i. (lines_on (whole r) r.line (is i) (not_ended i) (one i)).fault)
-              ∙ ap (fault_on r.line) (at_end (has_any r.unfinished && nat_lt r.max_lines r.line) (nat_lt 64 (length r.unfinished)) (has_any r.unfinished) BadEntry (no_fault r.line _ known_none))
+              ∙ ap (fault_on r.line) (at_end (has_any r.unfinished && nat_lt r.max_lines r.line) (nat_lt 64 (length r.unfinished))
+                (has_any r.unfinished) BadEntry (no_fault r.line _ known_none))

@@ -14,12 +14,14 @@ front_of_front old more middle now e f =
     sym (take-take (length old) (length middle) now long) ∙ ap (take (length old)) (f ∙ e) ∙ take_at old more (length old) refl
 
 -- the last part of what is appended
-pub appended : {E : Type 0} (r : Result (Unit {0}) E) (was more now target : List ℕ) → now ≡ cond (is_ok r) (was ++ more) was → was ++ more ≡ target → OnOk r (now ≡ target)
+pub appended : {E : Type 0} (r : Result (Unit {0}) E) (was more now target : List ℕ) → now ≡ cond (is_ok r) (was ++ more) was
+    → was ++ more ≡ target → OnOk r (now ≡ target)
 appended (Ok x) was more now target e f = e ∙ f
 appended (Err x) was more now target e f = tt
 
 -- a header, entries and `end` are a log's text
-pub whole_log : (h : Header) (entries : List Entry) (old first second : List ℕ) → first ≡ old ++ ended_line (header_line h.version h.subject h.size h.callers)
+pub whole_log : (h : Header) (entries : List Entry) (old first second : List ℕ)
+    → first ≡ old ++ ended_line (header_line h.version h.subject h.size h.callers)
     → second ≡ first ++ flat_map (λ e. ended_line (entry_line e)) entries → second ++ codes "end\n" ≡ old ++ log_text h entries
 unfolding log_text
 whole_log h entries old first second e f =

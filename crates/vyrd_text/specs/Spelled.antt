@@ -22,12 +22,14 @@ call_text method args = spaced (method_name method ∷ arg_fields method args)
 
 -- the arguments below 2^32 whose text it is
 abbrev pub AreArgsRead : ℕ → List ℕ → Option Args → Type 0
-AreArgsRead arity text None = (args : Args) → are_padded arity args ≡ true → args.a < 2 ^ 32 → args.b < 2 ^ 32 → args.c < 2 ^ 32 → text ≡ args_text arity args → ⊥
+AreArgsRead arity text None = (args : Args) → are_padded arity args ≡ true → args.a < 2 ^ 32 → args.b < 2 ^ 32 → args.c < 2 ^ 32
+    → text ≡ args_text arity args → ⊥
 AreArgsRead arity text (Some args) = (are_padded arity args ≡ true) × (text ≡ args_text arity args)
 
 -- the method of the subject and its arguments below 2^32 whose text it is
 abbrev pub IsCallRead : Subject → List ℕ → Option (Method × Args) → Type 0
-IsCallRead subject text None = (method : Method) (args : Args) → same_subject (subject_of method) subject ≡ true → are_padded (arity_of method) args ≡ true
+IsCallRead subject text None = (method : Method) (args : Args) → same_subject (subject_of method) subject ≡ true
+    → are_padded (arity_of method) args ≡ true
     → args.a < 2 ^ 32 → args.b < 2 ^ 32 → args.c < 2 ^ 32 → text ≡ call_text method args → ⊥
 IsCallRead subject text (Some (method, args)) =
     (same_subject (subject_of method) subject ≡ true) × (are_padded (arity_of method) args ≡ true) × (text ≡ call_text method args)
@@ -46,4 +48,5 @@ AreLimitsRead text (Some (size, callers)) = (is_sized size callers ≡ true) × 
 abbrev pub AreNumbersRead : List ℕ → Option (ℕ × Subject × ℕ × ℕ) → Type 0
 AreNumbersRead text None = (version : ℕ) (subject : Subject) (size callers : ℕ) → version < 2 ^ 32 → is_sized size callers ≡ true →
     text ≡ header_line version subject size callers → ⊥
-AreNumbersRead text (Some (version, subject, size, callers)) = (version < 2 ^ 32) × (is_sized size callers ≡ true) × (text ≡ header_line version subject size callers)
+AreNumbersRead text (Some (version, subject, size, callers)) = (version < 2 ^ 32) × (is_sized size callers ≡ true)
+    × (text ≡ header_line version subject size callers)

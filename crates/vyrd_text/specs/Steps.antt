@@ -42,7 +42,8 @@ pub record IsSteady (reader : ReaderState) : Type 0 where
 
 -- the rule that the reader's line breaks with so many further bytes, none of them a line feed
 abbrev pub IsRuleOfRest : ReaderState → ℕ → Option Rule → Type 0
-IsRuleOfRest reader more rule = (bytes : List ℕ) → length bytes ≡ more → is_one_line bytes ≡ true → goes_on reader false bytes ≡ known reader (fault_on reader.line rule)
+IsRuleOfRest reader more rule = (bytes : List ℕ) → length bytes ≡ more → is_one_line bytes ≡ true
+    → goes_on reader false bytes ≡ known reader (fault_on reader.line rule)
 
 -- Entries were added to a list: those that one reader found in the bytes as it became the other.
 pub record IsFed (old : ReaderState) (bytes : List ℕ) (before after : List Entry) (new : ReaderState) : Type 0 where

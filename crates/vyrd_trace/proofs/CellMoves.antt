@@ -28,7 +28,8 @@ pub upd_else : {A : Type 0} (f : ℕ → A) (i : ℕ) (x : A) (j : ℕ) → j �
 upd_else {A} f i x j apart = ap (λ (b : Bool). cond {A = A} b x (f j)) (ne_eqb j i apart)
 
 -- a cell that fits depends on its claimer's action alone
-fits_other : (plain : ℕ) (f h : ℕ → Stage) (k w n : ℕ) (o : Option ℕ) → ((c : ℕ) → o ≡ Some c → h c ≡ f c) → FitsCell plain f k w n o → FitsCell plain h k w n o
+fits_other : (plain : ℕ) (f h : ℕ → Stage) (k w n : ℕ) (o : Option ℕ) → ((c : ℕ) → o ≡ Some c → h c ≡ f c)
+    → FitsCell plain f k w n o → FitsCell plain h k w n o
 fits_other plain f h k w n None same fits = fits
 fits_other plain f h k w n (Some c) same fits = subst (InHand plain c k w n) (sym (same c refl)) fits
 
@@ -49,11 +50,13 @@ module _ (p : Plan) (s : St) (r : Kept p s) (id : ℕ) (v : Record) (at : get_el
   -- at another cell the claimer is another caller, if this caller's action is at k0 or at none
   others_claim : (k : ℕ) → k < p.plain + p.locks → ((w n : ℕ) → InHand p.plain By k w n v.stage → ⊥) → (c : ℕ) → G.claimer k ≡ Some c → c ≢ By
   others_claim k inside not_here c is same = not_here (slice_index s.words (k + 1)) (last_value G.history k)
-      (subst (InHand p.plain By k (slice_index s.words (k + 1)) (last_value G.history k)) Mine.at_stage (in_hand p.plain G.stage k _ _ By (G.claimer k) (is ∙ ap Some same) (r.cells k inside)))
+      (subst (InHand p.plain By k (slice_index s.words (k + 1)) (last_value G.history k)) Mine.at_stage
+        (in_hand p.plain G.stage k _ _ By (G.claimer k) (is ∙ ap Some same) (r.cells k inside)))
 
   module _ (k0 : ℕ) (inside : k0 < p.plain + p.locks) where
     -- the cells after a step at k0 with a new action of this caller
-    pub moved : (st : Stage) (w' : ℕ) (o : Option ℕ) (words : List ℕ) (h : List Stamped) → ((k : ℕ) → k ≢ k0 → slice_index words (k + 1) ≡ slice_index s.words (k + 1)) → slice_index words (k0 + 1) ≡ w'
+    pub moved : (st : Stage) (w' : ℕ) (o : Option ℕ) (words : List ℕ) (h : List Stamped)
+        → ((k : ℕ) → k ≢ k0 → slice_index words (k + 1) ≡ slice_index s.words (k + 1)) → slice_index words (k0 + 1) ≡ w'
         → ((k : ℕ) → k ≢ k0 → last_value h k ≡ last_value G.history k) → ((k w n : ℕ) → k ≢ k0 → InHand p.plain By k w n v.stage → ⊥)
         → FitsCell p.plain (upd G.stage By st) k0 w' (last_value h k0) o
         → (k : ℕ) → k < p.plain + p.locks → FitsCell p.plain (upd G.stage By st) k (slice_index words (k + 1)) (last_value h k) (upd G.claimer k0 o k)
@@ -64,13 +67,15 @@ module _ (p : Plan) (s : St) (r : Kept p s) (id : ℕ) (v : Record) (at : get_el
         (subst (λ (x : ℕ). FitsCell p.plain (upd G.stage By st) k0 x (last_value h k0) o) (sym here) fits)))
         (λ no. subst (FitsCell p.plain (upd G.stage By st) k (slice_index words (k + 1)) (last_value h k)) (sym (upd_else G.claimer k0 o k no))
         (refit p.plain (upd G.stage By st) k _ _ _ _ (G.claimer k) (elsewhere k no) (same k no)
-        (fits_other p.plain G.stage (upd G.stage By st) k _ _ (G.claimer k) (λ c is. upd_else G.stage By st c (others_claim k l (λ w n. not_here k w n no) c is)) (r.cells k l))))
+        (fits_other p.plain G.stage (upd G.stage By st) k _ _ (G.claimer k)
+          (λ c is. upd_else G.stage By st c (others_claim k l (λ w n. not_here k w n no) c is)) (r.cells k l))))
 
     -- the claims after it: the new action is at k0, if it is anywhere, and then the cell is claimed
     pub claims_moved : (st : Stage) (o : Option ℕ) → ((k : ℕ) → IsAt st k → (k ≡ k0) × (o ≡ Some By)) → ((c : ℕ) → c ≢ By → G.claimer k0 ≡ Some c → ⊥)
         → (c k : ℕ) → IsAt (upd G.stage By st c) k → upd G.claimer k0 o k ≡ Some c
     claims_moved st o new free c k at' = dite (ℕ_discrete c By)
-        (λ e. let n = new k (subst (λ (x : Stage). IsAt x k) (upd_here G.stage By st c e) at') in upd_here G.claimer k0 o k n.0 ∙ n.1 ∙ ap Some (sym e))
+        (λ e. let n = new k (subst (λ (x : Stage). IsAt x k) (upd_here G.stage By st c e) at') in upd_here G.claimer k0 o k n.0
+          ∙ n.1 ∙ ap Some (sym e))
         (λ no. let was = r.claims c k (subst (λ (x : Stage). IsAt x k) (upd_else G.stage By st c no) at') in
         let apart : k ≢ k0 = λ e. free c no (ap G.claimer (sym e) ∙ was) in upd_else G.claimer k0 o k apart ∙ was)
 
@@ -80,7 +85,8 @@ module _ (p : Plan) (s : St) (r : Kept p s) (id : ℕ) (v : Record) (at : get_el
     same_moved h st o parts = record { owners = λ c. refl; parts = parts; stages = λ c no. upd_else G.stage By st c no }
 
 -- a free cell: its word is even, and it isn't a lock that is given
-pub free_cell : (plain : ℕ) (f : ℕ → Stage) (k w n : ℕ) (o : Option ℕ) → w % 2 ≡ 0 → (plain ≤ k → w ≡ 0) → FitsCell plain f k w n o → (o ≡ None) × (w ≡ 2 * n)
+pub free_cell : (plain : ℕ) (f : ℕ → Stage) (k w n : ℕ) (o : Option ℕ) → w % 2 ≡ 0 → (plain ≤ k → w ≡ 0)
+    → FitsCell plain f k w n o → (o ≡ None) × (w ≡ 2 * n)
 free_cell plain f k w n None even lock fits = (refl, fits)
 free_cell plain f k w n (Some c) even lock fits = absurd (taken (f c) fits)
   where
@@ -91,7 +97,8 @@ free_cell plain f k w n (Some c) even lock fits = absurd (taken (f c) fits)
     taken (Giving c') h = let a = h.2 in let z = lock h.1 in omega arith
 
 -- a held lock of a caller at rest: nobody has it in hand
-pub held_cell : (plain : ℕ) (f : ℕ → Stage) (k w n by : ℕ) (o : Option ℕ) → plain ≤ k → n ≡ by + 1 → f by ≡ Rest → FitsCell plain f k w n o → (o ≡ None) × (w ≡ 2 * n)
+pub held_cell : (plain : ℕ) (f : ℕ → Stage) (k w n by : ℕ) (o : Option ℕ) → plain ≤ k → n ≡ by + 1 → f by ≡ Rest
+    → FitsCell plain f k w n o → (o ≡ None) × (w ≡ 2 * n)
 held_cell plain f k w n by None lock held rest fits = (refl, fits)
 held_cell plain f k w n by (Some c) lock held rest fits = absurd (taken (f c) refl fits)
   where
@@ -110,7 +117,8 @@ pub nowhere : (plain by k0 : ℕ) (b : ℕ) (st : Stage) → st ≡ Claimed k0 b
 nowhere plain by k0 b st is k w n apart h = let x : InHand plain by k w n (Claimed k0 b) = subst (InHand plain by k w n) is h in apart (sym x.0)
 
 pub nowhere_drawn : (plain by k0 : ℕ) (b m : ℕ) (st : Stage) → st ≡ Drawn k0 b m → (k w n : ℕ) → k ≢ k0 → InHand plain by k w n st → ⊥
-nowhere_drawn plain by k0 b m st is k w n apart h = let x : InHand plain by k w n (Drawn k0 b m) = subst (InHand plain by k w n) is h in apart (sym x.0)
+nowhere_drawn plain by k0 b m st is k w n apart h = let x : InHand plain by k w n (Drawn k0 b m) =
+    subst (InHand plain by k w n) is h in apart (sym x.0)
 
 pub nowhere_giving : (plain by k0 : ℕ) (st : Stage) → st ≡ Giving k0 → (k w n : ℕ) → k ≢ k0 → InHand plain by k w n st → ⊥
 nowhere_giving plain by k0 st is k w n apart h = let x : InHand plain by k w n (Giving k0) = subst (InHand plain by k w n) is h in apart (sym x.0)

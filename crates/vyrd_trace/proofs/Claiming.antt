@@ -21,7 +21,8 @@ use Rattle.vyrd_trace.proofs.Stays.{St, turned, refit, same_refl}
 use Rattle.vyrd_trace.proofs.CellMoves.{upd, upd_here, moved, claims_moved, same_moved, free_cell, nowhere_rest}
 
 module _ (p : Plan) where
-  unmoved : (s : St) (r : Kept p s) (id : ℕ) (c : List (ℕ × Unit {0})) (v : Record) (l : Look) → get_elem? s.views id ≡ some v → v.live ≡ true → (i : ℕ) → Kept p (stepped s i (slice_index s.words i) id c (acting v v.stage l) keeps)
+  unmoved : (s : St) (r : Kept p s) (id : ℕ) (c : List (ℕ × Unit {0})) (v : Record) (l : Look) → get_elem? s.views id ≡ some v
+      → v.live ≡ true → (i : ℕ) → Kept p (stepped s i (slice_index s.words i) id c (acting v v.stage l) keeps)
   unmoved s r id c v l at live i =
       let g = r.ghost_state in
       let mine = r.seats id v at live in
@@ -39,7 +40,8 @@ module _ (p : Plan) where
       }
 
   -- looks: nothing changes but the looks
-  pub looks : (slots id : ℕ) (me : Sitting) (k : ℕ) → me.0.live ≡ true → Allows (Kept p) slots id me (k + 1) (λ n. n) (looked (step slots (k + 1) 0 0 none) me)
+  pub looks : (slots id : ℕ) (me : Sitting) (k : ℕ) → me.0.live ≡ true
+      → Allows (Kept p) slots id me (k + 1) (λ n. n) (looked (step slots (k + 1) 0 0 none) me)
   looks slots id me k live s r _ at _ =
       let v : Record = me.0 in
       let n : ℕ = slice_index s.words (k + 1) in
@@ -54,8 +56,10 @@ module _ (p : Plan) where
       )
 
   -- a claim that is won: the word is `old`, which is even, and for a lock 0
-  won : (s : St) (r : Kept p s) (id : ℕ) (c : List (ℕ × Unit {0})) (v : Record) (k0 old new : ℕ) (st : Stage) (l : Look) → get_elem? s.views id ≡ some v → v.live ≡ true → k0 < p.plain + p.locks → v.stage ≡ Rest
-      → old % 2 ≡ 0 → (p.plain ≤ k0 → old ≡ 0) → new ≡ old + 1 → slice_index s.words (k0 + 1) ≡ old → st ≡ Claimed k0 (old / 2) → Kept p (stepped s (k0 + 1) new id c (acting v st l) keeps)
+  won : (s : St) (r : Kept p s) (id : ℕ) (c : List (ℕ × Unit {0})) (v : Record) (k0 old new : ℕ) (st : Stage) (l : Look)
+      → get_elem? s.views id ≡ some v → v.live ≡ true → k0 < p.plain + p.locks → v.stage ≡ Rest
+      → old % 2 ≡ 0 → (p.plain ≤ k0 → old ≡ 0) → new ≡ old + 1 → slice_index s.words (k0 + 1) ≡ old → st ≡ Claimed k0 (old / 2)
+        → Kept p (stepped s (k0 + 1) new id c (acting v st l) keeps)
   won s r id c v k0 old new st l at live inside rest even lock up hit is =
       let by : ℕ = v.caller in
       let g = r.ghost_state in
@@ -75,14 +79,19 @@ module _ (p : Plan) where
         counted = get_or-set_other s.words (k0 + 1) 0 new 0 (λ z. omega arith) ∙ r.counted;
         legal = r.legal;
         short = let a = r.short by in let b = ap length mine.whole in omega arith;
-        claims = claims_moved p s r id v at live k0 inside st o (λ k x. let y : k0 ≡ k = subst (λ (q : Stage). IsAt q k) is x in (sym y, refl)) (λ c no has. let f = free.0 in absurd (cc));
-        cells = moved p s r id v at live k0 inside st new o words g.history (λ k no. get_or-set_other s.words (k0 + 1) (k + 1) new 0 (λ z. no (omega arith))) (get_or-set_same s.words (k0 + 1) new 0 (omega arith)) (λ k _. refl)
+        claims = claims_moved p s r id v at live k0 inside st o (λ k x. let y : k0 ≡ k = subst (λ (q : Stage). IsAt q k) is x in
+          (sym y, refl)) (λ c no has. let f = free.0 in absurd (cc));
+        cells = moved p s r id v at live k0 inside st new o words g.history
+          (λ k no. get_or-set_other s.words (k0 + 1) (k + 1) new 0 (λ z. no (omega arith)))
+          (get_or-set_same s.words (k0 + 1) new 0 (omega arith)) (λ k _. refl)
             (nowhere_rest p.plain by k0 v.stage rest)
-            (subst (InHand p.plain by k0 new (last_value g.history k0)) (sym (upd_here g.stage by st by refl ∙ is)) (refl, omega arith, omega arith, (λ z. let q = lock z in omega arith)));
+            (subst (InHand p.plain by k0 new (last_value g.history k0)) (sym (upd_here g.stage by st by refl ∙ is)) (refl,
+              omega arith, omega arith, (λ z. let q = lock z in omega arith)));
       }
 
   -- a try of a claim: won where the word is the expected one, and else nothing changes but the looks
-  pub claims_cell : (next : Look → ℕ → ℕ → Look) (slots id : ℕ) (me : Sitting) (k0 old new : ℕ) → me.0.live ≡ true → k0 < p.plain + p.locks → me.0.stage ≡ Rest → old % 2 ≡ 0 → (p.plain ≤ k0 → old ≡ 0) → new ≡ old + 1
+  pub claims_cell : (next : Look → ℕ → ℕ → Look) (slots id : ℕ) (me : Sitting) (k0 old new : ℕ) → me.0.live ≡ true
+      → k0 < p.plain + p.locks → me.0.stage ≡ Rest → old % 2 ≡ 0 → (p.plain ≤ k0 → old ≡ 0) → new ≡ old + 1
       → Allows (Kept p) slots id me (k0 + 1) (λ n. either (eqb n old) new n) (tried next (step slots (k0 + 1) old new none) me)
   claims_cell next slots id me k0 old new live inside rest even lock up s r _ at _ =
       let n : ℕ = slice_index s.words (k0 + 1) in
@@ -101,6 +110,7 @@ module _ (p : Plan) where
         acting me.0 me.0.stage l,
         keeps,
         tt,
-        subst (λ (b : Bool). Kept p (stepped s (k0 + 1) (either b new n) id me.1 (acting me.0 me.0.stage l) keeps)) (sym (ne_eqb n old miss)) (unmoved s r id me.1 me.0 l at live (k0 + 1)),
+        subst (λ (b : Bool). Kept p (stepped s (k0 + 1) (either b new n) id me.1 (acting me.0 me.0.stage l) keeps))
+          (sym (ne_eqb n old miss)) (unmoved s r id me.1 me.0 l at live (k0 + 1)),
         ((λ hit. absurd (miss hit)), (λ _. refl)),
       ))

@@ -32,24 +32,33 @@ abbrev St : Type 0
 St = State (Unit {0}) Record
 
 -- the hand at place c, with its lane
-lane_at : (hs : List HandView) (c : ℕ) → c < length hs → (h : HandView) × (slice_get (own_lanes hs) c ≡ Some (own_lane_of h)) × (slice_index_or (lanes_of hs) c [] ≡ h.lane) × ((d : HandView) → slice_index_or hs c d ≡ h)
+lane_at : (hs : List HandView) (c : ℕ) → c < length hs
+    → (h : HandView) × (slice_get (own_lanes hs) c ≡ Some (own_lane_of h)) × (slice_index_or (lanes_of hs) c [] ≡ h.lane)
+    × ((d : HandView) → slice_index_or hs c d ≡ h)
 lane_at [] c l = absurd (omega arith)
 lane_at (h ∷ hs) zero l = (h, refl, refl, λ d. refl)
 lane_at (h ∷ hs) (suc c) l = lane_at hs c (omega arith)
 
 -- a seat at rest has its own lane and those that it gathered
-has_any : (n : ℕ) (g : Ghost) (id : ℕ) (v : Record) → v.stage ≡ Rest → Knows n g id v → (i : ℕ) (l : Lane) → slice_get (own_lane v ∷ v.gathered) i ≡ Some l → HasLane g id l
-has_any n g id v rest k zero l e = let same : own_lane v ≡ l = cc in subst (HasLane g id) same record { owned = k.owned; whole = k.whole; rests = k.at_stage ∙ rest }
+has_any : (n : ℕ) (g : Ghost) (id : ℕ) (v : Record) → v.stage ≡ Rest → Knows n g id v → (i : ℕ) (l : Lane)
+    → slice_get (own_lane v ∷ v.gathered) i ≡ Some l → HasLane g id l
+has_any n g id v rest k zero l e = let same : own_lane v ≡ l = cc in
+    subst (HasLane g id) same record { owned = k.owned; whole = k.whole; rests = k.at_stage ∙ rest }
 has_any n g id v rest k (suc i) l e = k.others i l e
 
-module _ (p : Plan) (s : St) (r : Kept p s) (id : ℕ) (v : Record) (hs : List HandView) (at : get_elem? s.views id ≡ some v) (live : v.live ≡ true) (rest : v.stage ≡ Rest)
-    (all : own_lane v ∷ v.gathered ≡ own_lanes hs) (count : length hs ≡ p.callers) (order : (i : ℕ) (d : HandView) → i < length hs → (slice_index_or hs i d).caller ≡ i) where
+module _ (p : Plan) (s : St) (r : Kept p s) (id : ℕ) (v : Record) (hs : List HandView) (at : get_elem? s.views id
+    ≡ some v) (live : v.live ≡ true) (rest : v.stage ≡ Rest)
+    (all : own_lane v ∷ v.gathered ≡ own_lanes hs) (count : length hs ≡ p.callers) (order : (i : ℕ) (d : HandView) → i < length hs
+      → (slice_index_or hs i d).caller ≡ i) where
   abbrev G : Ghost
   G = r.ghost_state
 
   -- the one seat has the lane of every hand
-  has : (c : ℕ) → c < length hs → (h : HandView) × (HasLane G id (own_lane_of h)) × (h.caller ≡ c) × (slice_index_or (lanes_of hs) c [] ≡ h.lane) × ((d : HandView) → slice_index_or hs c d ≡ h)
-  has c l = let f = lane_at hs c l in (f.0, has_any p.callers G id v rest (r.seats id v at live) c (own_lane_of f.0) (ap (λ (ls : List Lane). slice_get ls c) all ∙ f.1), ap (λ (h : HandView). h.caller) (sym (f.3 f.0)) ∙ order c f.0 l, f.2, f.3)
+  has : (c : ℕ) → c < length hs → (h : HandView) × (HasLane G id (own_lane_of h)) × (h.caller ≡ c)
+      × (slice_index_or (lanes_of hs) c [] ≡ h.lane) × ((d : HandView) → slice_index_or hs c d ≡ h)
+  has c l = let f = lane_at hs c l in
+      (f.0, has_any p.callers G id v rest (r.seats id v at live) c (own_lane_of f.0) (ap (λ (ls : List Lane). slice_get ls c) all
+      ∙ f.1), ap (λ (h : HandView). h.caller) (sym (f.3 f.0)) ∙ order c f.0 l, f.2, f.3)
 
   parts : (c : ℕ) → c < length hs → part c G.history ≡ slice_index_or (lanes_of hs) c []
   parts c l = let f = has c l in ap (λ (x : ℕ). part x G.history) (sym f.2) ∙ f.1.whole ∙ sym f.3
@@ -74,15 +83,19 @@ module _ (p : Plan) (s : St) (r : Kept p s) (id : ℕ) (v : Record) (hs : List H
   pub are_twice : AreTwice p G.history s.words
   are_twice k l = by_claimer (G.claimer k) (r.cells k l)
     where
-      by_claimer : (o : Option ℕ) → FitsCell p.plain G.stage k (slice_index s.words (k + 1)) (last_value G.history k) o → slice_index s.words (k + 1) ≡ 2 * last_value G.history k
+      by_claimer : (o : Option ℕ) → FitsCell p.plain G.stage k (slice_index s.words (k + 1)) (last_value G.history k) o
+          → slice_index s.words (k + 1) ≡ 2 * last_value G.history k
       by_claimer None fits = fits
-      by_claimer (Some c) fits = let x : InHand p.plain c k (slice_index s.words (k + 1)) (last_value G.history k) Rest = subst (InHand p.plain c k (slice_index s.words (k + 1)) (last_value G.history k)) (rests c) fits in absurd x
+      by_claimer (Some c) fits = let x : InHand p.plain c k (slice_index s.words (k + 1)) (last_value G.history k) Rest =
+          subst (InHand p.plain c k (slice_index s.words (k + 1)) (last_value G.history k)) (rests c) fits in absurd x
 
 abbrev pub size : HandView → ℕ
 size h = length h.lane
 
 -- the events of the first n callers are as many as their lanes have
-sums : (hs : List HandView) (h : List Stamped) → ((c : ℕ) → c < length (lanes_of hs) → part c h ≡ slice_index_or (lanes_of hs) c []) → (n : ℕ) → n ≤ length hs → below n h ≡ sum_by size (take n hs)
+sums : (hs : List HandView) (h : List Stamped)
+    → ((c : ℕ) → c < length (lanes_of hs) → part c h ≡ slice_index_or (lanes_of hs) c []) → (n : ℕ) → n ≤ length hs
+    → below n h ≡ sum_by size (take n hs)
 sums hs h parts zero l = below_none h
 sums hs h parts (suc n) l =
     let at = lane_at hs n (omega arith) in
@@ -112,7 +125,8 @@ from_places f k (x ∷ xs) each =
     λ i. head i ∷ tail i
 
 -- the halves of the words are the last values
-pub halved : (p : Plan) (h : List Stamped) (words halves : List ℕ) → AreTwice p h words → length halves ≡ p.plain + p.locks → ((k : ℕ) → k < p.plain + p.locks → slice_index halves k ≡ slice_index words (k + 1) / 2) → halves ≡ last_values p h
+pub halved : (p : Plan) (h : List Stamped) (words halves : List ℕ) → AreTwice p h words → length halves ≡ p.plain + p.locks
+    → ((k : ℕ) → k < p.plain + p.locks → slice_index halves k ≡ slice_index words (k + 1) / 2) → halves ≡ last_values p h
 halved p h words halves twice long half =
     from_places (last_value h) 0 halves (λ j l.
     let a = twice j (omega arith) in
@@ -123,9 +137,11 @@ halved p h words halves twice long half =
 
 -- What a closed table has: a legal history that is merged from the lanes, each hand's lane is its caller's part, each word
 -- is twice the value, and the history is as long as the lanes together.
-pub closed_facts : (p : Plan) (words : List ℕ) (slots : List (Unit {0})) (id : ℕ) (v : Record) (hs : List HandView) → Final (Seen (Kept p) id v) words slots → v.live ≡ true → v.stage ≡ Rest → own_lane v ∷ v.gathered ≡ own_lanes hs
+pub closed_facts : (p : Plan) (words : List ℕ) (slots : List (Unit {0})) (id : ℕ) (v : Record) (hs : List HandView)
+    → Final (Seen (Kept p) id v) words slots → v.live ≡ true → v.stage ≡ Rest → own_lane v ∷ v.gathered ≡ own_lanes hs
     → length hs ≡ p.callers → ((i : ℕ) (d : HandView) → i < length hs → (slice_index_or hs i d).caller ≡ i)
-    → (h : List Stamped) × IsMerge h (lanes_of hs) × (is_legal (cells_in p) h ≡ true) × AreParts h hs × AreTwice p h words × (length h ≡ sum_by size hs)
+    → (h : List Stamped) × IsMerge h (lanes_of hs) × (is_legal (cells_in p) h ≡ true) × AreParts h hs × AreTwice p h words
+      × (length h ≡ sum_by size hs)
 closed_facts p words slots id v hs f live rest all count order =
     let s = f.0 in
     let r = f.1.0 in
@@ -142,4 +158,5 @@ closed_facts p words slots id v hs f live rest all count order =
 
 -- what a slice of a `Vec` that was lent whole writes back
 pub back : (len : ℕ) (new old : List Stamped) → length new ≡ length old → len ≡ length old → take len (new ++ drop (length new) old) ≡ new
-back len new old same is = ap (λ (l : List Stamped). take len (new ++ l)) (drop_all (length new) old (omega arith)) ∙ ap (take len) (append-nil new) ∙ take_all len new (omega arith)
+back len new old same is = ap (λ (l : List Stamped). take len (new ++ l)) (drop_all (length new) old (omega arith))
+    ∙ ap (take len) (append-nil new) ∙ take_all len new (omega arith)

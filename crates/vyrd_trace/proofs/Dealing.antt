@@ -40,8 +40,10 @@ opens p some_caller = record {
   seats = one;
 }
   where
-    one : (j : ℕ) (v : Record) → get_elem? (first_record ∷ []) j ≡ some v → v.live ≡ true → Knows p.callers (record { history = []; owner = upd (λ _. None) 0 (Some 0); stage = λ _. Rest; claimer = λ _. None }) j v
-    one zero v e live = subst (Knows p.callers (record { history = []; owner = upd (λ _. None) 0 (Some 0); stage = λ _. Rest; claimer = λ _. None }) 0) (some-injective first_record v e) record {
+    one : (j : ℕ) (v : Record) → get_elem? (first_record ∷ []) j ≡ some v → v.live ≡ true
+        → Knows p.callers (record { history = []; owner = upd (λ _. None) 0 (Some 0); stage = λ _. Rest; claimer = λ _. None }) j v
+    one zero v e live = subst (Knows p.callers (record { history = []; owner = upd (λ _. None) 0 (Some 0); stage = λ _. Rest;
+        claimer = λ _. None }) 0) (some-injective first_record v e) record {
       owned = upd_here (λ _. None) 0 (Some 0) 0 refl;
       whole = refl;
       at_stage = refl;
@@ -59,7 +61,8 @@ at_end (x ∷ xs) a b zero e = inl e
 at_end (x ∷ xs) a b (suc j) e = ⊎_elim (λ t. inl t) (λ t. inr (ap suc t.0, t.1)) (at_end xs a b j e)
 
 -- the lanes of a seat where new owners are added
-lane_kept : (g h : Ghost) (seat : ℕ) (l : Lane) → h.history ≡ g.history → ((c : ℕ) → h.stage c ≡ g.stage c) → (g.owner l.caller ≡ Some seat → h.owner l.caller ≡ Some seat) → HasLane g seat l → HasLane h seat l
+lane_kept : (g h : Ghost) (seat : ℕ) (l : Lane) → h.history ≡ g.history → ((c : ℕ) → h.stage c ≡ g.stage c)
+    → (g.owner l.caller ≡ Some seat → h.owner l.caller ≡ Some seat) → HasLane g seat l → HasLane h seat l
 lane_kept g h seat l same stages owns has = record {
   owned = owns has.owned;
   whole = ap (part l.caller) same ∙ has.whole;
@@ -67,7 +70,8 @@ lane_kept g h seat l same stages owns has = record {
 }
 
 -- the record of a seat where new owners are added
-knows_kept : (n : ℕ) (g h : Ghost) (j : ℕ) (u : Record) → h.history ≡ g.history → ((c : ℕ) → h.stage c ≡ g.stage c) → ((c : ℕ) → g.owner c ≡ Some j → h.owner c ≡ Some j)
+knows_kept : (n : ℕ) (g h : Ghost) (j : ℕ) (u : Record) → h.history ≡ g.history → ((c : ℕ) → h.stage c ≡ g.stage c)
+    → ((c : ℕ) → g.owner c ≡ Some j → h.owner c ≡ Some j)
     → (u.caller ≡ 0 → (c : ℕ) → u.next ≤ c → h.owner c ≡ None) → Knows n g j u → Knows n h j u
 knows_kept n g h j u same stages owns unmade k = record {
   owned = owns u.caller k.owned;
@@ -89,7 +93,8 @@ splits p id v live zeroth room s r at =
     let free : g.owner v.next ≡ None = mine.unmade zeroth v.next (omega arith) in
     let idle = r.idle v.next free in
     let h : Ghost = record { history = g.history; owner = upd g.owner v.next (Some new); stage = g.stage; claimer = g.claimer } in
-    let others = λ (c j : ℕ) (o : g.owner c ≡ Some j). let no : c ≢ v.next = λ e. let f : g.owner c ≡ g.owner v.next = ap g.owner e in absurd (cc) in upd_else g.owner v.next (Some new) c no ∙ o in
+    let others = λ (c j : ℕ) (o : g.owner c ≡ Some j). let no : c ≢ v.next = λ e. let f : g.owner c
+      ≡ g.owner v.next = ap g.owner e in absurd (cc) in upd_else g.owner v.next (Some new) c no ∙ o in
     let positive : v.next ≢ 0 = λ e. let f : g.owner v.next ≡ g.owner v.caller = ap g.owner (e ∙ sym zeroth) in
     let m = mine.owned in absurd (cc) in record {
       ghost_state = h;
@@ -99,7 +104,8 @@ splits p id v live zeroth room s r at =
       short = r.short;
       claims = r.claims;
       cells = r.cells;
-      idle = λ c none_owns. let no : c ≢ v.next = λ e. let f : upd g.owner v.next (Some new) c ≡ Some new = upd_here g.owner v.next (Some new) c e in absurd (cc) in
+      idle = λ c none_owns. let no : c ≢ v.next = λ e. let f : upd g.owner v.next (Some new) c
+        ≡ Some new = upd_here g.owner v.next (Some new) c e in absurd (cc) in
           r.idle c (sym (upd_else g.owner v.next (Some new) c no) ∙ none_owns);
       outside = λ c le. upd_else g.owner v.next (Some new) c (λ e. omega arith) ∙ r.outside c le;
       seats = λ j u e alive. ⊎_elim
@@ -116,7 +122,8 @@ splits p id v live zeroth room s r at =
           })
           (λ (y : (j ≢ id) × (get_elem? s.views j ≡ some u)). let k = r.seats j u y.1 alive in
           knows_kept p.callers g h j u refl (λ _. refl) (λ c. others c j)
-          (λ z. let f : g.owner u.caller ≡ g.owner v.caller = ap g.owner (z ∙ sym zeroth) in let a = k.owned in let b = mine.owned in absurd (y.0 (cc))) k)
+          (λ z. let f : g.owner u.caller ≡ g.owner v.caller = ap g.owner (z ∙ sym zeroth) in let a = k.owned in
+            let b = mine.owned in absurd (y.0 (cc))) k)
           (at_set s.views id j (dealer v) u x))
           (λ (x : (j ≡ new) × (dealt v ≡ u)). subst (λ (z : ℕ × Record). Knows p.callers h z.0 z.1) (λ q. (sym x.0 q, x.1 q))
           record {
@@ -131,7 +138,8 @@ splits p id v live zeroth room s r at =
           (at_end views (dealt v) u j e);
     }
 
-slice_get_append : (xs ys : List Lane) (i : ℕ) (l : Lane) → slice_get (xs ++ ys) i ≡ Some l → (slice_get xs i ≡ Some l) ⊎ ((j : ℕ) × (slice_get ys j ≡ Some l))
+slice_get_append : (xs ys : List Lane) (i : ℕ) (l : Lane) → slice_get (xs ++ ys) i ≡ Some l
+    → (slice_get xs i ≡ Some l) ⊎ ((j : ℕ) × (slice_get ys j ≡ Some l))
 slice_get_append [] ys i l e = inr (i, e)
 slice_get_append (x ∷ xs) ys zero l e = inl e
 slice_get_append (x ∷ xs) ys (suc i) l e = slice_get_append xs ys i l e
@@ -156,11 +164,14 @@ given_else : (other id j : ℕ) → j ≢ other → given other id (Some j) ≡ 
 given_else other id j apart = ap (λ (b : Bool). cond b (Some id) (Some j)) (ne_eqb j other apart)
 
 -- a record takes in another's lanes, where that one is at rest
-pub joins : (p : Plan) (id : ℕ) (v : Record) (other : ℕ) (w : Record) → v.live ≡ true → w.live ≡ true → w.stage ≡ Rest → Joins (Kept p) id v other w (gathering v w) spent
+pub joins : (p : Plan) (id : ℕ) (v : Record) (other : ℕ) (w : Record) → v.live ≡ true → w.live ≡ true → w.stage ≡ Rest
+    → Joins (Kept p) id v other w (gathering v w) spent
 joins p id v other w live alive rest s r at differ there =
     let g = r.ghost_state in
     let mine = r.seats id v at live in
-    let was : get_elem? s.views other ≡ some w = ⊎_elim (λ (t : (other ≡ id) × (gathering v w ≡ w)). absurd (differ t.0)) (λ (t : (other ≢ id) × (get_elem? s.views other ≡ some w)). t.1) (at_set s.views id other (gathering v w) w there) in
+    let was : get_elem? s.views other
+      ≡ some w = ⊎_elim (λ (t : (other ≡ id) × (gathering v w ≡ w)). absurd (differ t.0))
+      (λ (t : (other ≢ id) × (get_elem? s.views other ≡ some w)). t.1) (at_set s.views id other (gathering v w) w there) in
     let theirs = r.seats other w was alive in
     let h : Ghost = record { history = g.history; owner = λ c. given other id (g.owner c); stage = g.stage; claimer = g.claimer } in
     let keeps = λ (c j : ℕ) (apart : j ≢ other) (o : g.owner c ≡ Some j). ap (given other id) o ∙ given_else other id j apart in
@@ -176,7 +187,8 @@ joins p id v other w live alive rest s r at differ there =
           (slice_get_append v.gathered (own_lane w ∷ w.gathered) i l e);
       apart = λ i l e. ⊎_elim
           (λ (x : slice_get v.gathered i ≡ Some l). mine.apart i l x)
-          (λ (x : (j : ℕ) × (slice_get (own_lane w ∷ w.gathered) j ≡ Some l)). apart_from g v.caller l.caller id other mine.owned (their l x.0 x.1 theirs) differ)
+          (λ (x : (j : ℕ) × (slice_get (own_lane w ∷ w.gathered) j ≡ Some l)). apart_from g v.caller l.caller id other mine.owned
+            (their l x.0 x.1 theirs) differ)
           (slice_get_append v.gathered (own_lane w ∷ w.gathered) i l e);
       unmade = λ z c le. ap (given other id) (mine.unmade z c le);
     } in record {
@@ -199,12 +211,15 @@ joins p id v other w live alive rest s r at differ there =
           (at_set (set s.views id (gathering v w)) other j spent u e);
     }
   where
-    their : {g : Ghost} (l : Lane) (j : ℕ) → slice_get (own_lane w ∷ w.gathered) j ≡ Some l → Knows p.callers g other w → g.owner l.caller ≡ Some other
+    their : {g : Ghost} (l : Lane) (j : ℕ) → slice_get (own_lane w ∷ w.gathered) j ≡ Some l → Knows p.callers g other w
+        → g.owner l.caller ≡ Some other
     their {g} l zero e k = let same : own_lane w ≡ l = cc in subst (λ (q : Lane). g.owner q.caller ≡ Some other) same k.owned
     their {g} l (suc j) e k = (k.others j l e).owned
 
-    taken : {g : Ghost} (l : Lane) (j : ℕ) → slice_get (own_lane w ∷ w.gathered) j ≡ Some l → Knows p.callers g other w → ((c : ℕ) → g.owner c ≡ Some other → given other id (g.owner c) ≡ Some id)
+    taken : {g : Ghost} (l : Lane) (j : ℕ) → slice_get (own_lane w ∷ w.gathered) j ≡ Some l → Knows p.callers g other w
+        → ((c : ℕ) → g.owner c ≡ Some other → given other id (g.owner c) ≡ Some id)
         → HasLane (record { history = g.history; owner = λ c. given other id (g.owner c); stage = g.stage; claimer = g.claimer }) id l
     taken {g} l zero e k moves = let same : own_lane w ≡ l = cc in
-        subst (HasLane (record { history = g.history; owner = λ c. given other id (g.owner c); stage = g.stage; claimer = g.claimer }) id) same record { owned = moves w.caller k.owned; whole = k.whole; rests = k.at_stage ∙ rest }
+        subst (HasLane (record { history = g.history; owner = λ c. given other id (g.owner c); stage = g.stage;
+          claimer = g.claimer }) id) same record { owned = moves w.caller k.owned; whole = k.whole; rests = k.at_stage ∙ rest }
     taken {g} l (suc j) e k moves = let x = k.others j l e in record { owned = moves l.caller x.owned; whole = x.whole; rests = x.rests }

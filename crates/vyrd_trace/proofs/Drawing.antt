@@ -34,13 +34,17 @@ module _ (p : Plan) (few : p.callers ≤ 64) (short : p.limit ≤ 16777216) wher
 
   -- A draw of any event that may come next. What is left to say is which action each caller has in hand afterwards, which
   -- caller has each cell, and that the cells' words, which stay, fit their values in the longer history.
-  drew_keeps : (s : St) (r : Kept p s) (id : ℕ) (c : List (ℕ × Unit {0})) (v : Record) (did : Did) (stage : ℕ → Stage) (claimer : ℕ → Option ℕ) (st : Stage)
+  drew_keeps : (s : St) (r : Kept p s) (id : ℕ) (c : List (ℕ × Unit {0})) (v : Record) (did : Did) (stage : ℕ
+      → Stage) (claimer : ℕ → Option ℕ) (st : Stage)
       → get_elem? s.views id ≡ some v → v.live ≡ true → length v.lane < p.limit
       → may_do (cells_in p) (newest_first r.ghost_state.history) v.caller did ≡ true
       → stage v.caller ≡ st → ((by : ℕ) → by ≢ v.caller → stage by ≡ r.ghost_state.stage by)
       → ((by k : ℕ) → IsAt (stage by) k → claimer k ≡ Some by)
-      → ((k : ℕ) → k < p.plain + p.locks → FitsCell p.plain stage k (slice_index s.words (k + 1)) (last_value (r.ghost_state.history ++ stamp (slice_index s.words 0) v.caller did ∷ []) k) (claimer k))
-      → Kept p (stepped s 0 ((slice_index s.words 0 + 1) % 2 ^ 64) id c (changed v (v.lane ++ stamp (slice_index s.words 0) v.caller did ∷ []) st v.look) keeps)
+      → ((k : ℕ) → k < p.plain + p.locks
+        → FitsCell p.plain stage k (slice_index s.words (k + 1))
+        (last_value (r.ghost_state.history ++ stamp (slice_index s.words 0) v.caller did ∷ []) k) (claimer k))
+      → Kept p (stepped s 0 ((slice_index s.words 0 + 1) % 2 ^ 64) id c
+        (changed v (v.lane ++ stamp (slice_index s.words 0) v.caller did ∷ []) st v.look) keeps)
   drew_keeps s r id c v did stage claimer st at live room may in_hand_now others claims cells =
       let n : ℕ = slice_index s.words 0 in
       let g = r.ghost_state in
@@ -64,7 +68,8 @@ module _ (p : Plan) (few : p.callers ≤ 64) (short : p.limit ≤ 16777216) wher
         legal = legal-snoc (cells_in p) g.history e r.legal counted mine.in_range may;
         short = omega (arith, length-append v.lane (e ∷ []));
         claims = claims;
-        cells = λ k l. refit p.plain stage k _ _ _ _ (claimer k) (get_or-set_other s.words 0 (k + 1) ((n + 1) % 2 ^ 64) 0 (λ z. omega arith)) refl (cells k l);
+        cells = λ k l. refit p.plain stage k _ _ _ _ (claimer k)
+          (get_or-set_other s.words 0 (k + 1) ((n + 1) % 2 ^ 64) 0 (λ z. omega arith)) refl (cells k l);
       }
 
   -- a mark changes no action and no cell
@@ -79,13 +84,15 @@ module _ (p : Plan) (few : p.callers ≤ 64) (short : p.limit ≤ 16777216) wher
         with_event v n (Marked kind),
         keeps,
         tt,
-        drew_keeps s r id me.1 v (Marked kind) g.stage g.claimer v.stage at live room (may_mark (cells_in p) (newest_first g.history) v.caller kind mark) mine.at_stage (λ _ _. refl) r.claims
+        drew_keeps s r id me.1 v (Marked kind) g.stage g.claimer v.stage at live room
+          (may_mark (cells_in p) (newest_first g.history) v.caller kind mark) mine.at_stage (λ _ _. refl) r.claims
             (λ k l. refit p.plain g.stage k _ _ _ _ (g.claimer k) refl (value-snoc g.history e k) (r.cells k l)),
         (refl, below p s r v mine.whole n r.counted),
       )
 
   -- an event at a cell that this caller has claimed: the cell's value is then m
-  acts : (slots id : ℕ) (me : Sitting) (did : Did) (k0 b m : ℕ) → me.0.live ≡ true → length me.0.lane < p.limit → k0 < p.plain + p.locks → me.0.stage ≡ Claimed k0 b → drawn me.0.stage me.0.caller did ≡ Drawn k0 b m
+  acts : (slots id : ℕ) (me : Sitting) (did : Did) (k0 b m : ℕ) → me.0.live ≡ true → length me.0.lane < p.limit
+      → k0 < p.plain + p.locks → me.0.stage ≡ Claimed k0 b → drawn me.0.stage me.0.caller did ≡ Drawn k0 b m
       → ((k w : ℕ) → k ≢ k0 → value_after k w me.0.caller did ≡ w) → value_after k0 b me.0.caller did ≡ m → (p.plain ≤ k0 → m ≡ me.0.caller + 1)
       → ((h : List Stamped) → last_value h k0 ≡ b → (p.plain ≤ k0 → b ≡ 0) → may_do (cells_in p) (newest_first h) me.0.caller did ≡ true)
       → Allows (Kept p) slots id me 0 (λ n. (n + 1) % 2 ^ 64) (drew did (step slots 0 1 0 none) me)
@@ -107,16 +114,21 @@ module _ (p : Plan) (few : p.callers ≤ 64) (short : p.limit ≤ 16777216) wher
         with_event v n did,
         keeps,
         tt,
-        drew_keeps s r id me.1 v did (upd g.stage by st) (upd g.claimer k0 o) st at live room (follows g.history cell.2 cell.3) (upd_here g.stage by st by refl) (λ c no. upd_else g.stage by st c no)
-            (claims_moved p s r id v at live k0 inside st o (λ k x. let y : k0 ≡ k = subst (λ (q : Stage). IsAt q k) next x in (sym y, refl)) (λ c no is. no (sym (same_some by c (sym mine_is ∙ is)))))
-            (moved p s r id v at live k0 inside st (slice_index s.words (k0 + 1)) o s.words hist (λ k _. refl) refl (λ k no. value-snoc g.history e k ∙ away k (last_value g.history k) no)
+        drew_keeps s r id me.1 v did (upd g.stage by st) (upd g.claimer k0 o) st at live room (follows g.history cell.2 cell.3)
+          (upd_here g.stage by st by refl) (λ c no. upd_else g.stage by st c no)
+            (claims_moved p s r id v at live k0 inside st o (λ k x. let y : k0 ≡ k = subst (λ (q : Stage). IsAt q k) next x in
+              (sym y, refl)) (λ c no is. no (sym (same_some by c (sym mine_is ∙ is)))))
+            (moved p s r id v at live k0 inside st (slice_index s.words (k0 + 1)) o s.words hist (λ k _. refl) refl
+              (λ k no. value-snoc g.history e k ∙ away k (last_value g.history k) no)
             (nowhere p.plain by k0 b v.stage claimed)
-            (subst (InHand p.plain by k0 (slice_index s.words (k0 + 1)) (last_value hist k0)) (sym (upd_here g.stage by st by refl ∙ next)) (refl, cell.1, now, lock))),
+            (subst (InHand p.plain by k0 (slice_index s.words (k0 + 1)) (last_value hist k0))
+              (sym (upd_here g.stage by st by refl ∙ next)) (refl, cell.1, now, lock))),
         (refl, below p s r v mine.whole n r.counted),
       )
 
   -- the give of a lock that this caller holds
-  gives : (slots id : ℕ) (me : Sitting) (k0 : ℕ) → me.0.live ≡ true → length me.0.lane < p.limit → p.plain ≤ k0 → k0 < p.plain + p.locks → me.0.stage ≡ Rest → HoldsBy me.0.lane me.0.caller k0
+  gives : (slots id : ℕ) (me : Sitting) (k0 : ℕ) → me.0.live ≡ true → length me.0.lane < p.limit → p.plain ≤ k0
+      → k0 < p.plain + p.locks → me.0.stage ≡ Rest → HoldsBy me.0.lane me.0.caller k0
       → Allows (Kept p) slots id me 0 (λ n. (n + 1) % 2 ^ 64) (drew (Gave k0) (step slots 0 1 0 none) me)
   gives slots id me k0 live room lock inside rest held s r _ at _ =
       let n : ℕ = slice_index s.words 0 in
@@ -128,27 +140,39 @@ module _ (p : Plan) (few : p.callers ≤ 64) (short : p.limit ≤ 16777216) wher
       let hist : List Stamped = g.history ++ e ∷ [] in
       let st : Stage = Giving k0 in
       let o : Option ℕ = Some by in
-      let was : last_value g.history k0 ≡ by + 1 = held_value (cells_in p) k0 by g.history lock r.legal (ap (λ (l : List Stamped). last_value l k0) mine.whole ∙ held) in
-      let free = held_cell p.plain g.stage k0 (slice_index s.words (k0 + 1)) (last_value g.history k0) by (g.claimer k0) lock was (mine.at_stage ∙ rest) (r.cells k0 inside) in
+      let was : last_value g.history k0
+        ≡ by + 1 = held_value (cells_in p) k0 by g.history lock r.legal (ap (λ (l : List Stamped). last_value l k0) mine.whole ∙ held) in
+      let free = held_cell p.plain g.stage k0 (slice_index s.words (k0 + 1)) (last_value g.history k0) by (g.claimer k0) lock was
+        (mine.at_stage ∙ rest) (r.cells k0 inside) in
       let now : last_value hist k0 ≡ 0 = value-snoc g.history e k0 ∙ rw (eq-eqb k0 k0 refl) refl in
       let word : slice_index s.words (k0 + 1) ≡ 2 * (by + 1) = free.1 ∙ ap (λ (x : ℕ). 2 * x) was in (
         with_event v n (Gave k0),
         keeps,
         tt,
-        drew_keeps s r id me.1 v (Gave k0) (upd g.stage by st) (upd g.claimer k0 o) st at live room (may_give (cells_in p) (newest_first g.history) by k0 lock inside was) (upd_here g.stage by st by refl) (λ c no. upd_else g.stage by st c no)
+        drew_keeps s r id me.1 v (Gave k0) (upd g.stage by st) (upd g.claimer k0 o) st at live room
+          (may_give (cells_in p) (newest_first g.history) by k0 lock inside was) (upd_here g.stage by st by refl)
+          (λ c no. upd_else g.stage by st c no)
             (claims_moved p s r id v at live k0 inside st o (λ k x. (sym x, refl)) (λ c no is. let f = free.0 in absurd (cc)))
-            (moved p s r id v at live k0 inside st (slice_index s.words (k0 + 1)) o s.words hist (λ k _. refl) refl (λ k no. value-snoc g.history e k ∙ rw (ne_eqb k0 k (λ x. no (sym x))) refl)
+            (moved p s r id v at live k0 inside st (slice_index s.words (k0 + 1)) o s.words hist (λ k _. refl) refl
+              (λ k no. value-snoc g.history e k ∙ rw (ne_eqb k0 k (λ x. no (sym x))) refl)
             (nowhere_rest p.plain by k0 v.stage rest)
-            (subst (InHand p.plain by k0 (slice_index s.words (k0 + 1)) (last_value hist k0)) (sym (upd_here g.stage by st by refl)) (refl, lock, word, now))),
+            (subst (InHand p.plain by k0 (slice_index s.words (k0 + 1)) (last_value hist k0))
+              (sym (upd_here g.stage by st by refl)) (refl, lock, word, now))),
         (refl, below p s r v mine.whole n r.counted),
       )
 
   -- any event that may come next
-  pub draws : (slots id : ℕ) (me : Sitting) (did : Did) → me.0.live ≡ true → length me.0.lane < p.limit → MayDraw p me.0 did → Allows (Kept p) slots id me 0 (λ n. (n + 1) % 2 ^ 64) (drew did (step slots 0 1 0 none) me)
+  pub draws : (slots id : ℕ) (me : Sitting) (did : Did) → me.0.live ≡ true → length me.0.lane < p.limit → MayDraw p me.0 did
+      → Allows (Kept p) slots id me 0 (λ n. (n + 1) % 2 ^ 64) (drew did (step slots 0 1 0 none) me)
   draws slots id me (Marked kind) live room may = marks slots id me kind live room may
   draws slots id me (Gave k) live room may = gives slots id me k live room may.0 may.1 may.2 may.3
-  draws slots id me (Read k x) live room may = let a = may.0 in acts slots id me (Read k x) k x x live room (omega arith) may.1 refl (λ _ _ _. refl) refl (λ z. absurd (omega arith)) (λ h is _. may_read (cells_in p) (newest_first h) me.0.caller k x a (sym is))
+  draws slots id me (Read k x) live room may = let a = may.0 in
+      acts slots id me (Read k x) k x x live room (omega arith) may.1 refl (λ _ _ _. refl) refl (λ z. absurd (omega arith))
+      (λ h is _. may_read (cells_in p) (newest_first h) me.0.caller k x a (sym is))
   draws slots id me (Wrote k x) live room may = let a = may.0 in let b : ℕ = before_of me.0.stage in
-      acts slots id me (Wrote k x) k b x live room (omega arith) may.2 refl (λ j w no. rw (ne_eqb k j (λ e. no (sym e))) refl) (rw (eq-eqb k k refl) refl) (λ z. absurd (omega arith)) (λ h _ _. may_write (cells_in p) (newest_first h) me.0.caller k x a may.1)
+      acts slots id me (Wrote k x) k b x live room (omega arith) may.2 refl (λ j w no. rw (ne_eqb k j (λ e. no (sym e))) refl)
+        (rw (eq-eqb k k refl) refl) (λ z. absurd (omega arith)) (λ h _ _. may_write (cells_in p) (newest_first h) me.0.caller k x a may.1)
   draws slots id me (Took k) live room may =
-      acts slots id me (Took k) k 0 (me.0.caller + 1) live room may.1 may.2 refl (λ j w no. rw (ne_eqb k j (λ e. no (sym e))) refl) (rw (eq-eqb k k refl) refl) (λ _. refl) (λ h is _. may_take (cells_in p) (newest_first h) me.0.caller k may.0 may.1 is)
+      acts slots id me (Took k) k 0 (me.0.caller + 1) live room may.1 may.2 refl
+        (λ j w no. rw (ne_eqb k j (λ e. no (sym e))) refl) (rw (eq-eqb k k refl) refl) (λ _. refl)
+        (λ h is _. may_take (cells_in p) (newest_first h) me.0.caller k may.0 may.1 is)

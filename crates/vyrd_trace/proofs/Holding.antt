@@ -14,7 +14,8 @@ pub holds-taken : (hand : HandView) (lock number : ℕ) (look : Look) → Holds 
 holds-taken hand lock number look = value-snoc hand.lane (stamp number hand.caller (Took lock)) lock ∙ rw (eq-eqb lock lock refl) refl
 
 -- a lock that it held, where the event doesn't change it
-pub holds-still : (hand : HandView) (lock number : ℕ) (did : Did) (look : Look) → made_of lock hand.caller did ≡ None → Holds hand lock → Holds (with_one_more hand number did look) lock
+pub holds-still : (hand : HandView) (lock number : ℕ) (did : Did) (look : Look) → made_of lock hand.caller did ≡ None
+    → Holds hand lock → Holds (with_one_more hand number did look) lock
 holds-still hand lock number did look other held =
     value-snoc hand.lane (stamp number hand.caller did) lock ∙ ap (λ (o : Option ℕ). unwrap_or o (last_value hand.lane lock)) other ∙ held
 

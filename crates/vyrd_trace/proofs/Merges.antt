@@ -39,13 +39,15 @@ abbrev pub StandsIn : List Stamped → Stamped → Type 0
 StandsIn h e = slice_get h e.number ≡ Some e
 
 -- an event that is written at its number leaves every right place right
-pub write_keeps : (h hist : List Stamped) (e : Stamped) (i : ℕ) → e.number < length hist → StandsIn h e → slice_get hist i ≡ slice_get h i → slice_get (set hist e.number e) i ≡ slice_get h i
+pub write_keeps : (h hist : List Stamped) (e : Stamped) (i : ℕ) → e.number < length hist → StandsIn h e
+    → slice_get hist i ≡ slice_get h i → slice_get (set hist e.number e) i ≡ slice_get h i
 write_keeps h hist e i inside stands was = dite (ℕ_discrete i e.number)
     (λ same. ap (slice_get (set hist e.number e)) same ∙ set_same hist e.number e inside ∙ sym stands ∙ ap (slice_get h) (sym same))
     (λ apart. set_other hist e.number i e apart ∙ was)
 
 -- and one event more of the lane stands in its place
-pub write_places : (h hist lane : List Stamped) (k : ℕ) (d : Stamped) → k < length lane → All (StandsIn h) lane → (get_or lane k d).number < length hist → All (StandsIn hist) (take k lane)
+pub write_places : (h hist lane : List Stamped) (k : ℕ) (d : Stamped) → k < length lane → All (StandsIn h) lane
+    → (get_or lane k d).number < length hist → All (StandsIn hist) (take k lane)
     → All (StandsIn (set hist (get_or lane k d).number (get_or lane k d))) (take (k + 1) lane)
 write_places h hist lane k d l stands inside placed =
     let e : Stamped = get_or lane k d in
@@ -58,7 +60,8 @@ pub all_placed : (hist lane : List Stamped) (k : ℕ) → length lane ≤ k → 
 all_placed hist lane k le placed = All-same (StandsIn hist) lane (take k lane) (sym (take_all k lane le)) placed
 
 -- the lane of an item at its place
-pub lane_at_item : {A : Type 0} (f : A → List Stamped) (ls : List A) (i : ℕ) (v : A) → i < length ls → v ≡ get_or ls i v → slice_index_or (map f ls) i [] ≡ f v
+pub lane_at_item : {A : Type 0} (f : A → List Stamped) (ls : List A) (i : ℕ) (v : A) → i < length ls → v ≡ get_or ls i v
+    → slice_index_or (map f ls) i [] ≡ f v
 lane_at_item f [] i v l e = absurd (omega arith)
 lane_at_item f (x ∷ xs) zero v l e = ap f (sym e)
 lane_at_item f (x ∷ xs) (suc i) v l e = lane_at_item f xs i v (omega arith) e
@@ -73,12 +76,16 @@ module _ (h : List Stamped) (lanes : List (List Stamped)) (m : IsMerge h lanes) 
       ap (slice_get h) (m.placed f.0 (slice_index_or lane k d) got).0 ∙ got
 
   -- so their numbers are below its length
-  pub numbers_inside : (c : ℕ) (lane : List Stamped) → c < length lanes → slice_index_or lanes c [] ≡ lane → All (λ (e : Stamped). e.number < length h) lane
-  numbers_inside c lane l is k d below = slice_get_within h (slice_index_or lane k d).number (slice_index_or lane k d) (lane_stands c lane l is k d below)
+  pub numbers_inside : (c : ℕ) (lane : List Stamped) → c < length lanes → slice_index_or lanes c [] ≡ lane
+      → All (λ (e : Stamped). e.number < length h) lane
+  numbers_inside c lane l is k d below =
+      slice_get_within h (slice_index_or lane k d).number (slice_index_or lane k d) (lane_stands c lane l is k d below)
 
   -- with the lane of caller c written, the events of all callers up to c stand in their places
-  pub merge_step : (c : ℕ) (lane old new : List Stamped) → c < length lanes → slice_index_or lanes c [] ≡ lane → ((i : ℕ) → slice_get old i ≡ slice_get h i → slice_get new i ≡ slice_get h i) → All (StandsIn new) lane
-      → ((i : ℕ) (e : Stamped) → slice_get h i ≡ Some e → e.caller < c → slice_get old i ≡ Some e) → (i : ℕ) (e : Stamped) → slice_get h i ≡ Some e → e.caller < c + 1 → slice_get new i ≡ Some e
+  pub merge_step : (c : ℕ) (lane old new : List Stamped) → c < length lanes → slice_index_or lanes c [] ≡ lane
+      → ((i : ℕ) → slice_get old i ≡ slice_get h i → slice_get new i ≡ slice_get h i) → All (StandsIn new) lane
+      → ((i : ℕ) (e : Stamped) → slice_get h i ≡ Some e → e.caller < c → slice_get old i ≡ Some e) → (i : ℕ) (e : Stamped)
+        → slice_get h i ≡ Some e → e.caller < c + 1 → slice_get new i ≡ Some e
   merge_step c lane old new l is kept placed so_far i e at below = dite (ℕ_discrete e.caller c)
       (λ same.
       let f = in_part c h i e at same in let there : part c h ≡ lane = m.parts c l ∙ is in
@@ -88,5 +95,6 @@ module _ (h : List Stamped) (lanes : List (List Stamped)) (m : IsMerge h lanes) 
       (λ apart. kept i (so_far i e at (omega arith) ∙ sym at) ∙ at)
 
   -- with all lanes written it is the history
-  pub merged : (c : ℕ) (hist : List Stamped) → length lanes ≤ c → length h ≡ length hist → ((i : ℕ) (e : Stamped) → slice_get h i ≡ Some e → e.caller < c → slice_get hist i ≡ Some e) → hist ≡ h
+  pub merged : (c : ℕ) (hist : List Stamped) → length lanes ≤ c → length h ≡ length hist
+      → ((i : ℕ) (e : Stamped) → slice_get h i ≡ Some e → e.caller < c → slice_get hist i ≡ Some e) → hist ≡ h
   merged c hist le long so_far = same_from_get hist h (sym long) (λ i e at. so_far i e at (let x = (m.placed i e at).1 in omega arith))

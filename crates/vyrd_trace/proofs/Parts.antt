@@ -20,10 +20,12 @@ value-snoc h e cell = value_in-snoc h e cell
 
 -- one event more is in its caller's part, at the end, and in no other's
 pub part-mine : (c : ℕ) (h : List Stamped) (e : Stamped) → e.caller ≡ c → part c (h ++ e ∷ []) ≡ part c h ++ e ∷ []
-part-mine c h e is = filter-append (λ (x : Stamped). eqb x.caller c) h (e ∷ []) ∙ ap (λ (b : Bool). part c h ++ cond b (e ∷ []) []) (eq-eqb e.caller c is)
+part-mine c h e is = filter-append (λ (x : Stamped). eqb x.caller c) h (e ∷ [])
+    ∙ ap (λ (b : Bool). part c h ++ cond b (e ∷ []) []) (eq-eqb e.caller c is)
 
 pub part-other : (c : ℕ) (h : List Stamped) (e : Stamped) → e.caller ≢ c → part c (h ++ e ∷ []) ≡ part c h
-part-other c h e apart = filter-append (λ (x : Stamped). eqb x.caller c) h (e ∷ []) ∙ ap (λ (b : Bool). part c h ++ cond b (e ∷ []) []) (ne_eqb e.caller c apart) ∙ append-nil (part c h)
+part-other c h e apart = filter-append (λ (x : Stamped). eqb x.caller c) h (e ∷ [])
+    ∙ ap (λ (b : Bool). part c h ++ cond b (e ∷ []) []) (ne_eqb e.caller c apart) ∙ append-nil (part c h)
 
 get_there : (h : List Stamped) (i : ℕ) (d : Stamped) → i < length h → slice_get h i ≡ Some (get_or h i d)
 get_there [] i d l = absurd (omega arith)
@@ -82,7 +84,8 @@ below_all n (e ∷ es) inside =
     let goal : x + below n es ≡ suc (length es) = omega arith in goal
 
 -- a legal history is no longer than its callers' parts together
-pub legal_bounded : (z : Cells) (limit : ℕ) (h : List Stamped) → is_legal z h ≡ true → ((c : ℕ) → length (part c h) ≤ limit) → length h ≤ z.callers * limit
+pub legal_bounded : (z : Cells) (limit : ℕ) (h : List Stamped) → is_legal z h ≡ true → ((c : ℕ) → length (part c h) ≤ limit)
+    → length h ≤ z.callers * limit
 legal_bounded z limit h legal short =
     let a = below_all z.callers h (λ i e p. (numbered z h legal i e p).1) in
     let b = below_bounded z.callers limit h short in omega arith
@@ -113,9 +116,11 @@ held_step z k c h by (Gave c') lock holds may = dite (ℕ_discrete c' k)
 held_step z k c h by (Marked m) lock holds may = ((λ _ t. holds t), (λ _ t. holds t))
 
 pub held_value : (z : Cells) (k c : ℕ) (h : List Stamped) → z.plain ≤ k → is_legal z h ≡ true → HoldsBy (part c h) c k → last_value h k ≡ c + 1
-held_value z k c h lock legal = legal_induction z (HoldsToo k c) (λ t. absurd (omega arith)) (λ l e so_far may. let s = held_step z k c l e.caller e.did lock so_far may in
+held_value z k c h lock legal =
+    legal_induction z (HoldsToo k c) (λ t. absurd (omega arith)) (λ l e so_far may. let s = held_step z k c l e.caller e.did lock so_far may in
     dite (ℕ_discrete e.caller c)
-    (λ is. λ t. value-snoc l e k ∙ s.0 is (sym (value-snoc (part c l) e k) ∙ ap (λ (p : List Stamped). last_value p k) (sym (part-mine c l e is)) ∙ t))
+    (λ is. λ t. value-snoc l e k ∙ s.0 is (sym (value-snoc (part c l) e k)
+      ∙ ap (λ (p : List Stamped). last_value p k) (sym (part-mine c l e is)) ∙ t))
     (λ no. λ t. value-snoc l e k ∙ s.1 no (ap (λ (p : List Stamped). last_value p k) (sym (part-other c l e no)) ∙ t))) h legal
 
 all_below : (z : Cells) (h : List Stamped) → is_legal z h ≡ true → All (λ (e : Stamped). e.number < length h) h
@@ -126,23 +131,30 @@ pub part_below : (z : Cells) (c : ℕ) (h : List Stamped) → is_legal z h ≡ t
 part_below z c h legal = All-filter (λ (e : Stamped). eqb e.caller c) (λ (e : Stamped). e.number < length h) h (all_below z h legal)
 
 -- an event of a part stands in the history, and the other way round
-pub part_in : (c : ℕ) (h : List Stamped) (k : ℕ) (d : Stamped) → k < length (part c h) → (i : ℕ) × (slice_get h i ≡ Some (slice_index_or (part c h) k d))
+pub part_in : (c : ℕ) (h : List Stamped) (k : ℕ) (d : Stamped) → k < length (part c h)
+    → (i : ℕ) × (slice_get h i ≡ Some (slice_index_or (part c h) k d))
 part_in c [] k d l = absurd (omega arith)
 part_in c (x ∷ xs) k d l = at (eqb x.caller c) refl (λ j l'. part_in c xs j d l')
   where
-    here : (j : ℕ) → ((j : ℕ) → j < length (part c xs) → (i : ℕ) × (slice_get xs i ≡ Some (slice_index_or (part c xs) j d))) → j < length (x ∷ part c xs) → (i : ℕ) × (slice_get (x ∷ xs) i ≡ Some (slice_index_or (x ∷ part c xs) j d))
+    here : (j : ℕ) → ((j : ℕ) → j < length (part c xs) → (i : ℕ) × (slice_get xs i ≡ Some (slice_index_or (part c xs) j d)))
+        → j < length (x ∷ part c xs) → (i : ℕ) × (slice_get (x ∷ xs) i ≡ Some (slice_index_or (x ∷ part c xs) j d))
     here zero more l' = (0, refl)
     here (suc j) more l' = let f = more j (omega arith) in (suc f.0, f.1)
 
-    at : (b : Bool) → eqb x.caller c ≡ b → ((j : ℕ) → j < length (part c xs) → (i : ℕ) × (slice_get xs i ≡ Some (slice_index_or (part c xs) j d))) → (i : ℕ) × (slice_get (x ∷ xs) i ≡ Some (slice_index_or (part c (x ∷ xs)) k d))
+    at : (b : Bool) → eqb x.caller c ≡ b
+        → ((j : ℕ) → j < length (part c xs) → (i : ℕ) × (slice_get xs i ≡ Some (slice_index_or (part c xs) j d)))
+        → (i : ℕ) × (slice_get (x ∷ xs) i ≡ Some (slice_index_or (part c (x ∷ xs)) k d))
     at false is more =
         let same : part c (x ∷ xs) ≡ part c xs = ap (λ (b : Bool). cond b (x ∷ part c xs) (part c xs)) is in
-        let f = more k (subst (λ (q : List Stamped). k < length q) same l) in (suc f.0, f.1 ∙ ap (λ (q : List Stamped). Some (slice_index_or q k d)) (sym same))
+        let f = more k (subst (λ (q : List Stamped). k < length q) same l) in
+          (suc f.0, f.1 ∙ ap (λ (q : List Stamped). Some (slice_index_or q k d)) (sym same))
     at true is more =
         let same : part c (x ∷ xs) ≡ x ∷ part c xs = ap (λ (b : Bool). cond b (x ∷ part c xs) (part c xs)) is in
-        let f = here k more (subst (λ (q : List Stamped). k < length q) same l) in (f.0, f.1 ∙ ap (λ (q : List Stamped). Some (slice_index_or q k d)) (sym same))
+        let f = here k more (subst (λ (q : List Stamped). k < length q) same l) in
+          (f.0, f.1 ∙ ap (λ (q : List Stamped). Some (slice_index_or q k d)) (sym same))
 
-pub in_part : (c : ℕ) (h : List Stamped) (i : ℕ) (e : Stamped) → slice_get h i ≡ Some e → e.caller ≡ c → (k : ℕ) × (k < length (part c h)) × ((d : Stamped) → slice_index_or (part c h) k d ≡ e)
+pub in_part : (c : ℕ) (h : List Stamped) (i : ℕ) (e : Stamped) → slice_get h i ≡ Some e → e.caller ≡ c
+    → (k : ℕ) × (k < length (part c h)) × ((d : Stamped) → slice_index_or (part c h) k d ≡ e)
 in_part c [] i e q is = absurd (cc)
 in_part c (x ∷ xs) zero e q is =
     let same : x ≡ e = cc in
@@ -158,4 +170,5 @@ in_part c (x ∷ xs) (suc i) e q is = let f = in_part c xs i e q is in at (eqb x
         (f.0, subst (λ (q : List Stamped). f.0 < length q) (sym p) f.1, λ d. ap (λ (q : List Stamped). slice_index_or q f.0 d) p ∙ f.2 d)
     at true is' f =
         let p : part c (x ∷ xs) ≡ x ∷ part c xs = ap (λ (b : Bool). cond b (x ∷ part c xs) (part c xs)) is' in
-        let l = f.1 in (suc f.0, subst (λ (q : List Stamped). suc f.0 < length q) (sym p) (omega arith), λ d. ap (λ (q : List Stamped). slice_index_or q (suc f.0) d) p ∙ f.2 d)
+        let l = f.1 in (suc f.0, subst (λ (q : List Stamped). suc f.0 < length q) (sym p) (omega arith),
+          λ d. ap (λ (q : List Stamped). slice_index_or q (suc f.0) d) p ∙ f.2 d)

@@ -81,8 +81,10 @@ pub record Turn (p : Plan) (words : List ℕ) (g h : Ghost) (v : Record) (lane :
   pub cells : (k : ℕ) → k < p.plain + p.locks → FitsCell p.plain h.stage k (slice_index words (k + 1)) (last_value h.history k) (h.claimer k)
 
 -- A step of one seat keeps the rule where the new ghost state owes nothing. Every step of a single seat goes through this.
-pub turned : (p : Plan) (s : St) (r : Kept p s) (i n id : ℕ) (c : List (ℕ × Unit {0})) (v : Record) (lane : List Stamped) (st : Stage) (look : Look) (h : Ghost)
-    → get_elem? s.views id ≡ some v → v.live ≡ true → Turn p (set s.words i n) r.ghost_state h v lane st → Kept p (stepped s i n id c (changed v lane st look) keeps)
+pub turned : (p : Plan) (s : St) (r : Kept p s) (i n id : ℕ) (c : List (ℕ × Unit {0})) (v : Record) (lane : List Stamped)
+    (st : Stage) (look : Look) (h : Ghost)
+    → get_elem? s.views id ≡ some v → v.live ≡ true → Turn p (set s.words i n) r.ghost_state h v lane st
+      → Kept p (stepped s i n id c (changed v lane st look) keeps)
 turned p s r i n id c v lane st look h at live t =
     let g = r.ghost_state in
     let mine = r.seats id v at live in record {
@@ -91,7 +93,8 @@ turned p s r i n id c v lane st look h at live t =
       counted = t.counted;
       legal = t.legal;
       short = λ by. dite (ℕ_discrete by v.caller)
-          (λ e. let a : length (part by h.history) ≡ length lane = ap (λ (x : ℕ). length (part x h.history)) e ∙ ap length t.whole in let b = t.short in omega arith)
+          (λ e. let a : length (part by h.history) ≡ length lane = ap (λ (x : ℕ). length (part x h.history)) e
+            ∙ ap length t.whole in let b = t.short in omega arith)
           (λ e. let a : length (part by h.history) ≡ length (part by g.history) = ap length (t.same.parts by e) in let b = r.short by in omega arith);
       claims = t.claims;
       cells = t.cells;
@@ -101,13 +104,15 @@ turned p s r i n id c v lane st look h at live t =
           (t.same.parts by no ∙ old.0, t.same.stages by no ∙ old.1);
       outside = λ by le. t.same.owners by ∙ r.outside by le;
       seats = λ j u e alive. ⊎_elim
-          (λ (x : (j ≡ id) × (changed v lane st look ≡ u)). subst (λ (y : ℕ × Record). Knows p.callers h y.0 y.1) (λ q. (sym x.0 q, x.1 q)) (knows_changed p.callers g h id v lane st look t.same t.whole t.at_stage mine))
+          (λ (x : (j ≡ id) × (changed v lane st look ≡ u)). subst (λ (y : ℕ × Record). Knows p.callers h y.0 y.1)
+            (λ q. (sym x.0 q, x.1 q)) (knows_changed p.callers g h id v lane st look t.same t.whole t.at_stage mine))
           (λ (x : (j ≢ id) × (get_elem? s.views j ≡ some u)). knows_stays p.callers g h v.caller id j u t.same mine.owned x.0 (r.seats j u x.1 alive))
           (at_set s.views id j (changed v lane st look) u e);
     }
 
 -- a cell with an equal word and an equal value
-pub refit : (plain : ℕ) (stage : ℕ → Stage) (k w w' n n' : ℕ) (o : Option ℕ) → w' ≡ w → n' ≡ n → FitsCell plain stage k w n o → FitsCell plain stage k w' n' o
+pub refit : (plain : ℕ) (stage : ℕ → Stage) (k w w' n n' : ℕ) (o : Option ℕ) → w' ≡ w → n' ≡ n → FitsCell plain stage k w n o
+    → FitsCell plain stage k w' n' o
 refit plain stage k w w' n n' o a b f = subst (λ (y : ℕ × ℕ). FitsCell plain stage k y.0 y.1 o) (λ i. (sym a i, sym b i)) f
 
 -- a ghost state that stays
@@ -115,5 +120,7 @@ pub same_refl : (g : Ghost) (by : ℕ) → Same g g by
 same_refl g by = record { owners = λ c. refl; parts = λ c _. refl; stages = λ c _. refl }
 
 -- the numbers that a lane has are below the next one
-pub below : (p : Plan) (s : St) (r : Kept p s) (v : Record) → part v.caller r.ghost_state.history ≡ v.lane → (n : ℕ) → n ≡ length r.ghost_state.history → AreBelow n v.lane
-below p s r v whole n is = subst (λ (x : ℕ × List Stamped). AreBelow x.0 x.1) (λ i. (sym is i, whole i)) (part_below (cells_in p) v.caller r.ghost_state.history r.legal)
+pub below : (p : Plan) (s : St) (r : Kept p s) (v : Record) → part v.caller r.ghost_state.history ≡ v.lane → (n : ℕ)
+    → n ≡ length r.ghost_state.history → AreBelow n v.lane
+below p s r v whole n is = subst (λ (x : ℕ × List Stamped). AreBelow x.0 x.1) (λ i. (sym is i, whole i))
+    (part_below (cells_in p) v.caller r.ghost_state.history r.legal)

@@ -26,7 +26,8 @@ pub record HandView : Type 0 where
 
 -- the table has one word for the next number and one for each cell, and keeps the limits
 abbrev pub IsSized : Plan → TableId → Type 0
-IsSized p t = (t.words ≡ 1 + (p.plain + p.locks)) × (p.plain + p.locks ≤ 32768) × (1 ≤ p.callers) × (p.callers ≤ 64) × (p.limit ≤ 16777216) × (t.slots ≡ 0)
+IsSized p t = (t.words ≡ 1 + (p.plain + p.locks)) × (p.plain + p.locks ≤ 32768) × (1 ≤ p.callers) × (p.callers ≤ 64)
+    × (p.limit ≤ 16777216) × (t.slots ≡ 0)
 
 -- a hand of this memory
 abbrev pub IsOf : TracedView → HandView → Type 0
@@ -46,7 +47,8 @@ with_look hand look = record { table = hand.table; caller = hand.caller; limit =
 
 -- the hand with exactly this one event more, for which it used one of its spare room
 abbrev pub with_one_more : HandView → ℕ → Did → Look → HandView
-with_one_more hand number did look = record { table = hand.table; caller = hand.caller; limit = hand.limit; spare = hand.spare - 1; lane = hand.lane ++ stamp number hand.caller did ∷ []; look = look }
+with_one_more hand number did look = record { table = hand.table; caller = hand.caller; limit = hand.limit;
+    spare = hand.spare - 1; lane = hand.lane ++ stamp number hand.caller did ∷ []; look = look }
 
 -- The word was found at the cell since `before`: it is the last word found, and both it and the first word found there
 -- were found at later looks than those that were made before.
@@ -67,4 +69,5 @@ AreNew traced first hands = (i : ℕ) (d : HandView) → i < length hands → Is
 
 -- all hands of the memory, in the order of their callers
 abbrev pub AreAll : TracedView → List HandView → Type 0
-AreAll traced hands = (length hands ≡ traced.plan.callers) × ((i : ℕ) (d : HandView) → i < length hands → IsOf traced (slice_index_or hands i d) × ((slice_index_or hands i d).caller ≡ i))
+AreAll traced hands = (length hands ≡ traced.plan.callers) × ((i : ℕ) (d : HandView) → i < length hands
+    → IsOf traced (slice_index_or hands i d) × ((slice_index_or hands i d).caller ≡ i))

@@ -67,7 +67,8 @@ pub record Kept (p : Plan) (s : State (Unit {0}) Record) : Type 0 where
   pub legal : is_legal (cells_in p) ghost_state.history ≡ true
   pub short : (c : ℕ) → length (part c ghost_state.history) ≤ p.limit
   pub claims : (caller k : ℕ) → IsAt (ghost_state.stage caller) k → ghost_state.claimer k ≡ Some caller
-  pub cells : (k : ℕ) → k < p.plain + p.locks → FitsCell p.plain ghost_state.stage k (slice_index s.words (k + 1)) (last_value ghost_state.history k) (ghost_state.claimer k)
+  pub cells : (k : ℕ) → k < p.plain + p.locks
+      → FitsCell p.plain ghost_state.stage k (slice_index s.words (k + 1)) (last_value ghost_state.history k) (ghost_state.claimer k)
   pub idle : (c : ℕ) → ghost_state.owner c ≡ None → (part c ghost_state.history ≡ []) × (ghost_state.stage c ≡ Rest)
   pub outside : (c : ℕ) → p.callers ≤ c → ghost_state.owner c ≡ None
   pub seats : (j : ℕ) (v : Record) → get_elem? s.views j ≡ some v → v.live ≡ true → Knows p.callers ghost_state j v

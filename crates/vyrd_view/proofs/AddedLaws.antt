@@ -26,7 +26,8 @@ added-append (x ∷ xs) ys s = added-append xs ys (plus_amount s x.0 x.1)
 -- further parts
 pub collected-append : (xs ys : List (ℕ × ℕ)) → collected (xs ++ ys) ≡ added (collected xs) ys
 collected-append xs ys =
-    same_amounts (collected (xs ++ ys)) (added (collected xs) ys) (IsAmounts-collected (xs ++ ys)) (IsAmounts-added ys (collected xs) (IsAmounts-collected xs))
+    same_amounts (collected (xs ++ ys)) (added (collected xs) ys) (IsAmounts-collected (xs ++ ys))
+      (IsAmounts-added ys (collected xs) (IsAmounts-collected xs))
     (λ q. omega (arith, amount_of-collected (xs ++ ys) q, given-append q xs ys, amount_of-added ys (collected xs) q, amount_of-collected xs q))
 
 -- all parts, added to nothing
@@ -39,13 +40,16 @@ append_none (x ∷ xs) = ap (λ ys. x ∷ ys) (append_none xs)
 
 -- the parts of one number more
 pub parts-push : (f : ℕ → List (ℕ × ℕ)) (n : ℕ) → flat_map f (numbers_below (n + 1)) ≡ flat_map f (numbers_below n) ++ f n
-parts-push f n = ap (flat_map f) (numbers_below-push n) ∙ flat_map-append f (numbers_below n) (n ∷ []) ∙ ap (λ xs. flat_map f (numbers_below n) ++ xs) (append_none (f n))
+parts-push f n = ap (flat_map f) (numbers_below-push n) ∙ flat_map-append f (numbers_below n) (n ∷ [])
+    ∙ ap (λ xs. flat_map f (numbers_below n) ++ xs) (append_none (f n))
 
 -- the amounts with the parts of one number more
 pub collected-push : (f : ℕ → List (ℕ × ℕ)) (n : ℕ) (s t : Amounts) → s ≡ collected (flat_map f (numbers_below n)) → t ≡ added s (f n)
     → t ≡ collected (flat_map f (numbers_below (n + 1)))
-collected-push f n s t is more = more ∙ ap (λ x. added x (f n)) is ∙ sym (ap collected (parts-push f n) ∙ collected-append (flat_map f (numbers_below n)) (f n))
+collected-push f n s t is more = more ∙ ap (λ x. added x (f n)) is
+    ∙ sym (ap collected (parts-push f n) ∙ collected-append (flat_map f (numbers_below n)) (f n))
 
 pub added-push : (f : ℕ → List (ℕ × ℕ)) (n : ℕ) (r s t : Amounts) → s ≡ added r (flat_map f (numbers_below n)) → t ≡ added s (f n)
     → t ≡ added r (flat_map f (numbers_below (n + 1)))
-added-push f n r s t is more = more ∙ ap (λ x. added x (f n)) is ∙ sym (ap (added r) (parts-push f n) ∙ added-append (flat_map f (numbers_below n)) (f n) r)
+added-push f n r s t is more = more ∙ ap (λ x. added x (f n)) is
+    ∙ sym (ap (added r) (parts-push f n) ∙ added-append (flat_map f (numbers_below n)) (f n) r)

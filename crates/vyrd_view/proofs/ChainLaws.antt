@@ -39,7 +39,8 @@ walk_begins size words sums flags left empty all none = record {
 }
 
 -- before the last turn a node is left
-pub walk_left : (size : ℕ) (words : List ℕ) (sums : Amounts) (flags : List Bool) (turn n : ℕ) → turn < size → Walk size words sums flags (size - turn) n
+pub walk_left : (size : ℕ) (words : List ℕ) (sums : Amounts) (flags : List Bool) (turn n : ℕ) → turn < size
+    → Walk size words sums flags (size - turn) n
     → Walk size words sums flags (suc (size - (turn + 1))) n
 walk_left size words sums flags turn n more walk =
     let one : size - turn ≡ suc (size - (turn + 1)) = omega arith in subst (λ left. Walk size words sums flags left n) one walk
@@ -71,7 +72,8 @@ after_node size words left seen n ends back = elim ends [
   ]
 ]
 
-onward : (size : ℕ) (words : List ℕ) (sums : Amounts) (flags : List Bool) (left n : ℕ) (walk : Walk size words sums flags (suc left) n) (ends back : Bool)
+onward : (size : ℕ) (words : List ℕ) (sums : Amounts) (flags : List Bool) (left n : ℕ)
+    (walk : Walk size words sums flags (suc left) n) (ends back : Bool)
     → n < length flags → (right_of words n == 0) ≡ ends → get_or (set flags n true) (right_of words n) true ≡ back
     → added (added sums (node_parts words n)) (after_node size words left walk.seen n ends back) ≡ collected (chain_parts size words)
 onward size words sums flags left n walk ends back within is_end is_back =
@@ -85,20 +87,24 @@ onward size words sums flags left n walk ends back within is_end is_back =
     ∙ walk.rest
 
 -- at the node where the chain ends
-pub walk_ends : (size : ℕ) (words : List ℕ) (sums t : Amounts) (flags : List Bool) (left n : ℕ) → Walk size words sums flags (suc left) n → n < length flags
+pub walk_ends : (size : ℕ) (words : List ℕ) (sums t : Amounts) (flags : List Bool) (left n : ℕ)
+    → Walk size words sums flags (suc left) n → n < length flags
     → t ≡ added sums (node_parts words n) → right_of words n ≡ 0 → t ≡ collected (chain_parts size words)
 walk_ends size words sums t flags left n walk within more ends =
-    more ∙ onward size words sums flags left n walk true (get_or (set flags n true) (right_of words n) true) within (is_same (right_of words n) 0 ends) refl
+    more ∙ onward size words sums flags left n walk true (get_or (set flags n true) (right_of words n) true) within
+      (is_same (right_of words n) 0 ends) refl
 
 -- at a link past the nodes or back to the chain
-pub walk_breaks : (size : ℕ) (words : List ℕ) (sums t : Amounts) (flags : List Bool) (left n : ℕ) → Walk size words sums flags (suc left) n → n < length flags
+pub walk_breaks : (size : ℕ) (words : List ℕ) (sums t : Amounts) (flags : List Bool) (left n : ℕ)
+    → Walk size words sums flags (suc left) n → n < length flags
     → t ≡ added sums (node_parts words n) → right_of words n ≢ 0 → get_or (set flags n true) (right_of words n) true ≡ true
     → added t damage ≡ collected (chain_parts size words)
 walk_breaks size words sums t flags left n walk within more on back =
     ap (λ s. added s damage) more ∙ onward size words sums flags left n walk false true within (isnt_same (right_of words n) 0 on) back
 
 -- at any other link
-pub walk_goes_on : (size : ℕ) (words : List ℕ) (sums t : Amounts) (flags : List Bool) (left n : ℕ) → Walk size words sums flags (suc left) n → n < length flags
+pub walk_goes_on : (size : ℕ) (words : List ℕ) (sums t : Amounts) (flags : List Bool) (left n : ℕ)
+    → Walk size words sums flags (suc left) n → n < length flags
     → t ≡ added sums (node_parts words n) → right_of words n ≢ 0 → get_or (set flags n true) (right_of words n) true ≡ false
     → Walk size words t (set flags n true) left (right_of words n)
 walk_goes_on size words sums t flags left n walk within more on new = record {

@@ -37,7 +37,8 @@ slot_at_most words q i = by_state (slice_index words (2 * i) == 2)
 -- so many slots give a value at most as much
 pub slots_at_most : (words : List ℕ) (n q : ℕ) → amount_of (collected (flat_map (slot_parts words) (numbers_below n))) q ≤ n
 slots_at_most words n q =
-    omega (arith, amount_of-collected (flat_map (slot_parts words) (numbers_below n)) q, given_at_most (slot_parts words) 1 q 0 n (slot_at_most words q))
+    omega (arith, amount_of-collected (flat_map (slot_parts words) (numbers_below n)) q,
+      given_at_most (slot_parts words) 1 q 0 n (slot_at_most words q))
 
 chunk_elsewhere : (size h q : ℕ) (c : Chunk) → q ≢ h → q ≢ size + h → given q (chunk_parts size h c) ≡ 0
 chunk_elsewhere size h q c apart past = by_chunk (is_chunk c)
@@ -49,7 +50,8 @@ chunk_elsewhere size h q c apart past = by_chunk (is_chunk c)
     by_pairs true = omega (arith, part_elsewhere q h shown apart, part_elsewhere q (size + h) 1 past)
     by_pairs false = omega (arith, part_elsewhere q h shown apart)
 
-    by_chunk : (b : Bool) → given q (cond (not b) ((size + h, 2) ∷ []) ((h, shown) ∷ cond (c.state == 1 && not (cached_pair c == stored_pair c)) ((size + h, 1) ∷ []) [])) ≡ 0
+    by_chunk : (b : Bool) → given q
+        (cond (not b) ((size + h, 2) ∷ []) ((h, shown) ∷ cond (c.state == 1 && not (cached_pair c == stored_pair c)) ((size + h, 1) ∷ []) [])) ≡ 0
     by_chunk true = by_pairs (c.state == 1 && not (cached_pair c == stored_pair c))
     by_chunk false = omega (arith, part_elsewhere q (size + h) 2 past)
 
@@ -84,7 +86,8 @@ abbrev pub place_parts : List ℕ → ℕ → ℕ → List (ℕ × ℕ)
 place_parts words n j = entry_parts (node_word words n (4 + j), node_word words n (8 + j))
 
 entries-places : (words : List ℕ) (n k m : ℕ)
-    → flat_map entry_parts (map (λ j. (node_word words n (4 + j), node_word words n (8 + j))) (numbers_from k m)) ≡ flat_map (place_parts words n) (numbers_from k m)
+    → flat_map entry_parts (map (λ j. (node_word words n (4 + j), node_word words n (8 + j))) (numbers_from k m))
+      ≡ flat_map (place_parts words n) (numbers_from k m)
 entries-places words n k zero = refl
 entries-places words n k (suc m) = ap (λ xs. place_parts words n k ++ xs) (entries-places words n (k + 1) m)
 
@@ -93,7 +96,8 @@ pub node_parts-places : (words : List ℕ) (n : ℕ) → node_parts words n ≡ 
 node_parts-places words n = entries-places words n 0 (min (count_of words n) 4)
 
 pub places_at_most : (words : List ℕ) (n m q : ℕ) → given q (flat_map (place_parts words n) (numbers_below m)) ≤ m * 2 ^ 33
-places_at_most words n m q = given_at_most (place_parts words n) (2 ^ 33) q 0 m (λ j. entry_at_most q (node_word words n (4 + j), node_word words n (8 + j)))
+places_at_most words n m q = given_at_most (place_parts words n) (2 ^ 33) q 0 m (λ j. entry_at_most q (node_word words n (4 + j),
+    node_word words n (8 + j)))
 
 pub node_at_most : (words : List ℕ) (n q : ℕ) → given q (node_parts words n) ≤ 2 ^ 35
 node_at_most words n q =
@@ -105,7 +109,8 @@ pub elsewhere_as_before : (s : Amounts) (k a q : ℕ) → q ≢ k → amount_of 
 elsewhere_as_before s k a q apart = omega (arith, amount_of-plus s k a q, part_elsewhere q k a apart)
 
 -- the words of an entry, as they are read
-pub place_is : (words : List ℕ) (n j : ℕ) → entry_parts (slice_index words (12 * n + 4 + j), slice_index words (12 * n + 8 + j)) ≡ place_parts words n j
+pub place_is : (words : List ℕ) (n j : ℕ) → entry_parts (slice_index words (12 * n + 4 + j), slice_index words (12 * n + 8 + j))
+    ≡ place_parts words n j
 place_is words n j =
     let key : 12 * n + 4 + j ≡ 12 * n + (4 + j) = omega arith in
     let value : 12 * n + 8 + j ≡ 12 * n + (8 + j) = omega arith in
@@ -113,6 +118,7 @@ place_is words n j =
     ∙ ap (λ i. entry_parts (slice_index words (12 * n + (4 + j)), slice_index words i)) value
 
 -- a node adds little
-pub node_grows : (words : List ℕ) (n turn q : ℕ) (s t : Amounts) → t ≡ added s (node_parts words n) → amount_of s q ≤ turn * 2 ^ 35 → amount_of t q ≤ (turn + 1) * 2 ^ 35
+pub node_grows : (words : List ℕ) (n turn q : ℕ) (s t : Amounts) → t ≡ added s (node_parts words n)
+    → amount_of s q ≤ turn * 2 ^ 35 → amount_of t q ≤ (turn + 1) * 2 ^ 35
 node_grows words n turn q s t more few =
     omega (arith, ap (λ x. amount_of x q) more ∙ amount_of-added (node_parts words n) s q, node_at_most words n q, few)

@@ -25,14 +25,16 @@ use Rattle.vyrd_work.specs.WorkLines.{variant_called, begun, begun_if_spelled, b
 use Rattle.vyrd_work.specs.Spelled.{IsVariantRead, AreBoundsRead, IsFirstRead}
 
 -- a size that no number of callers follows
-pub no_callers : (text : List ℕ) (m : ℕ) (r : List ℕ) → m < 2 ^ 64 → text ≡ decimal m ++ 32 ∷ r → ((n : ℕ) (s : List ℕ) → n < 2 ^ 32 → r ≡ decimal n ++ 32 ∷ s → ⊥)
+pub no_callers : (text : List ℕ) (m : ℕ) (r : List ℕ) → m < 2 ^ 64 → text ≡ decimal m ++ 32 ∷ r
+    → ((n : ℕ) (s : List ℕ) → n < 2 ^ 32 → r ≡ decimal n ++ 32 ∷ s → ⊥)
     → AreBoundsRead text None
 no_callers text m r low e none size callers variant s c f =
     let is = one_before_space m size r (decimal callers ++ 32 ∷ variant_name variant) low (omega arith) (sym e ∙ f) in
     none callers (variant_name variant) c is.1
 
 -- a number of callers that no variant follows
-pub no_variant : (text : List ℕ) (m n : ℕ) (r t : List ℕ) → m < 2 ^ 64 → n < 2 ^ 64 → text ≡ decimal m ++ 32 ∷ r → r ≡ decimal n ++ 32 ∷ t → IsVariantRead t None
+pub no_variant : (text : List ℕ) (m n : ℕ) (r t : List ℕ) → m < 2 ^ 64 → n < 2 ^ 64 → text ≡ decimal m ++ 32 ∷ r
+    → r ≡ decimal n ++ 32 ∷ t → IsVariantRead t None
     → AreBoundsRead text None
 no_variant text m n r t low small e g none size callers variant s c f =
     let is = one_before_space m size r (decimal callers ++ 32 ∷ variant_name variant) low (omega arith) (sym e ∙ f) in
@@ -117,16 +119,20 @@ begun_in_sound line w found = from (fields_of line) found
           line_is = same ∙ ap (λ x. work_header_line x.header.subject x.header.size x.header.callers x.variant) is;
         }
 
-    spelled : (subject : Subject) (size callers : ℕ) (variant : Variant) (b : Bool) → bytes_eq (work_header_line subject size callers variant) line ≡ b
+    spelled : (subject : Subject) (size callers : ℕ) (variant : Variant) (b : Bool)
+        → bytes_eq (work_header_line subject size callers variant) line ≡ b
         → cond b (option_map (begun variant) (header_of 1 subject size callers)) None ≡ Some w → IsBegun line w
     spelled subject size callers variant false t f = cc
     spelled subject size callers variant true t f =
-        of_header subject size callers variant (is_within 1 size callers) refl (sym ((bytes_eq-Decides (work_header_line subject size callers variant) line).0 t)) f
+        of_header subject size callers variant (is_within 1 size callers) refl
+          (sym ((bytes_eq-Decides (work_header_line subject size callers variant) line).0 t)) f
 
-    if_spelled : (subject : Option Subject) (size callers : ℕ) (variant : Option Variant) → begun_if_spelled line subject size callers variant ≡ Some w → IsBegun line w
+    if_spelled : (subject : Option Subject) (size callers : ℕ) (variant : Option Variant)
+        → begun_if_spelled line subject size callers variant ≡ Some w → IsBegun line w
     if_spelled None size callers variant f = cc
     if_spelled (Some subject) size callers None f = cc
-    if_spelled (Some subject) size callers (Some variant) f = spelled subject size callers variant (bytes_eq (work_header_line subject size callers variant) line) refl f
+    if_spelled (Some subject) size callers (Some variant) f =
+        spelled subject size callers variant (bytes_eq (work_header_line subject size callers variant) line) refl f
 
     from : (parts : List (List ℕ)) → begun_from line parts ≡ Some w → IsBegun line w
     from [] f = cc

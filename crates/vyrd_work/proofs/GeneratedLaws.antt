@@ -29,7 +29,8 @@ op_by a b c v w =
     (cond c (record { method = MsDelete; args = record { a = v; b = 0; c = 0 } })
     (record { method = MsLookup; args = record { a = v; b = 0; c = 0 } })))
 
-by_fits : (a b c : Bool) (v w : ℕ) → (same_subject (subject_of (op_by a b c v w).method) Multiset && are_args 64 (op_by a b c v w).method (op_by a b c v w).args) ≡ true
+by_fits : (a b c : Bool) (v w : ℕ)
+    → (same_subject (subject_of (op_by a b c v w).method) Multiset && are_args 64 (op_by a b c v w).method (op_by a b c v w).args) ≡ true
 by_fits true b c v w = refl
 by_fits false true c v w = ap (λ t. t && true && true) (or-true (w == 0))
 by_fits false false true v w = refl

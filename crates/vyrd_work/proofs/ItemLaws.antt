@@ -31,7 +31,8 @@ use Rattle.vyrd_work.specs.WorkLines.{is_item_of, guessed_item, item_in}
 use Rattle.vyrd_work.specs.Spelled.{IsItemRead}
 
 -- what is read is spelled by the line, and its numbers are in range
-pub item_in_sound : (subject : Subject) (line : List ℕ) (x : Item) → item_in subject line ≡ Some x → (line ≡ item_line x) × (is_item_of subject x ≡ true)
+pub item_in_sound : (subject : Subject) (line : List ℕ) (x : Item) → item_in subject line ≡ Some x
+    → (line ≡ item_line x) × (is_item_of subject x ≡ true)
 unfolding item_in
 item_in_sound subject line x found = by_guess (guessed_item subject (fields_of line)) found
   where
@@ -93,7 +94,8 @@ module _ (subject : Subject) (o : WorkOp) (is : is_item_of subject (item.Op o) �
       let plain = plain_entry subject (call_of o) (both_true _ _ op_caller op_call) in
       both_true _ _ refl (both_true _ _ (first_true _ _ plain) (second_true (is_plain_field (codes "call")) _ (second_true (is_plain_field (decimal o.caller)) _ plain)))
 
-turns_fields_plain : (subject : Subject) (t : Turn) → is_item_of subject (item.Turns t) ≡ true → list_all is_plain_field (item_fields (item.Turns t)) ≡ true
+turns_fields_plain : (subject : Subject) (t : Turn) → is_item_of subject (item.Turns t) ≡ true
+    → list_all is_plain_field (item_fields (item.Turns t)) ≡ true
 turns_fields_plain subject t is =
     let caller = below_32 t.caller (first_true _ _ is) in
     let count = few_turns t.count (second_true (nat_le 1 t.count) _ (second_true (nat_lt t.caller (2 ^ 32)) _ is)) in
@@ -107,7 +109,8 @@ item_line_whole subject (item.Turns t) is = lacks-join 10 32 (codes "turn") (dec
     (plain_line_feeds (item_fields (item.Turns t)) (turns_fields_plain subject t is))
 
 -- a guess at a call says what is called
-guess_is : (o : Option Method) (fields : List (List ℕ)) (method : Method) (args : Args) → option_map (λ m. Call m (args_from fields)) o ≡ Some (Call method args)
+guess_is : (o : Option Method) (fields : List (List ℕ)) (method : Method) (args : Args)
+    → option_map (λ m. Call m (args_from fields)) o ≡ Some (Call method args)
     → (o ≡ Some method) × (args_from fields ≡ args)
 guess_is None fields method args e = cc
 guess_is (Some m) fields method args e =

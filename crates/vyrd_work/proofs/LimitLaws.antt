@@ -81,7 +81,8 @@ all_more P (y ∷ xs) x all p = (all.0, all_more P xs x all.1 p)
 
 -- the first turns of a list, and the others
 pub turns_cons : (t : Turn) (turns : List Turn) → turns_in (t ∷ turns) ≡ t.count + turns_in turns
-turns_cons t turns = sum-map (λ u. u.count) (t ∷ turns) ∙ sum_by-cons (λ u. u.count) t turns ∙ ap (λ n. t.count + n) (sym (sum-map (λ u. u.count) turns))
+turns_cons t turns = sum-map (λ u. u.count) (t ∷ turns) ∙ sum_by-cons (λ u. u.count) t turns
+    ∙ ap (λ n. t.count + n) (sym (sum-map (λ u. u.count) turns))
 
 pub turns_more : (turns : List Turn) (t : Turn) → turns_in (turns ++ t ∷ []) ≡ turns_in turns + t.count
 turns_more [] t = omega (arith, turns_cons t [])
@@ -90,7 +91,8 @@ turns_more (u ∷ turns) t =
     omega (arith, rest, turns_cons u (turns ++ t ∷ []), turns_cons u turns)
 
 -- one more that breaks no rule keeps the limits
-pub limits_more : (w : Workload) (x : Item) → KeepsLimits w → is_item_of w.header.subject x ≡ true → broken_by w x ≡ None → KeepsLimits (with_item w x)
+pub limits_more : (w : Workload) (x : Item) → KeepsLimits w → is_item_of w.header.subject x ≡ true → broken_by w x ≡ None
+    → KeepsLimits (with_item w x)
 limits_more w (item.Op o) keeps is none = record {
   ops = all_more (λ p. is_op_of w.header p ≡ true) w.ops o keeps.ops (op_fits w o none (op_subject w.header.subject o is));
   args = all_more (λ p. are_small p.op.args ≡ true) w.ops o keeps.args (op_small w.header.subject o is);
@@ -119,7 +121,8 @@ ops_items (p ∷ ops) o (t ∷ turns) e = cc
 pub items_more : (w : Workload) (x : Item) → broken_by w x ≡ None → items_of (with_item w x) ≡ items_of w ++ x ∷ []
 items_more w (item.Op o) none = ops_items w.ops o w.turns (before_turns w o none)
 items_more w (item.Turns t) none =
-    ap (λ ts. map item.Op w.ops ++ ts) (map-append item.Turns w.turns (t ∷ [])) ∙ sym (append_assoc (map item.Op w.ops) (map item.Turns w.turns) (item.Turns t ∷ []))
+    ap (λ ts. map item.Op w.ops ++ ts) (map-append item.Turns w.turns (t ∷ []))
+      ∙ sym (append_assoc (map item.Op w.ops) (map item.Turns w.turns) (item.Turns t ∷ []))
 
 -- an operation that fits breaks no rule where there is room for it
 pub op_unbroken : (w : Workload) (o : WorkOp) → is_op_of w.header o ≡ true → w.turns ≡ [] → length w.ops < 200000 → broken_by w (item.Op o) ≡ None

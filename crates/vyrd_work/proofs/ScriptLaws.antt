@@ -32,7 +32,8 @@ callable h o fits small =
     both_true (same_subject (subject_of o.op.method) h.subject && are_args h.size o.op.method o.op.args) (are_small o.op.args)
     (second_true (nat_lt o.caller h.callers) (same_subject (subject_of o.op.method) h.subject && are_args h.size o.op.method o.op.args) fits) small
 
-all_callable : (h : Header) (c : ℕ) (ops : List WorkOp) → AllByRecursion (λ o. is_op_of h o ≡ true) ops → AllByRecursion (λ o. are_small o.op.args ≡ true) ops → are_callable h (ops_of c ops) ≡ true
+all_callable : (h : Header) (c : ℕ) (ops : List WorkOp) → AllByRecursion (λ o. is_op_of h o ≡ true) ops
+    → AllByRecursion (λ o. are_small o.op.args ≡ true) ops → are_callable h (ops_of c ops) ≡ true
 all_callable h c [] fit small = refl
 all_callable h c (o ∷ ops) fit small = by_owner (o.caller == c) (all_callable h c ops fit.1 small.1)
   where

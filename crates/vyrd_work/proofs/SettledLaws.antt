@@ -111,12 +111,14 @@ longer : (p q : List ℕ) → 64 < length p → 64 < length (p ++ q)
 longer p q long = omega (arith, long, length-append p q)
 
 -- anything after `end` is too much
-too_much : (w : Workload) (n : ℕ) (line : List ℕ) (lines : List (List ℕ)) → 0 < length (join_with_byte 10 (line ∷ lines)) → ended w n (line ∷ lines) ≡ refused n AfterEnd
+too_much : (w : Workload) (n : ℕ) (line : List ℕ) (lines : List (List ℕ)) → 0 < length (join_with_byte 10 (line ∷ lines))
+    → ended w n (line ∷ lines) ≡ refused n AfterEnd
 too_much w n [] [] some = absurd (omega (arith, some))
 too_much w n [] (next ∷ lines) some = refl
 too_much w n (b ∷ bs) lines some = refl
 
-more_too_much : (w : Workload) (n : ℕ) (line : List ℕ) (lines : List (List ℕ)) (q : List ℕ) (qs : List (List ℕ)) → 0 < length (join_with_byte 10 (line ∷ lines))
+more_too_much : (w : Workload) (n : ℕ) (line : List ℕ) (lines : List (List ℕ)) (q : List ℕ) (qs : List (List ℕ))
+    → 0 < length (join_with_byte 10 (line ∷ lines))
     → ended w n (joined (line ∷ lines) q qs) ≡ refused n AfterEnd
 more_too_much w n [] [] q qs some = absurd (omega (arith, some))
 more_too_much w n [] (next ∷ lines) q qs some = refl
@@ -139,7 +141,8 @@ length_lines line next lines = omega (arith, length-append line (10 ∷ join_wit
 abbrev Enough : Workload → List (List ℕ) → Type 0
 Enough w lines = longest_input ≤ 65 * (1 + lines_in w) + length (join_with_byte 10 lines)
 
-lines_settled : (w : Workload) (n : ℕ) (line : List ℕ) (lines : List (List ℕ)) (q : List ℕ) (qs : List (List ℕ)) → KeepsLimits w → Enough w (line ∷ lines)
+lines_settled : (w : Workload) (n : ℕ) (line : List ℕ) (lines : List (List ℕ)) (q : List ℕ) (qs : List (List ℕ)) → KeepsLimits w
+    → Enough w (line ∷ lines)
     → lines_read w n (joined (line ∷ lines) q qs) ≡ lines_read w n (line ∷ lines)
 lines_settled w n line [] q qs keeps enough =
     let long : 64 < length line = omega (arith, enough, keeps.op_count, keeps.turn_count) in
@@ -150,7 +153,8 @@ lines_settled w n line (next ∷ lines) q qs keeps enough = by_end (λ u k f. li
     whole = length_lines line next lines
 
     Rest : Type 0
-    Rest = (u : Workload) → KeepsLimits u → Enough u (next ∷ lines) → lines_read u (n + 1) (joined (next ∷ lines) q qs) ≡ lines_read u (n + 1) (next ∷ lines)
+    Rest = (u : Workload) → KeepsLimits u → Enough u (next ∷ lines)
+        → lines_read u (n + 1) (joined (next ∷ lines) q qs) ≡ lines_read u (n + 1) (next ∷ lines)
 
     by_rule : Rest → (x : Item) → item_in w.header.subject line ≡ Some x → (o : Option WorkRule) → broken_by w x ≡ o
         → then_lines n (joined (next ∷ lines) q qs) (unless_broken w x o) ≡ then_lines n (next ∷ lines) (unless_broken w x o)

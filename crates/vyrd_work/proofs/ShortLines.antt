@@ -63,7 +63,8 @@ short_first h variant =
       length-append (decimal h.callers) (32 ∷ variant_name variant),
     )
 
-short_later : (h : Header) (ops : List WorkOp) (turns : List Turn) → AllByRecursion (λ o. is_op_of h o ≡ true) ops → AllByRecursion (λ o. are_small o.op.args ≡ true) ops
+short_later : (h : Header) (ops : List WorkOp) (turns : List Turn) → AllByRecursion (λ o. is_op_of h o ≡ true) ops
+    → AllByRecursion (λ o. are_small o.op.args ≡ true) ops
     → AllByRecursion (λ t. is_turn_of h t ≡ true) turns
     → AllByRecursion (λ line. length line ≤ 64) (map item_line (map item.Op ops ++ map item.Turns turns) ++ end_line ∷ [])
 short_later h [] [] all small rest = (omega arith, tt)

@@ -45,5 +45,6 @@ scripts_sound w limits = record {
   sound = λ c low.
       let e : 0 + c ≡ c = omega arith in
       subst (IsSound w.header at_rest) (sym (script_at (work_script w) 0 w.header.callers c low ∙ ap (work_script w) e))
-      (operations-sound w.header (procedure_in w.header.subject w.header w.variant) (ops_of c w.ops) (procedures_sound w.header.subject w.header w.variant refl) (ops_are_callable w c limits));
+      (operations-sound w.header (procedure_in w.header.subject w.header w.variant) (ops_of c w.ops)
+        (procedures_sound w.header.subject w.header w.variant refl) (ops_are_callable w c limits));
 }

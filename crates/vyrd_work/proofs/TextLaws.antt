@@ -78,11 +78,13 @@ lines_sound w n (line ∷ next ∷ lines) v keeps e = by_end (λ u k f. lines_so
           limits = s.limits;
         }
 
-    by_item : Rest → (o : Option Item) → item_in w.header.subject line ≡ o → then_lines n (next ∷ lines) (item_read w o) ≡ Ok v → Sound w (line ∷ next ∷ lines) v
+    by_item : Rest → (o : Option Item) → item_in w.header.subject line ≡ o → then_lines n (next ∷ lines) (item_read w o) ≡ Ok v
+        → Sound w (line ∷ next ∷ lines) v
     by_item rest None is f = cc
     by_item rest (Some x) is f = by_rule rest x is (broken_by w x) refl f
 
-    by_end : Rest → (b : Bool) → bytes_eq line end_line ≡ b → cond b (ended w (n + 1) (next ∷ lines)) (then_lines n (next ∷ lines) (line_read w line)) ≡ Ok v
+    by_end : Rest → (b : Bool) → bytes_eq line end_line ≡ b
+        → cond b (ended w (n + 1) (next ∷ lines)) (then_lines n (next ∷ lines) (line_read w line)) ≡ Ok v
         → Sound w (line ∷ next ∷ lines) v
     by_end rest true is f =
         let last = nothing_after w (n + 1) (next ∷ lines) v f in
@@ -100,7 +102,8 @@ lines_sound w n (line ∷ next ∷ lines) v keeps e = by_end (λ u k f. lines_so
 -- lines with a line feed after each, and nothing after the last
 join_lines : (lines : List (List ℕ)) → join_with_byte 10 (lines ++ [] ∷ []) ≡ flat_map ended_line lines
 join_lines [] = refl
-join_lines (line ∷ lines) = join_step lines ∙ ap (λ rest. line ++ 10 ∷ rest) (join_lines lines) ∙ sym (append_assoc line (10 ∷ []) (flat_map ended_line lines))
+join_lines (line ∷ lines) = join_step lines ∙ ap (λ rest. line ++ 10 ∷ rest) (join_lines lines)
+    ∙ sym (append_assoc line (10 ∷ []) (flat_map ended_line lines))
   where
     join_step : (ls : List (List ℕ)) → join_with_byte 10 (line ∷ ls ++ [] ∷ []) ≡ line ++ 10 ∷ join_with_byte 10 (ls ++ [] ∷ [])
     join_step [] = refl
@@ -153,7 +156,8 @@ text_sound (line ∷ next ∷ lines) v e = by_begun (begun_in line) refl e
           limits = s.limits;
         }
 
-    by_begun : (o : Option Workload) → begun_in line ≡ o → after_first (begun_or_bad o) ≡ Ok v → IsWorkText (join_with_byte 10 (line ∷ next ∷ lines)) v
+    by_begun : (o : Option Workload) → begun_in line ≡ o → after_first (begun_or_bad o) ≡ Ok v
+        → IsWorkText (join_with_byte 10 (line ∷ next ∷ lines)) v
     by_begun None is f = cc
     by_begun (Some w) is f = found w (begun_in_sound line w is) f
 
@@ -162,7 +166,8 @@ unfolding work_reading
 reading_sound bytes w e = subst (λ xs. IsWorkText xs w) (join_with_byte-slice_split 10 bytes) (text_sound (cut bytes) w e)
 
 -- one item's line is read
-item_step : (w : Workload) (n : ℕ) (x : Item) (rest : List (List ℕ)) → has_any rest ≡ true → is_item_of w.header.subject x ≡ true → broken_by w x ≡ None
+item_step : (w : Workload) (n : ℕ) (x : Item) (rest : List (List ℕ)) → has_any rest ≡ true → is_item_of w.header.subject x ≡ true
+    → broken_by w x ≡ None
     → lines_read w n (item_line x ∷ rest) ≡ lines_read (with_item w x) (n + 1) rest
 item_step w n x [] some is none = cc
 item_step w n x (next ∷ lines) some is none =
@@ -180,7 +185,8 @@ of_parts h variant ops turns = record { header = h; variant = variant; ops = ops
 -- the lines of turns, and `end`
 turns_read : (h : Header) (variant : Variant) (ops : List WorkOp) (past todo : List Turn) (n : ℕ) → AllByRecursion (λ t. is_turn_of h t ≡ true) todo
     → length past + length todo ≤ 200000 → turns_in past + turns_in todo ≤ 4000000
-    → lines_read (of_parts h variant ops past) n (map item_line (map item.Turns todo) ++ end_line ∷ [] ∷ []) ≡ Ok (of_parts h variant ops (past ++ todo))
+    → lines_read (of_parts h variant ops past) n (map item_line (map item.Turns todo) ++ end_line ∷ [] ∷ [])
+      ≡ Ok (of_parts h variant ops (past ++ todo))
 turns_read h variant ops past [] n all count total = ap (λ ts. Ok (of_parts h variant ops ts)) (sym (append-nil past))
 turns_read h variant ops past (t ∷ todo) n all count total =
     let w = of_parts h variant ops past in
@@ -197,16 +203,19 @@ ops_read : (h : Header) (variant : Variant) (past todo : List WorkOp) (next : Li
     → AllByRecursion (λ o. is_op_of h o ≡ true) todo → AllByRecursion (λ o. are_small o.op.args ≡ true) todo → length past + length todo ≤ 200000
     → ((m : ℕ) → lines_read (of_parts h variant (past ++ todo) []) m (next ∷ lines) ≡ r)
     → lines_read (of_parts h variant past []) n (map item_line (map item.Op todo) ++ next ∷ lines) ≡ r
-ops_read h variant past [] next lines r n all small count on = ap (λ os. lines_read (of_parts h variant os []) n (next ∷ lines)) (sym (append-nil past)) ∙ on n
+ops_read h variant past [] next lines r n all small count on =
+    ap (λ os. lines_read (of_parts h variant os []) n (next ∷ lines)) (sym (append-nil past)) ∙ on n
 ops_read h variant past (o ∷ todo) next lines r n all small count on =
     let w = of_parts h variant past [] in
-    item_step w n (item.Op o) (map item_line (map item.Op todo) ++ next ∷ lines) (some_lines (map item.Op todo) next lines) (op_is_item h o all.0 small.0)
+    item_step w n (item.Op o) (map item_line (map item.Op todo) ++ next ∷ lines) (some_lines (map item.Op todo) next lines)
+      (op_is_item h o all.0 small.0)
     (op_unbroken w o all.0 refl (omega arith))
     ∙ ops_read h variant (past ++ o ∷ []) todo next lines r (n + 1) all.1 small.1 (omega (arith, length-append past (o ∷ [])))
     (λ m. ap (λ os. lines_read (of_parts h variant os []) m (next ∷ lines)) (append_assoc past (o ∷ []) todo) ∙ on m)
 
 -- the lines after a workload's first
-items_read : (w : Workload) (n : ℕ) → KeepsLimits w → lines_read (begun w.variant w.header) n (map item_line (items_of w) ++ end_line ∷ [] ∷ []) ≡ Ok w
+items_read : (w : Workload) (n : ℕ) → KeepsLimits w
+    → lines_read (begun w.variant w.header) n (map item_line (items_of w) ++ end_line ∷ [] ∷ []) ≡ Ok w
 items_read w n keeps = by_turns w.turns keeps.turns keeps.turn_count keeps.turn_sum
   where
     lines : (turns : List Turn) → map item_line (map item.Op w.ops ++ map item.Turns turns) ++ end_line ∷ [] ∷ []
@@ -235,8 +244,10 @@ turns_lack : (h : Header) (turns : List Turn) → AllByRecursion (λ t. is_turn_
 turns_lack h [] all = refl
 turns_lack h (t ∷ turns) all = both_true _ _ (item_line_whole h.subject (item.Turns t) (turns_are_item h t all.0)) (turns_lack h turns all.1)
 
-items_lack : (h : Header) (ops : List WorkOp) (turns : List Turn) → AllByRecursion (λ o. is_op_of h o ≡ true) ops → AllByRecursion (λ o. are_small o.op.args ≡ true) ops
-    → AllByRecursion (λ t. is_turn_of h t ≡ true) turns → all_lack 10 (map item_line (map item.Op ops ++ map item.Turns turns) ++ end_line ∷ []) ≡ true
+items_lack : (h : Header) (ops : List WorkOp) (turns : List Turn) → AllByRecursion (λ o. is_op_of h o ≡ true) ops
+    → AllByRecursion (λ o. are_small o.op.args ≡ true) ops
+    → AllByRecursion (λ t. is_turn_of h t ≡ true) turns
+      → all_lack 10 (map item_line (map item.Op ops ++ map item.Turns turns) ++ end_line ∷ []) ≡ true
 items_lack h [] turns all small rest = turns_lack h turns rest
 items_lack h (o ∷ ops) turns all small rest =
     both_true _ _ (item_line_whole h.subject (item.Op o) (op_is_item h o all.0 small.0)) (items_lack h ops turns all.1 small.1 rest)

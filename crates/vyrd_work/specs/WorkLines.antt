@@ -48,7 +48,8 @@ is_item_of subject (item.Turns t) = nat_lt t.caller (2 ^ 32) && (nat_le 1 t.coun
 -- a guess at what the fields of a later line say
 abbrev pub guessed_item : Subject → List (List ℕ) → Option Item
 guessed_item subject (word ∷ caller ∷ x ∷ fields) = if bytes_eq word (codes "op")
-    then option_map (λ method. item.Op (record { caller = number_of caller; op = record { method = method; args = args_from fields } })) (method_called subject x)
+    then option_map (λ method. item.Op
+      (record { caller = number_of caller; op = record { method = method; args = args_from fields } })) (method_called subject x)
     else Some (item.Turns (record { caller = number_of caller; count = number_of x }))
 guessed_item subject _ = None
 

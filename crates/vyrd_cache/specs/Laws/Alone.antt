@@ -42,7 +42,8 @@ met h op script c old new state next reply ends is allowed = record {
 
 -- the memory stands for a state where its chunk k is known
 kept : (h : Header) (old new : Memory) (state : Amounts) (k : ℕ) (chunk : Chunk) → h.subject ≡ Cache → Stands h old state → k < h.size
-    → Leaves old new k (lock_of h k) → new (lock_of h k) ≡ 0 → chunk_of new k ≡ chunk → is_sound_chunk chunk ≡ true → shown chunk ≡ shown (chunk_of old k)
+    → Leaves old new k (lock_of h k) → new (lock_of h k) ≡ 0 → chunk_of new k ≡ chunk → is_sound_chunk chunk ≡ true
+      → shown chunk ≡ shown (chunk_of old k)
     → Stands h new state
 kept h old new state k chunk is s low leaves free e sound same =
     kept_chunk h old new state k is s low leaves free (ap is_sound_chunk e ∙ sound) (ap shown e ∙ same)
@@ -54,7 +55,8 @@ changed h old new state k chunk is s low leaves free e sound =
     subst (λ d. Stands h new (with_amount state k (shown d))) e (changed_chunk h old new state k is s low leaves free (ap is_sound_chunk e ∙ sound))
 
 -- the lock is free at the beginning
-free_lock : (h : Header) (memory : Memory) (state : Amounts) (k : ℕ) → h.subject ≡ Cache → Stands h memory state → k < h.size → memory (lock_of h k) ≡ 0
+free_lock : (h : Header) (memory : Memory) (state : Amounts) (k : ℕ) → h.subject ≡ Cache → Stands h memory state → k < h.size
+    → memory (lock_of h k) ≡ 0
 free_lock h memory state k is s low =
     let plain : plain_words h ≡ 5 * h.size = ap (λ t. plain_words_of t h.size) is in
     let locks : lock_words h ≡ h.size = ap (λ t. lock_words_of t h.size) is in
@@ -102,7 +104,8 @@ write_alone h args is low few c memory state e =
         c_small = second_true _ (nat_lt args.c (2 ^ 32)) few
 
 -- a call that leaves all as it is
-only_commit_alone : (h : Header) (op : Op) (script : Script) (c k : ℕ) (memory : Memory) (state : Amounts) → h.subject ≡ Cache → Stands h memory state → k < h.size
+only_commit_alone : (h : Header) (op : Op) (script : Script) (c k : ℕ) (memory : Memory) (state : Amounts) → h.subject ≡ Cache
+    → Stands h memory state → k < h.size
     → alone c script memory ≡ alone c (only_commit h k) (held c (lock_of h k) memory)
     → state_after (is_observer op.method) op 1 state ≡ Some state → MeetsSpecification h op script c memory state
 only_commit_alone h op script c k memory state is s low run allowed =
@@ -115,7 +118,8 @@ only_commit_alone h op script c k memory state is s low run allowed =
         (after_none h.size c k memory low) (sound_at h memory state k is s low) refl
 
 -- a call that puts a dirty chunk's pair into the store, where it is what the chunk shows
-put_stored_alone : (h : Header) (op : Op) (script : Script) (c k left : ℕ) (memory : Memory) (state : Amounts) → h.subject ≡ Cache → Stands h memory state → k < h.size
+put_stored_alone : (h : Header) (op : Op) (script : Script) (c k left : ℕ) (memory : Memory) (state : Amounts) → h.subject ≡ Cache
+    → Stands h memory state → k < h.size
     → (memory (5 * k) == 2) ≡ true
     → alone c script memory ≡ alone c (put_stored h k left) (held c (lock_of h k) memory)
     → is_sound_chunk (with_stored left (memory (5 * k + 1)) (memory (5 * k + 2)) (chunk_of memory k)) ≡ true
@@ -154,7 +158,8 @@ flush_alone h args is low c memory state e = by_state (memory (5 * args.a) == 2)
 
     run : alone c (flush_procedure h args.a) memory
         ≡ alone c (cond (memory (5 * args.a) == 2) (put_stored h args.a 1) (only_commit h args.a)) (held c (lock_of h args.a) memory)
-    run = run_look h c args.a memory (λ n. cond (n == 2) (put_stored h args.a 1) (only_commit h args.a)) low (free_lock h memory state args.a is s low)
+    run = run_look h c args.a memory (λ n. cond (n == 2) (put_stored h args.a 1) (only_commit h args.a)) low
+        (free_lock h memory state args.a is s low)
 
     by_state : (b : Bool) → (memory (5 * args.a) == 2) ≡ b
         → MeetsSpecification h (record { method = CaFlush; args = args }) (flush_procedure h args.a) c memory state
@@ -234,10 +239,12 @@ read_alone h args is low c memory state e = by_state (memory (5 * args.a) == 0) 
     loaded i few = held_load c (lock_of h args.a) memory (5 * args.a + i) (omega arith)
 
     -- an answer that is the chunk's pair is the specification's
-    allowed : (reply : ℕ) → reply ≡ shown (chunk_of memory args.a) → state_after true (record { method = CaRead; args = args }) reply state ≡ Some state
+    allowed : (reply : ℕ) → reply ≡ shown (chunk_of memory args.a)
+        → state_after true (record { method = CaRead; args = args }) reply state ≡ Some state
     allowed reply pair =
         let same : reply ≡ amount_of state args.a = pair ∙ sym (shown_at h memory state args.a is s low) in
-        ap (λ n. cond (n == amount_of state args.a) (Some state) None) same ∙ ap (λ b. cond b (Some state) None) (same_number (amount_of state args.a))
+        ap (λ n. cond (n == amount_of state args.a) (Some state) None) same
+          ∙ ap (λ b. cond b (Some state) None) (same_number (amount_of state args.a))
 
     fetched_low : ℕ
     fetched_low = held c (lock_of h args.a) memory (5 * args.a + 3)
@@ -276,13 +283,15 @@ read_alone h args is low c memory state e = by_state (memory (5 * args.a) == 0) 
         (changed_cell (held c (lock_of h args.a) memory) (lock_of h args.a) 0)
         (after_none h.size c args.a memory low) sound refl)
         (allowed (joined (held c (lock_of h args.a) memory (5 * args.a + 1)) (held c (lock_of h args.a) memory (5 * args.a + 2)))
-        (ap (λ n. joined n (held c (lock_of h args.a) memory (5 * args.a + 2))) (loaded 1 (omega arith)) ∙ ap (joined (memory (5 * args.a + 1))) (loaded 2 (omega arith))
+        (ap (λ n. joined n (held c (lock_of h args.a) memory (5 * args.a + 2))) (loaded 1 (omega arith))
+          ∙ ap (joined (memory (5 * args.a + 1))) (loaded 2 (omega arith))
         ∙ joined_small (memory (5 * args.a + 1)) (memory (5 * args.a + 2)) (small (chunk_of memory args.a) sound).cached_lo
         (small (chunk_of memory args.a) sound).cached_hi
         ∙ sym (shown_cached (chunk_of memory args.a) there)))
 
 pub procedure_right_alone : (h : Header) (method : Method) (args : Args) → h.subject ≡ Cache → subject_of method ≡ Cache
-    → are_args h.size method args ≡ true → are_small args ≡ true → IsRightAlone h (record { method = method; args = args }) (procedure_of h Correct method args)
+    → are_args h.size method args ≡ true → are_small args ≡ true
+      → IsRightAlone h (record { method = method; args = args }) (procedure_of h Correct method args)
 procedure_right_alone h method args is of_cache fit few = by_method method of_cache (chunk_below h.size method args of_cache fit)
   where
     by_method : (method : Method) → subject_of method ≡ Cache → args.a < h.size

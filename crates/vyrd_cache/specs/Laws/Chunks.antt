@@ -31,7 +31,8 @@ abbrev pub shown : Chunk → ℕ
 shown c = cond (c.state == 0) (stored_pair c) (cached_pair c)
 
 -- two chunks with the same words
-pub same_chunk : (c d : Chunk) → c.state ≡ d.state → c.cached_lo ≡ d.cached_lo → c.cached_hi ≡ d.cached_hi → c.stored_lo ≡ d.stored_lo → c.stored_hi ≡ d.stored_hi → c ≡ d
+pub same_chunk : (c d : Chunk) → c.state ≡ d.state → c.cached_lo ≡ d.cached_lo → c.cached_hi ≡ d.cached_hi
+    → c.stored_lo ≡ d.stored_lo → c.stored_hi ≡ d.stored_hi → c ≡ d
 same_chunk c d e0 e1 e2 e3 e4 = λ i. record { state = e0 i; cached_lo = e1 i; cached_hi = e2 i; stored_lo = e3 i; stored_hi = e4 i }
 
 many_cells : (h : Header) → h.subject ≡ Cache → plain_words h + lock_words h ≡ 5 * h.size + h.size
@@ -51,7 +52,8 @@ chunk_in h memory k is low =
 pub sound_at : (h : Header) (memory : Memory) (state : Amounts) (k : ℕ) → h.subject ≡ Cache → Stands h memory state → k < h.size
     → is_sound_chunk (chunk_of memory k) ≡ true
 sound_at h memory state k is s low =
-    ap is_sound_chunk (sym (chunk_in h memory k is low)) ∙ all_pass (λ j. is_sound_chunk (chunk_at (words_in h memory) j)) 0 h.size all k (omega arith) (omega arith)
+    ap is_sound_chunk (sym (chunk_in h memory k is low))
+      ∙ all_pass (λ j. is_sound_chunk (chunk_at (words_in h memory) j)) 0 h.size all k (omega arith) (omega arith)
   where
     all : is_sound Cache h.size (words_in h memory) ≡ true
     all = subst (λ subject. is_sound subject h.size (words_in h memory) ≡ true) is s.sound
@@ -66,7 +68,8 @@ parts_sound : (size k : ℕ) (c : Chunk) → is_sound_chunk c ≡ true → chunk
 parts_sound size k c sound =
     let formed : is_chunk c ≡ true = first_true (is_chunk c) (not (c.state == 1) || cached_pair c == stored_pair c) sound in
     let whole : (c.state == 1 && not (cached_pair c == stored_pair c)) ≡ false =
-    unharmed (c.state == 1) (cached_pair c == stored_pair c) (second_true (is_chunk c) (not (c.state == 1) || cached_pair c == stored_pair c) sound) in
+    unharmed (c.state == 1) (cached_pair c == stored_pair c)
+      (second_true (is_chunk c) (not (c.state == 1) || cached_pair c == stored_pair c) sound) in
     rw (formed, whole)
 
 -- what chunk j gives
@@ -129,9 +132,11 @@ shown_at h memory state k is s low =
 
 -- nothing changes but the cells of chunk k and this lock
 abbrev pub Leaves : Memory → Memory → ℕ → ℕ → Type 0
-Leaves old new k lock = (cell : ℕ) → cell ≢ 5 * k → cell ≢ 5 * k + 1 → cell ≢ 5 * k + 2 → cell ≢ 5 * k + 3 → cell ≢ 5 * k + 4 → cell ≢ lock → new cell ≡ old cell
+Leaves old new k lock = (cell : ℕ) → cell ≢ 5 * k → cell ≢ 5 * k + 1 → cell ≢ 5 * k + 2 → cell ≢ 5 * k + 3 → cell ≢ 5 * k + 4
+    → cell ≢ lock → new cell ≡ old cell
 
-other_chunk : (size : ℕ) (old new : Memory) (k j : ℕ) → Leaves old new k (5 * size + k) → k < size → j < size → j ≢ k → chunk_of new j ≡ chunk_of old j
+other_chunk : (size : ℕ) (old new : Memory) (k j : ℕ) → Leaves old new k (5 * size + k) → k < size → j < size → j ≢ k
+    → chunk_of new j ≡ chunk_of old j
 other_chunk size old new k j leaves low below apart =
     same_chunk (chunk_of new j) (chunk_of old j)
     (leaves (5 * j) (omega arith) (omega arith) (omega arith) (omega arith) (omega arith) (omega arith))
@@ -149,17 +154,20 @@ amounts_changed h old new state k q is s low leaves sound = by_key (q == k) refl
     same_parts : (j : ℕ) → 0 ≤ j → j < 0 + h.size → j ≢ k → part_at h old j ≡ part_at h new j
     same_parts j from to apart =
         let below : j < h.size = omega arith in
-        ap (chunk_parts h.size j) (chunk_in h old j is below ∙ sym (other_chunk h.size old new k j leaves low below apart) ∙ sym (chunk_in h new j is below))
+        ap (chunk_parts h.size j) (chunk_in h old j is below ∙ sym (other_chunk h.size old new k j leaves low below apart)
+          ∙ sym (chunk_in h new j is below))
 
     change : given q (flat_map (part_at h new) (numbers_from 0 h.size)) + given q (part_at h old k)
         ≡ given q (flat_map (part_at h old) (numbers_from 0 h.size)) + given q (part_at h new k)
     change = given-changed (part_at h old) (part_at h new) q 0 h.size k (omega arith) (omega arith) same_parts
 
-    by_key : (b : Bool) → (q == k) ≡ b → given q (flat_map (part_at h new) (numbers_below h.size)) ≡ cond (q == k) (shown (chunk_of new k)) (amount_of state q)
+    by_key : (b : Bool) → (q == k) ≡ b
+        → given q (flat_map (part_at h new) (numbers_below h.size)) ≡ cond (q == k) (shown (chunk_of new k)) (amount_of state q)
     by_key true e =
         let before : given q (part_at h old k) ≡ shown (chunk_of old k) =
         given_at h old q k is low (sound_at h old state k is s low) ∙ ap (λ b. cond b (shown (chunk_of old k)) 0) e in
-        let after : given q (part_at h new k) ≡ shown (chunk_of new k) = given_at h new q k is low sound ∙ ap (λ b. cond b (shown (chunk_of new k)) 0) e in
+        let after : given q (part_at h new k) ≡ shown (chunk_of new k) = given_at h new q k is low sound
+          ∙ ap (λ b. cond b (shown (chunk_of new k)) 0) e in
         let all : given q (flat_map (part_at h old) (numbers_from 0 h.size)) ≡ shown (chunk_of old k) =
         sym (amounts_given h old state q is s) ∙ ap (amount_of state) (same_of q k e) ∙ shown_at h old state k is s low in
         let now : given q (flat_map (part_at h new) (numbers_from 0 h.size)) ≡ shown (chunk_of new k) = omega (arith, change, before, after, all) in
@@ -219,7 +227,8 @@ same_amount state k is =
 
 -- Where the chunk shows the same pair as before, the memory stands for the same state.
 pub kept_chunk : (h : Header) (old new : Memory) (state : Amounts) (k : ℕ) → h.subject ≡ Cache → Stands h old state → k < h.size
-    → Leaves old new k (5 * h.size + k) → new (5 * h.size + k) ≡ 0 → is_sound_chunk (chunk_of new k) ≡ true → shown (chunk_of new k) ≡ shown (chunk_of old k)
+    → Leaves old new k (5 * h.size + k) → new (5 * h.size + k) ≡ 0 → is_sound_chunk (chunk_of new k) ≡ true
+      → shown (chunk_of new k) ≡ shown (chunk_of old k)
     → Stands h new state
 kept_chunk h old new state k is s low leaves free sound same =
     subst (Stands h new) (ap (with_amount state k) (same ∙ sym (shown_at h old state k is s low)) ∙ same_amount state k (is_amounts h old state s))

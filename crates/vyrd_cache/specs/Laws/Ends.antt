@@ -46,7 +46,8 @@ looked : (h : Header) (chunk : ℕ) (rest : ℕ → Script) → ((state : ℕ) �
 looked h chunk rest ends = (omega arith, λ returns. cc, λ _ _ _. (omega arith, λ returns. cc, λ _ state _. ends state))
 
 -- two loads before a list of acts
-two_loads : (low_cell high_cell : ℕ) (rest : ℕ → ℕ → List Act) → ((low high : ℕ) → length (rest low high) ≤ 11) → ((low high : ℕ) → returns_last (rest low high) ≡ true)
+two_loads : (low_cell high_cell : ℕ) (rest : ℕ → ℕ → List Act) → ((low high : ℕ) → length (rest low high) ≤ 11)
+    → ((low high : ℕ) → returns_last (rest low high) ≡ true)
     → EndsByReturn 13 (step (Load low_cell) (λ low. step (Load high_cell) (λ high. in_order (rest low high))))
 two_loads low_cell high_cell rest few last =
     (omega arith, λ returns. cc, λ _ low _. (omega arith, λ returns. cc, λ _ high _. ends_list (rest low high) 11 (few low high) (last low high)))
@@ -58,7 +59,8 @@ ends_put_cached h chunk low high n some = ends_list
 
 ends_put_cached_bare : (h : Header) (chunk low high : ℕ) → EndsByReturn 13 (put_cached_bare h chunk low high)
 ends_put_cached_bare h chunk low high = ends_list
-    (Give (lock_of h chunk) ∷ Store (cached_low chunk) low ∷ Store (cached_high chunk) high ∷ Mark Commit ∷ Mark (Return 1) ∷ []) 13 (omega arith) refl
+    (Give (lock_of h chunk) ∷ Store (cached_low chunk) low ∷ Store (cached_high chunk) high ∷ Mark Commit ∷ Mark
+      (Return 1) ∷ []) 13 (omega arith) refl
 
 ends_put_stored : (h : Header) (chunk state : ℕ) → EndsByReturn 13 (put_stored h chunk state)
 ends_put_stored h chunk state = two_loads (cached_low chunk) (cached_high chunk) (λ low high.

@@ -40,7 +40,8 @@ lock_cell h chunk is low =
     ap (λ s. nat_le (plain_words_of s h.size) (lock_of h chunk) && nat_lt (lock_of h chunk) (plain_words_of s h.size + lock_words_of s h.size)) is
     ∙ both_true _ _ (is_at_most (5 * h.size) (5 * h.size + chunk) (omega arith)) (is_below (5 * h.size + chunk) (5 * h.size + h.size) (omega arith))
 
-may_store : (h : Header) (s : Standing) (method : Method) (cell value : ℕ) → h.subject ≡ Cache → cell < 5 * h.size → value < 2 ^ 63 → s.called ≡ Some method
+may_store : (h : Header) (s : Standing) (method : Method) (cell value : ℕ) → h.subject ≡ Cache → cell < 5 * h.size
+    → value < 2 ^ 63 → s.called ≡ Some method
     → may_act h s (Store cell value) ≡ true
 may_store h s method cell value is low small called =
     both_true _ _ (both_true _ _ (plain_cell h cell is low) (is_below value (2 ^ 63) small)) (rw called)
@@ -66,7 +67,8 @@ returned : (h : Header) (method : Method) (committed : Bool) (reply : ℕ) → (
     → IsSound h (unlocked method committed) (in_order (Mark (Return reply) ∷ []))
 returned h method committed reply may = (both_true _ _ may refl, λ answer none. refl)
 
-leave : (h : Header) (chunk : ℕ) (method : Method) (committed : Bool) (reply : ℕ) → h.subject ≡ Cache → chunk < h.size → (is_observer method || committed) ≡ true
+leave : (h : Header) (chunk : ℕ) (method : Method) (committed : Bool) (reply : ℕ) → h.subject ≡ Cache → chunk < h.size
+    → (is_observer method || committed) ≡ true
     → IsSound h (holding (lock_of h chunk) method committed false) (in_order (Give (lock_of h chunk) ∷ Mark (Return reply) ∷ []))
 leave h chunk method committed reply is low may =
     given h chunk method committed (in_order (Mark (Return reply) ∷ [])) is low (returned h method committed reply may)
@@ -97,7 +99,8 @@ either h s true x y e f = e
 either h s false x y e f = f
 
 -- a load
-loaded : (h : Header) (s : Standing) (cell : ℕ) (rest : ℕ → Script) → h.subject ≡ Cache → cell < 5 * h.size → ((value : ℕ) → value < 2 ^ 63 → IsSound h s (rest value))
+loaded : (h : Header) (s : Standing) (cell : ℕ) (rest : ℕ → Script) → h.subject ≡ Cache → cell < 5 * h.size
+    → ((value : ℕ) → value < 2 ^ 63 → IsSound h s (rest value))
     → IsSound h s (step (Load cell) rest)
 loaded h s cell rest is low sound = (plain_cell h cell is low, sound)
 
@@ -109,12 +112,14 @@ locked h chunk method rest is low sound = (both_true _ _ (lock_cell h chunk is l
 sound_put_cached : (h : Header) (chunk low high : ℕ) → h.subject ≡ Cache → chunk < h.size → low < 2 ^ 32 → high < 2 ^ 32
     → IsSound h (holding (lock_of h chunk) CaWrite false false) (put_cached h chunk low high)
 sound_put_cached h chunk low high is few x y =
-    pair_block h chunk CaWrite (cached_low chunk) low (cached_high chunk) high 2 is few refl (omega arith) (omega arith) (omega arith) (omega arith) (omega arith)
+    pair_block h chunk CaWrite (cached_low chunk) low (cached_high chunk) high 2 is few refl (omega arith) (omega arith)
+      (omega arith) (omega arith) (omega arith)
 
 sound_put_cached_bare : (h : Header) (chunk low high : ℕ) → h.subject ≡ Cache → chunk < h.size → low < 2 ^ 32 → high < 2 ^ 32
     → IsSound h (holding (lock_of h chunk) CaWrite false false) (put_cached_bare h chunk low high)
 sound_put_cached_bare h chunk low high is few x y =
-    given h chunk CaWrite false (in_order (Store (cached_low chunk) low ∷ Store (cached_high chunk) high ∷ Mark Commit ∷ Mark (Return 1) ∷ [])) is few (
+    given h chunk CaWrite false (in_order
+      (Store (cached_low chunk) low ∷ Store (cached_high chunk) high ∷ Mark Commit ∷ Mark (Return 1) ∷ [])) is few (
       may_store h (unlocked CaWrite false) CaWrite (cached_low chunk) low is (omega arith) (omega arith) refl,
       λ _ _. (
         may_store h (unlocked CaWrite false) CaWrite (cached_high chunk) high is (omega arith) (omega arith) refl,
@@ -138,7 +143,8 @@ sound_only_commit : (h : Header) (chunk : ℕ) (method : Method) → h.subject �
     → IsSound h (holding (lock_of h chunk) method false false) (only_commit h chunk)
 sound_only_commit h chunk method is few mutates = (rw mutates, λ _ _. leave h chunk method true 1 is few (rw mutates))
 
-sound_forget : (h : Header) (chunk : ℕ) → h.subject ≡ Cache → chunk < h.size → IsSound h (holding (lock_of h chunk) CaEvict false false) (forget h chunk)
+sound_forget : (h : Header) (chunk : ℕ) → h.subject ≡ Cache → chunk < h.size
+    → IsSound h (holding (lock_of h chunk) CaEvict false false) (forget h chunk)
 sound_forget h chunk is few = (
   refl,
   λ _ _. (
@@ -170,7 +176,8 @@ sound_fetch h chunk is few = (
   ),
 )
 
-sound_answer_cached : (h : Header) (chunk : ℕ) → h.subject ≡ Cache → chunk < h.size → IsSound h (holding (lock_of h chunk) CaRead false false) (answer_cached h chunk)
+sound_answer_cached : (h : Header) (chunk : ℕ) → h.subject ≡ Cache → chunk < h.size
+    → IsSound h (holding (lock_of h chunk) CaRead false false) (answer_cached h chunk)
 sound_answer_cached h chunk is few = (
   plain_cell h (cached_low chunk) is (omega arith),
   λ low x. (
@@ -190,7 +197,8 @@ looked h chunk method rest is few sound =
 
 sound_write : (h : Header) (variant : Variant) (chunk low high : ℕ) → h.subject ≡ Cache → chunk < h.size → low < 2 ^ 32 → high < 2 ^ 32
     → IsSound h (just_called CaWrite) (write_procedure h variant chunk low high)
-sound_write h Correct chunk low high is few x y = locked h chunk CaWrite (put_cached h chunk low high) is few (sound_put_cached h chunk low high is few x y)
+sound_write h Correct chunk low high is few x y =
+    locked h chunk CaWrite (put_cached h chunk low high) is few (sound_put_cached h chunk low high is few x y)
 sound_write h Broken chunk low high is few x y = looked h chunk CaWrite _ is few (λ state.
     either h _ (state == 2) (put_cached_bare h chunk low high) (put_cached h chunk low high)
     (sound_put_cached_bare h chunk low high is few x y) (sound_put_cached h chunk low high is few x y))

@@ -24,8 +24,10 @@ find_from_ends : (n left slot value : ℕ) (found : Option ℕ → Script) → (
 find_from_ends n zero slot value found ends = in_more n (n + 2 + 0) (found None) (omega arith) (ends None)
 find_from_ends n (suc left) slot value found ends =
     in_more (n + 2 + left + 1) (n + 2 + suc left) (find_from (suc left) slot value found) (omega arith)
-    (loads_in (n + 2 + left) (state_word slot) (λ state. cond (state == 0) (reserve slot value (found (Some slot))) (find_from left (slot + 1) value found))
-    (λ state. elim (state == 0) as (λ b. EndsByReturn (n + 2 + left) (cond b (reserve slot value (found (Some slot))) (find_from left (slot + 1) value found))) [
+    (loads_in (n + 2 + left) (state_word slot)
+      (λ state. cond (state == 0) (reserve slot value (found (Some slot))) (find_from left (slot + 1) value found))
+    (λ state. elim (state == 0) as (λ b. EndsByReturn (n + 2 + left)
+      (cond b (reserve slot value (found (Some slot))) (find_from left (slot + 1) value found))) [
       | true ↦ in_more (n + 1 + 1) (n + 2 + left) (reserve slot value (found (Some slot))) (omega arith)
           (acts_in (n + 1) (Store (value_word slot) value) (perform (Store (state_word slot) 1) (found (Some slot))) refl
           (acts_in n (Store (state_word slot) 1) (found (Some slot)) refl (ends (Some slot))))
@@ -33,32 +35,38 @@ find_from_ends n (suc left) slot value found ends =
     ]))
 
 -- a search takes two loads for each slot
-search_from_ends : (n left slot value : ℕ) (ended : Option ℕ → Script) → ((slot : Option ℕ) → EndsByReturn n (ended slot)) → EndsByReturn (n + (left + left))
+search_from_ends : (n left slot value : ℕ) (ended : Option ℕ → Script) → ((slot : Option ℕ) → EndsByReturn n (ended slot))
+    → EndsByReturn (n + (left + left))
     (search_from left slot value ended)
 search_from_ends n zero slot value ended ends = in_more n (n + (0 + 0)) (ended None) (omega arith) (ends None)
 search_from_ends n (suc left) slot value ended ends =
     let on : EndsByReturn (n + (left + left)) (search_from left (slot + 1) value ended) = search_from_ends n left (slot + 1) value ended ends in
     in_more (n + (left + left) + 1 + 1) (n + (suc left + suc left)) (search_from (suc left) slot value ended) (omega arith)
     (loads_in (n + (left + left) + 1) (state_word slot)
-    (λ state. cond (state == 2) (compare slot value (ended (Some slot)) (search_from left (slot + 1) value ended)) (search_from left (slot + 1) value ended))
+    (λ state. cond (state == 2) (compare slot value (ended (Some slot)) (search_from left (slot + 1) value ended))
+      (search_from left (slot + 1) value ended))
     (λ state. elim (state == 2) as (λ b. EndsByReturn (n + (left + left) + 1)
     (cond b (compare slot value (ended (Some slot)) (search_from left (slot + 1) value ended)) (search_from left (slot + 1) value ended))) [
-      | true ↦ loads_in (n + (left + left)) (value_word slot) (λ loaded. cond (loaded == value) (ended (Some slot)) (search_from left (slot + 1) value ended))
-          (λ loaded. elim (loaded == value) as (λ b. EndsByReturn (n + (left + left)) (cond b (ended (Some slot)) (search_from left (slot + 1) value ended))) [
+      | true ↦ loads_in (n + (left + left)) (value_word slot)
+        (λ loaded. cond (loaded == value) (ended (Some slot)) (search_from left (slot + 1) value ended))
+          (λ loaded. elim (loaded == value) as
+            (λ b. EndsByReturn (n + (left + left)) (cond b (ended (Some slot)) (search_from left (slot + 1) value ended))) [
             | true ↦ in_more n (n + (left + left)) (ended (Some slot)) (omega arith) (ends (Some slot))
             | false ↦ on
           ])
       | false ↦ in_more (n + (left + left)) (n + (left + left) + 1) (search_from left (slot + 1) value ended) (omega arith) on
     ]))
 
-find_ends : (n : ℕ) (h : Header) (variant : Variant) (value : ℕ) (found : Option ℕ → Script) → ((slot : Option ℕ) → EndsByReturn n (found slot)) → EndsByReturn
+find_ends : (n : ℕ) (h : Header) (variant : Variant) (value : ℕ) (found : Option ℕ → Script)
+    → ((slot : Option ℕ) → EndsByReturn n (found slot)) → EndsByReturn
     (n + 8) (find h variant value found)
 find_ends n h Correct value found ends =
     let b : ℕ = bucket_of h value in
     let script : Script = find_from 4 (first_slot b) value (λ slot. unlock h b (found slot)) in
     in_more (n + 1 + 2 + 4 + 1) (n + 8) (lock h b script) (omega arith)
     (acts_in (n + 1 + 2 + 4) (Take (lock_of h b)) script refl
-    (find_from_ends (n + 1) 4 (first_slot b) value (λ slot. unlock h b (found slot)) (λ slot. acts_in n (Give (lock_of h b)) (found slot) refl (ends slot))))
+    (find_from_ends (n + 1) 4 (first_slot b) value (λ slot. unlock h b (found slot))
+      (λ slot. acts_in n (Give (lock_of h b)) (found slot) refl (ends slot))))
 find_ends n h Broken value found ends =
     in_more (n + 2 + 4) (n + 8) (find_from 4 (first_slot (bucket_of h value)) value found) (omega arith)
     (find_from_ends n 4 (first_slot (bucket_of h value)) value found ends)
@@ -79,7 +87,8 @@ commit_state_ends h bucket slot state =
 
 inserted_ends : (h : Header) (x : ℕ) (slot : Option ℕ) → EndsByReturn 6 (inserted h x slot)
 inserted_ends h x None = in_more 2 6 gives_up (omega arith) gives_up_in
-inserted_ends h x (Some slot) = acts_in 5 (Take (lock_of h (bucket_of h x))) (commit_state h (bucket_of h x) slot 2) refl (commit_state_ends h (bucket_of h x) slot 2)
+inserted_ends h x (Some slot) = acts_in 5 (Take (lock_of h (bucket_of h x))) (commit_state h (bucket_of h x) slot 2) refl
+    (commit_state_ends h (bucket_of h x) slot 2)
 
 unlock_both_ends : (h : Header) (first second : ℕ) → EndsByReturn 3 (unlock_both h first second)
 unlock_both_ends h first second =
@@ -100,7 +109,8 @@ validate_both_ends h first second slot_x slot_y =
     (acts_in 3 (Mark BlockCommit) (unlock_both h first second) refl (unlock_both_ends h first second))))
 
 commit_both_ends : (h : Header) (first second slot_x slot_y : ℕ) → EndsByReturn 9 (commit_both h first second slot_x slot_y)
-commit_both_ends h first second slot_x slot_y = acts_in 8 (Take (lock_of h first)) (lock_other h first second (validate_both h first second slot_x slot_y)) refl other
+commit_both_ends h first second slot_x slot_y =
+    acts_in 8 (Take (lock_of h first)) (lock_other h first second (validate_both h first second slot_x slot_y)) refl other
   where
     inner : EndsByReturn 7 (validate_both h first second slot_x slot_y)
     inner = validate_both_ends h first second slot_x slot_y
@@ -129,7 +139,8 @@ first_found_ends h variant x y (Some slot_x) = find_ends 9 h variant y (second_f
 
 deleted_ends : (h : Header) (x : ℕ) (slot : Option ℕ) → EndsByReturn 5 (deleted h x slot)
 deleted_ends h x None = in_more 3 5 (deleted h x None) (omega arith)
-    (acts_in 2 (Mark Commit) (unlock h (bucket_of h x) (returns 0)) refl (acts_in 1 (Give (lock_of h (bucket_of h x))) (returns 0) refl (returns_in 0)))
+    (acts_in 2 (Mark Commit) (unlock h (bucket_of h x) (returns 0)) refl
+      (acts_in 1 (Give (lock_of h (bucket_of h x))) (returns 0) refl (returns_in 0)))
 deleted_ends h x (Some slot) = commit_state_ends h (bucket_of h x) slot 0
 
 looked_up_ends : (h : Header) (x : ℕ) (slot : Option ℕ) → EndsByReturn 2 (looked_up h x slot)
@@ -137,11 +148,13 @@ looked_up_ends h x slot =
     let reply : ℕ = cond (is_some slot) 1 0 in
     acts_in 1 (Give (lock_of h (bucket_of h x))) (returns reply) refl (returns_in reply)
 
-by_method_ends : (h : Header) (variant : Variant) (method : Method) (x y : ℕ) → subject_of method ≡ Multiset → EndsByReturn 31 (by_method h variant method x y)
+by_method_ends : (h : Header) (variant : Variant) (method : Method) (x y : ℕ) → subject_of method ≡ Multiset
+    → EndsByReturn 31 (by_method h variant method x y)
 by_method_ends h variant MsInsert x y of =
     in_more (6 + 8) 31 (insert h variant x) (omega arith) (find_ends 6 h variant x (inserted h x) (inserted_ends h x))
 by_method_ends h variant MsInsertPair x y of =
-    in_more (17 + 8) 31 (insert_pair h variant x y) (omega arith) (find_ends 17 h variant x (first_found h variant x y) (first_found_ends h variant x y))
+    in_more (17 + 8) 31 (insert_pair h variant x y) (omega arith)
+      (find_ends 17 h variant x (first_found h variant x y) (first_found_ends h variant x y))
 by_method_ends h variant MsDelete x y of =
     in_more (5 + 9) 31 (delete h x) (omega arith) (search_in_ends 5 h x (deleted h x) (deleted_ends h x))
 by_method_ends h variant MsLookup x y of =
@@ -157,4 +170,5 @@ by_method_ends h variant TrLookup x y of = cc
 pub procedure_ends_in_time : (h : Header) (variant : Variant) (op : Op) → h.subject ≡ Multiset → subject_of op.method ≡ Multiset
     → are_args h.size op.method op.args ≡ true → are_small op.args ≡ true → EndsByReturn (bound_of h op.method - 1) (multiset_procedure h variant op)
 procedure_ends_in_time h variant op is of args small =
-    subst (λ s. EndsByReturn (bound_in s h.size op.method - 1) (multiset_procedure h variant op)) (sym is) (by_method_ends h variant op.method op.args.a op.args.b of)
+    subst (λ s. EndsByReturn (bound_in s h.size op.method - 1) (multiset_procedure h variant op)) (sym is)
+      (by_method_ends h variant op.method op.args.a op.args.b of)

@@ -63,7 +63,8 @@ free_two memory (suc left) slot j k from_j to_j from_k to_k apart free_j free_k 
         )
     by_place false e false f later = omega (arith, later (apart_of j slot e) (apart_of k slot f))
 
-pub free_one_at_most : (memory : Memory) (left slot j : ℕ) → ((k : ℕ) → slot ≤ k → k < slot + left → k ≢ j → memory (2 * k) ≢ 0) → free_from memory slot left ≤ 1
+pub free_one_at_most : (memory : Memory) (left slot j : ℕ) → ((k : ℕ) → slot ≤ k → k < slot + left → k ≢ j → memory (2 * k) ≢ 0)
+    → free_from memory slot left ≤ 1
 free_one_at_most memory zero slot j taken = omega arith
 free_one_at_most memory (suc left) slot j taken =
     by_place (slot == j) refl (free_one_at_most memory left (slot + 1) j (λ k from to. taken k (omega (arith, from)) (omega (arith, to))))

@@ -21,7 +21,8 @@ use Rattle.vyrd_multiset.specs.Laws.Played.{Ended, take_played, with_reserved, f
 use Rattle.vyrd_multiset.specs.Laws.Counted.{free_none, free_some, free_two, free_one_at_most}
 
 -- a lock that was free is given back: the cell is as it was
-pub given_back : (before during : Memory) (lock cell : ℕ) → before lock ≡ 0 → (cell ≢ lock → during cell ≡ before cell) → with_cell during lock 0 cell ≡ before cell
+pub given_back : (before during : Memory) (lock cell : ℕ) → before lock ≡ 0 → (cell ≢ lock → during cell ≡ before cell)
+    → with_cell during lock 0 cell ≡ before cell
 given_back before during lock cell free same = by_place (cell == lock) refl
   where
     by_place : (b : Bool) → (cell == lock) ≡ b → with_cell during lock 0 cell ≡ before cell
@@ -36,7 +37,8 @@ kept h before after s m same =
     changed h before after s s 0 m (omega (arith, some_size h)) (λ cell a b. same cell)
     (λ valid. ap (λ v. v % h.size) (same 1) ∙ m.sound 0 (omega (arith, some_size h)) (sym (same 0) ∙ valid)) m.formed
     (λ q. ap (λ n. amount_of s q + n)
-    (ap (λ a. given q (cond (a == 2) ((before 1, 1) ∷ []) [])) (sym (same 0)) ∙ ap (λ v. given q (cond (after 0 == 2) ((v, 1) ∷ []) [])) (sym (same 1))))
+    (ap (λ a. given q (cond (a == 2) ((before 1, 1) ∷ []) [])) (sym (same 0))
+      ∙ ap (λ v. given q (cond (after 0 == 2) ((v, 1) ∷ []) [])) (sym (same 1))))
 
 -- a slot was reserved for a value, and nothing else has changed
 pub record Reserved (before after : Memory) (j value : ℕ) : Type 0 where
@@ -90,14 +92,16 @@ find_played h c memory Q value found free some none =
     (λ taken. none (with_cell locked held 0) (λ cell. given_back memory locked held cell free (λ apart. other_cell memory held (c + 1) cell apart))
     (λ j from to is_free. taken j from to (untouched j from to ∙ is_free))))
   where
-    untouched : (j : ℕ) → 4 * bucket_of h value ≤ j → j < 4 * bucket_of h value + 4 → with_cell memory (lock_of h (bucket_of h value)) (c + 1) (2 * j) ≡ memory (2 * j)
+    untouched : (j : ℕ) → 4 * bucket_of h value ≤ j → j < 4 * bucket_of h value + 4
+        → with_cell memory (lock_of h (bucket_of h value)) (c + 1) (2 * j) ≡ memory (2 * j)
     untouched j from to = other_cell memory (lock_of h (bucket_of h value)) (c + 1) (2 * j)
         (omega (arith, lock_is_high h (bucket_of h value) j (in_range h value j from to).0))
 
 -- the slot of an insert was made valid, or there is no free slot
 abbrev pub InsertDone : Header → Memory → Amounts → ℕ → ℕ → Memory → Type 0
 InsertDone h memory s x reply after =
-    ((reply ≡ 1) × IsMultiset h after (plus_amount s x 1) × (1 ≤ free_slots_for h memory x)) ⊎ ((reply ≡ 0) × IsMultiset h after s × (free_slots_for h memory x ≡ 0))
+    ((reply ≡ 1) × IsMultiset h after (plus_amount s x 1) × (1 ≤ free_slots_for h memory x))
+      ⊎ ((reply ≡ 0) × IsMultiset h after s × (free_slots_for h memory x ≡ 0))
 
 -- one slot gets a state while the lock is held
 abbrev stored_under : Memory → ℕ → ℕ → ℕ → ℕ → Memory
@@ -105,10 +109,12 @@ stored_under memory lock c j state = with_cell (with_cell (with_cell memory lock
 
 stored_state : (memory : Memory) (lock c j state : ℕ) → 2 * j + 1 < lock → stored_under memory lock c j state (2 * j) ≡ state
 stored_state memory lock c j state high =
-    other_cell (with_cell (with_cell memory lock (c + 1)) (2 * j) state) lock 0 (2 * j) (omega (arith, high)) ∙ changed_cell (with_cell memory lock (c + 1))
+    other_cell (with_cell (with_cell memory lock (c + 1)) (2 * j) state) lock 0 (2 * j) (omega (arith, high))
+      ∙ changed_cell (with_cell memory lock (c + 1))
     (2 * j) state
 
-stored_others : (memory : Memory) (lock c j state : ℕ) → memory lock ≡ 0 → (cell : ℕ) → cell ≢ 2 * j → stored_under memory lock c j state cell ≡ memory cell
+stored_others : (memory : Memory) (lock c j state : ℕ) → memory lock ≡ 0 → (cell : ℕ) → cell ≢ 2 * j
+    → stored_under memory lock c j state cell ≡ memory cell
 stored_others memory lock c j state free cell a =
     given_back memory (with_cell (with_cell memory lock (c + 1)) (2 * j) state) lock cell free (λ apart.
     other_cell (with_cell memory lock (c + 1)) (2 * j) state cell a ∙ other_cell memory lock (c + 1) cell apart)
@@ -125,26 +131,31 @@ insert_done h c memory s x m =
         let held : ℕ = lock_of h (bucket_of h x) in
         let range = in_range h x j from to in
         let high : 2 * j + 1 < lock_of h (bucket_of h x) = lock_is_high h (bucket_of h x) j range.0 in
-        let free : after (lock_of h (bucket_of h x)) ≡ 0 = r.others held (omega (arith, high)) (omega (arith, high)) ∙ m.free (bucket_of h x) (bucket_low h x) in
+        let free : after (lock_of h (bucket_of h x)) ≡ 0 = r.others held (omega (arith, high)) (omega (arith, high))
+          ∙ m.free (bucket_of h x) (bucket_low h x) in
         take_played c held (commit_state h (bucket_of h x) j 2) after (InsertDone h memory s x) free
         (inl (
           refl,
-          made_valid h memory (stored_under after held c j 2) s j x m range.0 (λ cell a b. stored_others after held c j 2 free cell a ∙ r.others cell a b)
-              (omega (arith, is_free)) (stored_state after held c j 2 high) (stored_others after held c j 2 free (2 * j + 1) (omega arith) ∙ r.value_is) range.1,
+          made_valid h memory (stored_under after held c j 2) s j x m range.0
+            (λ cell a b. stored_others after held c j 2 free cell a ∙ r.others cell a b)
+              (omega (arith, is_free)) (stored_state after held c j 2 high)
+                (stored_others after held c j 2 free (2 * j + 1) (omega arith) ∙ r.value_is) range.1,
           free_some memory 4 (4 * bucket_of h x) j from to is_free,
         ))
 
 -- a value was removed, or isn't there
 abbrev pub DeleteDone : Header → Amounts → ℕ → ℕ → Memory → Type 0
 DeleteDone h s x reply after =
-    ((reply ≡ 1) × IsMultiset h after (with_amount s x (amount_of s x - 1)) × (1 ≤ amount_of s x)) ⊎ ((reply ≡ 0) × IsMultiset h after s × (amount_of s x ≡ 0))
+    ((reply ≡ 1) × IsMultiset h after (with_amount s x (amount_of s x - 1)) × (1 ≤ amount_of s x))
+      ⊎ ((reply ≡ 0) × IsMultiset h after s × (amount_of s x ≡ 0))
 
 -- it was said whether a value is there
 abbrev pub LookupDone : Header → Amounts → ℕ → ℕ → Memory → Type 0
 LookupDone h s x reply after = IsMultiset h after s × (((reply ≡ 1) × (1 ≤ amount_of s x)) ⊎ ((reply ≡ 0) × (amount_of s x ≡ 0)))
 
 -- a search ends at a slot with the value, or the value isn't there
-search_played : (h : Header) (c : ℕ) (memory : Memory) (s : Amounts) (Q : ℕ → Memory → Type 0) (x : ℕ) (ended : Option ℕ → Script) → IsMultiset h memory s
+search_played : (h : Header) (c : ℕ) (memory : Memory) (s : Amounts) (Q : ℕ → Memory → Type 0) (x : ℕ) (ended : Option ℕ → Script)
+    → IsMultiset h memory s
     → ((j : ℕ) → j < 4 * h.size → memory (2 * j) ≡ 2 → memory (2 * j + 1) ≡ x
     → Ended (alone c (ended (Some j)) (with_cell memory (lock_of h (bucket_of h x)) (c + 1))) Q)
     → (amount_of s x ≡ 0 → Ended (alone c (ended None) (with_cell memory (lock_of h (bucket_of h x)) (c + 1))) Q)
@@ -155,7 +166,8 @@ search_played h c memory s Q x ended m some none =
     take_played c held (search_from 4 (first_slot b) x ended) memory Q (m.free b (bucket_low h x))
     (search_from_played c (with_cell memory held (c + 1)) Q 4 (first_slot b) x ended
     (λ j from to valid has. some j (in_range h x j from to).0 (sym (untouched j from to).0 ∙ valid) (sym (untouched j from to).1 ∙ has))
-    (λ no_slot. none (isnt_there h memory s x m (λ j from to valid has. no_slot j from to ((untouched j from to).0 ∙ valid) ((untouched j from to).1 ∙ has)))))
+    (λ no_slot. none (isnt_there h memory s x m (λ j from to valid has. no_slot j from to ((untouched j from to).0
+      ∙ valid) ((untouched j from to).1 ∙ has)))))
   where
     untouched : (j : ℕ) → 4 * bucket_of h x ≤ j → j < 4 * bucket_of h x + 4
         → (with_cell memory (lock_of h (bucket_of h x)) (c + 1) (2 * j) ≡ memory (2 * j)) ×
@@ -168,9 +180,11 @@ search_played h c memory s Q x ended m some none =
         )
 
 unlocked : (memory : Memory) (lock c : ℕ) → memory lock ≡ 0 → (cell : ℕ) → with_cell (with_cell memory lock (c + 1)) lock 0 cell ≡ memory cell
-unlocked memory lock c free cell = given_back memory (with_cell memory lock (c + 1)) lock cell free (λ apart. other_cell memory lock (c + 1) cell apart)
+unlocked memory lock c free cell =
+    given_back memory (with_cell memory lock (c + 1)) lock cell free (λ apart. other_cell memory lock (c + 1) cell apart)
 
-pub delete_done : (h : Header) (c : ℕ) (memory : Memory) (s : Amounts) (x : ℕ) → IsMultiset h memory s → Ended (alone c (delete h x) memory) (DeleteDone h s x)
+pub delete_done : (h : Header) (c : ℕ) (memory : Memory) (s : Amounts) (x : ℕ) → IsMultiset h memory s
+    → Ended (alone c (delete h x) memory) (DeleteDone h s x)
 delete_done h c memory s x m =
     let held : ℕ = lock_of h (bucket_of h x) in
     let free : memory (lock_of h (bucket_of h x)) ≡ 0 = m.free (bucket_of h x) (bucket_low h x) in
@@ -183,11 +197,13 @@ delete_done h c memory s x m =
     ))
     (λ none. inr (refl, kept h memory (with_cell (with_cell memory held (c + 1)) held 0) s m (unlocked memory held c free), none))
 
-pub lookup_done : (h : Header) (c : ℕ) (memory : Memory) (s : Amounts) (x : ℕ) → IsMultiset h memory s → Ended (alone c (lookup h x) memory) (LookupDone h s x)
+pub lookup_done : (h : Header) (c : ℕ) (memory : Memory) (s : Amounts) (x : ℕ) → IsMultiset h memory s
+    → Ended (alone c (lookup h x) memory) (LookupDone h s x)
 lookup_done h c memory s x m =
     let held : ℕ = lock_of h (bucket_of h x) in
     let free : memory (lock_of h (bucket_of h x)) ≡ 0 = m.free (bucket_of h x) (bucket_low h x) in
-    let same : IsMultiset h (with_cell (with_cell memory held (c + 1)) held 0) s = kept h memory (with_cell (with_cell memory held (c + 1)) held 0) s m
+    let same : IsMultiset h (with_cell (with_cell memory held (c + 1)) held 0) s =
+      kept h memory (with_cell (with_cell memory held (c + 1)) held 0) s m
     (unlocked memory held c free) in
     search_played h c memory s (LookupDone h s x) x (looked_up h x) m
     (λ j low valid has. (same, inl (refl, is_there h memory s j x m low valid has)))
@@ -209,7 +225,8 @@ both_valid h before after s x y j k m low_j low_k apart state_j value_j of_j sta
     (made_valid h before (with_cell before (2 * j) 2) s j x m low_j (λ cell a b. other_cell before (2 * j) 2 cell a) (omega (arith, state_j))
     (changed_cell before (2 * j) 2) (other_cell before (2 * j) 2 (2 * j + 1) (omega arith) ∙ value_j) of_j)
     low_k (λ cell a b. by_place cell a (cell == 2 * j) refl)
-    (let state : with_cell before (2 * j) 2 (2 * k) ≡ 1 = other_cell before (2 * j) 2 (2 * k) (omega (arith, apart)) ∙ state_k in omega (arith, state))
+    (let state : with_cell before (2 * j) 2 (2 * k) ≡ 1 = other_cell before (2 * j) 2 (2 * k) (omega (arith, apart))
+      ∙ state_k in omega (arith, state))
     after_k (others (2 * k + 1) (omega arith) (omega arith) ∙ value_k) of_k
   where
     by_place : (cell : ℕ) → cell ≢ 2 * k → (b : Bool) → (cell == 2 * j) ≡ b → after cell ≡ with_cell before (2 * j) 2 cell
@@ -223,11 +240,13 @@ both_valid h before after s x y j k m low_j low_k apart state_j value_j of_j sta
 no_room : (h : Header) (memory : Memory) (x y : ℕ) → free_slots_for h memory x ≡ 0 → has_room_for_both h memory x y ≡ false
 no_room h memory x y none = by_bucket (bucket_of h x == bucket_of h y)
   where
-    by_bucket : (b : Bool) → cond b (nat_le 2 (free_slots_for h memory x)) (nat_le 1 (free_slots_for h memory x) && nat_le 1 (free_slots_for h memory y)) ≡ false
+    by_bucket : (b : Bool) → cond b (nat_le 2 (free_slots_for h memory x)) (nat_le 1 (free_slots_for h memory x)
+        && nat_le 1 (free_slots_for h memory y)) ≡ false
     by_bucket true = ap (nat_le 2) none
     by_bucket false = ap (λ n. nat_le 1 n && nat_le 1 (free_slots_for h memory y)) none
 
-room : (h : Header) (memory : Memory) (x y j k : ℕ) → 4 * bucket_of h x ≤ j → j < 4 * bucket_of h x + 4 → 4 * bucket_of h y ≤ k → k < 4 * bucket_of h y + 4
+room : (h : Header) (memory : Memory) (x y j k : ℕ) → 4 * bucket_of h x ≤ j → j < 4 * bucket_of h x + 4 → 4 * bucket_of h y ≤ k
+    → k < 4 * bucket_of h y + 4
     → j ≢ k → memory (2 * j) ≡ 0 → memory (2 * k) ≡ 0 → has_room_for_both h memory x y ≡ true
 room h memory x y j k from_j to_j from_k to_k apart free_j free_k = by_bucket (bucket_of h x == bucket_of h y) refl
   where
@@ -241,7 +260,8 @@ room h memory x y j k from_j to_j from_k to_k apart free_j free_k = by_bucket (b
         at_least 2 (free_slots_for h memory x)
         (free_two memory 4 (4 * bucket_of h x) j k from_j to_j (omega (arith, from_k, one)) (omega (arith, to_k, one)) apart free_j free_k)
     by_bucket false e =
-        ap (λ b. b && nat_le 1 (free_slots_for h memory y)) (at_least 1 (free_slots_for h memory x) (free_some memory 4 (4 * bucket_of h x) j from_j to_j free_j))
+        ap (λ b. b && nat_le 1 (free_slots_for h memory y))
+          (at_least 1 (free_slots_for h memory x) (free_some memory 4 (4 * bucket_of h x) j from_j to_j free_j))
         ∙ at_least 1 (free_slots_for h memory y) (free_some memory 4 (4 * bucket_of h y) k from_k to_k free_k)
 
 -- one slot was found for x, and then none for y
@@ -273,7 +293,8 @@ stored memory j k = with_cell (with_cell memory (2 * j) 2) (2 * k) 2
 
 -- what is done under both locks, by whether the second bucket is the same
 abbrev validated : Header → ℕ → ℕ → ℕ → ℕ → Bool → Script
-validated h first second j k same = perform (Mark BlockOpen) (perform (Store (state_word j) 2) (perform (Store (state_word k) 2) (perform (Mark BlockCommit)
+validated h first second j k same =
+    perform (Mark BlockOpen) (perform (Store (state_word j) 2) (perform (Store (state_word k) 2) (perform (Mark BlockCommit)
     (cond same (unlock h first (returns 1)) (unlock h second (unlock h first (returns 1)))))))
 
 -- what is done under the first lock, by whether the second bucket is the same
@@ -286,14 +307,17 @@ commit_both_played : (h : Header) (c : ℕ) (before : Memory) (Q : ℕ → Memor
     → ((after : Memory) → after (2 * j) ≡ 2 → after (2 * k) ≡ 2 → ((cell : ℕ) → cell ≢ 2 * j → cell ≢ 2 * k → after cell ≡ before cell) → Q 1 after)
     → Ended (alone c (commit_both h first second j k) before) Q
 commit_both_played h c before Q first second j k free_first free_second low_j low_k apart done =
-    take_played c (lock_of h first) (lock_other h first second (validate_both h first second j k)) before Q free_first (by_test (first == second) refl)
+    take_played c (lock_of h first) (lock_other h first second (validate_both h first second j k)) before Q free_first
+      (by_test (first == second) refl)
   where
-    by_test : (same : Bool) → (first == second) ≡ same → Ended (alone c (under_first h first second j k same) (with_cell before (lock_of h first) (c + 1))) Q
+    by_test : (same : Bool) → (first == second) ≡ same
+        → Ended (alone c (under_first h first second j k same) (with_cell before (lock_of h first) (c + 1))) Q
     by_test true e =
         let f : ℕ = lock_of h first in
         let held : Memory = with_cell before (lock_of h first) (c + 1) in
         done (with_cell (stored held j k) f 0)
-        (other_cell (stored held j k) f 0 (2 * j) (omega (arith, low_j)) ∙ other_cell (with_cell held (2 * j) 2) (2 * k) 2 (2 * j) (omega (arith, apart))
+        (other_cell (stored held j k) f 0 (2 * j) (omega (arith, low_j))
+          ∙ other_cell (with_cell held (2 * j) 2) (2 * k) 2 (2 * j) (omega (arith, apart))
         ∙ changed_cell held (2 * j) 2)
         (other_cell (stored held j k) f 0 (2 * k) (omega (arith, low_k)) ∙ changed_cell (with_cell held (2 * j) 2) (2 * k) 2)
         (λ cell a b. given_back before (stored held j k) f cell free_first (λ off.
@@ -306,11 +330,14 @@ commit_both_played h c before Q first second j k free_first free_second low_j lo
         let both : Memory = with_cell (with_cell before (lock_of h first) (c + 1)) (lock_of h second) (c + 1) in
         take_played c g (validated h first second j k false) held Q (other_cell before f (c + 1) g (omega (arith, other)) ∙ free_second)
         (done (with_cell (with_cell (stored both j k) g 0) f 0)
-        (other_cell (with_cell (stored both j k) g 0) f 0 (2 * j) (omega (arith, low_j)) ∙ other_cell (stored both j k) g 0 (2 * j) (omega (arith, low_j))
+        (other_cell (with_cell (stored both j k) g 0) f 0 (2 * j) (omega (arith, low_j))
+          ∙ other_cell (stored both j k) g 0 (2 * j) (omega (arith, low_j))
         ∙ other_cell (with_cell both (2 * j) 2) (2 * k) 2 (2 * j) (omega (arith, apart)) ∙ changed_cell both (2 * j) 2)
-        (other_cell (with_cell (stored both j k) g 0) f 0 (2 * k) (omega (arith, low_k)) ∙ other_cell (stored both j k) g 0 (2 * k) (omega (arith, low_k))
+        (other_cell (with_cell (stored both j k) g 0) f 0 (2 * k) (omega (arith, low_k))
+          ∙ other_cell (stored both j k) g 0 (2 * k) (omega (arith, low_k))
         ∙ changed_cell (with_cell both (2 * j) 2) (2 * k) 2)
-        (λ cell a b. given_back before (with_cell (stored both j k) g 0) f cell free_first (λ off_f. given_back before (stored both j k) g cell free_second (λ off_g.
+        (λ cell a b. given_back before (with_cell (stored both j k) g 0) f cell free_first
+          (λ off_f. given_back before (stored both j k) g cell free_second (λ off_g.
         other_cell (with_cell both (2 * j) 2) (2 * k) 2 cell b ∙ other_cell both (2 * j) 2 cell a ∙ other_cell held g (c + 1) cell off_g
         ∙ other_cell before f (c + 1) cell off_f))))
 
@@ -364,14 +391,16 @@ pair_done h c memory s x y m =
             range_k = in_range h y k from_k to_k
 
             apart : j ≢ k
-            apart same = let state = r.state in let there : after (2 * j) ≡ after (2 * k) = ap (λ n. after (2 * n)) same in omega (arith, state, there, free_k)
+            apart same = let state = r.state in let there : after (2 * j) ≡ after (2 * k) = ap (λ n. after (2 * n)) same in
+                omega (arith, state, there, free_k)
 
             m'' : IsMultiset h last s
             m'' = left_invalid h after last s k m' range_k.0 r'.others (omega (arith, free_k)) (let state = r'.state in omega (arith, state))
 
         -- no slot was found for y: that of x is freed
         no_second : (last : Memory) → ((cell : ℕ) → last cell ≡ after cell)
-            → ((k : ℕ) → 4 * bucket_of h y ≤ k → k < 4 * bucket_of h y + 4 → after (2 * k) ≢ 0) → Ended (alone c (second_found h Correct x y j None) last)
+            → ((k : ℕ) → 4 * bucket_of h y ≤ k → k < 4 * bucket_of h y + 4 → after (2 * k) ≢ 0)
+              → Ended (alone c (second_found h Correct x y j None) last)
             (PairDone h memory s x y)
         no_second last same taken =
             take_played c held (perform (Store (state_word j) 0) (unlock h (bucket_of h x) gives_up)) last (PairDone h memory s x y) free
@@ -379,7 +408,8 @@ pair_done h c memory s x y m =
               refl,
               left_invalid h memory (stored_under last held c j 0) s j m range.0
                   (λ cell a b. stored_others last held c j 0 free cell a ∙ same cell ∙ r.others cell a b)
-                  (omega (arith, is_free)) (let state = stored_state last held c j 0 (lock_is_high h (bucket_of h x) j range.0) in omega (arith, state)),
+                  (omega (arith, is_free)) (let state = stored_state last held c j 0 (lock_is_high h (bucket_of h x) j range.0) in
+                    omega (arith, state)),
               one_room h memory x y j from to
                   (λ k from_k to_k apart free_k. taken k from_k to_k (r.others (2 * k) (omega (arith, apart)) (omega (arith, apart)) ∙ free_k)),
             ))

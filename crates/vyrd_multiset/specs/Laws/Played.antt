@@ -13,14 +13,16 @@ abbrev pub Ended : Option Outcome → (ℕ → Memory → Type 0) → Type 0
 Ended None Q = ⊥
 Ended (Some outcome) Q = Q outcome.reply outcome.memory
 
-pub ended_with : (o : Option Outcome) (Q : ℕ → Memory → Type 0) → Ended o Q → (outcome : Outcome) × (o ≡ Some outcome) × Q outcome.reply outcome.memory
+pub ended_with : (o : Option Outcome) (Q : ℕ → Memory → Type 0) → Ended o Q
+    → (outcome : Outcome) × (o ≡ Some outcome) × Q outcome.reply outcome.memory
 ended_with None Q e = absurd e
 ended_with (Some outcome) Q e = (outcome, refl, e)
 
 -- a free lock is taken
 pub take_played : (c lock : ℕ) (later : Script) (memory : Memory) (Q : ℕ → Memory → Type 0) → memory lock ≡ 0
     → Ended (alone c later (with_cell memory lock (c + 1))) Q → Ended (alone c (perform (Take lock) later) memory) Q
-take_played c lock later memory Q free e = subst (λ b. Ended (cond b (alone c later (with_cell memory lock (c + 1))) None) Q) (sym (ap (λ n. n == 0) free)) e
+take_played c lock later memory Q free e = subst (λ b. Ended (cond b (alone c later (with_cell memory lock (c + 1))) None) Q)
+    (sym (ap (λ n. n == 0) free)) e
 
 -- the memory after a slot was reserved
 abbrev pub with_reserved : Memory → ℕ → ℕ → Memory
@@ -36,7 +38,8 @@ find_from_played c memory Q (suc left) slot value found some none =
     by_state (memory (2 * slot) == 0) refl
     (λ more. find_from_played c memory Q left (slot + 1) value found (λ j from to. some j (omega (arith, from)) (omega (arith, to))) more)
   where
-    no_more : memory (2 * slot) ≢ 0 → ((j : ℕ) → slot + 1 ≤ j → j < slot + 1 + left → memory (2 * j) ≢ 0) → (j : ℕ) → slot ≤ j → j < slot + suc left → memory
+    no_more : memory (2 * slot) ≢ 0 → ((j : ℕ) → slot + 1 ≤ j → j < slot + 1 + left → memory (2 * j) ≢ 0) → (j : ℕ) → slot ≤ j
+        → j < slot + suc left → memory
         (2 * j) ≢ 0
     no_more here more j from to = by_place (j == slot) refl
       where

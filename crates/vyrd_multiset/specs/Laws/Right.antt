@@ -55,7 +55,8 @@ by_method_right : (h : Header) (method : Method) (args : Args) → h.subject ≡
     → (c : ℕ) (memory : Memory) (s : Amounts) → IsMultiset h memory s
     → MeetsSpecification h (record { method = method; args = args }) (by_method h Correct method args.a args.b) c memory s
 by_method_right h MsInsert args is of c memory s m =
-    meets h (record { method = MsInsert; args = args }) (insert h Correct args.a) c memory s is (InsertDone h memory s args.a) (insert_done h c memory s args.a m) says
+    meets h (record { method = MsInsert; args = args }) (insert h Correct args.a) c memory s is (InsertDone h memory s args.a)
+        (insert_done h c memory s args.a m) says
   where
     says : (reply : ℕ) (after : Memory) → InsertDone h memory s args.a reply after → Meets h (record { method = MsInsert; args = args }) s reply after
     says reply after (inl d) = record {
@@ -72,7 +73,8 @@ by_method_right h MsInsertPair args is of c memory s m =
     meets h (record { method = MsInsertPair; args = args }) (insert_pair h Correct args.a args.b) c memory s is (PairDone h memory s args.a args.b)
     (pair_done h c memory s args.a args.b m) says
   where
-    says : (reply : ℕ) (after : Memory) → PairDone h memory s args.a args.b reply after → Meets h (record { method = MsInsertPair; args = args }) s reply after
+    says : (reply : ℕ) (after : Memory) → PairDone h memory s args.a args.b reply after
+        → Meets h (record { method = MsInsertPair; args = args }) s reply after
     says reply after (inl d) = record {
       state = plus_amount (plus_amount s args.a 1) args.b 1;
       says = ap (λ r. by_reply r (Some s) (Some (plus_amount (plus_amount s args.a 1) args.b 1)) None) d.0;
@@ -84,7 +86,8 @@ by_method_right h MsInsertPair args is of c memory s m =
       is = d.1;
     }
 by_method_right h MsDelete args is of c memory s m =
-    meets h (record { method = MsDelete; args = args }) (delete h args.a) c memory s is (DeleteDone h s args.a) (delete_done h c memory s args.a m) says
+    meets h (record { method = MsDelete; args = args }) (delete h args.a) c memory s is (DeleteDone h s args.a)
+        (delete_done h c memory s args.a m) says
   where
     fewer : Amounts
     fewer = with_amount s args.a (amount_of s args.a - 1)
@@ -92,7 +95,8 @@ by_method_right h MsDelete args is of c memory s m =
     says : (reply : ℕ) (after : Memory) → DeleteDone h s args.a reply after → Meets h (record { method = MsDelete; args = args }) s reply after
     says reply after (inl d) = record {
       state = with_amount s args.a (amount_of s args.a - 1);
-      says = ap (λ r. next_state MsDelete args r s) d.0 ∙ ap (λ b. then_some b (with_amount s args.a (amount_of s args.a - 1))) (is_there s args.a d.2);
+      says = ap (λ r. next_state MsDelete args r s) d.0
+          ∙ ap (λ b. then_some b (with_amount s args.a (amount_of s args.a - 1))) (is_there s args.a d.2);
       is = d.1;
     }
     says reply after (inr d) = record {
@@ -101,17 +105,20 @@ by_method_right h MsDelete args is of c memory s m =
       is = d.1;
     }
 by_method_right h MsLookup args is of c memory s m =
-    meets h (record { method = MsLookup; args = args }) (lookup h args.a) c memory s is (LookupDone h s args.a) (lookup_done h c memory s args.a m) says
+    meets h (record { method = MsLookup; args = args }) (lookup h args.a) c memory s is (LookupDone h s args.a)
+        (lookup_done h c memory s args.a m) says
   where
     says : (reply : ℕ) (after : Memory) → LookupDone h s args.a reply after → Meets h (record { method = MsLookup; args = args }) s reply after
     says reply after (m', inl d) = record {
       state = s;
-      says = ap (λ r. state_after true (record { method = MsLookup; args = args }) r s) d.0 ∙ ap (λ b. cond (1 == cond b 1 0) (Some s) None) (is_there s args.a d.1);
+      says = ap (λ r. state_after true (record { method = MsLookup; args = args }) r s) d.0
+          ∙ ap (λ b. cond (1 == cond b 1 0) (Some s) None) (is_there s args.a d.1);
       is = m';
     }
     says reply after (m', inr d) = record {
       state = s;
-      says = ap (λ r. state_after true (record { method = MsLookup; args = args }) r s) d.0 ∙ ap (λ b. cond (0 == cond b 1 0) (Some s) None) (isnt_there s args.a d.1);
+      says = ap (λ r. state_after true (record { method = MsLookup; args = args }) r s) d.0
+          ∙ ap (λ b. cond (0 == cond b 1 0) (Some s) None) (isnt_there s args.a d.1);
       is = m';
     }
 by_method_right h CaWrite args is of c memory s m = absurd (cc)

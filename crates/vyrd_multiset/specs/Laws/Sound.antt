@@ -45,24 +45,29 @@ value_is_plain h is slot low = ap (λ s. nat_lt (2 * slot + 1) (plain_words_of s
 
 is_its_lock : (h : Header) → h.subject ≡ Multiset → (bucket : ℕ) → bucket < h.size → is_lock (cells_of h) (lock_of h bucket) ≡ true
 is_its_lock h is bucket low =
-    ap (λ s. nat_le (plain_words_of s h.size) (8 * h.size + bucket) && nat_lt (8 * h.size + bucket) (plain_words_of s h.size + lock_words_of s h.size)) is
+    ap (λ s. nat_le (plain_words_of s h.size) (8 * h.size + bucket)
+      && nat_lt (8 * h.size + bucket) (plain_words_of s h.size + lock_words_of s h.size)) is
     ∙ between (8 * h.size) h.size (8 * h.size + bucket) (omega arith) (omega arith)
 
 -- what a caller is in the middle of, where it holds these locks and has called this method
 abbrev pub holding : List ℕ → Method → Bool → Standing
 holding locks method committed = record { locks = locks; called = Some method; committed = committed; in_block = false }
 
-load_sound : (h : Header) (s : Standing) (cell : ℕ) (rest : ℕ → Script) → is_plain (cells_of h) cell ≡ true → ((answer : ℕ) → IsSound h s (rest answer))
+load_sound : (h : Header) (s : Standing) (cell : ℕ) (rest : ℕ → Script) → is_plain (cells_of h) cell ≡ true
+    → ((answer : ℕ) → IsSound h s (rest answer))
     → IsSound h s (step (Load cell) rest)
 load_sound h s cell rest plain later = (plain, λ answer is. later answer)
 
-store_sound : (h : Header) (s : Standing) (cell value : ℕ) (later : Script) → is_plain (cells_of h) cell ≡ true → value < 2 ^ 63 → is_some s.called ≡ true
+store_sound : (h : Header) (s : Standing) (cell value : ℕ) (later : Script) → is_plain (cells_of h) cell ≡ true → value < 2 ^ 63
+    → is_some s.called ≡ true
     → IsSound h s later → IsSound h s (perform (Store cell value) later)
-store_sound h s cell value later plain low called sound = (both_true _ _ (both_true _ _ plain (is_below value (2 ^ 63) low)) called, λ answer is. sound)
+store_sound h s cell value later plain low called sound =
+    (both_true _ _ (both_true _ _ plain (is_below value (2 ^ 63) low)) called, λ answer is. sound)
 
 -- the same lock isn't held any more
 gone : (lock : ℕ) (locks : List ℕ) → filter (λ held. not (held == lock)) (lock ∷ locks) ≡ filter (λ held. not (held == lock)) locks
-gone lock locks = ap (λ b. cond (not b) (lock ∷ filter (λ held. not (held == lock)) locks) (filter (λ held. not (held == lock)) locks)) (same_number lock)
+gone lock locks = ap (λ b. cond (not b) (lock ∷ filter (λ held. not (held == lock)) locks)
+    (filter (λ held. not (held == lock)) locks)) (same_number lock)
 
 held_first : (lock : ℕ) (locks : List ℕ) (method : Method) (committed : Bool) → holds (holding (lock ∷ locks) method committed) lock ≡ true
 held_first lock locks method committed = ap (λ b. b || list_any (λ held. held == lock) locks) (same_number lock)
@@ -97,8 +102,10 @@ find_from_sound h s (suc left) slot value found is called fits low some none =
     load_sound h s (state_word slot) (λ state. cond (state == 0) (reserve slot value (found (Some slot))) (find_from left (slot + 1) value found))
     (state_is_plain h is slot (omega arith))
     (λ state. elim (state == 0) as (λ b. IsSound h s (cond b (reserve slot value (found (Some slot))) (find_from left (slot + 1) value found))) [
-      | true ↦ store_sound h s (value_word slot) value (perform (Store (state_word slot) 1) (found (Some slot))) (value_is_plain h is slot (omega arith)) low called
-          (store_sound h s (state_word slot) 1 (found (Some slot)) (state_is_plain h is slot (omega arith)) (omega arith) called (some slot (omega arith)))
+      | true ↦ store_sound h s (value_word slot) value (perform (Store (state_word slot) 1) (found (Some slot)))
+        (value_is_plain h is slot (omega arith)) low called
+          (store_sound h s (state_word slot) 1 (found (Some slot)) (state_is_plain h is slot (omega arith)) (omega arith) called
+            (some slot (omega arith)))
       | false ↦ find_from_sound h s left (slot + 1) value found is called (omega arith) low some none
     ])
 
@@ -109,7 +116,8 @@ search_from_sound h s zero slot value ended is fits some none = none
 search_from_sound h s (suc left) slot value ended is fits some none =
     let on : IsSound h s (search_from left (slot + 1) value ended) = search_from_sound h s left (slot + 1) value ended is (omega arith) some none in
     load_sound h s (state_word slot)
-    (λ state. cond (state == 2) (compare slot value (ended (Some slot)) (search_from left (slot + 1) value ended)) (search_from left (slot + 1) value ended))
+    (λ state. cond (state == 2) (compare slot value (ended (Some slot)) (search_from left (slot + 1) value ended))
+      (search_from left (slot + 1) value ended))
     (state_is_plain h is slot (omega arith))
     (λ state. elim (state == 2) as (λ b. IsSound h s
     (cond b (compare slot value (ended (Some slot)) (search_from left (slot + 1) value ended)) (search_from left (slot + 1) value ended))) [
@@ -131,7 +139,8 @@ find_sound : (h : Header) (variant : Variant) (method : Method) (value : ℕ) (f
 find_sound h Correct method value found is low some none =
     let b : ℕ = bucket_of h value in
     take_first h b method false (find_from 4 (first_slot b) value (λ slot. unlock h b (found slot))) is (bucket_low h value)
-    (find_from_sound h (holding (lock_of h b ∷ []) method false) 4 (first_slot b) value (λ slot. unlock h b (found slot)) is refl (slots_fit h value) low
+    (find_from_sound h (holding (lock_of h b ∷ []) method false) 4 (first_slot b) value (λ slot. unlock h b (found slot)) is refl
+      (slots_fit h value) low
     (λ i fits. give_last h b method false (found (Some i)) is (bucket_low h value) (some i fits))
     (give_last h b method false (found None) is (bucket_low h value) none))
 find_sound h Broken method value found is low some none =
@@ -150,7 +159,8 @@ search_in_sound h method x ended is some none =
 abbrev in_block : List ℕ → Method → Standing
 in_block locks method = record { locks = locks; called = Some method; committed = false; in_block = true }
 
-commit_state_sound : (h : Header) (method : Method) (x slot state : ℕ) → h.subject ≡ Multiset → is_observer method ≡ false → slot < 4 * h.size → state < 2 ^ 63
+commit_state_sound : (h : Header) (method : Method) (x slot state : ℕ) → h.subject ≡ Multiset → is_observer method ≡ false
+    → slot < 4 * h.size → state < 2 ^ 63
     → IsSound h (holding (lock_of h (bucket_of h x) ∷ []) method false) (commit_state h (bucket_of h x) slot state)
 commit_state_sound h method x slot state is mutates low small =
     let b : ℕ = bucket_of h x in (
@@ -172,19 +182,23 @@ undo_sound : (h : Header) (method : Method) (x : ℕ) → h.subject ≡ Multiset
 undo_sound h method x is mutates slot low =
     let b : ℕ = bucket_of h x in
     take_first h b method false (perform (Store (state_word slot) 0) (unlock h b gives_up)) is (bucket_low h x)
-    (store_sound h (holding (lock_of h b ∷ []) method false) (state_word slot) 0 (unlock h b gives_up) (state_is_plain h is slot low) (omega arith) refl
+    (store_sound h (holding (lock_of h b ∷ []) method false) (state_word slot) 0 (unlock h b gives_up)
+      (state_is_plain h is slot low) (omega arith) refl
     (give_last h b method false gives_up is (bucket_low h x) (gives_up_sound h method mutates)))
 
 -- the block of a pair is sound under locks with which what follows is
-validate_both_sound : (h : Header) (method : Method) (locks : List ℕ) (first second slot_x slot_y : ℕ) → h.subject ≡ Multiset → is_observer method ≡ false
+validate_both_sound : (h : Header) (method : Method) (locks : List ℕ) (first second slot_x slot_y : ℕ) → h.subject ≡ Multiset
+    → is_observer method ≡ false
     → slot_x < 4 * h.size → slot_y < 4 * h.size → IsSound h (holding locks method true) (unlock_both h first second)
     → IsSound h (holding locks method false) (validate_both h first second slot_x slot_y)
 validate_both_sound h method locks first second slot_x slot_y is mutates low_x low_y sound = (
   refl,
   λ answer is'.
       store_sound h (in_block locks method) (state_word slot_x) 2
-      (perform (Store (state_word slot_y) 2) (perform (Mark BlockCommit) (unlock_both h first second))) (state_is_plain h is slot_x low_x) (omega arith) refl
-      (store_sound h (in_block locks method) (state_word slot_y) 2 (perform (Mark BlockCommit) (unlock_both h first second)) (state_is_plain h is slot_y low_y)
+      (perform (Store (state_word slot_y) 2) (perform (Mark BlockCommit) (unlock_both h first second)))
+        (state_is_plain h is slot_x low_x) (omega arith) refl
+      (store_sound h (in_block locks method) (state_word slot_y) 2 (perform (Mark BlockCommit) (unlock_both h first second))
+        (state_is_plain h is slot_y low_y)
       (omega arith) refl
       (simp mutates, λ answer' is''. sound)),
 )
@@ -199,7 +213,8 @@ commit_both_sound : (h : Header) (method : Method) (first second slot_x slot_y :
     → first < h.size → second < h.size → slot_x < 4 * h.size → slot_y < 4 * h.size
     → IsSound h (holding [] method false) (commit_both h first second slot_x slot_y)
 commit_both_sound h method first second slot_x slot_y is mutates low_first low_second low_x low_y =
-    take_first h first method false (lock_other h first second (validate_both h first second slot_x slot_y)) is low_first (by_test (first == second) refl)
+    take_first h first method false (lock_other h first second (validate_both h first second slot_x slot_y)) is low_first
+      (by_test (first == second) refl)
   where
     last : IsSound h (holding (lock_of h first ∷ []) method true) (unlock h first (returns 1))
     last = give_last h first method true (returns 1) is low_first (returns_sound h method 1)
@@ -208,7 +223,8 @@ commit_both_sound h method first second slot_x slot_y is mutates low_first low_s
         (cond b (validate_both h first second slot_x slot_y) (lock h second (validate_both h first second slot_x slot_y)))
     by_test true e =
         validate_both_sound h method (lock_of h first ∷ []) first second slot_x slot_y is mutates low_x low_y
-        (subst (λ b. IsSound h (holding (lock_of h first ∷ []) method true) (cond b (unlock h first (returns 1)) (unlock h second (unlock h first (returns 1)))))
+        (subst (λ b. IsSound h (holding (lock_of h first ∷ []) method true)
+          (cond b (unlock h first (returns 1)) (unlock h second (unlock h first (returns 1)))))
         (sym e) last)
     by_test false e =
         let apart : (lock_of h first == lock_of h second) ≡ false = other_lock h first second e in (
@@ -230,7 +246,8 @@ min_low a b n l m = omega arith
 max_low : (a b n : ℕ) → a < n → b < n → max a b < n
 max_low a b n l m = omega arith
 
-second_found_sound : (h : Header) (variant : Variant) (method : Method) (x y slot_x : ℕ) → h.subject ≡ Multiset → is_observer method ≡ false → slot_x < 4 * h.size
+second_found_sound : (h : Header) (variant : Variant) (method : Method) (x y slot_x : ℕ) → h.subject ≡ Multiset
+    → is_observer method ≡ false → slot_x < 4 * h.size
     → (slot : ℕ) → slot < 4 * h.size → IsSound h (holding [] method false) (second_found h variant x y slot_x (Some slot))
 second_found_sound h Correct method x y slot_x is mutates low_x slot low =
     let p : ℕ = bucket_of h x in
@@ -257,7 +274,8 @@ looked_up_sound h method x is observes slot =
     let reply : ℕ = cond (is_some slot) 1 0 in
     give_last h (bucket_of h x) method false (returns reply) is (bucket_low h x) (observed_sound h method reply observes)
 
-by_method_sound : (h : Header) (variant : Variant) (method : Method) (x y : ℕ) → h.subject ≡ Multiset → subject_of method ≡ Multiset → x < 2 ^ 63 → y < 2 ^ 63
+by_method_sound : (h : Header) (variant : Variant) (method : Method) (x y : ℕ) → h.subject ≡ Multiset
+    → subject_of method ≡ Multiset → x < 2 ^ 63 → y < 2 ^ 63
     → IsSound h (just_called method) (by_method h variant method x y)
 by_method_sound h variant MsInsert x y is of small_x small_y =
     find_sound h variant MsInsert x (inserted h x) is small_x (inserted_sound h MsInsert x is refl) (gives_up_sound h MsInsert refl)
@@ -265,9 +283,11 @@ by_method_sound h variant MsInsertPair x y is of small_x small_y =
     find_sound h variant MsInsertPair x (first_found h variant x y) is small_x (first_found_sound h variant MsInsertPair x y is refl small_y)
     (gives_up_sound h MsInsertPair refl)
 by_method_sound h variant MsDelete x y is of small_x small_y =
-    search_in_sound h MsDelete x (deleted h x) is (λ slot low. commit_state_sound h MsDelete x slot 0 is refl low (omega arith)) (absent_sound h MsDelete x is refl)
+    search_in_sound h MsDelete x (deleted h x) is (λ slot low. commit_state_sound h MsDelete x slot 0 is refl low (omega arith))
+      (absent_sound h MsDelete x is refl)
 by_method_sound h variant MsLookup x y is of small_x small_y =
-    search_in_sound h MsLookup x (looked_up h x) is (λ slot low. looked_up_sound h MsLookup x is refl (Some slot)) (looked_up_sound h MsLookup x is refl None)
+    search_in_sound h MsLookup x (looked_up h x) is (λ slot low. looked_up_sound h MsLookup x is refl (Some slot))
+      (looked_up_sound h MsLookup x is refl None)
 by_method_sound h variant CaWrite x y is of small_x small_y = cc
 by_method_sound h variant CaFlush x y is of small_x small_y = cc
 by_method_sound h variant CaEvict x y is of small_x small_y = cc

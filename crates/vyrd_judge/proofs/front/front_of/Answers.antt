@@ -53,7 +53,8 @@ returns-clause-at_end c = λ _. c.is_err.ensures.value ∙ is_open _ c.end.resul
     ∙ ap (λ h. is_call_open h (newest_first c.args.entries.now)) c.loop-i.invariant.header
   where
     followed : HasFollowed c.loop-i.shape (newest_first c.args.entries.now)
-    followed = subst (λ es. HasFollowed c.loop-i.shape (newest_first es)) (take_past c.args.entries.now c.loop-i.i c.loop-i.auto.i-end c.loop-i-test.false) c.loop-i.invariant.followed
+    followed = subst (λ es. HasFollowed c.loop-i.shape (newest_first es))
+        (take_past c.args.entries.now c.loop-i.i c.loop-i.auto.i-end c.loop-i-test.false) c.loop-i.invariant.followed
 
     is_open : {T E : Type 0} {b : Bool} (P : E → Type 0) (r : Result T E) → MatchResult r (λ _. b ≡ false) (λ f. (b ≡ true) × P f) → is_err r ≡ b
     is_open P (Ok x) ok = sym ok

@@ -9,7 +9,8 @@ use Rattle.vyrd_judge.proofs.violation.first_violation.Given as goal
 abbrev pub invariant-loop-at : goal.invariant-loop-at
 invariant-loop-at g l = record {
   header : l.scan.header ≡ l.fn.header;
-  stands : Stands l.fn.header (states_of l.front) (newest_first (take l.at l.front)) (drop l.at l.front) (g.S.Spec.state l.scan.spec) l.scan.executions.items;
+  stands : Stands l.fn.header (states_of l.front) (newest_first (take l.at l.front)) (drop l.at l.front)
+      (g.S.Spec.state l.scan.spec) l.scan.executions.items;
   words : HasFollowed l.scan.shadow (newest_first (take l.at l.front));
   made : g.S.Spec.made l.scan.spec ≤ l.at;
   ahead : first_fault l.fn.header l.front ≡ fault_from l.fn.header l.front l.at;

@@ -19,7 +19,8 @@ loop-event-preserved c =
     let before = filter_map (λ e. logged e.caller e.did) (take c.loop-event.event-index c.args.history.now) in
     let more = filter_map_more (λ e. logged e.caller e.did) c.args.history.now c.loop-event.event-index past c.loop-event-test.true in
     elim c.match-entry_of.branch [
-      | in-Some+in_ok-push w ↦ ap (λ log. log.items) w.log-is ∙ w.in_ok-push.ensures.items ∙ ap (λ xs. xs ++ w.in-Some.entry ∷ []) c.loop-event.invariant
+      | in-Some+in_ok-push w ↦ ap (λ log. log.items) w.log-is ∙ w.in_ok-push.ensures.items
+        ∙ ap (λ xs. xs ++ w.in-Some.entry ∷ []) c.loop-event.invariant
           ∙ ap (λ o. before ++ cons_option o []) (sym w.in-Some.is ∙ c.entry_of.ensures) ∙ sym more
       | in_default w ↦ ap (λ log. log.items) w.log-is ∙ c.loop-event.invariant ∙ sym (append-nil before)
           ∙ ap (λ o. before ++ cons_option o []) (sym w.in_default.is ∙ c.entry_of.ensures) ∙ sym more
@@ -27,4 +28,5 @@ loop-event-preserved c =
 
 pub returns : goal.returns
 unfolding log_of
-returns c = c.loop-event.invariant ∙ ap (filter_map (λ e. logged e.caller e.did)) (take_all c.loop-event.event-index c.args.history.now c.loop-event-test.false)
+returns c = c.loop-event.invariant
+    ∙ ap (filter_map (λ e. logged e.caller e.did)) (take_all c.loop-event.event-index c.args.history.now c.loop-event-test.false)

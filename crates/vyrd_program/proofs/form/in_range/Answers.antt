@@ -5,7 +5,8 @@ pub returns-then-number-eq0 : goal.returns-then-number-eq0
 returns-then-number-eq0 c = λ word is. no_count c.args.number word c.ranges.number.fits is (zero_out c.args.number c.if-number-eq0.true)
 
 pub returns-then-number-gt-MOST_OPS : goal.returns-then-number-gt-MOST_OPS
-returns-then-number-gt-MOST_OPS c = λ word is. no_count c.args.number word c.ranges.number.fits is (high_out c.args.number c.if-number-gt-MOST_OPS.true)
+returns-then-number-gt-MOST_OPS c =
+    λ word is. no_count c.args.number word c.ranges.number.fits is (high_out c.args.number c.if-number-gt-MOST_OPS.true)
 
 pub returns : goal.returns
 returns c = λ word is. a_count c.args.number word c.ranges.number.fits is (within c.args.number c.if-number-eq0.false c.if-number-gt-MOST_OPS.false)

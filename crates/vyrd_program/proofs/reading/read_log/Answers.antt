@@ -16,7 +16,8 @@ loop-round-init g c = record {
 pub loop-round-preserved : goal.loop-round-preserved
 loop-round-preserved g c = record {
   limit = c.in_ok-stop.ensures.limit ∙ c.loop-round.invariant.limit;
-  reading = rw c.in_default.is at (c.in_ok-stop.ensures.goes_on (g.S.Source.rest c.args.source.now) c.loop-round.round c.loop-round.invariant.reading);
+  reading = rw c.in_default.is at
+    (c.in_ok-stop.ensures.goes_on (g.S.Source.rest c.args.source.now) c.loop-round.round c.loop-round.invariant.reading);
   buffer = c.loop-round.invariant.buffer;
   counted = omega (arith, c.loop-round.invariant.counted, c.in_ok-stop.ensures.counted);
   sure = λ e. c.in_ok-stop.ensures.stays_sure (c.loop-round.invariant.sure e);
@@ -31,6 +32,7 @@ returns-in-Some-clause-read g c =
 
 pub unreachable-requires : goal.unreachable-requires
 unreachable-requires g c =
-    let few = rounds_end (g.S.Source.rest c.args.source.now) (g.S.Source.rest c.loop-round.source) c.loop-round.reader c.loop-round.entries.items c.loop-round.round
+    let few = rounds_end (g.S.Source.rest c.args.source.now)
+      (g.S.Source.rest c.loop-round.source) c.loop-round.reader c.loop-round.entries.items c.loop-round.round
     (omega (arith, c.loop-round.invariant.limit, c.requires.high)) c.loop-round.invariant.reading in
     omega (arith, c.loop-round-test.false)

@@ -13,7 +13,8 @@ read [] i a e = absurd (some-ne-none a (sym e))
 read (x ∷ xs) zero a e = some-injective x a e
 read (x ∷ xs) (suc i) a e = read xs i a e
 
-more : (ws all : List ℕ) (k x : ℕ) → length ws ≡ k → x ≡ slice_index all (k + 1) / 2 → ((j : ℕ) → j < k → slice_index ws j ≡ slice_index all (j + 1) / 2)
+more : (ws all : List ℕ) (k x : ℕ) → length ws ≡ k → x ≡ slice_index all (k + 1) / 2
+    → ((j : ℕ) → j < k → slice_index ws j ≡ slice_index all (j + 1) / 2)
     → (j : ℕ) → j < k + 1 → slice_index (ws ++ x ∷ []) j ≡ slice_index all (j + 1) / 2
 more ws all k x len is so_far j l = dite (dec_lt j k)
     (λ below. get_or_append_left ws (x ∷ []) 0 j (omega arith) ∙ so_far j below)

@@ -26,7 +26,8 @@ loop-lane-preserved c = λ h m long.
     let inside : c.loop-lane.lane-index < length (map items ls) = omega arith in
     let stands = lane_stands h (map items ls) m c.loop-lane.lane-index c.as_slice.result.now inside is in
     let same = c.place.auto.history in
-    merge_step h (map items ls) m c.loop-lane.lane-index c.as_slice.result.now c.loop-lane.history c.place.new.history inside is (λ i was. c.place.ensures.kept h i stands was) (c.place.ensures.placed h stands)
+    merge_step h (map items ls) m c.loop-lane.lane-index c.as_slice.result.now c.loop-lane.history c.place.new.history inside is
+      (λ i was. c.place.ensures.kept h i stands was) (c.place.ensures.placed h stands)
     (c.loop-lane.invariant h m (long ∙ same))
 
 pub returns : goal.returns
@@ -35,4 +36,5 @@ returns c = λ h m long.
     let count = length-map ls items in
     let b = c.loop-lane.auto.history in
     let long' : length h ≡ length c.loop-lane.history = omega arith in
-    merged h (map items ls) m c.loop-lane.lane-index c.loop-lane.history (let t = c.loop-lane-test.false in omega arith) long' (c.loop-lane.invariant h m long')
+    merged h (map items ls) m c.loop-lane.lane-index c.loop-lane.history (let t = c.loop-lane-test.false in
+      omega arith) long' (c.loop-lane.invariant h m long')

@@ -6,7 +6,8 @@ use Rattle.vyrd_view.proofs.ChainLaws.{walk_begins, walk_left, walk_ends, walk_b
 use Rattle.vyrd_view.proofs.chain.chain.Goals as goal
 
 -- what the call of `is_seen` says of the flags
-seen_is : {flags items : List Bool} {answer : Bool} (q : ℕ) (b : Bool) → flags ≡ items → answer ≡ get_or flags q true → answer ≡ b → get_or items q true ≡ b
+seen_is : {flags items : List Bool} {answer : Bool} (q : ℕ) (b : Bool) → flags ≡ items → answer ≡ get_or flags q true → answer ≡ b
+    → get_or items q true ≡ b
 seen_is q b same is was = ap (λ s. get_or s q true) (sym same) ∙ sym is ∙ was
 
 pub loop-turn-init : goal.loop-turn-init
@@ -23,7 +24,8 @@ returns-then-right-eq0 c =
     let turn = c.loop-turn._turn in
     let node = c.loop-turn.node in
     let walk = walk_left c.args.size c.args.words.now c.loop-turn.sums c.loop-turn.seen.items turn node (omega arith) c.loop-turn.invariant.walk in
-    walk_ends c.args.size c.args.words.now c.loop-turn.sums c.add_node.new.sums c.loop-turn.seen.items (c.args.size - (turn + 1)) node walk (omega arith)
+    walk_ends c.args.size c.args.words.now c.loop-turn.sums c.add_node.new.sums c.loop-turn.seen.items
+      (c.args.size - (turn + 1)) node walk (omega arith)
     c.in_ok-add_node.ensures c.if-right-eq0.true
 
 pub add-requires : goal.add-requires
@@ -40,8 +42,10 @@ returns-then-is_seen c =
     let node = c.loop-turn.node in
     let walk = walk_left c.args.size c.args.words.now c.loop-turn.sums c.loop-turn.seen.items turn node (omega arith) c.loop-turn.invariant.walk in
     c.in_ok-add.ensures.ok
-    ∙ walk_breaks c.args.size c.args.words.now c.loop-turn.sums c.add_node.new.sums c.loop-turn.seen.items (c.args.size - (turn + 1)) node walk (omega arith)
-    c.in_ok-add_node.ensures c.if-right-eq0.false (seen_is (right_of c.args.words.now node) true c.deref.ensures.value c.is_seen.ensures c.if-is_seen.true)
+    ∙ walk_breaks c.args.size c.args.words.now c.loop-turn.sums c.add_node.new.sums c.loop-turn.seen.items
+      (c.args.size - (turn + 1)) node walk (omega arith)
+    c.in_ok-add_node.ensures c.if-right-eq0.false
+      (seen_is (right_of c.args.words.now node) true c.deref.ensures.value c.is_seen.ensures c.if-is_seen.true)
 
 pub loop-turn-preserved : goal.loop-turn-preserved
 loop-turn-preserved c = record {
@@ -49,8 +53,10 @@ loop-turn-preserved c = record {
       let turn = c.loop-turn._turn in
       let node = c.loop-turn.node in
       let walk = walk_left c.args.size c.args.words.now c.loop-turn.sums c.loop-turn.seen.items turn node (omega arith) c.loop-turn.invariant.walk in
-      walk_goes_on c.args.size c.args.words.now c.loop-turn.sums c.add_node.new.sums c.loop-turn.seen.items (c.args.size - (turn + 1)) node walk (omega arith)
-      c.in_ok-add_node.ensures c.if-right-eq0.false (seen_is (right_of c.args.words.now node) false c.deref.ensures.value c.is_seen.ensures c.if-is_seen.false);
+      walk_goes_on c.args.size c.args.words.now c.loop-turn.sums c.add_node.new.sums c.loop-turn.seen.items
+        (c.args.size - (turn + 1)) node walk (omega arith)
+      c.in_ok-add_node.ensures c.if-right-eq0.false
+        (seen_is (right_of c.args.words.now node) false c.deref.ensures.value c.is_seen.ensures c.if-is_seen.false);
   few = λ key. node_grows c.args.words.now c.loop-turn.node c.loop-turn._turn key c.loop-turn.sums c.add_node.new.sums c.in_ok-add_node.ensures (c.loop-turn.invariant.few key);
   flags = length-set c.loop-turn.seen.items c.loop-turn.node true ∙ c.loop-turn.invariant.flags;
   within =

@@ -11,4 +11,5 @@ add_slot-requires c =
     omega (arith, ap (λ s. amount_of s value) c.loop-i.invariant, slots_at_most c.args.words.now c.loop-i.i value, c.requires.small)
 
 pub loop-i-preserved : goal.loop-i-preserved
-loop-i-preserved c = collected-push (slot_parts c.args.words.now) c.loop-i.i c.loop-i.sums c.add_slot.new.sums c.loop-i.invariant c.in_ok-add_slot.ensures
+loop-i-preserved c = collected-push
+    (slot_parts c.args.words.now) c.loop-i.i c.loop-i.sums c.add_slot.new.sums c.loop-i.invariant c.in_ok-add_slot.ensures

@@ -7,8 +7,10 @@ use Rattle.vyrd_work.proofs.machine.ops_of.Goals as goal
 
 pub returns-clause-few : goal.returns-clause-few
 returns-clause-few c = where_ok c.own_ops.result c.own_ops.ensures (λ own is.
-    subst (λ ops. length ops ≤ 200000) (sym (is ∙ ap (ops_of c.args.caller) c.deref.ensures.value)) (ops_are_few (workload_of c.args.work.now) c.args.caller c.requires))
+    subst (λ ops. length ops ≤ 200000) (sym (is ∙ ap (ops_of c.args.caller) c.deref.ensures.value))
+      (ops_are_few (workload_of c.args.work.now) c.args.caller c.requires))
 
 pub returns-clause-callable : goal.returns-clause-callable
 returns-clause-callable c = where_ok c.own_ops.result c.own_ops.ensures (λ own is.
-    ap (are_callable c.args.work.now.header) (is ∙ ap (ops_of c.args.caller) c.deref.ensures.value) ∙ ops_are_callable (workload_of c.args.work.now) c.args.caller c.requires)
+    ap (are_callable c.args.work.now.header) (is ∙ ap (ops_of c.args.caller) c.deref.ensures.value)
+      ∙ ops_are_callable (workload_of c.args.work.now) c.args.caller c.requires)

@@ -4,7 +4,8 @@ use Rattle.vyrd_cache.proofs.Steps.{decided}
 use Rattle.vyrd_cache.proofs.progress.CacheProgress.knowing.Goals as goal
 
 pub returns-then-state-eq-DIRTY : goal.returns-then-state-eq-DIRTY
-returns-then-state-eq-DIRTY c = λ h. looked_dirty h c.args.self c.doing.result c.args.state c.in-LookAndWrite.is c.if-state-eq-DIRTY.true c.doing.ensures
+returns-then-state-eq-DIRTY c =
+    λ h. looked_dirty h c.args.self c.doing.result c.args.state c.in-LookAndWrite.is c.if-state-eq-DIRTY.true c.doing.ensures
 
 pub returns-else-state-eq-DIRTY : goal.returns-else-state-eq-DIRTY
 returns-else-state-eq-DIRTY c =
@@ -25,13 +26,16 @@ returns-in-0 c = λ h. evicted_absent h c.args.self c.at-in-0.result c.args.stat
 
 pub returns-in_default-state : goal.returns-in_default-state
 returns-in_default-state c =
-    λ h. evicted_other h c.args.self c.doing-in_default-state.result c.args.state c.in-Evict.is (omega arith) (omega arith) c.doing-in_default-state.ensures
+    λ h. evicted_other h c.args.self c.doing-in_default-state.result c.args.state c.in-Evict.is (omega arith)
+      (omega arith) c.doing-in_default-state.ensures
 
 pub returns-then-state-eq-ABSENT : goal.returns-then-state-eq-ABSENT
-returns-then-state-eq-ABSENT c = λ h. read_absent h c.args.self c.doing-then-state-eq-ABSENT.result c.args.state c.in-Read.is c.if-state-eq-ABSENT.true c.doing-then-state-eq-ABSENT.ensures
+returns-then-state-eq-ABSENT c =
+    λ h. read_absent h c.args.self c.doing-then-state-eq-ABSENT.result c.args.state c.in-Read.is c.if-state-eq-ABSENT.true c.doing-then-state-eq-ABSENT.ensures
 
 pub returns-else-state-eq-ABSENT : goal.returns-else-state-eq-ABSENT
-returns-else-state-eq-ABSENT c = λ h. read_other h c.args.self c.at-else-state-eq-ABSENT.result c.args.state c.in-Read.is c.if-state-eq-ABSENT.false c.at-else-state-eq-ABSENT.ensures
+returns-else-state-eq-ABSENT c =
+    λ h. read_other h c.args.self c.at-else-state-eq-ABSENT.result c.args.state c.in-Read.is c.if-state-eq-ABSENT.false c.at-else-state-eq-ABSENT.ensures
 
 pub returns-in_default : goal.returns-in_default
 returns-in_default c =

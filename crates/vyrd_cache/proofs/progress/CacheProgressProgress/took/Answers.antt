@@ -3,7 +3,8 @@ use Rattle.vyrd_cache.proofs.Steps.{took_state, took_low, took_high, took_other}
 use Rattle.vyrd_cache.proofs.progress.CacheProgressProgress.took.Goals as goal
 
 pub returns-in-LoadState : goal.returns-in-LoadState
-returns-in-LoadState c = took_state c.args._header.now c.args.self c.knowing.result c.args.answer c.in-LoadState.is (c.knowing.ensures c.args._header.now)
+returns-in-LoadState c = took_state c.args._header.now c.args.self c.knowing.result c.args.answer c.in-LoadState.is
+    (c.knowing.ensures c.args._header.now)
 
 pub returns-in-LoadLow : goal.returns-in-LoadLow
 returns-in-LoadLow c = took_low c.args._header.now c.args.self c.at.result c.args.answer c.in-LoadLow.is c.at.ensures

@@ -29,11 +29,13 @@ module _ (g : given.Over) (c : goal.After-make_event-arg-1 g) where
   goes = search rules
 
   room : HasRoomAhead (g.M.Machine.header_of c.args.self.now.machine) (g.M.Machine.script c.loop-self.self.machine) c.make_room.new.self.hand
-  room = subst (λ h. HasRoomAhead h (g.M.Machine.script c.loop-self.self.machine) c.make_room.new.self.hand) c.loop-self.invariant.header c.in-Ok.ensures.room
+  room = subst (λ h. HasRoomAhead h
+      (g.M.Machine.script c.loop-self.self.machine) c.make_room.new.self.hand) c.loop-self.invariant.header c.in-Ok.ensures.room
 
   working : IsWorking (g.M.Machine.header_of c.args.self.now.machine) (g.M.Machine.script c.args.self.now.machine)
       (g.M.Machine.script c.loop-self.self.machine) c.make_room.new.self.hand
-  working = working_with_room (g.M.Machine.header_of c.args.self.now.machine) (g.M.Machine.script c.args.self.now.machine) (g.M.Machine.script c.loop-self.self.machine)
+  working = working_with_room (g.M.Machine.header_of c.args.self.now.machine) (g.M.Machine.script c.args.self.now.machine)
+      (g.M.Machine.script c.loop-self.self.machine)
       c.loop-self.self.hand c.make_room.new.self.hand c.in-Ok.ensures.hand c.loop-self.invariant.working room
 
 pub make_event-requires-clause-hand : goal.make_event-requires-clause-hand
@@ -56,7 +58,8 @@ loop-self-preserved g c =
     let machine = c.in-Ok.ensures.machine in
     let made = subst (λ m. (answer : ℕ) × (g.M.Machine.script c.make_event.new.self.machine ≡ after_answer (g.M.Machine.script m) answer)
     × HasActed (next_act (g.M.Machine.script m)) answer c.make_room.new.self.hand c.make_event.new.self.hand) machine c.make_event.ensures.made in
-    let room = subst (λ h. HasRoomAhead h (g.M.Machine.script c.loop-self.self.machine) c.make_room.new.self.hand) c.loop-self.invariant.header c.in-Ok.ensures.room in
+    let room = subst (λ h. HasRoomAhead h
+      (g.M.Machine.script c.loop-self.self.machine) c.make_room.new.self.hand) c.loop-self.invariant.header c.in-Ok.ensures.room in
     let same = same_hand (next_act (g.M.Machine.script c.loop-self.self.machine)) made.0 c.loop-self.self.hand c.make_room.new.self.hand c.make_event.new.self.hand
     c.in-Ok.ensures.hand made.2 in record {
       header = c.make_event.ensures.header ∙ ap g.M.Machine.header_of machine ∙ c.loop-self.invariant.header;

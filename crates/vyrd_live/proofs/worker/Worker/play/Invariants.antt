@@ -9,7 +9,8 @@ invariant-loop-self g l = record {
   hand_of : IsOf l.traced l.self.hand;
   caller : l.self.hand.caller ≡ l.initial.self.hand.caller;
   falls : length l.self.hand.lane + g.M.Machine.ahead l.self.machine ≤ g.M.Machine.ahead l.initial.self.machine;
-  working : IsWorking (g.M.Machine.header_of l.initial.self.machine) (g.M.Machine.script l.initial.self.machine) (g.M.Machine.script l.self.machine) l.self.hand;
+  working : IsWorking (g.M.Machine.header_of l.initial.self.machine) (g.M.Machine.script l.initial.self.machine)
+      (g.M.Machine.script l.self.machine) l.self.hand;
 }
 
 abbrev pub decreases-loop-self : goal.decreases-loop-self

@@ -26,4 +26,5 @@ returns-else-is_open-clause-followed c = λ earlier followed. let s = c.self.ins
     let closed : is_open now c.args.caller ≡ false = rw (← c.self.view_is) (ap is_some (sym read) ∙ sym c.if-is_open.ensures) in
     on_ok c.write_through.result c.write_through.ensures.ok
     (λ is. subst (λ kept. HasFollowed kept (entry c.args.caller (Write c.args.word c.args.value) ∷ earlier)) (sym is)
-    (followed_through now earlier c.args.caller c.args.word c.args.value (now.changed ++ c.args.word ∷ []) c.requires.caller c.requires.word closed followed))
+    (followed_through now earlier c.args.caller c.args.word c.args.value
+      (now.changed ++ c.args.word ∷ []) c.requires.caller c.requires.word closed followed))

@@ -16,4 +16,5 @@ returns c =
     let same = c.as_slice.ensures.bytes ∙ c.replace-whole.ensures.value in
     line_then c.args.self.now (state_of c.self-2.inside) c.end_line-2.new.self c.args.line.now (option_to_list c.end_line-2.result)
     (subst (λ (s : ReaderState). IsTaken c.args.self.now c.args.line.now [] s) (sym c.self-2.view_is) c.take_unfinished.ensures)
-    (subst (λ t. IsLineTaken (with_line (state_of c.self-2.inside) t) (option_to_list c.end_line-2.result) c.end_line-2.new.self) same c.end_line-2.ensures)
+    (subst (λ t. IsLineTaken (with_line (state_of c.self-2.inside) t)
+      (option_to_list c.end_line-2.result) c.end_line-2.new.self) same c.end_line-2.ensures)

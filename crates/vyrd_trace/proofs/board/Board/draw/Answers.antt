@@ -9,5 +9,6 @@ fetch_add-requires g c =
     let q = c.requires in (
       q.table,
       omega arith,
-      draws c.args.self.now.table.shared.key z.3 z.4 _ _ _ g.J.Intent.did q.live q.room (subst (MayDraw c.args.self.now.table.shared.key c.args.seat.now.me.0) q.picked q.may),
+      draws c.args.self.now.table.shared.key z.3 z.4 _ _ _ g.J.Intent.did q.live q.room
+        (subst (MayDraw c.args.self.now.table.shared.key c.args.seat.now.me.0) q.picked q.may),
     )

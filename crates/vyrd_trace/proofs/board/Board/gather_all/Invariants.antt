@@ -15,7 +15,8 @@ invariant-loop-hand l = record {
   rest : l.seat.me.0.stage ≡ Rest;
   own : own_lane l.seat.me.0 ≡ own_lane l.initial.seat.me.0;
   gathered : l.seat.me.0.gathered ≡ own_lanes l.yielded;
-  lanes : map (λ (v : Vec Stamped Global). v.items) l.lanes.items ≡ map (λ (v : Vec Stamped Global). v.items) l.initial.lanes.items ++ lanes_of l.yielded;
+  lanes : map (λ (v : Vec Stamped Global). v.items) l.lanes.items
+      ≡ map (λ (v : Vec Stamped Global). v.items) l.initial.lanes.items ++ lanes_of l.yielded;
   count : vec_len l.lanes ≡ 1 + length l.yielded;
   room : vec_capacity l.lanes ≡ vec_capacity l.initial.lanes;
 }
