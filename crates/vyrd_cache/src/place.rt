@@ -15,7 +15,7 @@ pub(crate) const CLEAN: u64 = 1;
 pub(crate) const DIRTY: u64 = 2;
 
 /// What an operation does, as far as it is decided. The chunk's state, once it is loaded, may decide more.
-#[derive(Clone, Copy, Debug, PartialEq, Eq)]
+#[derive(Clone, Copy, PartialEq, Eq)]
 pub(crate) enum Task {
     /// Puts a pair into the cache and makes the chunk dirty.
     Write,
@@ -82,7 +82,7 @@ impl Task {
 }
 
 /// The next act of an operation.
-#[derive(Clone, Copy, Debug, PartialEq, Eq)]
+#[derive(Clone, Copy)]
 pub(crate) enum Place {
     /// Taking the chunk's lock.
     Lock,

@@ -24,7 +24,7 @@ const STORED: u32 = 3;
 /// How far an operation of a cache has come, after the mark of its call.
 ///
 /// An operation of the correct variant looks at the words of its chunk with the chunk's lock held, and changes them in one block.
-#[derive(Clone, Copy, Debug, PartialEq, Eq)]
+#[derive(Clone, Copy)]
 pub struct CacheProgress {
     task: Task,
     place: Place,

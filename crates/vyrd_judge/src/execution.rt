@@ -12,7 +12,7 @@ use vyrd_spec::Spec;
 ///
 /// The reply is known from the call on, so that an observer's can be held against each state as it comes, and no state need
 /// be kept.
-#[derive(Clone, Copy, Debug)]
+#[derive(Clone, Copy)]
 pub(crate) struct Execution {
     pub method: Method,
     pub args: Args,

@@ -10,7 +10,7 @@ use vyrd_base::{Entry, Header, Rule};
 use vyrd_shape::Shape;
 
 /// How far a log keeps the rules of shape, and how it goes on there.
-#[derive(Clone, Copy, Debug)]
+#[derive(Clone, Copy)]
 pub(crate) struct Front {
     /// How many entries keep the rules.
     pub len: usize,

@@ -3,7 +3,7 @@
 use vyrd_base::Why;
 
 /// What an entry of a front leads to.
-#[derive(Clone, Copy, Debug)]
+#[derive(Clone, Copy)]
 pub(crate) enum Outcome {
     /// It is no fault, and the next entry is to be looked at.
     Goes,

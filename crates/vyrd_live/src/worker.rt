@@ -19,7 +19,7 @@ use vyrd_memory::{Act, Machine};
 use vyrd_trace::{Hand, Reserve, Traced};
 
 /// How a worker ended.
-#[derive(Clone, Copy, Debug, PartialEq, Eq)]
+#[derive(Clone, Copy)]
 pub(crate) enum Ending {
     /// All operations are done.
     Finished,

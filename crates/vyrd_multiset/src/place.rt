@@ -3,7 +3,7 @@
 ghost use Rattle.std.specs.Prelude.{◌≡◌, ◌≢◌, ◌<◌, ◌+◌, ◌-◌, ◌^◌};
 
 /// How far an operation has come, after the mark of its call.
-#[derive(Clone, Copy, Debug, PartialEq, Eq)]
+#[derive(Clone, Copy)]
 pub(crate) enum Place {
     /// Finding a free slot.
     Find(Want, Finding),
@@ -30,7 +30,7 @@ pub(crate) enum Place {
 }
 
 /// What a free slot is wanted for.
-#[derive(Clone, Copy, Debug, PartialEq, Eq)]
+#[derive(Clone, Copy)]
 pub(crate) enum Want {
     /// The value of an insert.
     Only,
@@ -41,7 +41,7 @@ pub(crate) enum Want {
 }
 
 /// What a value is searched for.
-#[derive(Clone, Copy, Debug, PartialEq, Eq)]
+#[derive(Clone, Copy)]
 pub(crate) enum Query {
     /// To delete it.
     Delete,
@@ -50,7 +50,7 @@ pub(crate) enum Query {
 }
 
 /// A slot that is looked at, and how many slots of its bucket come after it.
-#[derive(Clone, Copy, Debug, PartialEq, Eq)]
+#[derive(Clone, Copy)]
 pub(crate) struct Look {
     pub(crate) slot: u32,
     pub(crate) after: u32,
@@ -72,7 +72,7 @@ impl Look {
 }
 
 /// The places of finding a free slot.
-#[derive(Clone, Copy, Debug, PartialEq, Eq)]
+#[derive(Clone, Copy)]
 pub(crate) enum Finding {
     /// Lock the bucket.
     Lock,
@@ -87,7 +87,7 @@ pub(crate) enum Finding {
 }
 
 /// The places of a search.
-#[derive(Clone, Copy, Debug, PartialEq, Eq)]
+#[derive(Clone, Copy)]
 pub(crate) enum Searching {
     /// Lock the bucket.
     Lock,
@@ -98,7 +98,7 @@ pub(crate) enum Searching {
 }
 
 /// The places of the block that changes one slot.
-#[derive(Clone, Copy, Debug, PartialEq, Eq)]
+#[derive(Clone, Copy)]
 pub(crate) enum Changing {
     /// Open the block.
     Open,
@@ -109,7 +109,7 @@ pub(crate) enum Changing {
 }
 
 /// The places of making both slots of a pair valid.
-#[derive(Clone, Copy, Debug, PartialEq, Eq)]
+#[derive(Clone, Copy)]
 pub(crate) enum Pairing {
     /// Lock the first bucket.
     Lock,
@@ -130,7 +130,7 @@ pub(crate) enum Pairing {
 }
 
 /// The places of freeing a reserved slot.
-#[derive(Clone, Copy, Debug, PartialEq, Eq)]
+#[derive(Clone, Copy)]
 pub(crate) enum Undoing {
     /// Lock the bucket.
     Lock,

@@ -16,7 +16,7 @@ use vyrd_memory::{Act, Op, Progress, Variant};
 /// How far an operation of the multiset has come: the values of its call, and a place in its procedure.
 ///
 /// It has the size of a few numbers. Each step looks at one of them and costs the same.
-#[derive(Clone, Copy, Debug, PartialEq, Eq)]
+#[derive(Clone, Copy)]
 pub struct MultisetProgress {
     task: Task,
     place: Place,

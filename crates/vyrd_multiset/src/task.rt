@@ -16,7 +16,7 @@ use vyrd_base::{Header, Kind};
 use vyrd_memory::{Act, Variant};
 
 /// What is played: the variant, and the values of the call. An operation of one value has 0 for the second.
-#[derive(Clone, Copy, Debug, PartialEq, Eq)]
+#[derive(Clone, Copy)]
 pub(crate) struct Task {
     pub(crate) variant: Variant,
     pub(crate) x: u32,

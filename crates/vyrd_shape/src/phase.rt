@@ -11,7 +11,7 @@ ghost use Rattle.vyrd_base.specs.Shape.{checks_of, first_broken, is_held_by_othe
 use vyrd_base::{Args, Header, Kind, Method, Rule};
 
 /// What a caller is in the middle of.
-#[derive(Clone, Copy, Debug, PartialEq, Eq)]
+#[derive(Clone, Copy)]
 pub(crate) struct Phase {
     /// The method of the execution that is open.
     pub open_method: Option<Method>,

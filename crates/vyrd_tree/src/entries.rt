@@ -11,7 +11,7 @@ use crate::slot::Slot;
 pub(crate) type Entry = (u64, u64);
 
 /// The entries of a node, as far as they are loaded. Loaded words are below 2^63.
-#[derive(Clone, Copy, Debug, PartialEq, Eq)]
+#[derive(Clone, Copy)]
 pub(crate) struct Entries {
     pub(crate) slots: [Entry; 4],
     ghost small: { All (λ entry. entry.1 < 2 ^ 63) slots },

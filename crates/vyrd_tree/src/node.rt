@@ -11,14 +11,14 @@ use vyrd_base::Header;
 const NODE_WORDS: u32 = 12;
 
 /// A node of the tree, by its number. A header has at most 1,024 nodes.
-#[derive(Clone, Copy, Debug, PartialEq, Eq)]
+#[derive(Clone, Copy)]
 pub(crate) struct Node {
     pub(crate) number: u32,
     ghost small: { number < 1024 },
 }
 
 /// A word of a node.
-#[derive(Clone, Copy, Debug, PartialEq, Eq)]
+#[derive(Clone, Copy)]
 pub(crate) enum Word {
     /// Its level, which is 0 for a leaf.
     Level,

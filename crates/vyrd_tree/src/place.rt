@@ -12,7 +12,7 @@ use crate::visit::{Ascent, Errand, Visit, Visiting};
 use vyrd_base::{Header, Kind};
 
 /// How far an operation has come, after the mark of its call.
-#[derive(Clone, Copy, Debug, PartialEq, Eq)]
+#[derive(Clone, Copy)]
 pub(crate) enum Place {
     /// Load the root's number, where the operation's walk begins.
     LoadRoot,
@@ -41,7 +41,7 @@ pub(crate) enum Place {
 }
 
 /// A node that is full and gets one more entry. With it there are five, and the new one has this place.
-#[derive(Clone, Copy, Debug, PartialEq, Eq)]
+#[derive(Clone, Copy)]
 pub(crate) struct Full {
     pub(crate) errand: Errand,
     pub(crate) node: Node,
@@ -53,7 +53,7 @@ pub(crate) struct Full {
 }
 
 /// What an unused node is needed for.
-#[derive(Clone, Copy, Debug, PartialEq, Eq)]
+#[derive(Clone, Copy)]
 pub(crate) enum Need {
     /// A node is to be split.
     Split(Full),
@@ -62,7 +62,7 @@ pub(crate) enum Need {
 }
 
 /// The places of getting an unused node.
-#[derive(Clone, Copy, Debug, PartialEq, Eq)]
+#[derive(Clone, Copy)]
 pub(crate) enum Getting {
     /// Lock the count of nodes in use.
     Lock,
@@ -75,7 +75,7 @@ pub(crate) enum Getting {
 }
 
 /// How a block ends, and what follows it.
-#[derive(Clone, Copy, Debug, PartialEq, Eq)]
+#[derive(Clone, Copy)]
 pub(crate) struct Ending {
     /// The mark that closes the block.
     pub(crate) close: Kind,
@@ -86,7 +86,7 @@ pub(crate) struct Ending {
 }
 
 /// A lock that is held.
-#[derive(Clone, Copy, Debug, PartialEq, Eq)]
+#[derive(Clone, Copy)]
 pub(crate) enum Lock {
     /// That of a node.
     Node(Node),
@@ -107,7 +107,7 @@ impl Lock {
 }
 
 /// What follows the giving back of a lock.
-#[derive(Clone, Copy, Debug, PartialEq, Eq)]
+#[derive(Clone, Copy)]
 pub(crate) enum After {
     /// The return with this reply.
     Return(u64),
@@ -118,7 +118,7 @@ pub(crate) enum After {
 }
 
 /// The places of a round of the ascent before its walk.
-#[derive(Clone, Copy, Debug, PartialEq, Eq)]
+#[derive(Clone, Copy)]
 pub(crate) enum Climbing {
     /// Lock the root's number.
     Lock,

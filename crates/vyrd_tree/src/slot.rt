@@ -3,7 +3,7 @@
 ghost use Rattle.std.specs.Prelude.{◌≡◌, ◌+◌, ◌<◌, ◌≤◌, MatchOption};
 
 /// A slot of a node: the place of an entry among the node's first entries, of which there are so many.
-#[derive(Clone, Copy, Debug, PartialEq, Eq)]
+#[derive(Clone, Copy)]
 pub(crate) struct Slot {
     pub(crate) place: u32,
     pub(crate) of: u32,

@@ -12,7 +12,7 @@ use vyrd_base::Header;
 use vyrd_memory::Act;
 
 /// How much is stored of a node that is in use.
-#[derive(Clone, Copy, Debug, PartialEq, Eq)]
+#[derive(Clone, Copy)]
 pub(crate) enum Extent {
     /// The entries from a place on, and the count.
     Entries,
@@ -21,7 +21,7 @@ pub(crate) enum Extent {
 }
 
 /// What is stored after a node that wasn't in use.
-#[derive(Clone, Copy, Debug, PartialEq, Eq)]
+#[derive(Clone, Copy)]
 pub(crate) enum Then {
     /// The root's number: the new node is the root.
     Root,
@@ -30,7 +30,7 @@ pub(crate) enum Then {
 }
 
 /// The next word that is stored in a block.
-#[derive(Clone, Copy, Debug, PartialEq, Eq)]
+#[derive(Clone, Copy)]
 pub(crate) enum Storing {
     /// A word of a node that wasn't in use, all of which is stored.
     New(Written, Word, Then),

@@ -11,7 +11,7 @@ use vyrd_base::{Header, Kind};
 use vyrd_memory::{Act, Variant};
 
 /// What is called.
-#[derive(Clone, Copy, Debug, PartialEq, Eq)]
+#[derive(Clone, Copy)]
 pub(crate) enum Call {
     /// Give the key a value.
     Insert,
@@ -22,7 +22,7 @@ pub(crate) enum Call {
 }
 
 /// What is played: the variant, the call, and its arguments. A call without a value has 0 for it.
-#[derive(Clone, Copy, Debug, PartialEq, Eq)]
+#[derive(Clone, Copy)]
 pub(crate) struct Task {
     pub(crate) variant: Variant,
     pub(crate) call: Call,

@@ -21,7 +21,7 @@ use vyrd_memory::Act;
 
 /// A round of the ascent: the node of this level was split, and the new node needs an entry with this key on the next level.
 /// The rounds have their levels' numbers, since the first one is of level 0.
-#[derive(Clone, Copy, Debug, PartialEq, Eq)]
+#[derive(Clone, Copy)]
 pub(crate) struct Ascent {
     pub(crate) level: u32,
     pub(crate) key: u64,
@@ -29,7 +29,7 @@ pub(crate) struct Ascent {
 }
 
 /// What a walk is for.
-#[derive(Clone, Copy, Debug, PartialEq, Eq)]
+#[derive(Clone, Copy)]
 pub(crate) enum Errand {
     /// The operation itself: it goes to the leaf of its key.
     Operation,
@@ -60,7 +60,7 @@ impl Errand {
 }
 
 /// A node that a walk visits, as far as it is loaded, and how many nodes the walk may visit after it.
-#[derive(Clone, Copy, Debug, PartialEq, Eq)]
+#[derive(Clone, Copy)]
 pub(crate) struct Visit {
     pub(crate) errand: Errand,
     pub(crate) left: u32,
@@ -130,7 +130,7 @@ impl Visit {
 }
 
 /// The next act of a visit.
-#[derive(Clone, Copy, Debug, PartialEq, Eq)]
+#[derive(Clone, Copy)]
 pub(crate) enum Visiting {
     /// Lock the node.
     Lock,

@@ -6,7 +6,7 @@ use crate::entries::Entry;
 use crate::node::{Node, Word};
 
 /// A node as it is to be, with its first entries. An operation need not store all of it.
-#[derive(Clone, Copy, Debug, PartialEq, Eq)]
+#[derive(Clone, Copy)]
 pub(crate) struct Written {
     pub(crate) node: Node,
     pub(crate) level: u64,
