@@ -1,6 +1,7 @@
 -- The words that the program takes.
-use Rattle.std.specs.Prelude.{Bool, true, false, ◌&&◌, ℕ, nat_le, List, [], ◌∷◌, codes, decimal, Option, Some, None, if◌then◌else◌}
+use Rattle.std.specs.Prelude.{Bool, true, false, ◌&&◌, ℕ, nat_le, List, [], ◌∷◌, map, codes, decimal, Option, Some, None, if◌then◌else◌}
 use Rattle.std.specs.Str.{bytes_eq}
+use Rattle.std.specs.Borrow.{Bor}
 use Rattle.vyrd_base.specs.Lines.{number_of}
 use Rattle.vyrd_program.specs.declared.form.Form.{Form}
 use Rattle.vyrd_program.specs.declared.form.Form.TheVariants.{Check, Step, Live, Gen}
@@ -31,3 +32,7 @@ abbrev pub form_in : List (List ℕ) → Option Form
 form_in (word ∷ []) = one_word word
 form_in (word ∷ other ∷ []) = two_words word other
 form_in _ = None
+
+-- the form of the words that a call is given
+abbrev pub form_said : List (Bor (List ℕ)) → Option Form
+form_said words = form_in (map (λ word. word.now) words)

@@ -1,9 +1,9 @@
 //! The forms of words that the program takes.
 
-ghost use Rattle.std.specs.Prelude.{◌≡◌, ◌≤◌, ℕ, List, decimal, map, if◌then◌else◌, Some, None};
+ghost use Rattle.std.specs.Prelude.{◌≡◌, ◌≤◌, ℕ, List, decimal, if◌then◌else◌, Some, None};
 ghost use Rattle.vyrd_base.specs.Lines.{number_of};
 ghost use Rattle.vyrd_program.specs.declared.form.Form.TheVariants.{Gen};
-ghost use Rattle.vyrd_program.specs.Forms.{form_in, one_word, logged_form, two_words, is_count};
+ghost use Rattle.vyrd_program.specs.Forms.{form_said, one_word, logged_form, two_words, is_count};
 
 use vyrd_text::read_u32;
 
@@ -25,7 +25,7 @@ pub enum Form {
 
 /// The form of the words that stand after the program's name, if they have one.
 pub fn form_of(words: &[&str]) -> Option<Form>
-    ensures form { result ≡ form_in (map (λ word. word.now) words.now) }
+    ensures form { result ≡ form_said words.now }
     ensures some { (n : ℕ) → result ≡ Some (Gen n) → 1 ≤ n }
     ensures few { (n : ℕ) → result ≡ Some (Gen n) → n ≤ 200000 }
 {

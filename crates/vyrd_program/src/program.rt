@@ -1,9 +1,9 @@
 //! The top call.
 
-ghost use Rattle.std.specs.Prelude.{◌≡◌, ◌≢◌, ◌≤◌, ◌⊎◌, true, ℕ, [], Some, None, Bool, IfSome, map, length};
+ghost use Rattle.std.specs.Prelude.{◌≡◌, ◌≢◌, ◌≤◌, ◌⊎◌, true, ℕ, [], Some, None, Bool, IfSome, length};
 ghost use Rattle.vyrd_base.specs.Devices.{HasRisen};
 ghost use Rattle.vyrd_program.specs.declared.form.Form.TheVariants.{Check, Step, Live, Gen};
-ghost use Rattle.vyrd_program.specs.Forms.{form_in};
+ghost use Rattle.vyrd_program.specs.Forms.{form_said};
 ghost use Rattle.vyrd_program.specs.Inputs.{IsInputTaken};
 ghost use Rattle.vyrd_program.specs.Outputs.{Appends, AppendsFront, usage_line};
 ghost use Rattle.vyrd_program.specs.Checks.{IsConsumed, IsAnswered, IsAnsweredInPart, HasRoomForAnswer};
@@ -61,39 +61,39 @@ pub fn vyrd<R: Threads + Wait + Sync, S: Source, K: Sink, G: Gate>(
     ensures statuses { result.status ≤ 9 }
 
     // `check`, 0, 1 and 2: it has written the line of the verdict of all that the source held, and the status is that verdict's.
-    ensures verdict { form_in (map (λ word. word.now) words.now) ≡ Some Check → result.status ≤ 2 →
+    ensures verdict { form_said words.now ≡ Some Check → result.status ≤ 2 →
         IsAnswered 1048576 (S.rest source.old) result.status (K.taken sink.old) (K.taken sink.new) }
-    ensures consumed { form_in (map (λ word. word.now) words.now) ≡ Some Check → result.status ≤ 2 → IsConsumed 1048576 (S.rest source.old) (S.rest source.new) }
-    ensures check_statuses { form_in (map (λ word. word.now) words.now) ≡ Some Check → (result.status ≤ 6) × (result.status ≢ 3) }
+    ensures consumed { form_said words.now ≡ Some Check → result.status ≤ 2 → IsConsumed 1048576 (S.rest source.old) (S.rest source.new) }
+    ensures check_statuses { form_said words.now ≡ Some Check → (result.status ≤ 6) × (result.status ≢ 3) }
 
     // `step`, 0, 1, 2, 7 and 8: it has written the answer to all that the source held, which has the status and the run.
-    ensures stepped { (log : Bool) → form_in (map (λ word. word.now) words.now) ≡ Some (Step log) → IsStepStatus result.status →
+    ensures stepped { (log : Bool) → form_said words.now ≡ Some (Step log) → IsStepStatus result.status →
         IsStepped log (S.rest source.old) result.status result.run (K.taken sink.old) (K.taken sink.new) }
-    ensures step_consumed { (log : Bool) → form_in (map (λ word. word.now) words.now) ≡ Some (Step log) → IsStepStatus result.status →
+    ensures step_consumed { (log : Bool) → form_said words.now ≡ Some (Step log) → IsStepStatus result.status →
         IsInputTaken (S.rest source.old) (S.rest source.new) }
-    ensures step_statuses { (log : Bool) → form_in (map (λ word. word.now) words.now) ≡ Some (Step log) → (result.status ≤ 8) × (result.status ≢ 3) }
+    ensures step_statuses { (log : Bool) → form_said words.now ≡ Some (Step log) → (result.status ≤ 8) × (result.status ≢ 3) }
 
     // `run`, 0, 1, 2, 7 and 9: it has written the answer to all that the source held, which has the status and the run.
-    ensures lived { (log : Bool) → form_in (map (λ word. word.now) words.now) ≡ Some (Live log) → IsLiveStatus result.status →
+    ensures lived { (log : Bool) → form_said words.now ≡ Some (Live log) → IsLiveStatus result.status →
         IsLived log (S.rest source.old) result.status result.run result.spent (K.taken sink.old) (K.taken sink.new) }
-    ensures run_consumed { (log : Bool) → form_in (map (λ word. word.now) words.now) ≡ Some (Live log) → IsLiveStatus result.status →
+    ensures run_consumed { (log : Bool) → form_said words.now ≡ Some (Live log) → IsLiveStatus result.status →
         IsInputTaken (S.rest source.old) (S.rest source.new) }
-    ensures run_statuses { (log : Bool) → form_in (map (λ word. word.now) words.now) ≡ Some (Live log) → (result.status ≢ 3) × (result.status ≢ 8) }
+    ensures run_statuses { (log : Bool) → form_said words.now ≡ Some (Live log) → (result.status ≢ 3) × (result.status ≢ 8) }
 
     // `gen N`, 0, 1, 2 and 8: it has written the answer to N generated operations, which has the status and the run.
-    ensures generated { (n : ℕ) → form_in (map (λ word. word.now) words.now) ≡ Some (Gen n) → IsGenStatus result.status →
+    ensures generated { (n : ℕ) → form_said words.now ≡ Some (Gen n) → IsGenStatus result.status →
         IsGenerated n result.status result.run (K.taken sink.old) (K.taken sink.new) }
-    ensures gen_untouched { (n : ℕ) → form_in (map (λ word. word.now) words.now) ≡ Some (Gen n) → source.new ≡ source.old }
-    ensures gen_statuses { (n : ℕ) → form_in (map (λ word. word.now) words.now) ≡ Some (Gen n) → IsGenStatus result.status ⊎ (result.status ≡ 5) ⊎ (result.status ≡ 6) }
+    ensures gen_untouched { (n : ℕ) → form_said words.now ≡ Some (Gen n) → source.new ≡ source.old }
+    ensures gen_statuses { (n : ℕ) → form_said words.now ≡ Some (Gen n) → IsGenStatus result.status ⊎ (result.status ≡ 5) ⊎ (result.status ≡ 6) }
 
     // Whatever was played: where the verdict names a rule, it is that of raced blocks.
     ensures only_races { IfSome result.run NamesOnlyRaces }
 
     // 3: the words are no form.
     ensures usage { result.status ≡ 3 → Appends (K.taken sink.old) (K.taken sink.new) usage_line }
-    ensures usage_form { result.status ≡ 3 → form_in (map (λ word. word.now) words.now) ≡ None }
-    ensures no_form { form_in (map (λ word. word.now) words.now) ≡ None → (result.status ≡ 3) ⊎ (result.status ≡ 5) }
-    ensures source_untouched { form_in (map (λ word. word.now) words.now) ≡ None → source.new ≡ source.old }
+    ensures usage_form { result.status ≡ 3 → form_said words.now ≡ None }
+    ensures no_form { form_said words.now ≡ None → (result.status ≡ 3) ⊎ (result.status ≡ 5) }
+    ensures source_untouched { form_said words.now ≡ None → source.new ≡ source.old }
 
     // 4: a read failed, and nothing was written.
     ensures read_fault { result.status ≡ 4 → HasRisen (S.faults source.old) (S.faults source.new) }
@@ -101,27 +101,27 @@ pub fn vyrd<R: Threads + Wait + Sync, S: Source, K: Sink, G: Gate>(
 
     // 5: a write failed, and some of the first bytes of the answer were written.
     ensures write_fault { result.status ≡ 5 → HasRisen (K.faults sink.old) (K.faults sink.new) }
-    ensures write_fault_check { result.status ≡ 5 → form_in (map (λ word. word.now) words.now) ≡ Some Check →
+    ensures write_fault_check { result.status ≡ 5 → form_said words.now ≡ Some Check →
         IsAnsweredInPart 1048576 (S.rest source.old) (K.taken sink.old) (K.taken sink.new) }
-    ensures write_fault_step { result.status ≡ 5 → (log : Bool) → form_in (map (λ word. word.now) words.now) ≡ Some (Step log) →
+    ensures write_fault_step { result.status ≡ 5 → (log : Bool) → form_said words.now ≡ Some (Step log) →
         IsSteppedInPart log (S.rest source.old) result.run (K.taken sink.old) (K.taken sink.new) }
-    ensures write_fault_run { result.status ≡ 5 → (log : Bool) → form_in (map (λ word. word.now) words.now) ≡ Some (Live log) →
+    ensures write_fault_run { result.status ≡ 5 → (log : Bool) → form_said words.now ≡ Some (Live log) →
         IsLivedInPart log (S.rest source.old) result.run result.spent (K.taken sink.old) (K.taken sink.new) }
-    ensures write_fault_gen { result.status ≡ 5 → (n : ℕ) → form_in (map (λ word. word.now) words.now) ≡ Some (Gen n) → IsGeneratedInPart n result.run (K.taken sink.old) (K.taken sink.new) }
-    ensures write_fault_usage { result.status ≡ 5 → form_in (map (λ word. word.now) words.now) ≡ None → AppendsFront (K.taken sink.old) (K.taken sink.new) usage_line }
+    ensures write_fault_gen { result.status ≡ 5 → (n : ℕ) → form_said words.now ≡ Some (Gen n) → IsGeneratedInPart n result.run (K.taken sink.old) (K.taken sink.new) }
+    ensures write_fault_usage { result.status ≡ 5 → form_said words.now ≡ None → AppendsFront (K.taken sink.old) (K.taken sink.new) usage_line }
 
     // 6: there was no memory, and nothing was written.
     ensures memory { result.status ≡ 6 → K.taken sink.new ≡ K.taken sink.old }
 
     // There is no run without a workload that was played.
     ensures no_run { (result.status ≡ 3) ⊎ (result.status ≡ 4) → result.run ≡ None }
-    ensures no_run_checked { form_in (map (λ word. word.now) words.now) ≡ Some Check → result.run ≡ None }
+    ensures no_run_checked { form_said words.now ≡ Some Check → result.run ≡ None }
     ensures no_overrun { (result.status ≡ 3) ⊎ (result.status ≡ 4) → result.spent ≡ None }
-    ensures no_overrun_checked { form_in (map (λ word. word.now) words.now) ≡ Some Check → result.spent ≡ None }
-    ensures no_overrun_stepped { (log : Bool) → form_in (map (λ word. word.now) words.now) ≡ Some (Step log) → result.spent ≡ None }
-    ensures no_overrun_generated { (n : ℕ) → form_in (map (λ word. word.now) words.now) ≡ Some (Gen n) → result.spent ≡ None }
-    ensures no_overrun_without_form { form_in (map (λ word. word.now) words.now) ≡ None → result.spent ≡ None }
-    ensures no_run_without_form { form_in (map (λ word. word.now) words.now) ≡ None → result.run ≡ None }
+    ensures no_overrun_checked { form_said words.now ≡ Some Check → result.spent ≡ None }
+    ensures no_overrun_stepped { (log : Bool) → form_said words.now ≡ Some (Step log) → result.spent ≡ None }
+    ensures no_overrun_generated { (n : ℕ) → form_said words.now ≡ Some (Gen n) → result.spent ≡ None }
+    ensures no_overrun_without_form { form_said words.now ≡ None → result.spent ≡ None }
+    ensures no_run_without_form { form_said words.now ≡ None → result.run ≡ None }
 
     // Where no count of faults has risen, neither a read nor a write has failed.
     ensures complete { ¬ (HasRisen (S.faults source.old) (S.faults source.new)) → ¬ (HasRisen (K.faults sink.old) (K.faults sink.new)) →
@@ -131,11 +131,11 @@ pub fn vyrd<R: Threads + Wait + Sync, S: Source, K: Sink, G: Gate>(
     ensures source_counted { S.faults source.old ≤ S.faults source.new }
     ensures sink_counted { K.faults sink.old ≤ K.faults sink.new }
     ensures source_sure { S.is_sure source.old ≡ true → S.faults source.new ≡ S.faults source.old }
-    ensures sink_sure { HasRoomForAnswer 1048576 (S.rest source.old) (K.sure_room sink.old) → form_in (map (λ word. word.now) words.now) ≡ Some Check → K.faults sink.new ≡ K.faults sink.old }
-    ensures sink_sure_step { (log : Bool) → HasRoomForStep log (S.rest source.old) (K.sure_room sink.old) → form_in (map (λ word. word.now) words.now) ≡ Some (Step log) → K.faults sink.new ≡ K.faults sink.old }
-    ensures sink_sure_run { (log : Bool) → HasRoomForLive log (S.rest source.old) (K.sure_room sink.old) → form_in (map (λ word. word.now) words.now) ≡ Some (Live log) → K.faults sink.new ≡ K.faults sink.old }
-    ensures sink_sure_gen { (n : ℕ) → HasRoomForGen n (K.sure_room sink.old) → form_in (map (λ word. word.now) words.now) ≡ Some (Gen n) → K.faults sink.new ≡ K.faults sink.old }
-    ensures sink_sure_usage { length usage_line ≤ K.sure_room sink.old → form_in (map (λ word. word.now) words.now) ≡ None → K.faults sink.new ≡ K.faults sink.old }
+    ensures sink_sure { HasRoomForAnswer 1048576 (S.rest source.old) (K.sure_room sink.old) → form_said words.now ≡ Some Check → K.faults sink.new ≡ K.faults sink.old }
+    ensures sink_sure_step { (log : Bool) → HasRoomForStep log (S.rest source.old) (K.sure_room sink.old) → form_said words.now ≡ Some (Step log) → K.faults sink.new ≡ K.faults sink.old }
+    ensures sink_sure_run { (log : Bool) → HasRoomForLive log (S.rest source.old) (K.sure_room sink.old) → form_said words.now ≡ Some (Live log) → K.faults sink.new ≡ K.faults sink.old }
+    ensures sink_sure_gen { (n : ℕ) → HasRoomForGen n (K.sure_room sink.old) → form_said words.now ≡ Some (Gen n) → K.faults sink.new ≡ K.faults sink.old }
+    ensures sink_sure_usage { length usage_line ≤ K.sure_room sink.old → form_said words.now ≡ None → K.faults sink.new ≡ K.faults sink.old }
 {
     match form_of(words) {
         Some(Form::Check) => {

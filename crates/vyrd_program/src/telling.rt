@@ -31,14 +31,7 @@ pub fn tell(alloc: Global, log: bool, header: Header, run: Run) -> Result<Answer
         let entries = log_of(alloc, &run.history)?;
         write_log(header, &entries, &mut text)?;
     }
-    write_verdict(&run.verdict, &mut text)?;
-    let status = status_of(run.verdict);
-    Ok(Answer {
-        status,
-        text,
-        run: Some(run),
-        spent: None,
-    })
+    judged(text, run)
 }
 
 /// That a run by turns gets stuck.
@@ -103,7 +96,16 @@ pub fn generated(alloc: Global, count: u32, run: Run) -> Result<Answer, AllocErr
     ensures run { IfOk result (λ answer. answer.run ≡ Some run) }
     ensures spent { IfOk result (λ answer. answer.spent ≡ None) }
 {
-    let mut text = counts(alloc, count, run.history.len() as u64)?;
+    judged(counts(alloc, count, run.history.len() as u64)?, run)
+}
+
+// The verdict about a run, after this text.
+fn judged(mut text: Vec<u8>, run: Run) -> Result<Answer, AllocError>
+    ensures status { IfOk result (λ answer. answer.status ≡ status_of run.verdict) }
+    ensures text { IfOk result (λ answer. answer.text.items ≡ text.items ++ verdict_text run.verdict) }
+    ensures run { IfOk result (λ answer. answer.run ≡ Some run) }
+    ensures spent { IfOk result (λ answer. answer.spent ≡ None) }
+{
     write_verdict(&run.verdict, &mut text)?;
     let status = status_of(run.verdict);
     Ok(Answer {
