@@ -12,7 +12,7 @@ pub trait Source {
     /// The bytes that it will still give, where it tells them.
     ghost rest: { Self → Option (List ℕ) };
 
-    /// How often a read has failed. It stays at 2^64 - 1.
+    /// A count that rises with each read that fails, and with no other. It stays at 2^64 - 1.
     ghost faults: { Self → ℕ };
 
     /// Whether it is known that no read will fail.
@@ -28,6 +28,7 @@ pub trait Source {
 
         ensures counted { faults self.old ≤ faults self.new }
         ensures cause { OnErr result (HasRisen (faults self.old) (faults self.new)) }
+        ensures failures_alone { IfOk result (λ _. faults self.new ≡ faults self.old) }
 
         // A sure source stays sure, gives what it has and counts no fault.
         ensures sure { is_sure self.old ≡ true → is_sure self.new ≡ true }
@@ -40,7 +41,7 @@ pub trait Sink {
     /// All bytes that it has taken so far, where it tells them.
     ghost taken: { Self → Option (List ℕ) };
 
-    /// How often a write has failed. It stays at 2^64 - 1.
+    /// A count that rises with each write that fails, and with no other. It stays at 2^64 - 1.
     ghost faults: { Self → ℕ };
 
     /// How many bytes more it is known to take with no fault.
@@ -54,6 +55,7 @@ pub trait Sink {
 
         ensures counted { faults self.old ≤ faults self.new }
         ensures cause { OnErr result (HasRisen (faults self.old) (faults self.new)) }
+        ensures failures_alone { IfOk result (λ _. faults self.new ≡ faults self.old) }
 
         // Where there is sure room for the piece, it takes of it, counts no fault, and has room for the rest.
         ensures sure { length piece.now ≤ sure_room self.old → IfOk result (λ n. sure_room self.old ≤ sure_room self.new + n) }

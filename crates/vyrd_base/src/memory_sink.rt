@@ -36,8 +36,8 @@ impl Model for MemorySink {
 impl MemorySink {
     /// A sink that takes at most `room` bytes in all and at most `cut` in each write. Writes are numbered from 1 to
     /// 2^64 - 1, which every later write keeps as its number. Those named in `failing` fail, and so does one that finds
-    /// no room left. `cut` is at least 1. All of its memory is taken here, and a write
-    /// takes none. Want of memory is the one error.
+    /// no room left. `cut` is at least 1. All of its memory is taken here, and a write takes none. Want of memory is the
+    /// one error.
     pub fn new(
         alloc: Global,
         room: usize,

@@ -37,6 +37,7 @@ impl<R: Read> Source for StdSource<R> {
         ensures given { IfOk result (λ n. Gives None n buf.new None) }
         ensures counted { self.old.faults ≤ self.new.faults }
         ensures cause { OnErr result (HasRisen self.old.faults self.new.faults) }
+        ensures failures_alone { IfOk result (λ _. self.new.faults ≡ self.old.faults) }
         ensures passed { ReadConsumes (R.remaining self.old.inner) (R.remaining self.new.inner) result buf.new }
     {
         match self.inner.read(buf) {
@@ -79,6 +80,7 @@ impl<W: Write> Sink for StdSink<W> {
         ensures taken { IfOk result (λ n. Takes None n piece.now None) }
         ensures counted { self.old.faults ≤ self.new.faults }
         ensures cause { OnErr result (HasRisen self.old.faults self.new.faults) }
+        ensures failures_alone { IfOk result (λ _. self.new.faults ≡ self.old.faults) }
         ensures passed { WriteAppends (W.contents self.old.inner) (W.contents self.new.inner) result piece.now }
     {
         match self.inner.write(piece) {

@@ -45,7 +45,7 @@ rest_short max n bad rest e = by_tests (has_any rest && nat_lt max n) (nat_lt 64
   where
     by_tests : (past long : Bool) → (has_any rest && nat_lt max n) ≡ past → nat_lt 64 (length rest) ≡ long
         → first_broken ((past breaks TooManyLines) ∷ (long breaks bad) ∷ ((has_any rest
-          && false) breaks NoLineFeed) ∷ (false breaks NoEnd) ∷ []) ≡ None
+        && false) breaks NoLineFeed) ∷ (false breaks NoEnd) ∷ []) ≡ None
         → (length rest ≤ 64) × ((has_any rest && nat_lt max n) ≡ false)
     by_tests true long p l none = cc
     by_tests false true p l none = cc
@@ -120,7 +120,7 @@ lines_short max subject n line (next ∷ lines) within e =
 
     by_tests : Onward → (past is_end : Bool) → nat_lt max n ≡ past → bytes_eq line end_line ≡ is_end
         → (cond past (stopped n (Some TooManyLines))
-          (cond is_end (ended (n + 1) (after_end_rule (so_far max) (n + 1) next lines)) (entry_before n (entry_in subject line) after))).fault ≡ None
+        (cond is_end (ended (n + 1) (after_end_rule (so_far max) (n + 1) next lines)) (entry_before n (entry_in subject line) after))).fault ≡ None
         → length line + 1 + size_of (next ∷ lines) ≤ 65 * (max + 1 - n) + 1
     by_tests onward true is_end p q e' = cc
     by_tests onward false true p q e' =
@@ -137,8 +137,11 @@ parts_short max (rest ∷ []) low some e = let s = rest_short max 1 BadHeader re
 parts_short max (line ∷ next ∷ lines) low some e = by_header (header_in line) refl e
   where
     by_header : (r : Result Header Rule) → header_in line ≡ r
-        → (elim r as (λ _. Reading) [ Ok h ↦ header_before h
-          (lines_read (so_far max) h.subject 2 (next ∷ lines)) | Err rule ↦ stopped 1 (Some rule) ]).fault ≡ None
+        → (elim r as (λ _. Reading) [
+          | Ok h ↦ header_before h
+              (lines_read (so_far max) h.subject 2 (next ∷ lines))
+          | Err rule ↦ stopped 1 (Some rule)
+        ]).fault ≡ None
         → length line + 1 + size_of (next ∷ lines) ≤ 65 * max + 1
     by_header (Ok h) is e' =
         let more = lines_short max h.subject 2 next lines (omega arith) e' in

@@ -72,7 +72,7 @@ begins_later max taken piece first more low fine same faulty = by_length (nat_le
         let shorter : length first < length taken = grind (arith, nat_tests) in
         let begins : taken ≡ first ++ take (length taken - length first) more = begins_with taken piece first more (omega arith) same in
         let bad : has_fault max taken ≡ true = ap (has_fault max) begins
-          ∙ fault_lasts max first (take (length taken - length first) more) low faulty in
+        ∙ fault_lasts max first (take (length taken - length first) more) low faulty in
         absurd (both (has_fault max taken) bad fine)
       where
         both : (b : Bool) → b ≡ true → b ≡ false → ⊥
@@ -111,7 +111,7 @@ kept_more before after e e' same grown = grown.one ∙ ap (λ es. es ++ grown.mo
 pub reading_goes_on : (before old_rest new_rest : Option (List ℕ)) (old new : ReaderState) (old_entries new_entries : List Entry)
     (buffer : List ℕ) (n rounds : ℕ)
     → IsReading before old_rest old old_entries rounds → Gives old_rest n buffer new_rest → 0 < n
-      → Fed old new (take n buffer) old_entries new_entries
+    → Fed old new (take n buffer) old_entries new_entries
     → ((bytes : List ℕ) → HasRead old bytes → (read_so_far old.max_lines (bytes ++ take n buffer)).fault ≡ None)
     → IsReading before new_rest new new_entries (rounds + 1)
 reading_goes_on before old_rest new_rest old new old_entries new_entries buffer n rounds r gives some fed fine =
@@ -122,7 +122,7 @@ reading_goes_on before old_rest new_rest old new old_entries new_entries buffer 
       read = fed.read r.taken r.read;
       low = subst (λ m. 1 ≤ m) (sym fed.limit) r.low;
       kept = kept_more old_entries new_entries _ _ r.kept (fed.grown r.taken r.read)
-        ∙ ap (λ m. (read_so_far m (r.taken ++ piece)).entries) (sym fed.limit);
+          ∙ ap (λ m. (read_so_far m (r.taken ++ piece)).entries) (sym fed.limit);
       fine = ap (λ m. has_fault m (r.taken ++ piece)) fed.limit ∙ ap is_some (fine r.taken r.read);
       rounds_taken = omega (arith, length-append r.taken piece, length_piece n buffer gives.within, r.rounds_taken);
     }
@@ -131,7 +131,7 @@ reading_goes_on before old_rest new_rest old new old_entries new_entries buffer 
 pub reading_breaks : (before old_rest new_rest : Option (List ℕ)) (old new : ReaderState) (old_entries new_entries : List Entry)
     (buffer : List ℕ) (n rounds line : ℕ) (rule : Rule)
     → IsReading before old_rest old old_entries rounds → Gives old_rest n buffer new_rest → length buffer ≤ longest_read
-      → Fed old new (take n buffer) old_entries new_entries
+    → Fed old new (take n buffer) old_entries new_entries
     → ((bytes : List ℕ) → HasRead old bytes → (read_so_far old.max_lines (bytes ++ take n buffer)).fault ≡ Some (record { line = line; rule = rule }))
     → IsLogRead old.max_lines before new_rest new.header new_entries (Text line rule)
 reading_breaks before old_rest new_rest old new old_entries new_entries buffer n rounds line rule r gives short fed broken =
@@ -149,8 +149,13 @@ reading_breaks before old_rest new_rest old new old_entries new_entries buffer n
         },
       );
       no_more = λ first more same faulty.
-          omega (arith, begins_later old.max_lines r.taken piece first more r.low r.fine same faulty, length-append r.taken piece,
-            length_piece n buffer gives.within, gives.within);
+          omega (
+            arith,
+            begins_later old.max_lines r.taken piece first more r.low r.fine same faulty,
+            length-append r.taken piece,
+            length_piece n buffer gives.within,
+            gives.within,
+          );
     }
 
 -- at the source's end it stops too
@@ -162,7 +167,7 @@ pub reading_ends : (before old_rest new_rest : Option (List ℕ)) (reader : Read
 reading_ends before old_rest new_rest reader entries buffer rounds stop r gives ended stops =
     let same = whole_same reader.max_lines r.taken in
     let told : IsTaken before r.taken new_rest =
-      subst (λ bytes. IsTaken before bytes new_rest) (no_more_bytes r.taken) (taken_more before old_rest new_rest r.taken [] r.told gives.bytes) in
+    subst (λ bytes. IsTaken before bytes new_rest) (no_more_bytes r.taken) (taken_more before old_rest new_rest r.taken [] r.told gives.bytes) in
     record {
       taken = r.taken;
       told = told;
@@ -176,7 +181,7 @@ reading_ends before old_rest new_rest reader entries buffer rounds stop r gives 
       );
       no_more = λ first more whole faulty.
           let bad : has_fault reader.max_lines r.taken ≡ true = ap (has_fault reader.max_lines) whole
-            ∙ fault_lasts reader.max_lines first more r.low faulty in
+          ∙ fault_lasts reader.max_lines first more r.low faulty in
           absurd (both (has_fault reader.max_lines r.taken) bad r.fine);
     }
   where

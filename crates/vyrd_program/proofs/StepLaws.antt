@@ -51,7 +51,7 @@ call_is_writable h e fits = by_kind e.kind fits
     by_kind : (kind : Kind) → is_call_of h kind ≡ true → is_writable h.subject (record { caller = e.caller; kind = kind }) ≡ true
     by_kind (Call method args) fits =
         let range : are_args h.size method args
-          ≡ true = second_true (same_subject (subject_of method) h.subject) (are_args h.size method args) fits in
+        ≡ true = second_true (same_subject (subject_of method) h.subject) (are_args h.size method args) fits in
         both_true (same_subject (subject_of method) h.subject) (are_padded (arity_of method) args)
         (first_true (same_subject (subject_of method) h.subject) (are_args h.size method args) fits)
         (first_true (are_padded (arity_of method) args) (not (takes_chunk method) || nat_lt args.a h.size) range)

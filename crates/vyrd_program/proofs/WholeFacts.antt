@@ -39,7 +39,7 @@ lines_same max subject n (line ∷ next ∷ lines) = by_tests (lines_same max su
     at_line : Bool → Bool → Bool → Reading
     at_line whole past is_end = cond past (stopped n (Some TooManyLines))
         (cond is_end (ended (n + 1) (after_end_rule (input_of max whole) (n + 1) next lines))
-          (entry_before n (entry_in subject line) (of_rest whole)))
+        (entry_before n (entry_in subject line) (of_rest whole)))
 
     by_tests : IsSameText (of_rest false) (of_rest true) → (past is_end : Bool) → IsSameText (at_line false past is_end) (at_line true past is_end)
     by_tests s true is_end = same_text (stopped n (Some TooManyLines))
@@ -52,8 +52,11 @@ parts_same max (rest ∷ []) = record { header = refl; entries = refl; ended = r
 parts_same max (line ∷ next ∷ lines) = by_header (header_in line)
   where
     at_header : Bool → Result Header Rule → Reading
-    at_header whole r = elim r as (λ _. Reading) [ Ok h ↦ header_before h
-        (lines_read (input_of max whole) h.subject 2 (next ∷ lines)) | Err rule ↦ stopped 1 (Some rule) ]
+    at_header whole r = elim r as (λ _. Reading) [
+      | Ok h ↦ header_before h
+          (lines_read (input_of max whole) h.subject 2 (next ∷ lines))
+      | Err rule ↦ stopped 1 (Some rule)
+    ]
 
     by_header : (r : Result Header Rule) → IsSameText (at_header false r) (at_header true r)
     by_header (Ok h) = let s = lines_same max h.subject 2 (next ∷ lines) in record { header = refl; entries = s.entries; ended = s.ended }

@@ -1,5 +1,5 @@
 -- What was read of an input, and what it says. Bytes that a source doesn't tell are None.
-use Rattle.std.specs.Prelude.{◌≡◌, ◌⊎◌, ℕ, ◌+◌, ◌≤◌, Bool, true, false, List, [], ◌++◌, length, Option, Some, None, option_map, is_some, IfSome}
+use Rattle.std.specs.Prelude.{◌≡◌, ◌⊎◌, ⊤, ℕ, ◌+◌, ◌≤◌, Bool, true, false, List, [], ◌++◌, length, Option, Some, None, option_map, is_some, IfSome, Result, Ok, Err}
 use Rattle.vyrd_base.specs.declared.header.Header.{Header}
 use Rattle.vyrd_base.specs.declared.log.Entry.{Entry}
 use Rattle.vyrd_base.specs.declared.verdict.Stop.{Stop}
@@ -11,6 +11,8 @@ use Rattle.vyrd_base.specs.Reading.{Reading, reading}
 use Rattle.vyrd_base.specs.Verdicts.{verdict_at}
 use Rattle.vyrd_work.specs.LongInputs.{longest_input}
 use Rattle.vyrd_base.specs.TextVerdicts.{stop_of, text_verdict}
+use Rattle.vyrd_program.specs.declared.reading.ReadFault.{ReadFault}
+use Rattle.vyrd_program.specs.declared.reading.ReadFault.TheVariants.{Failed, Memory}
 
 -- the reading of bytes that may go on, and of the whole input
 abbrev pub read_so_far : ℕ → List ℕ → Reading
@@ -26,6 +28,12 @@ has_fault max bytes = is_some (read_so_far max bytes).fault
 -- how many bytes one read takes at most
 abbrev pub longest_read : ℕ
 longest_read = 65536
+
+-- this holds, unless a read has failed
+abbrev pub UnlessFailed : {A : Type 0} → Result A ReadFault → Type 0 → Type 0
+UnlessFailed (Ok a) P = P
+UnlessFailed (Err Memory) P = P
+UnlessFailed (Err Failed) P = ⊤
 
 -- What a call took of an input, where this is left: all that there was, or so much that a fault of text is in it; and at most
 -- one read more than the shortest beginning with such a fault.

@@ -3,7 +3,6 @@
 ghost use Rattle.std.specs.Prelude.{◌≡◌, ◌≤◌, ◌<◌, ◌⊎◌, true, [], None, IfOk};
 ghost use Rattle.vyrd_base.specs.Devices.{HasRisen};
 ghost use Rattle.vyrd_base.specs.VerdictText.{verdict_text};
-ghost use Rattle.vyrd_base.specs.Verdicts.{verdict_at};
 ghost use Rattle.vyrd_program.specs.Inputs.{verdict_read};
 ghost use Rattle.vyrd_program.specs.Outputs.{status_of};
 ghost use Rattle.vyrd_program.specs.Checks.{IsJudged, IsConsumed};
@@ -26,6 +25,7 @@ pub fn check<S: Source>(alloc: Global, max_lines: u64, source: &mut S) -> Answer
     ensures run { result.run ≡ None }
     ensures spent { result.spent ≡ None }
     ensures cause { result.status ≡ 4 → HasRisen (S.faults source.old) (S.faults source.new) }
+    ensures failures_alone { (S.faults source.new ≡ S.faults source.old) ⊎ (result.status ≡ 4) }
     ensures counted { S.faults source.old ≤ S.faults source.new }
     ensures sure { S.is_sure source.old ≡ true → S.faults source.new ≡ S.faults source.old }
 {

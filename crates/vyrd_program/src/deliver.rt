@@ -11,6 +11,7 @@ pub fn deliver<K: Sink>(sink: &mut K, text: &[u8]) -> Result<(), Failed>
     ensures all { OnOk result (Appends (K.taken sink.old) (K.taken sink.new) text.now) }
     ensures front { OnErr result (AppendsFront (K.taken sink.old) (K.taken sink.new) text.now) }
     ensures cause { OnErr result (HasRisen (K.faults sink.old) (K.faults sink.new)) }
+    ensures failures_alone { OnOk result (K.faults sink.new ≡ K.faults sink.old) }
     ensures counted { K.faults sink.old ≤ K.faults sink.new }
     ensures never { length text.now ≤ K.sure_room sink.old → IsOk result }
     ensures uncounted { length text.now ≤ K.sure_room sink.old → K.faults sink.new ≡ K.faults sink.old }

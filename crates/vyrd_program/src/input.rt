@@ -2,7 +2,7 @@
 
 ghost use Rattle.std.specs.Prelude.{◌≡◌, ◌+◌, ◌≤◌, ◌<◌, true, take, drop, vec_len, IfOk, OnOk, Ok, Err};
 ghost use Rattle.vyrd_base.specs.Devices.{HasRisen, Gives, IsAtEnd};
-ghost use Rattle.vyrd_program.specs.Inputs.{IsInputRead, longest_read};
+ghost use Rattle.vyrd_program.specs.Inputs.{IsInputRead, longest_read, UnlessFailed};
 ghost use Rattle.vyrd_work.specs.LongInputs.{longest_input};
 ghost use Rattle.vyrd_program.specs.declared.reading.ReadFault.TheVariants.{Failed};
 
@@ -19,6 +19,7 @@ const LONGEST_INPUT: usize = 33_554_433;
 pub fn read_input<S: Source>(alloc: Global, source: &mut S) -> Result<Vec<u8>, ReadFault>
     ensures read { IfOk result (λ bytes. IsInputRead (S.rest source.old) (S.rest source.new) bytes.items) }
     ensures failed { result ≡ Err Failed → HasRisen (S.faults source.old) (S.faults source.new) }
+    ensures failures_alone { UnlessFailed result (S.faults source.new ≡ S.faults source.old) }
     ensures counted { S.faults source.old ≤ S.faults source.new }
     ensures sure { S.is_sure source.old ≡ true → S.faults source.new ≡ S.faults source.old }
 {
@@ -67,6 +68,7 @@ fn read_behind<S: Source>(
     ensures front { take count bytes.new.items ≡ take count bytes.old.items }
     ensures len { vec_len bytes.new ≡ vec_len bytes.old }
     ensures failed { result ≡ Err Failed → HasRisen (S.faults source.old) (S.faults source.new) }
+    ensures failures_alone { UnlessFailed result (S.faults source.new ≡ S.faults source.old) }
     ensures counted { S.faults source.old ≤ S.faults source.new }
     ensures sure { S.is_sure source.old ≡ true → S.faults source.new ≡ S.faults source.old }
     ensures stays_sure { S.is_sure source.old ≡ true → S.is_sure source.new ≡ true }

@@ -38,6 +38,7 @@ pub fn live<R: Threads + Wait + Sync, S: Source, G: Gate>(
     ensures consumed { IsLiveStatus result.status → IsInputTaken (S.rest source.old) (S.rest source.new) }
     ensures silent { result.status ≡ 4 ⊎ result.status ≡ 6 → (result.text.items ≡ []) × (result.run ≡ None) × (result.spent ≡ None) }
     ensures cause { result.status ≡ 4 → HasRisen (S.faults source.old) (S.faults source.new) }
+    ensures failures_alone { (S.faults source.new ≡ S.faults source.old) ⊎ (result.status ≡ 4) }
     ensures counted { S.faults source.old ≤ S.faults source.new }
     ensures sure { S.is_sure source.old ≡ true → S.faults source.new ≡ S.faults source.old }
 {

@@ -95,12 +95,14 @@ pub fn vyrd<R: Threads + Wait + Sync, S: Source, K: Sink, G: Gate>(
     ensures no_form { form_said words.now ≡ None → (result.status ≡ 3) ⊎ (result.status ≡ 5) }
     ensures source_untouched { form_said words.now ≡ None → source.new ≡ source.old }
 
-    // 4: a read failed, and nothing was written.
+    // 4, just where a read failed: nothing was written.
     ensures read_fault { result.status ≡ 4 → HasRisen (S.faults source.old) (S.faults source.new) }
+    ensures read_failures_alone { (S.faults source.new ≡ S.faults source.old) ⊎ (result.status ≡ 4) }
     ensures read_fault_silent { result.status ≡ 4 → K.taken sink.new ≡ K.taken sink.old }
 
-    // 5: a write failed, and some of the first bytes of the answer were written.
+    // 5, just where a write failed: some of the first bytes of the answer were written.
     ensures write_fault { result.status ≡ 5 → HasRisen (K.faults sink.old) (K.faults sink.new) }
+    ensures write_failures_alone { (K.faults sink.new ≡ K.faults sink.old) ⊎ (result.status ≡ 5) }
     ensures write_fault_check { result.status ≡ 5 → form_said words.now ≡ Some Check →
         IsAnsweredInPart 1048576 (S.rest source.old) (K.taken sink.old) (K.taken sink.new) }
     ensures write_fault_step { result.status ≡ 5 → (log : Bool) → form_said words.now ≡ Some (Step log) →
@@ -167,6 +169,7 @@ fn give<K: Sink>(sink: &mut K, answer: Answer) -> Ended
     ensures silent { answer.text.items ≡ [] → result.status ≡ answer.status }
     ensures statuses { (result.status ≡ 5) ⊎ (result.status ≡ answer.status) }
     ensures cause { result.status ≡ 5 → answer.status ≢ 5 → HasRisen (K.faults sink.old) (K.faults sink.new) }
+    ensures failures_alone { (K.faults sink.new ≡ K.faults sink.old) ⊎ (result.status ≡ 5) }
     ensures counted { K.faults sink.old ≤ K.faults sink.new }
     ensures sure { length answer.text.items ≤ K.sure_room sink.old → K.faults sink.new ≡ K.faults sink.old }
 {
@@ -189,6 +192,7 @@ fn give_usage<K: Sink>(sink: &mut K) -> Ended
     ensures given { result.status ≡ 3 → Appends (K.taken sink.old) (K.taken sink.new) usage_line }
     ensures in_part { result.status ≡ 5 → AppendsFront (K.taken sink.old) (K.taken sink.new) usage_line }
     ensures cause { result.status ≡ 5 → HasRisen (K.faults sink.old) (K.faults sink.new) }
+    ensures failures_alone { (K.faults sink.new ≡ K.faults sink.old) ⊎ (result.status ≡ 5) }
     ensures counted { K.faults sink.old ≤ K.faults sink.new }
     ensures sure { length usage_line ≤ K.sure_room sink.old → K.faults sink.new ≡ K.faults sink.old }
 {

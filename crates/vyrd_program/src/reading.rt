@@ -4,7 +4,7 @@ ghost use Rattle.std.specs.Prelude.{◌≡◌, ◌≤◌, ◌<◌, ◌+◌, ℕ,
 ghost use Rattle.vyrd_base.specs.Devices.{HasRisen};
 ghost use Rattle.vyrd_base.specs.TextVerdicts.{stop_of};
 ghost use Rattle.vyrd_text.specs.Readers.{HasRead};
-ghost use Rattle.vyrd_program.specs.Inputs.{IsLogRead, read_whole, longest_read};
+ghost use Rattle.vyrd_program.specs.Inputs.{IsLogRead, read_whole, longest_read, UnlessFailed};
 ghost use Rattle.vyrd_program.specs.Progress.{IsReading};
 ghost use Rattle.vyrd_program.specs.declared.reading.ReadFault.TheVariants.{Failed, Memory};
 
@@ -50,6 +50,7 @@ pub fn read_log<S: Source>(
     requires high { max_lines ≤ 268435456 }
     ensures read { IfOk result (λ log. IsLogRead max_lines (S.rest source.old) (S.rest source.new) log.header log.entries.items log.stop) }
     ensures failed { result ≡ Err Failed → HasRisen (S.faults source.old) (S.faults source.new) }
+    ensures failures_alone { UnlessFailed result (S.faults source.new ≡ S.faults source.old) }
     ensures counted { S.faults source.old ≤ S.faults source.new }
     ensures sure { S.is_sure source.old ≡ true → S.faults source.new ≡ S.faults source.old }
 {
@@ -91,6 +92,7 @@ fn read_piece<S: Source>(
         IfOk result (λ stop. IfSome stop (IsLogRead reader.old.max_lines before (S.rest source.new) reader.new.header entries.new.items)) }
     ensures limit { reader.new.max_lines ≡ reader.old.max_lines }
     ensures failed { result ≡ Err Failed → HasRisen (S.faults source.old) (S.faults source.new) }
+    ensures failures_alone { UnlessFailed result (S.faults source.new ≡ S.faults source.old) }
     ensures counted { S.faults source.old ≤ S.faults source.new }
     ensures sure { S.is_sure source.old ≡ true → S.faults source.new ≡ S.faults source.old }
     ensures stays_sure { S.is_sure source.old ≡ true → S.is_sure source.new ≡ true }

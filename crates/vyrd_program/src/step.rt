@@ -25,6 +25,7 @@ pub fn step<S: Source>(alloc: Global, log: bool, source: &mut S) -> Answer
     ensures silent { result.status ≡ 4 ⊎ result.status ≡ 6 → (result.text.items ≡ []) × (result.run ≡ None) }
     ensures spent { result.spent ≡ None }
     ensures cause { result.status ≡ 4 → HasRisen (S.faults source.old) (S.faults source.new) }
+    ensures failures_alone { (S.faults source.new ≡ S.faults source.old) ⊎ (result.status ≡ 4) }
     ensures counted { S.faults source.old ≤ S.faults source.new }
     ensures sure { S.is_sure source.old ≡ true → S.faults source.new ≡ S.faults source.old }
 {

@@ -18,10 +18,10 @@ loop-caller-preserved g c =
       made = subst (All (λ m. g.M.Machine.header_of m ≡ c.args.work.now.header)) (sym c.in_ok-push.ensures.items)
           (All-append (λ m. g.M.Machine.header_of m ≡ c.args.work.now.header) before (m ∷ []) c.loop-caller.invariant.made
           (All-cons (λ m. g.M.Machine.header_of m ≡ c.args.work.now.header) m [] c.in_ok-of_caller.ensures.header
-            (All-nil (λ m. g.M.Machine.header_of m ≡ c.args.work.now.header))));
+          (All-nil (λ m. g.M.Machine.header_of m ≡ c.args.work.now.header))));
       scripts = ap (map g.M.Machine.script) c.in_ok-push.ensures.items ∙ map-append g.M.Machine.script before (m ∷ [])
           ∙ ap (λ xs. xs ++ g.M.Machine.script m ∷ []) c.loop-caller.invariant.scripts
           ∙ ap (λ s. map (work_script w) (numbers_below c.loop-caller.caller) ++ s ∷ []) c.in_ok-of_caller.ensures.script
           ∙ sym (ap (map (work_script w)) (numbers_below-push c.loop-caller.caller)
-            ∙ map-append (work_script w) (numbers_below c.loop-caller.caller) (c.loop-caller.caller ∷ []));
+          ∙ map-append (work_script w) (numbers_below c.loop-caller.caller) (c.loop-caller.caller ∷ []));
     }

@@ -8,7 +8,7 @@ returns-in-Ok-answer_to-clause-verdict g c = λ judged.
     record {
       verdict = verdict_read log.header log.entries.items log.stop;
       is_verdict = log_judged c.args.max_lines (g.S.Source.rest c.args.source.now)
-        (g.S.Source.rest c.read_log.new.source) log.header log.entries.items log.stop c.requires.low c.in-Ok.ensures.read;
+          (g.S.Source.rest c.read_log.new.source) log.header log.entries.items log.stop c.requires.low c.in-Ok.ensures.read;
       status_is = c.in-Ok-answer_to.ensures.status;
       text_is = c.in-Ok-answer_to.ensures.text;
     }
@@ -17,4 +17,4 @@ pub returns-in-Ok-answer_to-clause-consumed : goal.returns-in-Ok-answer_to-claus
 returns-in-Ok-answer_to-clause-consumed g c = λ judged.
     let log = c.in-Ok.log in
     log_consumed c.args.max_lines (g.S.Source.rest c.args.source.now)
-      (g.S.Source.rest c.read_log.new.source) log.header log.entries.items log.stop c.in-Ok.ensures.read
+    (g.S.Source.rest c.read_log.new.source) log.header log.entries.items log.stop c.in-Ok.ensures.read

@@ -11,6 +11,7 @@ loop-written-preserved g c =
       within = omega (arith, c.in_ok-written.ensures.taken.within, c.split_at.ensures.back_len);
       taken = appends_next (g.K.Sink.taken c.args.sink.now) (g.K.Sink.taken c.loop-written.sink) (g.K.Sink.taken c.write.new.self) c.args.text.now
           c.loop-written.written c.in_ok-written.field-0 c.loop-written.invariant.taken takes;
+      faults = c.in_ok-written.ensures.failures_alone ∙ c.loop-written.invariant.faults;
       counted = omega (arith, c.loop-written.invariant.counted, c.in_ok-written.ensures.counted);
       sure = λ e. omega (arith, c.loop-written.invariant.sure e, c.in_ok-written.ensures.sure (room e));
       uncounted = λ e. c.in_ok-written.ensures.uncounted (room e) ∙ c.loop-written.invariant.uncounted e;

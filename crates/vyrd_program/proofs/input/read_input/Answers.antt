@@ -16,6 +16,7 @@ loop-count-preserved g c =
       high = omega (arith, c.in_ok-make_room.ensures.high, c.in_ok-n.ensures.len);
       short = omega (arith, c.in_ok-make_room.ensures.short, c.in_ok-n.ensures.len);
       told = told;
+      faults = c.in_ok-n.ensures.failures_alone ∙ c.loop-count.invariant.faults;
       counted = omega (arith, c.loop-count.invariant.counted, c.in_ok-n.ensures.counted);
       sure = λ e. c.in_ok-n.ensures.stays_sure (c.loop-count.invariant.sure e);
       uncounted = λ e. c.in_ok-n.ensures.sure (c.loop-count.invariant.sure e) ∙ c.loop-count.invariant.uncounted e;

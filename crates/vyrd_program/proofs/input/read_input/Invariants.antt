@@ -10,6 +10,7 @@ invariant-loop-count g l = record {
   high : vec_len l.bytes ≤ longest_input;
   short : vec_len l.bytes ≤ l.count + longest_read;
   told : IsTaken (g.S.Source.rest l.fn.source) (take l.count l.bytes.items) (g.S.Source.rest l.source);
+  faults : g.S.Source.faults l.source ≡ g.S.Source.faults l.fn.source;
   counted : g.S.Source.faults l.fn.source ≤ g.S.Source.faults l.source;
   sure : g.S.Source.is_sure l.fn.source ≡ true → g.S.Source.is_sure l.source ≡ true;
   uncounted : g.S.Source.is_sure l.fn.source ≡ true → g.S.Source.faults l.source ≡ g.S.Source.faults l.fn.source;

@@ -25,7 +25,7 @@ returns-in-Some-Gen-clause-write_fault_gen g c = λ failed n is.
     let other : answer.status ≢ 5 = λ e. elim judged [ inl low ↦ omega (arith, low, e) | inr eight ↦ omega (arith, eight, e) ] in
     let same : c.in-Some-Gen.count ≡ n =
     same_count c.in-Some-Gen.count n (sym c.in-Some-Gen.field-0-is
-      ∙ same_form c.in-Some-Gen.field-0 (Gen n) (sym c.in-Some-Gen.is ∙ c.form_of.ensures.form ∙ is)) in
+    ∙ same_form c.in-Some-Gen.field-0 (Gen n) (sym c.in-Some-Gen.is ∙ c.form_of.ensures.form ∙ is)) in
     record {
       status = answer.status;
       text = answer.text.items;

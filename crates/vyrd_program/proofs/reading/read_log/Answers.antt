@@ -8,6 +8,7 @@ loop-round-init g c = record {
   reading = reading_starts (g.S.Source.rest c.args.source.now) c.new-reader.result c.new-entries.result.items
       (omega (arith, c.new-reader.ensures.limit, c.requires.low)) c.new-reader.ensures.read c.new-entries.ensures.items;
   buffer = c.in_ok-buffer.ensures;
+  faults = refl;
   counted = omega arith;
   sure = λ e. e;
   uncounted = λ e. refl;
@@ -17,8 +18,9 @@ pub loop-round-preserved : goal.loop-round-preserved
 loop-round-preserved g c = record {
   limit = c.in_ok-stop.ensures.limit ∙ c.loop-round.invariant.limit;
   reading = rw c.in_default.is at
-    (c.in_ok-stop.ensures.goes_on (g.S.Source.rest c.args.source.now) c.loop-round.round c.loop-round.invariant.reading);
+      (c.in_ok-stop.ensures.goes_on (g.S.Source.rest c.args.source.now) c.loop-round.round c.loop-round.invariant.reading);
   buffer = c.loop-round.invariant.buffer;
+  faults = c.in_ok-stop.ensures.failures_alone ∙ c.loop-round.invariant.faults;
   counted = omega (arith, c.loop-round.invariant.counted, c.in_ok-stop.ensures.counted);
   sure = λ e. c.in_ok-stop.ensures.stays_sure (c.loop-round.invariant.sure e);
   uncounted = λ e. c.in_ok-stop.ensures.sure (c.loop-round.invariant.sure e) ∙ c.loop-round.invariant.uncounted e;
@@ -33,6 +35,6 @@ returns-in-Some-clause-read g c =
 pub unreachable-requires : goal.unreachable-requires
 unreachable-requires g c =
     let few = rounds_end (g.S.Source.rest c.args.source.now)
-      (g.S.Source.rest c.loop-round.source) c.loop-round.reader c.loop-round.entries.items c.loop-round.round
+    (g.S.Source.rest c.loop-round.source) c.loop-round.reader c.loop-round.entries.items c.loop-round.round
     (omega (arith, c.loop-round.invariant.limit, c.requires.high)) c.loop-round.invariant.reading in
     omega (arith, c.loop-round-test.false)

@@ -19,5 +19,5 @@ returns-in-Some-clause-races c =
     let w = workload_of c.in-Ok.work in
     let races = run_names_only_races w c.in-Some.run' c.in-Ok.ensures.limits
     (of_match (GetsStuck (work_scripts w) w.turns)
-      (IsRunByTurns w) c.in_ok-run-in-Ok.field-0 c.in-Some.run' c.in-Some.is c.in_ok-run-in-Ok.ensures) in
+    (IsRunByTurns w) c.in_ok-run-in-Ok.field-0 c.in-Some.run' c.in-Some.is c.in_ok-run-in-Ok.ensures) in
     where_ok c.tell.result c.tell.ensures.run (λ answer is. subst (λ run. IfSome run NamesOnlyRaces) (sym is) races)
