@@ -10,3 +10,5 @@ pub mod HandLaws
 pub mod PlayerLaws
 pub mod Playing
 pub mod Runs
+pub mod Visits
+pub mod VisitLaws

@@ -13,11 +13,13 @@ mod machine;
 mod op;
 mod player;
 mod progress;
+#[cfg(test)]
+mod tests;
 mod turns;
 
 pub use act::Act;
 pub use machine::Machine;
 pub use op::{Op, Turn, Variant};
-pub use player::{MAX_OPS, Player};
+pub use player::Player;
 pub use progress::Progress;
 pub use turns::{Ran, StepFault, run_turns};

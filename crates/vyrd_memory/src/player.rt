@@ -19,9 +19,6 @@ use crate::progress::Progress;
 use std::alloc::{AllocError, Global};
 use vyrd_base::{Header, Kind};
 
-/// The most operations that a player may be given.
-pub const MAX_OPS: usize = 200_000;
-
 /// A machine of one caller: it calls its operations one after the other, each by the procedure of its structure.
 #[derive(Drop)]
 pub struct Player<P: Progress> {
@@ -38,7 +35,8 @@ pub struct Player<P: Progress> {
 }
 
 impl<P: Progress> Player<P> {
-    /// The machine of a caller that will call these operations.
+    /// The machine of a caller that will call these operations, of which there are at most 200,000. It takes memory for a copy
+    /// of them.
     pub fn new(
         alloc: Global,
         header: Header,

@@ -229,3 +229,22 @@ fn four_generated_operations(rt: HostRuntime) -> Result<(), Fail> {
     }
     Ok(())
 }
+
+#[test]
+fn left_between_operations(rt: HostRuntime) -> Result<(), Fail> {
+    let header = Header::new(1, Subject::Multiset, 1, 1).ok_or("a header")?;
+    let ops = [op(Method::MsDelete, 5, 0), op(Method::MsLookup, 5, 0)];
+    let mut machine = MultisetMachine::new(rt.alloc(), header, 0, Variant::Correct, &ops)?;
+    let mut bounds: Vec<(u64, u64)> = Vec::new(rt.alloc());
+    for _ in 0..40 {
+        if machine.between() {
+            bounds.push((machine.left(), machine.op_left()))?;
+        }
+        if machine.wants() == Act::Done {
+            break;
+        }
+        machine.took(0);
+    }
+    assert_eq!(rt; bounds.as_slice(), [(64, 32), (32, 32), (0, 0)].as_slice());
+    Ok(())
+}
