@@ -19,16 +19,12 @@ use Rattle.vyrd_live.specs.Rooms.{HadRoom, StopsForRoom}
 abbrev pub done_by : ℕ → List Stamped → List Did
 done_by c history = part_of c (newest_first history)
 
--- each caller's part is the whole of what its script wants; a caller that has no script does nothing
-abbrev pub AllPlayToTheEnd : List Script → List Stamped → Type 0
-AllPlayToTheEnd scripts history = (c : ℕ) → PlaysToTheEnd (script_of scripts c) (done_by c history)
-
 -- each operation of each caller began with room
 abbrev pub AllHadRoom : Header → ℕ → List Stamped → Type 0
 AllHadRoom h limit history = (c : ℕ) → HadRoom h limit (done_by c history)
 
 -- A run that the limit ended. Each caller either played its script to the end or stopped before an operation that had no room,
--- and of those that stopped so the named caller is the first.
+-- and of those that stopped so the named caller is the least.
 pub record IsOverrun (h : Header) (limit : ℕ) (scripts : List Script) (caller : ℕ) (history : List Stamped) : Type 0 where
   pub each : (c : ℕ) → PlaysToTheEnd (script_of scripts c) (done_by c history) ⊎ StopsForRoom h limit (script_of scripts c) (done_by c history)
   pub in_range : caller < h.callers

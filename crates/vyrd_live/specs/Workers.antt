@@ -4,6 +4,7 @@ use Rattle.vyrd_base.specs.declared.header.Header.{Header}
 use Rattle.vyrd_base.specs.declared.history.Stamped.{Stamped}
 use Rattle.vyrd_memory.specs.Scripts.{Script, is_between}
 use Rattle.vyrd_memory.specs.Bounds.{bounds_of}
+use Rattle.vyrd_memory.specs.Runs.{PlayToTheEnd}
 use Rattle.vyrd_trace.specs.Hands.{TracedView, HandView, IsOf}
 use Rattle.vyrd_work.specs.Workloads.{Workload}
 use Rattle.vyrd_work.specs.WorkScripts.{ops_of, work_script}
@@ -12,7 +13,7 @@ use Rattle.vyrd_live.specs.declared.worker.Ending.TheVariants.{Spent}
 use Rattle.vyrd_live.specs.Endings.{HasEnded}
 use Rattle.std.specs.List.{All}
 use Rattle.vyrd_live.specs.Working.{dids_of, IsMemoryOf}
-use Rattle.vyrd_live.specs.LiveRuns.{AllPlayToTheEnd, AllHadRoom, IsOverrun}
+use Rattle.vyrd_live.specs.LiveRuns.{AllHadRoom, IsOverrun}
 
 -- a machine that hasn't begun, with the hand that it will be played on
 pub record IsFresh {M : Type 0} (header_of : M → Header) (script : M → Script) (traced : TracedView) (machine : M) (hand : HandView) : Type 0 where
@@ -40,7 +41,7 @@ pub record HasWorked {M : Type 0} (header_of : M → Header) (script : M → Scr
 
 -- how workers have played these scripts: all to the end, or until the limit ended the run at this caller
 abbrev pub HavePlayed : Header → ℕ → List Script → List Stamped → Option ℕ → Type 0
-HavePlayed h limit scripts history None = AllPlayToTheEnd scripts history × AllHadRoom h limit history
+HavePlayed h limit scripts history None = PlayToTheEnd scripts history × AllHadRoom h limit history
 HavePlayed h limit scripts history (Some caller) = IsOverrun h limit scripts caller history
 
 -- there is a machine for each caller of the header, and each was made for this header

@@ -1,6 +1,6 @@
 //! Judging a log of any structure.
 
-ghost use Rattle.std.specs.Prelude.{◌≡◌, ◌<◌, ◌^◌, length, IfOk};
+ghost use Rattle.std.specs.Prelude.{◌≡◌, ◌<◌, IfOk};
 ghost use Rattle.vyrd_base.specs.Verdicts.{verdict_at, verdict};
 ghost use Rattle.vyrd_base.specs.Histories.{log_of};
 

@@ -1,17 +1,18 @@
 //! The live run of a workload.
 
-ghost use Rattle.std.specs.Prelude.{◌≡◌, ◌<◌, ◌≤◌, ◌^◌, true, false, map, IfOk, IfErr, IfSome};
+ghost use Rattle.std.specs.Prelude.{◌≡◌, ◌<◌, ◌≤◌, true, map, IfOk, IfErr, IfSome};
 ghost use Rattle.std.specs.List.{All};
 ghost use Rattle.vyrd_base.specs.Places.{newest_first};
 ghost use Rattle.vyrd_base.specs.Histories.{cells_of, is_legal, log_of};
 ghost use Rattle.vyrd_base.specs.Verdicts.{verdict};
 ghost use Rattle.vyrd_memory.specs.Bounds.{bounds_of};
 ghost use Rattle.vyrd_memory.specs.Playing.{memory_after};
+ghost use Rattle.vyrd_memory.specs.Runs.{PlayToTheEnd};
 ghost use Rattle.vyrd_work.specs.Workloads.{workload_of};
 ghost use Rattle.vyrd_work.specs.WorkLimits.{KeepsLimits};
 ghost use Rattle.vyrd_work.specs.WorkScripts.{ops_of, work_scripts};
 ghost use Rattle.vyrd_live.specs.Workers.{IsWorkerOf, HavePlayed};
-ghost use Rattle.vyrd_live.specs.LiveRuns.{AllPlayToTheEnd, AllHadRoom, IsCause, IsTooLow};
+ghost use Rattle.vyrd_live.specs.LiveRuns.{AllHadRoom, IsCause, IsTooLow};
 
 use crate::judging::judged;
 use crate::run::{LiveFault, Overrun, Run};
@@ -44,7 +45,7 @@ pub fn run_live<R: Threads + Wait + Sync, G: Gate>(
     requires limit { limit ≤ 16777216 }
     requires limits { KeepsLimits (workload_of work.now) }
     ensures legal { IfOk result (λ run. is_legal (cells_of work.now.header) run.history.items ≡ true) }
-    ensures parts { IfOk result (λ run. AllPlayToTheEnd (work_scripts (workload_of work.now)) run.history.items) }
+    ensures parts { IfOk result (λ run. PlayToTheEnd (work_scripts (workload_of work.now)) run.history.items) }
     ensures words { IfOk result (λ run. run.words.items ≡ memory_after work.now.header (newest_first run.history.items)) }
     ensures verdict { IfOk result (λ run. run.verdict ≡ verdict work.now.header (log_of run.history.items)) }
     ensures room { IfOk result (λ run. AllHadRoom work.now.header limit run.history.items) }

@@ -1,6 +1,6 @@
 //! A worker: one caller's machine, played on the caller's hand.
 
-ghost use Rattle.std.specs.Prelude.{◌≡◌, ◌≢◌, ◌+◌, ◌<◌, ◌≤◌, ℕ, false, true, length, IfOk, Err};
+ghost use Rattle.std.specs.Prelude.{◌≡◌, ◌≢◌, ◌+◌, ◌<◌, ℕ, false, length, IfOk, Err};
 ghost use Rattle.vyrd_memory.specs.declared.act.Act.TheVariants.{Done};
 ghost use Rattle.vyrd_memory.specs.Scripts.{next_act, after_answer, is_between};
 ghost use Rattle.vyrd_memory.specs.Bounds.{EndsWithin};

@@ -26,7 +26,7 @@ pub(crate) struct Played {
     pub(crate) history: Vec<Stamped>,
     /// The memory at the end.
     pub(crate) words: Vec<u64>,
-    /// The first caller whose next operation had no room, if there is one.
+    /// The least caller whose next operation had no room, if there is one.
     pub(crate) spent: Option<u32>,
 }
 
@@ -86,7 +86,7 @@ fn work_all<R: Threads + Wait + Sync, G: Gate, M: Machine + Send>(
     )
 }
 
-// The first that stopped because its next operation had no room. It is an error where one stopped for want of memory.
+// The least caller that stopped because its next operation had no room. It is an error where one stopped for want of memory.
 fn first_spent(stopped: &[Stopped]) -> Result<Option<u32>, AllocError>
     requires { length stopped.now ≤ 64 }
     ensures { IfOk result (λ first. IsFirstSpent (map (λ s. s.ending) stopped.now) (length stopped.now) first) }
