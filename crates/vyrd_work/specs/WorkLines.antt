@@ -3,7 +3,6 @@ use Rattle.std.specs.Prelude.{ℕ, ◌^◌, Bool, ◌&&◌, nat_lt, nat_le, List
 use Rattle.std.specs.Str.{bytes_eq}
 use Rattle.vyrd_base.specs.declared.header.Header.{Header}
 use Rattle.vyrd_base.specs.declared.subject.Subject.{Subject}
-use Rattle.vyrd_base.specs.declared.subject.Args.{Args}
 use Rattle.vyrd_base.specs.Subjects.{arity_of, are_padded, subject_of, same_subject}
 use Rattle.vyrd_base.specs.Lines.{fields_of, number_of, method_called, args_from, subject_called, header_of}
 use Rattle.vyrd_memory.specs.Arguments.{are_small}
@@ -49,7 +48,7 @@ is_item_of subject (item.Turns t) = nat_lt t.caller (2 ^ 32) && (nat_le 1 t.coun
 abbrev pub guessed_item : Subject → List (List ℕ) → Option Item
 guessed_item subject (word ∷ caller ∷ x ∷ fields) = if bytes_eq word (codes "op")
     then option_map (λ method. item.Op
-      (record { caller = number_of caller; op = record { method = method; args = args_from fields } })) (method_called subject x)
+    (record { caller = number_of caller; op = record { method = method; args = args_from fields } })) (method_called subject x)
     else Some (item.Turns (record { caller = number_of caller; count = number_of x }))
 guessed_item subject _ = None
 

@@ -1,9 +1,7 @@
 //! Laws of a workload's text. Each function does nothing: its contract is the law.
 
-ghost use Rattle.std.specs.Prelude.{◌≡◌, ◌≤◌, ℕ, List, ◌++◌, Ok, false, length};
+ghost use Rattle.std.specs.Prelude.{◌≡◌, ◌≤◌, ℕ, List, ◌++◌, Ok, length};
 ghost use Rattle.std.specs.List.{AllByRecursion};
-ghost use Rattle.vyrd_base.specs.declared.subject.Subject.TheVariants.{Tree};
-ghost use Rattle.vyrd_base.specs.Subjects.{same_subject};
 ghost use Rattle.vyrd_memory.specs.Runs.{AreSoundScripts};
 ghost use Rattle.vyrd_work.specs.WorkScripts.{work_scripts};
 ghost use Rattle.vyrd_work.specs.Workloads.{Workload, lines_of, work_text};

@@ -1,6 +1,6 @@
 //! One line of a workload: what it spells.
 
-ghost use Rattle.std.specs.Prelude.{◌≡◌, ◌&&◌, ℕ, true, List, ◌++◌, codes, nat_le, option_map, IfSome};
+ghost use Rattle.std.specs.Prelude.{◌≡◌, ◌&&◌, true, ◌++◌, codes, nat_le, option_map, IfSome};
 ghost use Rattle.vyrd_base.specs.declared.subject.Subject.{Subject};
 ghost use Rattle.vyrd_work.specs.WorkLines.{begun, begun_in, is_item_of, item_in};
 ghost use Rattle.vyrd_work.specs.Spelled.{IsFirstRead, AreBoundsRead, IsItemRead, IsVariantRead};

@@ -1,7 +1,6 @@
 //! The machine of a workload's caller.
 
 ghost use Rattle.std.specs.Prelude.{◌≡◌, ◌<◌, ◌≤◌, true, length, IfOk};
-ghost use Rattle.vyrd_memory.specs.Soundness.{IsSound, at_rest};
 ghost use Rattle.vyrd_memory.specs.Bounds.{bounds_of};
 ghost use Rattle.vyrd_memory.specs.Players.{are_callable};
 ghost use Rattle.vyrd_work.specs.Workloads.{workload_of};

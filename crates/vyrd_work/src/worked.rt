@@ -1,7 +1,6 @@
 //! Small cases of the definitions. Each function does nothing: its contract has the cases.
 
 ghost use Rattle.std.specs.Prelude.{◌≡◌, codes, [], ◌∷◌, Ok, refl};
-ghost use Rattle.vyrd_base.specs.declared.header.Header.{Header};
 ghost use Rattle.vyrd_base.specs.declared.subject.Subject.TheVariants.{Multiset};
 ghost use Rattle.vyrd_base.specs.declared.subject.Method.TheVariants.{MsInsert, MsInsertPair, MsLookup};
 ghost use Rattle.vyrd_memory.specs.declared.op.Variant.TheVariants.{Correct, Broken};

@@ -3,7 +3,6 @@
 ghost use Rattle.std.specs.Prelude.{◌≡◌, ◌+◌, ◌≤◌, ◌++◌, length, take, flat_map, OnOk, OnErr};
 ghost use Rattle.vyrd_base.specs.Spelling.{ended_line};
 ghost use Rattle.vyrd_work.specs.Workloads.{workload_of, work_text, work_header_line, variant_name, item_line};
-ghost use Rattle.vyrd_work.specs.WorkLimits.{KeepsLimits};
 
 use crate::line::Item;
 use crate::work::{Work, WorkOp};
@@ -12,11 +11,11 @@ use vyrd_base::Header;
 use vyrd_memory::{Turn, Variant};
 use vyrd_text::{LineBuffer, name_of_subject, push_call};
 
-/// Appends the workload's text, which is read as this workload again. A refusal leaves `out` unchanged.
+/// Appends the workload's text. A refusal leaves `out` unchanged.
 ///
-/// The workload keeps its limits. The time and the memory grow with the operations and the lines of turns.
+/// Where the workload keeps its limits, the text is read as this workload again; that is the law `text_is_read`. The time and the
+/// memory grow with the operations and the lines of turns.
 pub fn write_work(work: &Work, out: &mut Vec<u8>) -> Result<(), AllocError>
-    requires { KeepsLimits (workload_of work.now) }
     ensures ok { OnOk result (out.new.items ≡ out.old.items ++ work_text (workload_of work.now)) }
     ensures err { OnErr result (out.new.items ≡ out.old.items) }
 {
