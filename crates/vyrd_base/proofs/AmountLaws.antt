@@ -64,8 +64,10 @@ pub IsAmounts-with_amount : (s : Amounts) (k a : ℕ) → IsAmounts s → IsAmou
 IsAmounts-with_amount s k a is = by_zero (a == 0) refl
   where
     by_zero : (b : Bool) → (a == 0) ≡ b → IsAmounts (cond b (filter (λ entry. not (entry.0 == k)) s) (put nat_cmp k a s))
-    by_zero true e = record { rising = is_sorted-where_key nat_cmp (isnt k) s is.rising;
-        some = kept_filter (λ entry. entry.1 ≢ 0) (λ entry. isnt k entry.0) s is.some }
+    by_zero true e = record {
+      rising = is_sorted-where_key nat_cmp (isnt k) s is.rising;
+      some = kept_filter (λ entry. entry.1 ≢ 0) (λ entry. isnt k entry.0) s is.some;
+    }
     by_zero false e = record { rising = is_sorted-put nat_cmp nat_cmp_total k a s is.rising; some = kept_put k a s (apart_of a 0 e) is.some }
 
 some_same : (x y : ℕ) → ◌≡◌ {A = Option ℕ} (Some x) (Some y) → x ≡ y
@@ -114,7 +116,7 @@ rising_push : (k a : ℕ) (s : Amounts) → AllByRecursion (λ entry. entry.0 < 
 rising_push k a [] all rising = tt
 rising_push k a (e ∷ s) all rising =
     and_true (below_all nat_cmp e.0 (s ++ (k, a) ∷ [])) _ (below_push e.0 k a s all.0 (first_of_and _ _ rising))
-      (rising_push k a s all.1 (second_of_and (below_all nat_cmp e.0 s) _ rising))
+    (rising_push k a s all.1 (second_of_and (below_all nat_cmp e.0 s) _ rising))
 
 some_push : (k a : ℕ) (s : Amounts) → a ≢ 0 → AllSome s → AllSome (s ++ (k, a) ∷ [])
 some_push k a [] some all = (some, tt)

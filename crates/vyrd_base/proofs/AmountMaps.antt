@@ -25,7 +25,7 @@ insert_entry-put k v (e ∷ es) = by_cmp (nat_cmp k e.0) (insert_entry-put k v e
   where
     by_cmp : (o : Ordering) → insert_entry nat_cmp es k v ≡ put nat_cmp k v es
         → match_ordering o ((k, v) ∷ e ∷ es) ((e.0, v) ∷ es) (e ∷ insert_entry nat_cmp es k v)
-          ≡ by_order o ((k, v) ∷ e ∷ es) ((e.0, v) ∷ es) (e ∷ put nat_cmp k v es)
+        ≡ by_order o ((k, v) ∷ e ∷ es) ((e.0, v) ∷ es) (e ∷ put nat_cmp k v es)
     by_cmp Less rest = refl
     by_cmp Equal rest = refl
     by_cmp Greater rest = ap (λ xs. e ∷ xs) rest
@@ -38,7 +38,7 @@ kept_above : (k : ℕ) (es : Amounts) → T (below_all nat_cmp k es) → filter 
 kept_above k [] h = refl
 kept_above k (e ∷ es) h =
     ap (λ b. cond (not b) (e ∷ filter (λ entry. not (entry.0 == k)) es) (filter (λ entry. not (entry.0 == k)) es))
-      (above_isnt k e.0 (first_of_and _ _ h))
+    (above_isnt k e.0 (first_of_and _ _ h))
     ∙ ap (λ xs. e ∷ xs) (kept_above k es (second_of_and (is_lt (nat_cmp k e.0)) _ h))
 
 flip : (k q : ℕ) (b : Bool) → (k == q) ≡ b → (q == k) ≡ b

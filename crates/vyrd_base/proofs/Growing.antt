@@ -64,7 +64,7 @@ once_returned_stays f x y b grows e = ap (λ o. with_reply f o y.reply) grows.ca
 with_reply_decided : {B C : Type 0} (f : Called → ℕ → Option B) (g : Called → ℕ
     → Option C) (called : Option Called) (reply later_reply : Option ℕ) (b : B)
     → ((r : ℕ) → reply ≡ Some r → later_reply ≡ Some r) → with_reply f called reply ≡ Some b
-      → with_reply g called later_reply ≡ with_reply g called reply
+    → with_reply g called later_reply ≡ with_reply g called reply
 with_reply_decided f g None reply later_reply b stays e = refl
 with_reply_decided f g (Some x) None later_reply b stays e = cc
 with_reply_decided f g (Some x) (Some r) later_reply b stays e = ap (λ o. option_and_then (g x) o) (stays r refl)
@@ -82,10 +82,12 @@ states_stay state [] (y ∷ ys) h = ((elim (state_after state y) [ None ↦ [] |
 states_stay state (x ∷ xs) [] h = absurd h
 states_stay state (x ∷ xs) (y ∷ ys) h =
     (elim (state_after state x) as (λ o. state_after state x ≡ o
-      → (more : List Amounts) × (states_from state (y ∷ ys) ≡ state ∷ (elim o [ None ↦ [] | Some next ↦ states_from next xs ]) ++ more)) [
+    → (more : List Amounts) × (states_from state (y ∷ ys) ≡ state ∷ (elim o [ None ↦ [] | Some next ↦ states_from next xs ]) ++ more)) [
       | None ↦ λ e. ((elim (state_after state y) [ None ↦ [] | Some next ↦ states_from next ys ]), refl)
       | Some next ↦ λ e.
-          let rest = states_stay next xs ys h.1 in
-          (rest.0, ap (λ o. state ∷ (elim o as (λ _. List Amounts) [ None ↦ [] | Some n ↦ states_from n ys ]))
-            (once_returned_stays (λ called reply. next_state called.method called.args reply state) x y next h.0 e) ∙ ap (λ ss. state ∷ ss) rest.1)
+          let rest = states_stay next xs ys h.1 in (
+            rest.0,
+            ap (λ o. state ∷ (elim o as (λ _. List Amounts) [ None ↦ [] | Some n ↦ states_from n ys ]))
+                (once_returned_stays (λ called reply. next_state called.method called.args reply state) x y next h.0 e) ∙ ap (λ ss. state ∷ ss) rest.1,
+          )
     ]) refl

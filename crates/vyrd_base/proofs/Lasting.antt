@@ -43,7 +43,7 @@ no_fault_beyond h states earlier (x ∷ xs) short =
     let here = no_state_no_fault h states place x.kind (slice_get_past states (commit_count earlier) short) in
     let grown : commit_count earlier ≤ commit_count (x ∷ earlier) = omega (arith, commit_count-cons x earlier) in
     ap (λ o. option_or (option_map (Violation (line_of (position_of place))) o)
-      (first_answer (violation_at h states) (places_after (x ∷ earlier) xs))) here
+    (first_answer (violation_at h states) (places_after (x ∷ earlier) xs))) here
     ∙ no_fault_beyond h states (x ∷ earlier) xs (omega arith)
 
 -- one more commit, and how many there are then
@@ -65,7 +65,7 @@ unfolding fault_at
 first_fault_lasts h earlier [] later pre states more s v counts are found = cc
 first_fault_lasts h earlier (x ∷ xs) later pre states more s v counts are found =
     here (λ pre' s' counts' are' found'. first_fault_lasts h (x ∷ earlier) xs later pre' states more s' v counts' are' found')
-      (fault_of_kind h states place x.kind) refl found
+    (fault_of_kind h states place x.kind) refl found
   where
     place : Place Entry
     place = record { earlier = earlier; here = x; later = xs }
@@ -98,21 +98,30 @@ first_fault_lasts h earlier (x ∷ xs) later pre states more s v counts are foun
 
     at_commit : Onward → is_commit x.kind ≡ true → states ≡ pre ++ states_from s (committed_at place ∷ commits_after (x ∷ earlier) xs)
         → fault_of_kind h states place x.kind ≡ None → rest ≡ Some v → (o : Option Amounts)
-          → state_after s (committed_at place) ≡ o → option_or (with_line new) new_rest ≡ Some v
+        → state_after s (committed_at place) ≡ o → option_or (with_line new) new_rest ≡ Some v
     at_commit onward is_one are' none found' None after =
         let ended : states ≡ pre ++ s ∷ [] = are'
-          ∙ ap (λ o. pre ++ s ∷ (elim o as
-          (λ _. List Amounts) [ None ↦ [] | Some next ↦ states_from next (commits_after (x ∷ earlier) xs) ])) after in
-        let short : length states ≤ commit_count (x ∷ earlier) = omega (arith, ap length ended, length-append pre (s ∷ []),
-          counted (commit_count earlier) (is_commit x.kind) is_one, commit_count-cons x earlier) in
+        ∙ ap (λ o. pre ++ s ∷ (elim o as
+        (λ _. List Amounts) [ None ↦ [] | Some next ↦ states_from next (commits_after (x ∷ earlier) xs) ])) after in
+        let short : length states ≤ commit_count (x ∷ earlier) = omega (
+          arith,
+          ap length ended,
+          length-append pre (s ∷ []),
+          counted (commit_count earlier) (is_commit x.kind) is_one,
+          commit_count-cons x earlier,
+        ) in
         let beyond = no_fault_beyond h states (x ∷ earlier) xs short in
         cc
     at_commit onward is_one are' none found' (Some next) after =
         let go_on : states ≡ (pre ++ s ∷ []) ++ states_from next (commits_after (x ∷ earlier) xs) =
         are' ∙ ap (λ o. pre ++ s ∷ (elim o as (λ _. List Amounts) [ None ↦ [] | Some n ↦ states_from n (commits_after (x ∷ earlier) xs) ])) after
         ∙ sym (append_assoc pre (s ∷ []) (states_from next (commits_after (x ∷ earlier) xs))) in
-        let long : length (pre ++ s ∷ []) ≡ commit_count (x ∷ earlier) = omega (arith, length-append pre (s ∷ []),
-          counted (commit_count earlier) (is_commit x.kind) is_one, commit_count-cons x earlier) in
+        let long : length (pre ++ s ∷ []) ≡ commit_count (x ∷ earlier) = omega (
+          arith,
+          length-append pre (s ∷ []),
+          counted (commit_count earlier) (is_commit x.kind) is_one,
+          commit_count-cons x earlier,
+        ) in
         lead_on (commit_decided h states more place later x.kind s next known after is_one ∙ none) (onward (pre ++ s ∷ []) next long go_on found')
 
     by_kind : Onward → fault_of_kind h states place x.kind ≡ None → rest ≡ Some v → (b : Bool) → is_commit x.kind ≡ b
@@ -123,7 +132,7 @@ first_fault_lasts h earlier (x ∷ xs) later pre states more s v counts are foun
         (are ∙ ap (λ b. pre ++ states_from s (cons_option (then_some b (committed_at place)) (commits_after (x ∷ earlier) xs))) isnt) found')
     by_kind onward none found' true is_one =
         at_commit onward is_one (are ∙ ap (λ b. pre
-          ++ states_from s (cons_option (then_some b (committed_at place)) (commits_after (x ∷ earlier) xs))) is_one)
+        ++ states_from s (cons_option (then_some b (committed_at place)) (commits_after (x ∷ earlier) xs))) is_one)
         none found' (state_after s (committed_at place)) refl
 
     here : Onward → (o : Option Why) → fault_of_kind h states place x.kind ≡ o → option_or (with_line o) rest ≡ Some v

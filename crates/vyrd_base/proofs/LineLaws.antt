@@ -48,8 +48,11 @@ args_2 args e small =
     λ i. record { a = number_of_decimal args.a small.a i; b = number_of_decimal args.b small.b i; c = sym c_is i }
 
 args_3 : (args : Args) → Small args → args_from (decimal args.a ∷ decimal args.b ∷ decimal args.c ∷ []) ≡ args
-args_3 args small = λ i. record { a = number_of_decimal args.a small.a i; b = number_of_decimal args.b small.b i;
-    c = number_of_decimal args.c small.c i }
+args_3 args small = λ i. record {
+  a = number_of_decimal args.a small.a i;
+  b = number_of_decimal args.b small.b i;
+  c = number_of_decimal args.c small.c i;
+}
 
 -- what the range test of a call says
 module _ (same padded : Bool) (args : Args)
@@ -134,11 +137,11 @@ plain_args method args small = plain_take (arity_of method) (args.a ∷ args.b �
 plain_kind : (subject : Subject) (kind : Kind) → is_kind_of subject kind ≡ true → list_all is_plain_field (kind_fields kind) ≡ true
 plain_kind subject (Call method args) e =
     both_true _ _ (plain_name method)
-      (plain_args method args (small_of (same_subject (subject_of method) subject) (are_padded (arity_of method) args) args e))
+    (plain_args method args (small_of (same_subject (subject_of method) subject) (are_padded (arity_of method) args) args e))
 plain_kind subject (Return reply) e = both_true _ _ (plain_number reply (below_64 reply e)) refl
 plain_kind subject (Write word value) e =
     both_true _ _ (plain_number word (below_32 word (first_true _ _ e)))
-      (both_true _ _ (plain_number value (below_64 value (second_true (nat_lt word (2 ^ 32)) _ e))) refl)
+    (both_true _ _ (plain_number value (below_64 value (second_true (nat_lt word (2 ^ 32)) _ e))) refl)
 plain_kind subject Commit e = refl
 plain_kind subject BlockOpen e = refl
 plain_kind subject BlockClose e = refl
@@ -148,7 +151,7 @@ pub plain_entry : (subject : Subject) (e : Entry) → is_entry_of subject e ≡ 
     → list_all is_plain_field (decimal e.caller ∷ kind_fields e.kind) ≡ true
 plain_entry subject e is =
     both_true _ _ (plain_number e.caller (below_32 e.caller (first_true _ _ is)))
-      (plain_kind subject e.kind (second_true (nat_lt e.caller (2 ^ 32)) _ is))
+    (plain_kind subject e.kind (second_true (nat_lt e.caller (2 ^ 32)) _ is))
 
 -- an entry's line is one line
 pub entry_line_whole : (subject : Subject) (e : Entry) → is_entry_of subject e ≡ true → lacks 10 (entry_line e) ≡ true
@@ -165,7 +168,7 @@ entry_in-entry_line subject e is =
     let guess : guessed_entry subject (fields_of (entry_line e)) ≡ Some e =
     ap (guessed_entry subject) fields
     ∙ ap (option_map (λ kind. record { caller = number_of (decimal e.caller); kind = kind }))
-      (kind_guess subject e.kind (second_true (nat_lt e.caller (2 ^ 32)) _ is))
+    (kind_guess subject e.kind (second_true (nat_lt e.caller (2 ^ 32)) _ is))
     ∙ ap (λ c. Some (record { caller = c; kind = e.kind })) (number_of_decimal e.caller (below_32 e.caller (first_true _ _ is))) in
     ap (option_and_then (λ x. cond (is_entry_of subject x && bytes_eq (entry_line x) (entry_line e)) (Some x) None)) guess
     ∙ ap (λ b. cond b (Some e) None) (both_true _ _ is (bytes_same (entry_line e)))

@@ -68,11 +68,11 @@ fewer (suc n) (x ∷ numbers) =
 short_kind : (subject : Subject) (kind : Kind) → is_kind_of subject kind ≡ true → spaced_length (kind_fields kind) ≤ 52
 short_kind subject (Call method args) e =
     let a = short_32 args.a (second_true (same_subject (subject_of method) subject && are_padded (arity_of method) args) _
-      (first_true _ _ (first_true _ _ e))) in
+    (first_true _ _ (first_true _ _ e))) in
     let b = short_32 args.b (second_true (same_subject (subject_of method) subject && are_padded (arity_of method) args
-      && nat_lt args.a (2 ^ 32)) _ (first_true _ _ e)) in
+    && nat_lt args.a (2 ^ 32)) _ (first_true _ _ e)) in
     let c = short_32 args.c (second_true (same_subject (subject_of method) subject && are_padded (arity_of method) args
-      && nat_lt args.a (2 ^ 32) && nat_lt args.b (2 ^ 32)) _ e) in
+    && nat_lt args.a (2 ^ 32) && nat_lt args.b (2 ^ 32)) _ e) in
     omega (arith, short_name method, fewer (arity_of method) (args.a ∷ args.b ∷ args.c ∷ []), a, b, c)
 short_kind subject (Return reply) e = omega (arith, short_64 reply e)
 short_kind subject (Write word value) e =
@@ -137,9 +137,9 @@ long_spelled line version (Some subject) size callers long =
     by_test false e = refl
     by_test true e =
         let same = (bytes_eq-Decides (header_line version subject size callers) line).0
-          (second_true (nat_lt version (2 ^ 32) && is_sized size callers) _ e) in
+        (second_true (nat_lt version (2 ^ 32) && is_sized size callers) _ e) in
         let short = short_header version subject size callers (first_true _ _ (first_true _ _ e))
-          (second_true (nat_lt version (2 ^ 32)) _ (first_true _ _ e)) in
+        (second_true (nat_lt version (2 ^ 32)) _ (first_true _ _ e)) in
         absurd (omega (arith, ap length same, short))
 
 long_from : (line : List ℕ) (fields : List (List ℕ)) → 64 < length line → header_from line fields ≡ Err BadHeader

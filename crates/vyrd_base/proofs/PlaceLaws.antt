@@ -12,9 +12,9 @@ pub first_answer-append : {A B : Type 0} (f : A → Option B) (xs ys : List A)
 first_answer-append f [] ys = refl
 first_answer-append f (x ∷ xs) ys = elim (f x) as (λ o. option_or o (first_answer f (xs ++ ys))
     ≡ option_or (option_or o (first_answer f xs)) (first_answer f ys)) [
-  | None ↦ first_answer-append f xs ys
-  | Some b ↦ refl
-]
+      | None ↦ first_answer-append f xs ys
+      | Some b ↦ refl
+    ]
 
 pub places_after-append : {A : Type 0} (earlier xs ys : List A)
     → places_after earlier (xs ++ ys) ≡ map (with_later ys) (places_after earlier xs) ++ places_after (newest_first_onto earlier xs) ys

@@ -64,7 +64,7 @@ split_longer p [] ys = longer_nothing (slice_split p ys) (some_parts p ys)
 split_longer p (x ∷ xs) ys =
     let rest = split_longer p xs ys in
     elim (p x) as (λ b. Longer (cond b ([] ∷ slice_split p xs) (onto_first x (slice_split p xs)))
-      (cond b ([] ∷ slice_split p (xs ++ ys)) (onto_first x (slice_split p (xs ++ ys))))) [
+    (cond b ([] ∷ slice_split p (xs ++ ys)) (onto_first x (slice_split p (xs ++ ys))))) [
       | true ↦ longer_cons (slice_split p xs) (slice_split p (xs ++ ys)) rest
       | false ↦ longer_onto x (slice_split p xs) (slice_split p (xs ++ ys)) rest
     ]
@@ -151,16 +151,16 @@ unfinished_stays : (max n : ℕ) (whole : Bool) (bad rule : Rule) (rest more : L
 unfinished_stays max n whole bad rule rest more (past some limit is) =
     let longer : 0 < length (rest ++ more) = omega (arith, length-append rest more) in
     ap (λ b. cond b (Some TooManyLines)
-      (cond (nat_lt 64 (length (rest ++ more))) (Some bad) (cond (has_any (rest ++ more) && whole) (Some NoLineFeed) (cond whole (Some NoEnd) None))))
+    (cond (nat_lt 64 (length (rest ++ more))) (Some bad) (cond (has_any (rest ++ more) && whole) (Some NoLineFeed) (cond whole (Some NoEnd) None))))
     (is_some_length (rest ++ more) (nat_lt max n) longer limit)
     ∙ ap Some (sym is)
 unfinished_stays max n whole bad rule rest more (long many limit is) =
     let longer : 64 < length (rest ++ more) = omega (arith, length-append rest more) in
     ap (λ b. cond b (Some TooManyLines)
-      (cond (nat_lt 64 (length (rest ++ more))) (Some bad) (cond (has_any (rest ++ more) && whole) (Some NoLineFeed) (cond whole (Some NoEnd) None))))
+    (cond (nat_lt 64 (length (rest ++ more))) (Some bad) (cond (has_any (rest ++ more) && whole) (Some NoLineFeed) (cond whole (Some NoEnd) None))))
     (no_first (rest ++ more) (nat_lt max n) limit)
     ∙ ap (λ b. cond b (Some bad) (cond (has_any (rest ++ more) && whole) (Some NoLineFeed) (cond whole (Some NoEnd) None)))
-      (is_below 64 (length (rest ++ more)) longer)
+    (is_below 64 (length (rest ++ more)) longer)
     ∙ ap Some (sym is)
 
 -- and as it is finished
@@ -169,7 +169,7 @@ finished_stays : (max n : ℕ) (whole : Bool) (subject : Subject) (rule : Rule) 
     → lines_read (input_of max whole) subject n ((rest ++ more) ∷ next ∷ lines) ≡ stopped n (Some rule)
 finished_stays max n whole subject rule rest more next lines (past some limit is) =
     ap (λ b. cond b (stopped n (Some TooManyLines))
-      (cond (bytes_eq (rest ++ more) end_line) (ended (n + 1) (after_end_rule (input_of max whole) (n + 1) next lines))
+    (cond (bytes_eq (rest ++ more) end_line) (ended (n + 1) (after_end_rule (input_of max whole) (n + 1) next lines))
     (entry_before n (entry_in subject (rest ++ more)) (lines_read (input_of max whole) subject (n + 1) (next ∷ lines))))) limit
     ∙ ap (λ r. stopped n (Some r)) (sym is)
 finished_stays max n whole subject rule rest more next lines (long many limit is) =
@@ -177,7 +177,7 @@ finished_stays max n whole subject rule rest more next lines (long many limit is
     let onward = lines_read (input_of max whole) subject (n + 1) (next ∷ lines) in
     let end = ended (n + 1) (after_end_rule (input_of max whole) (n + 1) next lines) in
     ap (λ b. cond b (stopped n (Some TooManyLines))
-      (cond (bytes_eq (rest ++ more) end_line) end (entry_before n (entry_in subject (rest ++ more)) onward))) limit
+    (cond (bytes_eq (rest ++ more) end_line) end (entry_before n (entry_in subject (rest ++ more)) onward))) limit
     ∙ ap (λ b. cond b end (entry_before n (entry_in subject (rest ++ more)) onward)) (long_isnt_end (rest ++ more) longer)
     ∙ ap (λ o. entry_before n o onward) (long_entry subject (rest ++ more) longer)
     ∙ ap (λ r. stopped n (Some r)) (sym is)
@@ -196,7 +196,7 @@ after_end_stays max n whole next (p ∷ ps) q [] rule h e = absurd (no_next p ps
     no_next p (x ∷ ps) h = h
 after_end_stays max n whole next (p ∷ ps) q (q2 ∷ qs) rule h e =
     ap (λ b. first_broken ((b && nat_lt max n breaks TooManyLines) ∷ (b breaks AfterEnd) ∷ [])) (any_right (has_any q)
-      ∙ sym (any_right (has_any next))) ∙ e
+    ∙ sym (any_right (has_any next))) ∙ e
   where
     any_right : (b : Bool) → (b || true) ≡ true
     any_right true = refl
@@ -204,7 +204,7 @@ after_end_stays max n whole next (p ∷ ps) q (q2 ∷ qs) rule h e =
 
 line_grown : (n : ℕ) (past is_end : Bool) (end end' onward onward' : Reading) → Grown end end' → Grown onward onward'
     → Grown (cond past (stopped n (Some TooManyLines)) (cond is_end end onward))
-      (cond past (stopped n (Some TooManyLines)) (cond is_end end' onward'))
+    (cond past (stopped n (Some TooManyLines)) (cond is_end end' onward'))
 line_grown n true is_end end end' onward onward' g h = same_grown (stopped n (Some TooManyLines))
 line_grown n false true end end' onward onward' g h = g
 line_grown n false false end end' onward onward' g h = h
@@ -224,12 +224,12 @@ lines_grow max whole subject n [] qs h = absurd h
 lines_grow max whole subject n (rest ∷ []) [] h = absurd h
 lines_grow max whole subject n (rest ∷ []) (q ∷ []) h =
     subst (λ line. Grown (stopped n (unfinished_rule (so_far max) n BadEntry rest))
-      (stopped n (unfinished_rule (input_of max whole) n BadEntry line))) (sym h.1)
+    (stopped n (unfinished_rule (input_of max whole) n BadEntry line))) (sym h.1)
     (stopped_grown n (unfinished_rule (so_far max) n BadEntry rest) (stopped n (unfinished_rule (input_of max whole) n BadEntry (rest ++ h.0)))
     (λ rule e. ap (stopped n) (unfinished_stays max n whole BadEntry rule rest h.0 (unfinished_known max n BadEntry rule rest e) ∙ sym e)))
 lines_grow max whole subject n (rest ∷ []) (q ∷ next ∷ qs) h =
     subst (λ line. Grown (stopped n (unfinished_rule (so_far max) n BadEntry rest))
-      (lines_read (input_of max whole) subject n (line ∷ next ∷ qs))) (sym h.1)
+    (lines_read (input_of max whole) subject n (line ∷ next ∷ qs))) (sym h.1)
     (stopped_grown n (unfinished_rule (so_far max) n BadEntry rest) (lines_read (input_of max whole) subject n ((rest ++ h.0) ∷ next ∷ qs))
     (λ rule e. finished_stays max n whole subject rule rest h.0 next qs (unfinished_known max n BadEntry rule rest e) ∙ ap (stopped n) (sym e)))
 lines_grow max whole subject n (p ∷ next ∷ ps) [] h = absurd h
@@ -239,11 +239,11 @@ lines_grow max whole subject n (p ∷ next ∷ ps) (q ∷ q2 ∷ qs) h =
     (line_grown n (nat_lt max n) (bytes_eq p end_line)
     (ended (n + 1) (after_end_rule (so_far max) (n + 1) next ps)) (ended (n + 1) (after_end_rule (input_of max whole) (n + 1) q2 qs))
     (entry_before n (entry_in subject p) (lines_read (so_far max) subject (n + 1) (next ∷ ps)))
-      (entry_before n (entry_in subject p) (lines_read (input_of max whole) subject (n + 1) (q2 ∷ qs)))
+    (entry_before n (entry_in subject p) (lines_read (input_of max whole) subject (n + 1) (q2 ∷ qs)))
     (end_grown (n + 1) (after_end_rule (so_far max) (n + 1) next ps) (after_end_rule (input_of max whole) (n + 1) q2 qs)
-      (λ rule e. after_end_stays max (n + 1) whole next ps q2 qs rule h.1 e))
+    (λ rule e. after_end_stays max (n + 1) whole next ps q2 qs rule h.1 e))
     (entry_grown n (entry_in subject p) (lines_read (so_far max) subject (n + 1) (next ∷ ps))
-      (lines_read (input_of max whole) subject (n + 1) (q2 ∷ qs))
+    (lines_read (input_of max whole) subject (n + 1) (q2 ∷ qs))
     (lines_grow max whole subject (n + 1) (next ∷ ps) (q2 ∷ qs) h.1)))
 
 -- the same, with the header
@@ -268,8 +268,11 @@ finished_header : (max : ℕ) (whole : Bool) (rule : Rule) (rest more next : Lis
 finished_header max whole rule rest more next lines low (past some limit is) = absurd (in_limit max low limit)
 finished_header max whole rule rest more next lines low (long many limit is) =
     let longer : 64 < length (rest ++ more) = omega (arith, length-append rest more) in
-    ap (λ r. elim r as (λ _. Reading) [ Ok h ↦ header_before h
-      (lines_read (input_of max whole) h.subject 2 (next ∷ lines)) | Err x ↦ stopped 1 (Some x) ]) (long_header (rest ++ more) longer)
+    ap (λ r. elim r as (λ _. Reading) [
+      | Ok h ↦ header_before h
+          (lines_read (input_of max whole) h.subject 2 (next ∷ lines))
+      | Err x ↦ stopped 1 (Some x)
+    ]) (long_header (rest ++ more) longer)
     ∙ ap (λ r. stopped 1 (Some r)) (sym is)
 
 text_grow : (max : ℕ) (whole : Bool) (ps qs : List (List ℕ)) → 1 ≤ max → Longer ps qs
@@ -278,25 +281,31 @@ text_grow max whole [] qs low h = absurd h
 text_grow max whole (rest ∷ []) [] low h = absurd h
 text_grow max whole (rest ∷ []) (q ∷ []) low h =
     subst (λ line. TextGrown (stopped 1 (unfinished_rule (so_far max) 1 BadHeader rest))
-      (stopped 1 (unfinished_rule (input_of max whole) 1 BadHeader line))) (sym h.1)
+    (stopped 1 (unfinished_rule (input_of max whole) 1 BadHeader line))) (sym h.1)
     (stopped_text 1 (unfinished_rule (so_far max) 1 BadHeader rest) (stopped 1 (unfinished_rule (input_of max whole) 1 BadHeader (rest ++ h.0)))
     (λ rule e. ap (stopped 1) (unfinished_stays max 1 whole BadHeader rule rest h.0 (unfinished_known max 1 BadHeader rule rest e) ∙ sym e)))
 text_grow max whole (rest ∷ []) (q ∷ next ∷ qs) low h =
     subst (λ line. TextGrown (stopped 1 (unfinished_rule (so_far max) 1 BadHeader rest))
-      (text_read (input_of max whole) (line ∷ next ∷ qs))) (sym h.1)
+    (text_read (input_of max whole) (line ∷ next ∷ qs))) (sym h.1)
     (stopped_text 1 (unfinished_rule (so_far max) 1 BadHeader rest) (text_read (input_of max whole) ((rest ++ h.0) ∷ next ∷ qs))
     (λ rule e. finished_header max whole rule rest h.0 next qs low (unfinished_known max 1 BadHeader rule rest e) ∙ ap (stopped 1) (sym e)))
 text_grow max whole (p ∷ next ∷ ps) [] low h = absurd h
 text_grow max whole (p ∷ next ∷ ps) (q ∷ []) low h = absurd (no_parts next ps h.1)
 text_grow max whole (p ∷ next ∷ ps) (q ∷ q2 ∷ qs) low h =
     subst (λ line. TextGrown (text_read (so_far max) (p ∷ next ∷ ps)) (text_read (input_of max whole) (line ∷ q2 ∷ qs))) (sym h.0)
-      (by_header (header_in p))
+    (by_header (header_in p))
   where
     by_header : (r : Result Header Rule)
-        → TextGrown (elim r as (λ _. Reading) [ Ok x ↦ header_before x
-          (lines_read (so_far max) x.subject 2 (next ∷ ps)) | Err rule ↦ stopped 1 (Some rule) ])
-        (elim r as (λ _. Reading) [ Ok x ↦ header_before x
-          (lines_read (input_of max whole) x.subject 2 (q2 ∷ qs)) | Err rule ↦ stopped 1 (Some rule) ])
+        → TextGrown (elim r as (λ _. Reading) [
+          | Ok x ↦ header_before x
+              (lines_read (so_far max) x.subject 2 (next ∷ ps))
+          | Err rule ↦ stopped 1 (Some rule)
+        ])
+        (elim r as (λ _. Reading) [
+          | Ok x ↦ header_before x
+              (lines_read (input_of max whole) x.subject 2 (q2 ∷ qs))
+          | Err rule ↦ stopped 1 (Some rule)
+        ])
     by_header (Ok x) = header_grown x (lines_read (so_far max) x.subject 2 (next ∷ ps))
         (lines_read (input_of max whole) x.subject 2 (q2 ∷ qs)) (lines_grow max whole x.subject 2 (next ∷ ps) (q2 ∷ qs) h.1)
     by_header (Err rule) = record { grown = same_grown (stopped 1 (Some rule)); header = λ x e. e }
@@ -320,13 +329,13 @@ known_stays old new v g found = by_fault old.fault refl
     by_fault (Some f) e = ap known_verdict (g.grown.fault f e) ∙ found
     by_fault None e = option_and_then_some (entries_verdict old) old.header v
         (or_known (option_and_then (entries_verdict old) old.header) v
-          (sym (ap (λ o. option_or (option_and_then (entries_verdict old) old.header)
-          (option_map (λ fault. Malformed fault.line fault.rule) o)) e) ∙ found))
+        (sym (ap (λ o. option_or (option_and_then (entries_verdict old) old.header)
+        (option_map (λ fault. Malformed fault.line fault.rule) o)) e) ∙ found))
         (λ h has wrong.
         ap (λ o. option_or (option_and_then (entries_verdict new) o)
-          (option_map (λ fault. Malformed fault.line fault.rule) new.fault)) (g.header h has)
+        (option_map (λ fault. Malformed fault.line fault.rule) new.fault)) (g.header h has)
         ∙ ap (λ o. option_or o (option_map (λ fault. Malformed fault.line fault.rule) new.fault))
-          (by_entries h (verdict_so_far h old.entries) refl wrong))
+        (by_entries h (verdict_so_far h old.entries) refl wrong))
       where
         at_end : (h : Header) (b : Bool) → old.ended ≡ b → cond b (end_verdict h old.entries) None ≡ Some v
             → verdict_so_far h old.entries ≡ None → entries_verdict new h ≡ Some v
@@ -342,7 +351,7 @@ known_stays old new v g found = by_fault old.fault refl
         by_entries h (Some x) has w =
             let more = g.grown.entries e in
             ap (λ o. option_or o (cond new.ended (end_verdict h new.entries) None)) (ap (verdict_so_far h) more.1
-              ∙ verdict_lasts h old.entries more.0 x has) ∙ w
+            ∙ verdict_lasts h old.entries more.0 x has) ∙ w
 
 -- a verdict about bytes that stands stands for all longer bytes
 pub text_verdict_lasts : (max : ℕ) (bytes more : List ℕ) (v : Verdict) → 1 ≤ max → text_verdict_so_far max bytes ≡ Some v

@@ -44,7 +44,7 @@ module _ (input : Input) (subject : Subject) where
       let rest = lines_read input subject (n + 1) (next ∷ lines) in
       let end : Reading = ended (n + 1) (after_end_rule input (n + 1) next lines) in
       ap (λ b. cond b (stopped n (Some TooManyLines))
-        (cond (bytes_eq (entry_line e) end_line) end (entry_before n (entry_in subject (entry_line e)) rest))) (within_lines n input.max_lines within)
+      (cond (bytes_eq (entry_line e) end_line) end (entry_before n (entry_in subject (entry_line e)) rest))) (within_lines n input.max_lines within)
       ∙ ap (λ b. cond b end (entry_before n (entry_in subject (entry_line e)) rest)) (entry_line_isnt_end e)
       ∙ ap (λ o. entry_before n o rest) (entry_in-entry_line subject e is)
 
@@ -56,7 +56,7 @@ module _ (input : Input) (subject : Subject) where
       one_line n e end_line ([] ∷ []) (omega arith) all.0 ∙ ap (entry_before n (Some e)) (tail_read (n + 1) [] (omega arith) all.1)
   tail_read n (e ∷ next ∷ entries) within all =
       one_line n e (entry_line next) (tail_lines entries) (omega arith) all.0
-        ∙ ap (entry_before n (Some e)) (tail_read (n + 1) (next ∷ entries) (omega arith) all.1)
+      ∙ ap (entry_before n (Some e)) (tail_read (n + 1) (next ∷ entries) (omega arith) all.1)
 
 -- the text of entries and of `end` comes apart into their lines
 pub split_tail : (subject : Subject) (entries : List Entry) → AllOf subject entries
@@ -65,11 +65,11 @@ split_tail subject [] all = refl
 split_tail subject (e ∷ entries) all =
     let more = flat_map (λ x. ended_line (entry_line x)) entries ++ ended_line end_line in
     let regrouped : (ended_line (entry_line e) ++ flat_map (λ x. ended_line (entry_line x)) entries) ++ ended_line end_line
-      ≡ entry_line e ++ 10 ∷ more =
+    ≡ entry_line e ++ 10 ∷ more =
     append_assoc (ended_line (entry_line e)) (flat_map (λ x. ended_line (entry_line x)) entries) (ended_line end_line)
     ∙ append_assoc (entry_line e) (10 ∷ []) more in
     ap (slice_split (λ b. b == 10)) regrouped ∙ split_at 10 (entry_line e) more (entry_line_whole subject e all.0)
-      ∙ ap (λ rest. entry_line e ∷ rest) (split_tail subject entries all.1)
+    ∙ ap (λ rest. entry_line e ∷ rest) (split_tail subject entries all.1)
 
 pub known_version : (n : ℕ) → is_known_version n ≡ true → n ≡ 1
 known_version n e = grind (arith, nat_tests)
@@ -94,11 +94,11 @@ unfolding header_in
 header_in-header_line h =
     ap (header_from line) fields
     ∙ (λ i. header_spelled line (number_of_decimal h.version small_version i) (subject_read h.subject i)
-      (number_of_decimal h.size small_size i) (number_of_decimal h.callers small_callers i))
+    (number_of_decimal h.size small_size i) (number_of_decimal h.callers small_callers i))
     ∙ ap (λ b. cond b (ok_or (header_of h.version h.subject h.size h.callers) UnknownVersion) (Err BadHeader))
-      (both_true _ _ (both_true _ _ (version_fits h.version is_1) sized) (bytes_same line))
+    (both_true _ _ (both_true _ _ (version_fits h.version is_1) sized) (bytes_same line))
     ∙ ap (λ o. ok_or o UnknownVersion)
-      (header_if_within h.version h.subject h.size h.callers h.within (is_within h.version h.size h.callers) refl h.within)
+    (header_if_within h.version h.subject h.size h.callers h.within (is_within h.version h.size h.callers) refl h.within)
   where
     line : List ℕ
     line = header_line h.version h.subject h.size h.callers
@@ -133,8 +133,8 @@ header_lacks : (h : Header) → lacks 10 (header_line h.version h.subject h.size
 header_lacks h = lacks-join 10 32 (codes "vyrd") (decimal h.version ∷ subject_name h.subject ∷ decimal h.size ∷ decimal h.callers ∷ []) refl
     (plain_line_feeds (codes "vyrd" ∷ decimal h.version ∷ subject_name h.subject ∷ decimal h.size ∷ decimal h.callers ∷ [])
     (both_true _ _ (plain_number h.version small_version)
-      (both_true _ _ (plain_subject h.subject)
-      (both_true _ _ (plain_number h.size small_size) (both_true _ _ (plain_number h.callers small_callers) refl)))))
+    (both_true _ _ (plain_subject h.subject)
+    (both_true _ _ (plain_number h.size small_size) (both_true _ _ (plain_number h.callers small_callers) refl)))))
   where
     sized : is_sized h.size h.callers ≡ true
     sized = second_true (is_known_version h.version) _ h.within
@@ -161,8 +161,11 @@ lines_of_log input h entries within all = by_entries entries within all
         → text_read input (header_line h.version h.subject h.size h.callers ∷ next ∷ lines)
         ≡ header_before h (lines_read input h.subject 2 (next ∷ lines))
     after_header next lines = ap (λ r. elim r as
-        (λ _. Reading) [ Ok g ↦ header_before g (lines_read input g.subject 2 (next ∷ lines)) | Err rule ↦ stopped 1
-        (Some rule) ]) (header_in-header_line h)
+        (λ _. Reading) [
+          | Ok g ↦ header_before g (lines_read input g.subject 2 (next ∷ lines))
+          | Err rule ↦ stopped 1
+              (Some rule)
+        ]) (header_in-header_line h)
 
     by_entries : (es : List Entry) → length es + 2 ≤ input.max_lines → AllOf h.subject es
         → text_read input (header_line h.version h.subject h.size h.callers ∷ tail_lines es) ≡ whole h es
@@ -189,5 +192,5 @@ pub text_verdict-log_text : (max : ℕ) (h : Header) (entries : List Entry) → 
 unfolding text_verdict verdict
 text_verdict-log_text max h entries within all =
     ap (λ read. unwrap_or (known_verdict read) (accepted read.entries))
-      (reading-log_text (record { max_lines = max; is_whole = true }) h entries within all)
+    (reading-log_text (record { max_lines = max; is_whole = true }) h entries within all)
     ∙ ap (λ o. unwrap_or o (accepted entries)) (or_none (option_or (verdict_so_far h entries) (end_verdict h entries)))

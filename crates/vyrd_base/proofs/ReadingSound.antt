@@ -85,11 +85,11 @@ lines_sound input subject n (line ∷ next ∷ lines) done none =
 
     by_end : Rest → (b : Bool) → bytes_eq line end_line ≡ b → (cond b end (entry_before n (entry_in subject line) onward)).ended ≡ true
         → (cond b end (entry_before n (entry_in subject line) onward)).fault ≡ None
-          → Whole subject (line ∷ next ∷ lines) (cond b end (entry_before n (entry_in subject line) onward)).entries
+        → Whole subject (line ∷ next ∷ lines) (cond b end (entry_before n (entry_in subject line) onward)).entries
     by_end rest true e d f =
         let is_end = (bytes_eq-Decides line end_line).0 e in
         let empty = nothing next lines (nothing_after (has_any next || has_any lines) (nat_lt input.max_lines (n + 1))
-          (of_fault (after_end_rule input (n + 1) next lines) f)) in
+        (of_fault (after_end_rule input (n + 1) next lines) f)) in
         record { text = λ i. is_end i ∷ empty i; ranges = tt }
     by_end rest false e d f = by_entry rest (entry_in subject line) refl d f
 
@@ -97,7 +97,7 @@ lines_sound input subject n (line ∷ next ∷ lines) done none =
         (cond (bytes_eq line end_line) end (entry_before n (entry_in subject line) onward))).ended ≡ true
         → (cond b (stopped n (Some TooManyLines)) (cond (bytes_eq line end_line) end (entry_before n (entry_in subject line) onward))).fault ≡ None
         → Whole subject (line ∷ next ∷ lines)
-          (cond b (stopped n (Some TooManyLines)) (cond (bytes_eq line end_line) end (entry_before n (entry_in subject line) onward))).entries
+        (cond b (stopped n (Some TooManyLines)) (cond (bytes_eq line end_line) end (entry_before n (entry_in subject line) onward))).entries
     by_limit rest true d f = cc
     by_limit rest false d f = by_end rest (bytes_eq line end_line) refl d f
 
@@ -124,13 +124,13 @@ spelled_sound line version (Some subject) size callers h e =
   where
     by_test : (b : Bool) → (nat_lt version (2 ^ 32) && is_sized size callers && bytes_eq (header_line version subject size callers) line) ≡ b
         → cond b (ok_or (header_of version subject size callers) UnknownVersion) (Err BadHeader) ≡ Ok h
-          → line ≡ header_line h.version h.subject h.size h.callers
+        → line ≡ header_line h.version h.subject h.size h.callers
     by_test false t f = cc
     by_test true t f =
         sym ((bytes_eq-Decides (header_line version subject size callers) line).0
-          (second_true (nat_lt version (2 ^ 32) && is_sized size callers) _ t))
+        (second_true (nat_lt version (2 ^ 32) && is_sized size callers) _ t))
         ∙ header_if_is version subject size callers (is_within version size callers) refl h
-          (ok_is (header_of version subject size callers) UnknownVersion h f)
+        (ok_is (header_of version subject size callers) UnknownVersion h f)
 
 from_sound : (line : List ℕ) (fields : List (List ℕ)) (h : Header) → header_from line fields ≡ Ok h
     → line ≡ header_line h.version h.subject h.size h.callers
@@ -186,12 +186,18 @@ parts_sound input (rest ∷ []) done none = cc
 parts_sound input (line ∷ next ∷ lines) done none = by_header (header_in line) refl done none
   where
     by_header : (r : Result Header Rule) → header_in line ≡ r
-        → (elim r as (λ _. Reading) [ Ok h ↦ header_before h (lines_read input h.subject 2 (next ∷ lines)) | Err rule ↦ stopped 1
-          (Some rule) ]).ended ≡ true
-        → (elim r as (λ _. Reading) [ Ok h ↦ header_before h (lines_read input h.subject 2 (next ∷ lines)) | Err rule ↦ stopped 1
-          (Some rule) ]).fault ≡ None
+        → (elim r as (λ _. Reading) [
+          | Ok h ↦ header_before h (lines_read input h.subject 2 (next ∷ lines))
+          | Err rule ↦ stopped 1
+              (Some rule)
+        ]).ended ≡ true
+        → (elim r as (λ _. Reading) [
+          | Ok h ↦ header_before h (lines_read input h.subject 2 (next ∷ lines))
+          | Err rule ↦ stopped 1
+              (Some rule)
+        ]).fault ≡ None
         → IsLogText (join_with_byte 10 (line ∷ next ∷ lines))
-          (elim r as (λ _. Reading) [ Ok h ↦ header_before h (lines_read input h.subject 2 (next ∷ lines)) | Err rule ↦ stopped 1 (Some rule) ])
+        (elim r as (λ _. Reading) [ Ok h ↦ header_before h (lines_read input h.subject 2 (next ∷ lines)) | Err rule ↦ stopped 1 (Some rule) ])
     by_header (Err rule) e d f = cc
     by_header (Ok h) e d f =
         let whole = lines_sound input h.subject 2 (next ∷ lines) d f in

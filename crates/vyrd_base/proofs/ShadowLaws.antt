@@ -163,11 +163,11 @@ own_edge : (c w : ℕ) (kind : Kind) (earlier : List Entry) (opens : Bool) → o
     → (opens ≡ true → write_or_open w kind ≡ Some false) → holds_word c w (entry c kind ∷ earlier) ≡ false
 own_edge c w kind earlier true edge word =
     ap (λ o. unwrap_or o false && wrote c w (entry c kind ∷ earlier)) (own_answer c open_or_close kind earlier
-      ∙ ap (λ o. option_or o (first_answer (by_caller c open_or_close) earlier)) edge)
+    ∙ ap (λ o. option_or o (first_answer (by_caller c open_or_close) earlier)) edge)
     ∙ own_wrote c w kind earlier ∙ ap (λ o. unwrap_or (option_or o (first_answer (by_caller c (write_or_open w)) earlier)) false) (word refl)
 own_edge c w kind earlier false edge word =
     ap (λ o. unwrap_or o false && wrote c w (entry c kind ∷ earlier)) (own_answer c open_or_close kind earlier
-      ∙ ap (λ o. option_or o (first_answer (by_caller c open_or_close) earlier)) edge)
+    ∙ ap (λ o. option_or o (first_answer (by_caller c open_or_close) earlier)) edge)
 
 never : {b : Bool} → b ≡ false → b ≡ true → ⊥
 never e f = cc
@@ -180,7 +180,7 @@ open_sound h w c earlier outside sound = record {
       (λ other. sym (holds_other d c w BlockOpen earlier other) ∙ none d low));
   held = λ d low holding. by_same c d
       (λ same. absurd (never (subst (λ x. holds_word x w (entry c BlockOpen ∷ earlier)
-        ≡ false) same (own_edge c w BlockOpen earlier true refl (λ _. refl))) holding))
+      ≡ false) same (own_edge c w BlockOpen earlier true refl (λ _. refl))) holding))
       (λ other. value_other d c w BlockOpen earlier other ∙ sound.held d low (sym (holds_other d c w BlockOpen earlier other) ∙ holding));
 }
 
@@ -284,7 +284,7 @@ write_own_sound h w c value earlier kept = by_block (has_block c earlier) refl
       held = λ d low holding. by_same c d
           (λ same. subst (λ x. block_value x w (entry c (Write w value) ∷ earlier) ≡ Some (last_logged w (entry c (Write w value) ∷ earlier))) same
           (own_value c w (Write w value) earlier
-            ∙ ap (λ b. option_or (cond b (Some value) None) (block_value c w earlier)) (same_number w) ∙ ap Some (sym last)))
+          ∙ ap (λ b. option_or (cond b (Some value) None) (block_value c w earlier)) (same_number w) ∙ ap Some (sym last)))
           (λ other. absurd (never (not_held d low other) holding));
     }
     by_block false outside = record {
@@ -292,7 +292,7 @@ write_own_sound h w c value earlier kept = by_block (has_block c earlier) refl
           ∙ ap (λ b. unwrap_or (option_or (cond b (Some value) None) (first_answer (given_to w) (effects earlier))) 0) (same_number w) ∙ sym last;
       held = λ d low holding. by_same c d
           (λ same. absurd (never (subst (λ x. holds_word x w (entry c (Write w value) ∷ earlier)
-            ≡ false) same (ap (λ b. b && wrote c w (entry c (Write w value) ∷ earlier)) (own_block_is ∙ outside))) holding))
+          ≡ false) same (ap (λ b. b && wrote c w (entry c (Write w value) ∷ earlier)) (own_block_is ∙ outside))) holding))
           (λ other. absurd (never (not_held d low other) holding));
     }
 
@@ -311,10 +311,10 @@ step_sound h w c Commit earlier kept sound =
 step_sound h w c BlockOpen earlier kept sound = open_sound h w c earlier (open_kept h c earlier kept) sound
 step_sound h w c BlockClose earlier kept sound =
     close_sound h w c BlockClose earlier (caller_kept h earlier (entry c BlockClose) kept) (close_kept h c earlier kept)
-        (record { edge = refl; effect = refl; logged = refl }) sound
+    (record { edge = refl; effect = refl; logged = refl }) sound
 step_sound h w c BlockCommit earlier kept sound =
     close_sound h w c BlockCommit earlier (caller_kept h earlier (entry c BlockCommit) kept) (block_commit_kept h c earlier kept)
-        (record { edge = refl; effect = refl; logged = refl }) sound
+    (record { edge = refl; effect = refl; logged = refl }) sound
 step_sound h w c (Write word value) earlier kept sound = by_same word w
     (λ same. subst (λ x. Sound h w (entry c (Write x value) ∷ earlier)) (sym same)
     (write_own_sound h w c value earlier (subst (λ x. WriteKept h c x earlier) same (write_kept h c word value earlier kept))))
@@ -362,7 +362,7 @@ block_in_call h c (e ∷ earlier) wf = step (block_in_call h c earlier wf.1)
     step : BlockInCall c earlier → BlockInCall c (e ∷ earlier)
     step so = by_same e.caller c
         (λ same. subst (λ d. broken_rule h earlier (entry d e.kind) ≡ None
-          → BlockInCall c (entry d e.kind ∷ earlier)) (sym same) (λ kept. own_in_call h c e.kind earlier kept so) wf.0)
+        → BlockInCall c (entry d e.kind ∷ earlier)) (sym same) (λ kept. own_in_call h c e.kind earlier kept so) wf.0)
         (λ other. λ inside.
         ap (λ o. is_some (option_flatten o)) (other_answer c e.caller call_or_return e.kind earlier other)
         ∙ so (sym (ap (λ o. unwrap_or o false) (other_answer c e.caller open_or_close e.kind earlier other)) ∙ inside))
@@ -372,7 +372,7 @@ pub words_at_rest : (h : Header) (w : ℕ) (earlier : List Entry) → WellFormed
     → value_after (effects earlier) w ≡ last_logged w earlier
 words_at_rest h w earlier wf rest = (well_formed_sound h w earlier wf).free (λ d low.
     outside_holds (has_block d earlier) (wrote d w earlier)
-      (no_block d (has_block d earlier) refl (none_of (λ c. is_some (open_call c earlier)) 0 h.callers d rest (omega arith) (omega arith))))
+    (no_block d (has_block d earlier) refl (none_of (λ c. is_some (open_call c earlier)) 0 h.callers d rest (omega arith) (omega arith))))
   where
     no_block : (d : ℕ) (b : Bool) → has_block d earlier ≡ b → is_some (open_call d earlier) ≡ false → has_block d earlier ≡ false
     no_block d true e none = absurd (never none (block_in_call h d earlier wf e))

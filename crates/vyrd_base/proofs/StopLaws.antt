@@ -67,7 +67,7 @@ lines_stop max subject n line (next ∷ lines) =
     by_tests : Stops (n + 1) (lines_read (input_of max true) subject (n + 1) (next ∷ lines)) → (past is_end : Bool)
         → Stops n (cond past (stopped n (Some TooManyLines))
         (cond is_end (ended (n + 1) (after_end_rule (input_of max true) (n + 1) next lines))
-          (entry_before n (entry_in subject line) (lines_read (input_of max true) subject (n + 1) (next ∷ lines)))))
+        (entry_before n (entry_in subject line) (lines_read (input_of max true) subject (n + 1) (next ∷ lines)))))
     by_tests s true is_end = stops_at n TooManyLines
     by_tests s false true = stops_after_end n (after_end_rule (input_of max true) (n + 1) next lines)
     by_tests s false false = stops_with_entry n (entry_in subject line) (lines_read (input_of max true) subject (n + 1) (next ∷ lines)) s
@@ -86,8 +86,11 @@ text_stop max (rest ∷ []) some = stops_without max rest
 text_stop max (line ∷ next ∷ lines) some = by_header (header_in line)
   where
     by_header : (r : Result Header Rule)
-        → TextStops (elim r as (λ _. Reading) [ Ok h ↦ header_before h
-          (lines_read (input_of max true) h.subject 2 (next ∷ lines)) | Err rule ↦ stopped 1 (Some rule) ])
+        → TextStops (elim r as (λ _. Reading) [
+          | Ok h ↦ header_before h
+              (lines_read (input_of max true) h.subject 2 (next ∷ lines))
+          | Err rule ↦ stopped 1 (Some rule)
+        ])
     by_header (Ok h) = let s = lines_stop max h.subject 2 next lines in headed h refl (record { behind_end = s.behind_end; at_fault = s.at_fault })
     by_header (Err rule) = headless (record { line = 1; rule = rule }) refl refl
 
@@ -110,7 +113,7 @@ by_stop : (h : Header) (entries : List Entry) (is_ended : Bool) (fault : Option 
     → (is_ended ≡ true → (f : TextFault) → fault ≡ Some f → f.line ≡ 2 + length entries + 1)
     → (is_ended ≡ false → (f : TextFault) × (fault ≡ Some f) × (f.line ≡ 2 + length entries))
     → unwrap_or (option_or (option_or (verdict_so_far h entries) (cond is_ended (end_verdict h entries) None))
-      (option_map (λ f. Malformed f.line f.rule) fault)) (accepted entries)
+    (option_map (λ f. Malformed f.line f.rule) fault)) (accepted entries)
     ≡ verdict_at h entries (option_map_or (λ f. Text f.line f.rule) fault End)
 unfolding verdict_at verdict
 by_stop h entries true None behind at =
@@ -118,7 +121,7 @@ by_stop h entries true None behind at =
 by_stop h entries true (Some f) behind at =
     unwrap_or-or_some (option_or (verdict_so_far h entries) (end_verdict h entries)) (Malformed f.line f.rule) (accepted entries)
     ∙ ap (λ b. unwrap_or (option_or (verdict_so_far h entries) (cond b (end_verdict h entries) None)) (Malformed f.line f.rule))
-      (sym (is_behind f.line (length entries) (behind refl f refl)))
+    (sym (is_behind f.line (length entries) (behind refl f refl)))
 by_stop h entries false None behind at = let found = at refl in absurd (none_is_some found.1)
   where
     none_is_some : {f : TextFault} → None ≡ Some f → ⊥
@@ -129,7 +132,7 @@ by_stop h entries false (Some f) behind at =
     let line : f.line ≡ 2 + length entries = ap (λ g. g.line) (sym same) ∙ found.2 in
     unwrap_or-or_some (option_or (verdict_so_far h entries) None) (Malformed f.line f.rule) (accepted entries)
     ∙ ap (λ b. unwrap_or (option_or (verdict_so_far h entries) (cond b (end_verdict h entries) None)) (Malformed f.line f.rule))
-      (sym (isnt_behind f.line (length entries) line))
+    (sym (isnt_behind f.line (length entries) line))
   where
     the_same : {g : TextFault} → Some f ≡ Some g → g ≡ f
     the_same e = cc
@@ -138,14 +141,14 @@ with_header : (read : Reading) (h : Header) → read.header ≡ Some h → Stops
     → unwrap_or (known_verdict read) (accepted read.entries) ≡ verdict_at h read.entries (stop_of read)
 with_header read h has s =
     ap (λ o. unwrap_or (option_or (option_and_then (entries_verdict read) o)
-      (option_map (λ f. Malformed f.line f.rule) read.fault)) (accepted read.entries)) has
+    (option_map (λ f. Malformed f.line f.rule) read.fault)) (accepted read.entries)) has
     ∙ by_stop h read.entries read.ended read.fault s.behind_end s.at_fault
 
 without_header : (read : Reading) (f : TextFault) → read.header ≡ None → read.fault ≡ Some f
     → unwrap_or (known_verdict read) (accepted read.entries) ≡ Malformed f.line f.rule
 without_header read f none at =
     ap (λ o. unwrap_or (option_or (option_and_then (entries_verdict read) o)
-      (option_map (λ g. Malformed g.line g.rule) read.fault)) (accepted read.entries)) none
+    (option_map (λ g. Malformed g.line g.rule) read.fault)) (accepted read.entries)) none
     ∙ ap (λ o. unwrap_or (option_map (λ g. Malformed g.line g.rule) o) (accepted read.entries)) at
 
 -- The verdict about a whole input: with a header that of its entries and of how they stop, and else its fault of text.

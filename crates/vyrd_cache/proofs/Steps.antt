@@ -63,8 +63,10 @@ pub evicted_other : (h : Header) (p q : CacheProgress) (state : ℕ) → p.task 
     → q ≡ record p { task = Forget; place = Open }
     → rest_of h q ≡ after_state h p p.task state
 evicted_other h p q state task two none is =
-    let other : rest_of h (record p { task = Forget; place = Open }) ≡ after_state h p Evict state = rw (isnt_same state 2 two,
-      isnt_same state 0 none) in
+    let other : rest_of h (record p { task = Forget; place = Open }) ≡ after_state h p Evict state = rw (
+      isnt_same state 2 two,
+      isnt_same state 0 none,
+    ) in
     ap (rest_of h) is ∙ other ∙ with_task h p Evict state task
 
 pub read_absent : (h : Header) (p q : CacheProgress) (state : ℕ) → p.task ≡ Read → state ≡ 0 → q ≡ record p { task = Fetch; place = LoadLow }
@@ -120,7 +122,7 @@ pub took_low : (h : Header) (p q : CacheProgress) (answer : ℕ) → p.place ≡
     → rest_of h (record q { low = answer }) ≡ after_answer (rest_of h p) answer
 took_low h p q answer place is =
     ap (λ r. rest_of h (record r { low = answer })) is
-      ∙ at_place h p LoadLow answer (rest_of h (record p { place = LoadHigh; low = answer })) place refl
+    ∙ at_place h p LoadLow answer (rest_of h (record p { place = LoadHigh; low = answer })) place refl
 
 pub took_high : (h : Header) (p q : CacheProgress) (answer : ℕ) → p.place ≡ LoadHigh
     → rest_of h q ≡ in_order (after_loads h (record p { high = answer }) p.task)

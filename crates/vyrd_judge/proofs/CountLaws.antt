@@ -69,17 +69,23 @@ abbrev pub observers_from : List Entry → ℕ → ℕ
 observers_from es at = count_by observer_returns (places_after (newest_first (take at es)) (drop at es))
 
 pub observers_next : (es : List Entry) (at : ℕ) (d : Entry) → at < length es
-    → observers_from es at ≡ cond (observer_returns (record { earlier = newest_first (take at es); here = get_or es at d;
-      later = drop (at + 1) es })) 1 0 + observers_from es (at + 1)
+    → observers_from es at ≡ cond (observer_returns (record {
+      earlier = newest_first (take at es);
+      here = get_or es at d;
+      later = drop (at + 1) es;
+    })) 1 0 + observers_from es (at + 1)
 observers_next es at d within =
     let more : suc at ≡ at + 1 = omega arith in
     let earlier = newest_first (take at es) in
     let here = get_or es at d in
     ap (λ later. count_by observer_returns (places_after earlier later)) (drop-cons es at d within ∙ ap (λ n. here ∷ drop n es) more)
-    ∙ sum_by-cons (λ place. cond (observer_returns place) 1 0) (record { earlier = earlier; here = here;
-      later = drop (at + 1) es }) (places_after (here ∷ earlier) (drop (at + 1) es))
+    ∙ sum_by-cons (λ place. cond (observer_returns place) 1 0) (record {
+      earlier = earlier;
+      here = here;
+      later = drop (at + 1) es;
+    }) (places_after (here ∷ earlier) (drop (at + 1) es))
     ∙ ap (λ before. cond (observer_returns (record { earlier = earlier; here = here; later = drop (at + 1) es })) 1 0
-      + count_by observer_returns (places_after before (drop (at + 1) es)))
+    + count_by observer_returns (places_after before (drop (at + 1) es)))
     (sym (newest_next es at d within))
 
 -- the same for an entry that was read, with whether an observer returns there
@@ -93,11 +99,11 @@ observers_step es at r b within same returns =
 pub observing_step : (h : Header) (es : List Entry) (at : ℕ) (r : Entry) (old new : List Bool) → at < length es
     → get_or es at r ≡ r → r.caller < h.callers
     → AreObserving h (newest_first (take at es)) old → new ≡ observing_after old r.caller r.kind
-      → AreObserving h (newest_first (take (at + 1) es)) new
+    → AreObserving h (newest_first (take (at + 1) es)) new
 observing_step h es at r old new within same low so after =
     subst (AreObserving h (newest_first (take (at + 1) es))) (sym after)
     (subst (λ earlier. AreObserving h earlier (observing_after old r.caller r.kind))
-      (sym (newest_next es at r within ∙ ap (λ e. e ∷ newest_first (take at es)) same))
+    (sym (newest_next es at r within ∙ ap (λ e. e ∷ newest_first (take at es)) same))
     (observing-next h r.caller r.kind (newest_first (take at es)) old low so))
 
 -- one more where the test holds

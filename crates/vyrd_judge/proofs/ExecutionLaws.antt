@@ -62,7 +62,7 @@ count-commit e earlier commits = commit_count-cons e earlier ∙ ap (λ b. cond 
 -- the window of states since a call stays where no commit comes
 pub window-quiet : (states : List Amounts) (c : ℕ) (e : Entry) (earlier : List Entry) → is_commit e.kind ≡ false
     → entries_before_call c (e ∷ earlier) ≡ entries_before_call c earlier
-      → states_since_call states c (e ∷ earlier) ≡ states_since_call states c earlier
+    → states_since_call states c (e ∷ earlier) ≡ states_since_call states c earlier
 window-quiet states c e earlier quiet before =
     ap (λ es. drop (commit_count es) (take (commit_count (e ∷ earlier) + 1) states)) before
     ∙ ap (λ n. drop (commit_count (entries_before_call c earlier)) (take (n + 1) states)) (count-quiet e earlier quiet)

@@ -258,7 +258,7 @@ pub commit_leads : {E : Type 0} {h : Header} {front : List Entry} {at c : ℕ} {
 commit_leads {E} {h} {front} {at} {c} {kind} {e} {state} {executions} {x} r next new commits here is same gives =
     if_ok (CommitGives shown x state next executions new)
     (PlaceGives h (states_of front) (place_of e (newest_first (take at front)) (drop (at + 1) front)) next new) r
-      (λ o given. (leads o given).to) gives
+    (λ o given. (leads o given).to) gives
   where
     shown : Amounts
     shown = view_of_words h (words_after h (entry c kind ∷ newest_first (take at front)))

@@ -28,7 +28,7 @@ pub kept_at : (h : Header) (front : List Entry) (at : ℕ) (d : Entry) → at < 
 kept_at h front at d within kept =
     by_parts (first_break h (take at front)) (broken_rule h (newest_first (take at front)) (get_or front at d)) _
     (sym (first_break-append h (take at front) (get_or front at d ∷ drop (suc at) front))
-      ∙ sym (ap (first_break h) (split_at_next front at d within)) ∙ kept)
+    ∙ sym (ap (first_break h) (split_at_next front at d within)) ∙ kept)
   where
     by_parts : {A : Type 0} (a b c : Option A) → option_or a (option_or b c) ≡ None → b ≡ None
     by_parts None None c e = refl

@@ -54,7 +54,7 @@ pub going-quiet : (states : List Amounts) (e : Entry) (earlier later : List Entr
 going-quiet states e earlier later state quiet going =
     ap (λ n. drop n states) (count-quiet e earlier quiet) ∙ going
     ∙ ap (λ b. states_from state (cons_option (then_some b (committed_at (record { earlier = earlier; here = e; later = later })))
-      (commits_after (e ∷ earlier) later))) quiet
+    (commits_after (e ∷ earlier) later))) quiet
 
 -- after a commit they go on from the next state, or no later one is known
 going_at : (states : List Amounts) (e : Entry) (earlier later : List Entry) (state : Amounts) (o : Option Amounts) → is_commit e.kind ≡ true
@@ -65,7 +65,7 @@ going_at : (states : List Amounts) (e : Entry) (earlier later : List Entry) (sta
 going_at states e earlier later state o commits after going =
     going
     ∙ ap (λ b. states_from state (cons_option (then_some b (committed_at (record { earlier = earlier; here = e; later = later })))
-      (commits_after (e ∷ earlier) later))) commits
+    (commits_after (e ∷ earlier) later))) commits
     ∙ ap (λ a. state ∷ (elim a as (λ _. List Amounts) [ None ↦ [] | Some next ↦ states_from next (commits_after (e ∷ earlier) later) ])) after
 
 pub going-commit : (states : List Amounts) (e : Entry) (earlier later : List Entry) (state next : Amounts) → is_commit e.kind ≡ true
@@ -81,8 +81,12 @@ pub ending-commit : (states : List Amounts) (e : Entry) (earlier later : List En
     → drop (commit_count earlier) states ≡ states_from state (commits_after earlier (e ∷ later))
     → length states ≤ commit_count (e ∷ earlier)
 ending-commit states e earlier later state commits after going =
-    omega (arith, ap length (going_at states e earlier later state None commits after going),
-      length-drop (commit_count earlier) states, count-commit e earlier commits)
+    omega (
+      arith,
+      ap length (going_at states e earlier later state None commits after going),
+      length-drop (commit_count earlier) states,
+      count-commit e earlier commits,
+    )
 
 -- an entry inside its caller's execution that isn't its commit
 pub stands_inside : (h : Header) (states : List Amounts) (c : ℕ) (kind : Kind) (earlier later : List Entry) (state : Amounts)
@@ -102,7 +106,7 @@ stands_inside h states c kind earlier later state executions inside unreturned u
 -- another caller's execution, beside an entry that isn't a commit
 beside : (h : Header) (states : List Amounts) (c d : ℕ) (kind : Kind) (earlier later : List Entry) (o : Option Execution)
     → (c == d) ≡ false → is_commit kind ≡ false → IsOpen h states d earlier (entry c kind ∷ later) o
-      → IsOpen h states d (entry c kind ∷ earlier) later o
+    → IsOpen h states d (entry c kind ∷ earlier) later o
 beside h states c d kind earlier later o other quiet is =
     execution_stays h states d (entry c kind) earlier later o (open_call-other d c kind earlier other) (next_reply-other d c kind later other)
     (window-quiet states d (entry c kind) earlier quiet (before_call-other d c kind earlier other)) is
@@ -119,10 +123,13 @@ stands_changed h states c kind earlier later state executions o quiet own s = re
   going = going-quiet states (entry c kind) earlier later state quiet s.going;
   open_calls = λ d within. let old = s.open_calls d within in by_same c d
       (λ same. subst (λ k. (n : Option Execution) × (slice_get (set executions c o) k ≡ Some n)
-        × IsOpen h states k (entry c kind ∷ earlier) later n) same
+      × IsOpen h states k (entry c kind ∷ earlier) later n) same
       (o, slice_get-set_same executions c o (slice_get_within executions c old.0 (ap (slice_get executions) same ∙ old.1)), own))
-      (λ other. (old.0, slice_get-set_other executions c d o (not_same c d other) ∙ old.1,
-        beside h states c d kind earlier later old.0 other quiet old.2));
+      (λ other. (
+        old.0,
+        slice_get-set_other executions c d o (not_same c d other) ∙ old.1,
+        beside h states c d kind earlier later old.0 other quiet old.2,
+      ));
 }
 
 -- a call begins an execution, which sees the state there
@@ -153,7 +160,7 @@ stands_call h states c method args earlier later state executions x has_its_meth
     own : IsExecution h states c (e ∷ earlier) later x
     own = record {
       called = ap option_flatten_of (own_answer c call_or_return (Call method args) earlier)
-        ∙ ap (λ m. Some (record { method = m; args = args })) (sym has_its_method)
+          ∙ ap (λ m. Some (record { method = m; args = args })) (sym has_its_method)
           ∙ ap (λ a. Some (record { method = x.method; args = a })) (sym has_its_args);
       allowed = ap (λ m. has_method h m x.args) has_its_method ∙ ap (has_method h method) has_its_args ∙ allowed;
       reply = reply;
@@ -170,7 +177,7 @@ pub stands_return : (h : Header) (states : List Amounts) (c reply : ℕ) (earlie
     → Stands h states (entry c (Return reply) ∷ earlier) later state (set executions c None)
 stands_return h states c reply earlier later state executions s =
     stands_changed h states c (Return reply) earlier later state executions None refl
-      (ap option_flatten_of (own_answer c call_or_return (Return reply) earlier)) s
+    (ap option_flatten_of (own_answer c call_or_return (Return reply) earlier)) s
   where
     option_flatten_of : Option (Option Called) → Option Called
     option_flatten_of o = option_flatten o
@@ -186,14 +193,14 @@ stands_commit h states c kind earlier later state next executions inside unretur
     let going = going-commit states (entry c kind) earlier later state next commits after s.going in
     let here : slice_get states (commit_count earlier + 1) ≡ Some next =
     ap (slice_get states) (sym (count-commit (entry c kind) earlier commits))
-      ∙ state_here states (entry c kind ∷ earlier) next (commits_after (entry c kind ∷ earlier) later) going in
+    ∙ state_here states (entry c kind ∷ earlier) next (commits_after (entry c kind ∷ earlier) later) going in
     record {
       going = going;
       open_calls = λ d within. let o = s.open_calls d within in (
         seeing next o.0,
         slice_get-map (seeing next) executions d ∙ ap (option_map (seeing next)) o.1,
         execution_sees h states d (entry c kind) earlier later next o.0 (open_call-quiet d c kind earlier inside)
-          (next_reply-quiet d c kind later unreturned)
+            (next_reply-quiet d c kind later unreturned)
             (window-commit states d (entry c kind) earlier next commits (before_call-quiet d c kind earlier uncalled) here) o.2,
       );
     }

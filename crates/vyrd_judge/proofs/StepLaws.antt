@@ -103,7 +103,7 @@ pub running : {h : Header} {front : List Entry} {at : ℕ} {e : Entry} {state : 
     × IsExecution h (states_of front) e.caller (newest_first (take at front)) (e ∷ drop (at + 1) front) x
 running {h} {front} {at} {e} {state} {executions} {called} here is =
     running_at h (states_of front) (newest_first (take at front))
-      (e ∷ drop (at + 1) front) state executions e.caller called here.stands here.within is
+    (e ∷ drop (at + 1) front) state executions e.caller called here.stands here.within is
 
 -- an execution of the caller is what was called
 pub called_is : {h : Header} {front : List Entry} {at : ℕ} {e : Entry} {state : Amounts} {executions : List (Option Execution)} {called : Called}
@@ -198,7 +198,7 @@ fault_here h front at e o here fault =
     let same : get_or front at e ≡ e = get_or_from_slice_get front at e e here in
     let more : suc at ≡ at + 1 = omega arith in
     let next : newest_first (take (at + 1) front) ≡ e ∷ newest_first (take at front) = newest_next front at e within
-      ∙ ap (λ x. x ∷ newest_first (take at front)) same in
+    ∙ ap (λ x. x ∷ newest_first (take at front)) same in
     ap (λ later. first_answer (violation_at h (states_of front)) (places_after (newest_first (take at front)) later))
     (drop-cons front at e within ∙ ap (λ x. x ∷ drop (suc at) front) same ∙ ap (λ n. e ∷ drop n front) more)
     ∙ ap (λ p. option_or (option_map (Violation (line_of (length (newest_first (take at front))))) p)
@@ -209,7 +209,7 @@ fault_here h front at e o here fault =
 -- a place that is no fault leads on to those after it
 pub fault_goes : (h : Header) (front : List Entry) (at : ℕ) (e : Entry) → slice_get front at ≡ Some e
     → fault_at h (states_of front) (place_of e (newest_first (take at front)) (drop (at + 1) front)) ≡ None
-      → fault_from h front at ≡ fault_from h front (at + 1)
+    → fault_from h front at ≡ fault_from h front (at + 1)
 fault_goes h front at e here fault = fault_here h front at e None here fault
 
 length-newest_first_onto : (earlier xs : List Entry) → length (newest_first_onto earlier xs) ≡ length earlier + length xs
@@ -222,7 +222,7 @@ length-newest_first front at within = length-newest_first_onto [] (take at front
 -- a place that is a fault
 pub fault_found : (h : Header) (front : List Entry) (at : ℕ) (e : Entry) (why : Why) → slice_get front at ≡ Some e
     → fault_at h (states_of front) (place_of e (newest_first (take at front)) (drop (at + 1) front)) ≡ Some why
-      → fault_from h front at ≡ Some (Violation (at + 2) why)
+    → fault_from h front at ≡ Some (Violation (at + 2) why)
 fault_found h front at e why here fault =
     let within = slice_get_within front at e here in
     fault_here h front at e (Some why) here fault
@@ -236,7 +236,7 @@ fault_ends h front at e here fault short =
     let within = slice_get_within front at e here in
     let same : get_or front at e ≡ e = get_or_from_slice_get front at e e here in
     let next : e ∷ newest_first (take at front) ≡ newest_first (take (at + 1) front) = sym (newest_next front at e within
-      ∙ ap (λ x. x ∷ newest_first (take at front)) same) in
+    ∙ ap (λ x. x ∷ newest_first (take at front)) same) in
     fault_goes h front at e here fault
     ∙ no_fault_beyond h (states_of front) (newest_first (take (at + 1) front)) (drop (at + 1) front)
     (subst (λ es. length (states_of front) ≤ commit_count es) next short)
@@ -251,8 +251,10 @@ pub stands_first : (h : Header) (front : List Entry) (state : Amounts) (executio
     → executions ≡ replicate h.callers None → Stands h (states_of front) [] front state executions
 unfolding commits
 stands_first h front state executions is_start empty =
-    let at_start : Stands h (states_of front) [] front start (replicate h.callers None) = record { going = refl;
-      open_calls = λ c within. (None, no_execution h.callers c within, refl) } in
+    let at_start : Stands h (states_of front) [] front start (replicate h.callers None) = record {
+      going = refl;
+      open_calls = λ c within. (None, no_execution h.callers c within, refl);
+    } in
     let with_none : Stands h (states_of front) [] front start executions = subst (Stands h (states_of front) [] front start) (sym empty) at_start in
     subst (λ s. Stands h (states_of front) [] front s executions) (sym is_start) with_none
   where
@@ -272,7 +274,7 @@ pub next_is : (front : List Entry) (at : ℕ) (e : Entry) → slice_get front at
     → e ∷ newest_first (take at front) ≡ newest_first (take (at + 1) front)
 next_is front at e here =
     sym (newest_next front at e (slice_get_within front at e here)
-      ∙ ap (λ x. x ∷ newest_first (take at front)) (get_or_from_slice_get front at e e here))
+    ∙ ap (λ x. x ∷ newest_first (take at front)) (get_or_from_slice_get front at e e here))
 
 -- what the entry leads to, by another name of the header and of the outcome
 pub leads_at : {h k : Header} {front : List Entry} {at : ℕ} {e : Entry} {s : Amounts} {xs : List (Option Execution)} {o o' : Outcome} → k ≡ h → o ≡ o'

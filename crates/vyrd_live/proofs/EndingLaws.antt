@@ -78,7 +78,7 @@ played h limit scripts history endings (Some first) ended is = record {
       (λ out. let o = ended.others c (omega arith) in inl (idle h limit (script_of scripts c) (done_by c history) o.0 o.1).0);
   in_range = is.0;
   stopped = until_spent h limit (script_of scripts first) (slice_index_or endings first Finished) (done_by first history) is.1
-    (ended.each first is.0);
+      (ended.each first is.0);
   first = λ c low. (to_the_end h limit (script_of scripts c) (slice_index_or endings c Finished) (done_by c history) (is.2 c low)
       (ended.each c (omega (arith, low, is.0)))).0;
 }

@@ -73,7 +73,7 @@ scripts_from script f k (x ∷ workers) each =
     let first : k + 0 ≡ k = omega arith in
     ap (λ s. s ∷ map (λ (x : _). script x.machine) workers) (each 0 x (omega arith) ∙ ap f first)
     ∙ ap (λ rest. f k ∷ rest) (scripts_from script f (k + 1) workers (λ i d low. let e : k + suc i ≡ k + 1 + i = omega arith in
-      each (suc i) d (omega (arith, low))
+    each (suc i) d (omega (arith, low))
     ∙ ap f e))
 
 -- their scripts are those of the workload
@@ -110,7 +110,7 @@ bound_at header_of script ahead traced w workers hands new same made count limit
     let within : caller < length workers = omega (arith, low, how_many workers hands same, count) in
     let x = element_of workers caller within in
     let bound = (made caller x within).bound
-      ∙ ap (λ c. bounds_of w.header (ops_of c w.ops)) (caller_at traced workers hands new same caller x within) in
+    ∙ ap (λ c. bounds_of w.header (ops_of c w.ops)) (caller_at traced workers hands new same caller x within) in
     omega (arith, long x, bound)
 
 -- the caller that ended a run is one of the header's

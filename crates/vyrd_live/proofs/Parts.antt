@@ -44,4 +44,4 @@ no_part c (e ∷ es) apart = ap (λ b. cond b (e ∷ part c es) (part c es)) (ne
 pub nothing_done : (z : Cells) (c : ℕ) (history : List Stamped) → is_legal z history ≡ true → z.callers ≤ c → done_by c history ≡ []
 nothing_done z c history legal out =
     done_by-part c history ∙ ap dids_of (no_part c history (λ i e is same. let low = (numbered z history legal i e is).1 in
-        absurd (omega (arith, low))))
+    absurd (omega (arith, low))))

@@ -27,8 +27,10 @@ IsNextBound h act n = (method : Method) (args : Args) → act ≡ Mark (Call met
 -- what ends within n acts ends within more
 more_time : (n m : ℕ) → n ≤ m → (script : Script) → EndsWithin n script → EndsWithin m script
 more_time n m le stop ends = tt
-more_time n m le (step act rest) ends = (omega (arith, ends.0),
-    λ goes answer is. more_time (n - 1) (m - 1) (omega arith) (rest answer) (ends.1 goes answer is))
+more_time n m le (step act rest) ends = (
+  omega (arith, ends.0),
+  λ goes answer is. more_time (n - 1) (m - 1) (omega arith) (rest answer) (ends.1 goes answer is),
+)
 
 has_room : (h : Header) (limit before n : ℕ) (act : Act) → IsNextBound h act n → before + n ≤ limit → HasRoom h limit before act
 has_room h limit before n (Load cell) next room = tt

@@ -29,7 +29,7 @@ use Rattle.vyrd_trace.proofs.Holding.{holds-taken, holds-still, holds-beside}
 use Rattle.vyrd_live.specs.Acts.{MayAct, HasActed}
 use Rattle.vyrd_live.specs.Working.{IsMemoryOf, Stands}
 
--- the same_of as `MayAct`, as a test
+-- the same as `MayAct`, as a test
 may_test : Plan → HandView → Act → Bool
 may_test plan hand (Load cell) = nat_lt cell plan.plain
 may_test plan hand (Store cell value) = nat_lt cell plan.plain && nat_lt value (2 ^ 63)
@@ -69,7 +69,7 @@ tested plan hand Done e = cc_of e
     cc_of : false ≡ true → ⊥
     cc_of e = cc
 
--- an act that a sound script does is at_most_of the plan
+-- an act that a sound script does is within the plan
 plain_of : (h : Header) (plan : Plan) (cell : ℕ) → IsMemoryOf h plan → is_plain (cells_of h) cell ≡ true → nat_lt cell plan.plain ≡ true
 plain_of h plan cell is e = ap (λ n. nat_lt cell n) is.plain ∙ e
 
@@ -94,9 +94,9 @@ unfolding may_test
 may_of h plan hand s (Load cell) is held may = plain_of h plan cell is may
 may_of h plan hand s (Store cell value) is held may =
     let both : (is_plain (cells_of h) cell && nat_lt value (2 ^ 63))
-      ≡ true = first_true (is_plain (cells_of h) cell && nat_lt value (2 ^ 63)) (is_some s.called) may in
+    ≡ true = first_true (is_plain (cells_of h) cell && nat_lt value (2 ^ 63)) (is_some s.called) may in
     both_true (nat_lt cell plan.plain) (nat_lt value (2 ^ 63))
-      (plain_of h plan cell is (first_true (is_plain (cells_of h) cell) (nat_lt value (2 ^ 63)) both))
+    (plain_of h plan cell is (first_true (is_plain (cells_of h) cell) (nat_lt value (2 ^ 63)) both))
     (second_true (is_plain (cells_of h) cell) (nat_lt value (2 ^ 63)) both)
 may_of h plan hand s (Take lock) is held may = lock_of h plan lock is (first_true (is_lock (cells_of h) lock) (not (holds s lock)) may)
 may_of h plan hand s (Give lock) is held may =
@@ -130,7 +130,7 @@ other_held lock given (x ∷ xs) e = by_given (x == given) refl (x == lock) refl
 
     by_given : (b : Bool) → (x == given) ≡ b → (a : Bool) → (x == lock) ≡ a
         → (list_any (λ held. held == lock) (filter (λ held. not (held == given)) xs) ≡ true
-          → (list_any (λ held. held == lock) xs ≡ true) × (given ≢ lock))
+        → (list_any (λ held. held == lock) xs ≡ true) × (given ≢ lock))
         → (list_any (λ held. held == lock) (x ∷ xs) ≡ true) × (given ≢ lock)
     by_given true is true here later =
         let l = later (sym (ap (λ b. list_any (λ held. held == lock) (cond (not b) (x ∷ filter (λ held. not (held == given)) xs)
@@ -148,7 +148,7 @@ other_held lock given (x ∷ xs) e = by_given (x == given) refl (x == lock) refl
     by_given false is false here later =
         let kept : list_any (λ held. held == lock) (x ∷ filter (λ held. not (held == given)) xs) ≡ true =
         sym (ap (λ b. list_any (λ held. held == lock)
-          (cond (not b) (x ∷ filter (λ held. not (held == given)) xs) (filter (λ held. not (held == given)) xs))) is) ∙ e in
+        (cond (not b) (x ∷ filter (λ held. not (held == given)) xs) (filter (λ held. not (held == given)) xs))) is) ∙ e in
         let l = later (sym (ap (λ b. b || list_any (λ held. held == lock) (filter (λ held. not (held == given)) xs)) here) ∙ kept) in
         (ap (λ b. b || list_any (λ held. held == lock) xs) here ∙ l.0, l.1)
 
@@ -188,10 +188,12 @@ held_after h s (Store cell value) answer did number look hand may e held =
 held_after h s (Take taken) answer did number look hand may e held =
     let is : Took taken ≡ did = cc in
     subst (λ did. AreHeld h (after_act s (Take taken)) (with_one_more hand number did look)) is (λ lock some. dite (ℕ_discrete taken lock)
-    (λ here. subst (λ lock. (plain_words h ≤ lock) × Holds (with_one_more hand number (Took taken) look) lock) here (is_high,
-      holds-taken hand taken number look))
+    (λ here. subst (λ lock. (plain_words h ≤ lock) × Holds (with_one_more hand number (Took taken) look) lock) here (
+      is_high,
+      holds-taken hand taken number look,
+    ))
     (λ no. let l = held lock (sym (ap (λ b. b || holds s lock) (ne_eqb taken lock no)) ∙ some) in
-      (l.0, (holds-beside hand lock taken number look no l.1).0)))
+    (l.0, (holds-beside hand lock taken number look no l.1).0)))
   where
     is_high : plain_words h ≤ taken
     is_high = at_most_of (plain_words h) taken (first_true (nat_le (plain_words h) taken) (nat_lt taken (plain_words h + lock_words h))
@@ -254,7 +256,7 @@ none_held h s (step Done rest) between sound = absurd (cc_of sound.0)
     cc_of e = cc
 none_held h s (step (Mark (Call method args)) rest) between sound =
     let rests : is_at_rest s ≡ true = second_true (same_subject (subject_of method) h.subject && are_args h.size method args)
-      (is_at_rest s) sound.0 in
+    (is_at_rest s) sound.0 in
     first_true (is_nil s.locks) (is_none s.called) (first_true (is_nil s.locks && is_none s.called) (not s.committed)
     (first_true (is_nil s.locks && is_none s.called && not s.committed) (not s.in_block) rests))
 none_held h s (step (Mark (Return reply)) rest) between sound = cc

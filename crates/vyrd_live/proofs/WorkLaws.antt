@@ -61,7 +61,7 @@ lane_after act answer hand now acted =
 pub working_on : (h : Header) (script left : Script) (hand now : HandView) (answer : ℕ)
     → (is_return (next_act left) ≡ true → is_between (after_answer left 0) ≡ true)
     → HasActed (next_act left) answer hand now → HasRoomAhead h left hand → IsWorking h script left hand
-      → IsWorking h script (after_answer left answer) now
+    → IsWorking h script (after_answer left answer) now
 working_on h script left hand now answer rests acted room w =
     let dids = lane_after (next_act left) answer hand now acted in
     let given = answer_is (next_act left) answer acted.did acted.event acted.answered in
@@ -72,7 +72,7 @@ working_on h script left hand now answer rests acted room w =
         w.plays,
       );
       left_is = ap (λ s. after_answer s answer) w.left_is ∙ ap (after_answer (left_after script (dids_of hand.lane))) (sym given)
-        ∙ ap (left_after script) (sym dids);
+          ∙ ap (left_after script) (sym dids);
       had_room = subst (λ n. HadRoom h n (dids_of now.lane)) (sym limit) (subst (HadRoom h hand.limit) (sym dids) (
         subst (λ n. BeginsWithRoom h hand.limit n acted.did) (sym (length-dids hand.lane))
             (began_with_room h hand.limit (length hand.lane) (next_act left) answer acted.did acted.event room.room),
@@ -87,7 +87,7 @@ working_on h script left hand now answer rests acted room w =
 pub working_turn : (h : Header) (script left later : Script) (hand now after : HandView)
     → (is_return (next_act left) ≡ true → is_between (after_answer left 0) ≡ true)
     → now ≡ with_spare hand now.spare → HasRoomAhead h left now
-      → (answer : ℕ) × (later ≡ after_answer left answer) × HasActed (next_act left) answer now after
+    → (answer : ℕ) × (later ≡ after_answer left answer) × HasActed (next_act left) answer now after
     → IsWorking h script left hand → IsWorking h script later after
 working_turn h script left later hand now after rests is room made w =
     subst (λ s. IsWorking h script s after) (sym made.1) (working_on h script left now after made.0 rests made.2 room

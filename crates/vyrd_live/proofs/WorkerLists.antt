@@ -48,28 +48,33 @@ hand_left : {M : Type 0} (header_of : M → Header) (script : M → Script) (ahe
     → ℕ) (traced : TracedView) (workers : List (Worker M)) (stopped : List Stopped)
     → HaveWorked header_of script ahead traced workers stopped → length stopped ≡ length workers → AreAll traced (first_hands workers)
     → (i : ℕ) (d : HandView) → i < length workers
-      → IsOf traced (slice_index_or (hands stopped) i d) × ((slice_index_or (hands stopped) i d).caller ≡ i)
+    → IsOf traced (slice_index_or (hands stopped) i d) × ((slice_index_or (hands stopped) i d).caller ≡ i)
 hand_left header_of script ahead traced workers stopped worked count all i d low =
     let w = element_of workers i low in
     let s : Stopped = record { hand = d; ending = Finished } in
     let here = worked i w s low in
     let now : slice_index_or (hands stopped) i d
-      ≡ (slice_index_or stopped i s).hand = get_or-map (λ (s : Stopped). s.hand) stopped i s d (omega (arith, low, count)) in
+    ≡ (slice_index_or stopped i s).hand = get_or-map (λ (s : Stopped). s.hand) stopped i s d (omega (arith, low, count)) in
     let before : slice_index_or (first_hands workers) i d ≡ (slice_index_or workers i w).hand = get_or-map (λ (w : _). w.hand) workers i w d low in
     let was = (all.1 i d (omega (arith, low, length-map workers (λ (w : _). w.hand)))).1 in
-    subst (λ (v : HandView). IsOf traced v × (v.caller ≡ i)) (sym now) (here.hand_of, here.caller
-      ∙ ap (λ (v : HandView). v.caller) (sym before) ∙ was)
+    subst (λ (v : HandView). IsOf traced v × (v.caller ≡ i)) (sym now) (
+      here.hand_of,
+      here.caller
+          ∙ ap (λ (v : HandView). v.caller) (sym before) ∙ was,
+    )
 
 -- the hands come back in the order of their callers
 pub all_hands : {M : Type 0} (header_of : M → Header) (script : M → Script) (ahead : M
     → ℕ) (traced : TracedView) (workers : List (Worker M)) (stopped : List Stopped)
     → HaveWorked header_of script ahead traced workers stopped → length stopped ≡ length workers
-      → AreAll traced (first_hands workers) → AreAll traced (hands stopped)
+    → AreAll traced (first_hands workers) → AreAll traced (hands stopped)
 all_hands header_of script ahead traced workers stopped worked count all =
     let a = length-map stopped (λ (s : Stopped). s.hand) in
-    let b = length-map workers (λ (w : _). w.hand) in
-    (a ∙ count ∙ sym b ∙ all.0, λ i d low. hand_left header_of script ahead traced workers stopped worked count all i d
-      (omega (arith, low, a, count)))
+    let b = length-map workers (λ (w : _). w.hand) in (
+      a ∙ count ∙ sym b ∙ all.0,
+      λ i d low. hand_left header_of script ahead traced workers stopped worked count all i d
+          (omega (arith, low, a, count)),
+    )
 
 -- how the worker of a caller ended, by what the history has of the caller
 ended_at : {M : Type 0} (header_of : M → Header) (script : M → Script) (ahead : M → ℕ) (traced : TracedView) (h : Header) (workers : List (Worker M))
@@ -78,29 +83,29 @@ ended_at : {M : Type 0} (header_of : M → Header) (script : M → Script) (ahea
     → All (λ (hand : HandView). part hand.caller history ≡ hand.lane) (hands stopped) → AreMadeFor h (map (λ w. header_of w.machine) workers)
     → (c : ℕ) → c < length workers
     → HasEnded h traced.plan.limit (script_of (map (λ w. script w.machine) workers) c)
-      (slice_index_or (endings stopped) c Finished) (done_by c history)
+    (slice_index_or (endings stopped) c Finished) (done_by c history)
 ended_at header_of script ahead traced h workers stopped history worked count all parts made c low =
     let w = element_of workers c low in
     let d = (element_of workers c low).hand in
     let s : Stopped = record { hand = d; ending = Finished } in
     let here = worked c w s low in
     let now : slice_index_or (hands stopped) c d
-      ≡ (slice_index_or stopped c s).hand = get_or-map (λ (s : Stopped). s.hand) stopped c s d (omega (arith, low, count)) in
+    ≡ (slice_index_or stopped c s).hand = get_or-map (λ (s : Stopped). s.hand) stopped c s d (omega (arith, low, count)) in
     let ending : slice_index_or (endings stopped) c Finished ≡ (slice_index_or stopped c s).ending =
-      get_or-map (λ (s : Stopped). s.ending) stopped c s Finished
+    get_or-map (λ (s : Stopped). s.ending) stopped c s Finished
     (omega (arith, low, count)) in
     let own : script_of (map (λ w. script w.machine) workers) c ≡ script (slice_index_or workers c w).machine = get_or-map
     (λ (w : _). script w.machine) workers c w stop low in
     let header : header_of (slice_index_or workers c w).machine ≡ h =
     sym (get_or-map (λ (w : _). header_of w.machine) workers c w h low)
-      ∙ made.each c h (omega (arith, low, length-map workers (λ (w : _). header_of w.machine))) in
+    ∙ made.each c h (omega (arith, low, length-map workers (λ (w : _). header_of w.machine))) in
     let caller = (hand_left header_of script ahead traced workers stopped worked count all c d low).1 in
     let part_is = parts c d (omega (arith, low, count, length-map stopped (λ (s : Stopped). s.hand))) in
     let lane : part c history ≡ (slice_index_or stopped c s).hand.lane =
     ap (λ c. part c history) (sym caller) ∙ part_is ∙ ap (λ (v : HandView). v.lane) now in
     let done : done_by c history ≡ dids_of (slice_index_or stopped c s).hand.lane = done_by-part c history ∙ ap dids_of lane in
     subst (λ (x : Header × Script × Ending × List Did). HasEnded x.0 traced.plan.limit x.1 x.2 x.3)
-      (λ i. (header i, sym own i, sym ending i, sym done i)) here.ended
+    (λ i. (header i, sym own i, sym ending i, sym done i)) here.ended
 
 -- how all workers played
 pub all_played : {M : Type 0} (header_of : M → Header) (script : M → Script) (ahead : M
@@ -129,7 +134,7 @@ all_played header_of script ahead traced h workers stopped history first worked 
 pub first_is_long : {M : Type 0} (header_of : M → Header) (script : M → Script) (ahead : M → ℕ) (traced : TracedView) (workers : List (Worker M))
     (stopped : List Stopped) (first : Option ℕ)
     → HaveWorked header_of script ahead traced workers stopped → length stopped ≡ length workers
-      → IsFirstSpent (endings stopped) (length stopped) first
+    → IsFirstSpent (endings stopped) (length stopped) first
     → IfSome first (λ caller. (w : Worker M) → traced.plan.limit < ahead (slice_index_or workers caller w).machine)
 first_is_long header_of script ahead traced workers stopped None worked count is = tt
 first_is_long header_of script ahead traced workers stopped (Some first) worked count is = λ w.

@@ -41,9 +41,12 @@ three_true a b c e = (first_true a b (first_true (a && b) c e), second_true a b 
 
 pub four_true : (a b c d : Bool) → (a && b && c && d) ≡ true → (a ≡ true) × (b ≡ true) × (c ≡ true) × (d ≡ true)
 four_true a b c d e =
-    let front : (a && b && c) ≡ true = first_true (a && b && c) d e in
-    (first_true a b (first_true (a && b) c front), second_true a b (first_true (a && b) c front), second_true (a && b) c front,
-      second_true (a && b && c) d e)
+    let front : (a && b && c) ≡ true = first_true (a && b && c) d e in (
+      first_true a b (first_true (a && b) c front),
+      second_true a b (first_true (a && b) c front),
+      second_true (a && b) c front,
+      second_true (a && b && c) d e,
+    )
 
 -- what is said of a standing with nothing in hand
 pub record Rests (s : Standing) : Type 0 where

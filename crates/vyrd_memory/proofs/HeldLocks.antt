@@ -117,7 +117,7 @@ other_held cells c d (Took other) earlier lock may is apart = by_place (other ==
     by_place true e =
         let free : (value_in earlier other == 0) ≡ true = second_true (is_lock cells other) (value_in earlier other == 0) may in
         free_isnt (value_in earlier lock) c (subst (λ cell. (value_in earlier cell == 0) ≡ true) (same_of other lock e) free)
-          ∙ sym (other_isnt c d apart)
+        ∙ sym (other_isnt c d apart)
     by_place false e = refl
 other_held cells c d (Gave other) earlier lock may is apart = by_place (other == lock) refl
   where
@@ -126,7 +126,7 @@ other_held cells c d (Gave other) earlier lock may is apart = by_place (other ==
     by_place true e =
         let its : (value_in earlier other == d + 1) ≡ true = second_true (is_lock cells other) (value_in earlier other == d + 1) may in
         others_isnt (value_in earlier lock) c d
-          (subst (λ cell. (value_in earlier cell == d + 1) ≡ true) (same_of other lock e) its) apart ∙ sym (zero_isnt c)
+        (subst (λ cell. (value_in earlier cell == d + 1) ≡ true) (same_of other lock e) its) apart ∙ sym (zero_isnt c)
     by_place false e = refl
 other_held cells c d (Marked kind) earlier lock may is apart = refl
 

@@ -90,7 +90,7 @@ next_small cells earlier cell caller (Took other) may plain small = by_place (ot
         → unwrap_or (option_or (cond b (Some (caller + 1)) None) (first_answer (λ e. made_of cell e.caller e.did) earlier)) 0 < 2 ^ 63
     by_place true e =
         let apart : (cell == other) ≡ false =
-          plain_isnt cells cell other plain (first_true (is_lock cells other) (value_in earlier other == 0) may) in
+        plain_isnt cells cell other plain (first_true (is_lock cells other) (value_in earlier other == 0) may) in
         absurd (not_both other cell e apart)
       where
         not_both : (a b : ℕ) → (a == b) ≡ true → (b == a) ≡ false → ⊥
@@ -114,7 +114,7 @@ answer_is : (cells : Cells) (earlier : List Stamped) (caller : ℕ) (did : Did) 
     → IsAnswer (act_of_event did) (answer_of did)
 answer_is cells earlier caller (Read cell value) legal may =
     let small : value_in earlier cell
-      < 2 ^ 63 = plain_small cells earlier cell legal (first_true (is_plain cells cell) (value == value_in earlier cell) may) in
+    < 2 ^ 63 = plain_small cells earlier cell legal (first_true (is_plain cells cell) (value == value_in earlier cell) may) in
     let same : (value == value_in earlier cell) ≡ true = second_true (is_plain cells cell) (value == value_in earlier cell) may in
     small_too value (value_in earlier cell) same small
   where

@@ -128,7 +128,7 @@ event_runs h scripts earlier c did sound run low e = record {
         (both_true (length earlier == length earlier) (nat_lt c h.callers) (same_number (length earlier)) (is_below c h.callers low))
         (event_may h c earlier (standing_in (part_of c earlier)) (act_of scripts c earlier) did
         (next_may h (standing_in (part_of c earlier)) (left_after (script_of scripts c) (part_of c earlier)) earlier did
-          (run_sound h scripts earlier c sound run low) e)
+        (run_sound h scripts earlier c sound run low) e)
         (λ lock is. held_is h c earlier lock run.legal (run_keeps h scripts earlier c sound run low) is)
         e),
     run.legal,
@@ -138,9 +138,11 @@ event_runs h scripts earlier c did sound run low e = record {
   where
     by_caller : (i : ℕ) (b : Bool) → (c == i) ≡ b → Plays (script_of scripts i) (cons_option (cond b (Some did) None) (part_of i earlier))
     by_caller i true is =
-        let same : c ≡ i = grind (arith, nat_tests) in
-        (subst (λ i. event_of (act_of scripts i earlier) (answer_of did)
-          ≡ Some did) same (event_plays earlier (act_of scripts c earlier) did e), run.plays i)
+        let same : c ≡ i = grind (arith, nat_tests) in (
+          subst (λ i. event_of (act_of scripts i earlier) (answer_of did)
+              ≡ Some did) same (event_plays earlier (act_of scripts c earlier) did e),
+          run.plays i,
+        )
     by_caller i false is = run.plays i
 
 -- a turn, turns and rounds

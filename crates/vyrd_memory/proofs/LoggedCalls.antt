@@ -1,5 +1,5 @@
 -- The calls in the log of a legal history of sound scripts are of the header's subject, and their arguments are in range.
-use Rattle.std.proofs.Common.{◌≡◌, ℕ, ◌<◌, true, cond, ◌&&◌, List, [], ◌∷◌, Some, None, refl, subst, sym}
+use Rattle.std.proofs.Common.{◌≡◌, ℕ, true, cond, ◌&&◌, List, [], ◌∷◌, Some, None, refl, subst, sym}
 use Rattle.std.specs.Prelude.{filter_map}
 use Rattle.std.specs.List.{cons_option, AllByRecursion}
 use Rattle.vyrd_base.specs.declared.header.Header.{Header}
@@ -62,4 +62,4 @@ pub calls_fit : (h : Header) (scripts : List Script) (history : List Stamped) �
 calls_fit h scripts history sound is_legal_ played =
     let legal = legal_events (cells_of h) history is_legal_ in
     (turned h [] (log_of history) (subst (AreCallsOf h) (sym (newest_log history))
-      (log_fits h (newest_first history) legal (all_keep h scripts history sound legal played)))).1
+    (log_fits h (newest_first history) legal (all_keep h scripts history sound legal played)))).1

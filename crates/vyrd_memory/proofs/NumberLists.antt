@@ -29,7 +29,7 @@ pub all_pass : (test : ℕ → Bool) (k n : ℕ) → list_all test (numbers_from
 all_pass test k zero all i from to = absurd (omega (arith, from, to))
 all_pass test k (suc n) all i from to =
     by_place (k == i) refl (λ apart. all_pass test (k + 1) n (second_true (test k) (list_all test (numbers_from (k + 1) n)) all) i
-      (omega arith) (omega arith))
+    (omega arith) (omega arith))
   where
     by_place : (b : Bool) → (k == i) ≡ b → (k ≢ i → test i ≡ true) → test i ≡ true
     by_place true e later = let same : i ≡ k = grind (arith, nat_tests) in ap test same

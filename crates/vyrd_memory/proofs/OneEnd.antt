@@ -37,7 +37,7 @@ still_turns : (scripts : List Script) (callers : List ℕ) (earlier : List Stamp
 still_turns scripts [] earlier e = refl
 still_turns scripts (c ∷ callers) earlier e =
     let none = no_event earlier (act_of scripts c earlier)
-      (first_true (is_still scripts earlier c) (list_all (is_still scripts earlier) callers) e) in
+    (first_true (is_still scripts earlier c) (list_all (is_still scripts earlier) callers) e) in
     ap (λ o. after_turns scripts callers (with_event c earlier o)) none
     ∙ still_turns scripts callers earlier (second_true (is_still scripts earlier c) (list_all (is_still scripts earlier) callers) e)
 
@@ -50,7 +50,7 @@ done_still scripts (c ∷ callers) earlier e =
     both_true (is_still scripts earlier c) (list_all (is_still scripts earlier) callers)
     (ap (λ b. b || is_held_up earlier (act_of scripts c earlier)) done)
     (done_still scripts callers earlier
-      (second_true (is_done (act_of scripts c earlier)) (list_all (λ c. is_done (act_of scripts c earlier)) callers) e))
+    (second_true (is_done (act_of scripts c earlier)) (list_all (λ c. is_done (act_of scripts c earlier)) callers) e))
 
 -- a round changes nothing
 abbrev AtRest : List Script → List Stamped → Type 0

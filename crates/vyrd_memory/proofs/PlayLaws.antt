@@ -44,13 +44,13 @@ unfolding within_test
 may_within h s (Load cell) may = plain_within (plain_words h) (lock_words h) cell may
 may_within h s (Store cell value) may =
     let both : (nat_lt cell (plain_words h) && nat_lt value (2 ^ 63))
-      ≡ true = first_true (is_plain (cells_of h) cell && nat_lt value (2 ^ 63)) (is_some s.called) may in
+    ≡ true = first_true (is_plain (cells_of h) cell && nat_lt value (2 ^ 63)) (is_some s.called) may in
     let low : nat_lt cell (plain_words h) ≡ true = first_true (nat_lt cell (plain_words h)) (nat_lt value (2 ^ 63)) both in
     ap (λ b. b && nat_lt value (2 ^ 63)) (plain_within (plain_words h) (lock_words h) cell low)
-      ∙ second_true (nat_lt cell (plain_words h)) (nat_lt value (2 ^ 63)) both
+    ∙ second_true (nat_lt cell (plain_words h)) (nat_lt value (2 ^ 63)) both
 may_within h s (Take lock) may =
     second_true (nat_le (plain_words h) lock) (nat_lt lock (plain_words h + lock_words h))
-      (first_true (is_lock (cells_of h) lock) (not (holds s lock)) may)
+    (first_true (is_lock (cells_of h) lock) (not (holds s lock)) may)
 may_within h s (Give lock) may =
     second_true (nat_le (plain_words h) lock) (nat_lt lock (plain_words h + lock_words h)) (first_true (is_lock (cells_of h) lock) (holds s lock) may)
 may_within h s (Mark kind) may = refl
@@ -80,7 +80,7 @@ sound_within h (step act rest) sound = may_within h sound.0 act sound.1.0
 pub within : (h : Header) (script : Script) (n : ℕ) → n ≡ plain_words h + lock_words h → IsSoundSomewhere h script → IsWithin n (next_act script)
 within h script n e sound =
     subst (λ n. IsWithin n (next_act script)) (sym e)
-      (tested (plain_words h + lock_words h) (next_act script) (∥∥₁_elim sound (Bool-set _ _) (sound_within h script)))
+    (tested (plain_words h + lock_words h) (next_act script) (∥∥₁_elim sound (Bool-set _ _) (sound_within h script)))
 
 -- an act finds in the memory what it finds in the history
 pub same_event : (h : Header) (earlier : List Stamped) (act : Act) → IsWithin (plain_words h + lock_words h) act
@@ -119,7 +119,7 @@ made_there n cell value o apart = by_place (cell == n) refl
 
 changed_memory : (h : Header) (e : Stamped) (earlier : List Stamped) (cell value : ℕ) → cell < plain_words h + lock_words h
     → ((n : ℕ) → made_of n e.caller e.did ≡ cond (cell == n) (Some value) None)
-      → set (memory_after h earlier) cell value ≡ memory_after h (e ∷ earlier)
+    → set (memory_after h earlier) cell value ≡ memory_after h (e ∷ earlier)
 changed_memory h e earlier cell value low made =
     let here : 0 + cell ≡ cell = omega arith in
     set_from (value_in earlier) (value_in (e ∷ earlier)) 0 (plain_words h + lock_words h) cell value low
@@ -197,7 +197,7 @@ slice_get-set (y ∷ xs) zero (suc i) x low = let e : (suc i == 0) ≡ false = g
 slice_get-set (y ∷ xs) (suc c) zero x low = let e : (0 == suc c) ≡ false = grind (arith, nat_tests) in ap (λ b. cond b (Some x) (Some y)) (sym e)
 slice_get-set (y ∷ xs) (suc c) (suc i) x low =
     let e : (suc i == suc c) ≡ (i == c) = grind (arith, nat_tests) in slice_get-set xs c i x (omega arith)
-      ∙ ap (λ b. cond b (Some x) (slice_get xs i)) (sym e)
+    ∙ ap (λ b. cond b (Some x) (slice_get xs i)) (sym e)
 
 total-set : {M : Type 0} (ahead : M → ℕ) (machines : List M) (c : ℕ) (m n : M) → slice_get machines c ≡ Some m
     → total ahead (set machines c n) + ahead m ≡ total ahead machines + ahead n
@@ -241,7 +241,7 @@ next_ready h header_of script machines c m n words did t = record {
   room = next_length words c did ∙ t.ready.room;
   small =
       next_small words c did t.caller
-        (subst (λ k. WithinMemory k did) (sym t.ready.room) (turn_did_within h header_of script machines c m n words did t)) t.ready.small;
+      (subst (λ k. WithinMemory k did) (sym t.ready.room) (turn_did_within h header_of script machines c m n words did t)) t.ready.small;
 }
   where
     by_place : (i : ℕ) (x : _) (b : Bool) → cond b (Some n) (slice_get machines i) ≡ Some x → header_of x ≡ h
@@ -266,7 +266,7 @@ next_playing h header_of script machines c number m n words did history t script
   count = length-set machines c n ∙ playing.count;
   left =
       λ i x is. ap_left i (newest_first-push history event)
-        (by_place i x (i == c) refl (sym (slice_get-set machines c i n (slice_get_within machines c m t.here)) ∙ is));
+      (by_place i x (i == c) refl (sym (slice_get-set machines c i n (slice_get_within machines c m t.here)) ∙ is));
   words_are = ap (λ words. words_with words c did) playing.words_are
       ∙ next_memory h (newest_first history) number c did (turn_did_within h header_of script machines c m n words did t)
       ∙ ap (memory_after h) (sym (newest_first-push history event));
@@ -294,14 +294,14 @@ next_playing h header_of script machines c number m n words did history t script
 pub act_is : {M : Type 0} (h : Header) (script : M
     → Script) (scripts : List Script) (machines : List M) (words : List ℕ) (history : List Stamped) (c : ℕ) (m : M)
     → IsPlaying h script scripts machines words history → slice_get machines c ≡ Some m
-      → act_of scripts c (newest_first history) ≡ next_act (script m)
+    → act_of scripts c (newest_first history) ≡ next_act (script m)
 act_is h script scripts machines words history c m playing here = ap next_act (sym (playing.left c m here))
 
 -- the event of a machine is that of its caller
 pub event_is : {M : Type 0} (h : Header) (script : M
     → Script) (scripts : List Script) (machines : List M) (words : List ℕ) (history : List Stamped) (c : ℕ) (m : M)
     → IsPlaying h script scripts machines words history → slice_get machines c ≡ Some m
-      → IsWithin (plain_words h + lock_words h) (next_act (script m))
+    → IsWithin (plain_words h + lock_words h) (next_act (script m))
     → event_now (newest_first history) (act_of scripts c (newest_first history)) ≡ event_in words (next_act (script m))
 event_is h script scripts machines words history c m playing here is =
     ap (event_now (newest_first history)) (act_is h script scripts machines words history c m playing here)
@@ -335,7 +335,7 @@ turn_is h header_of script machines c m n words did history t scripts playing =
 pub no_turn_is : {M : Type 0} (h : Header) (header_of : M → Header) (script : M
     → Script) (machines : List M) (c : ℕ) (m : M) (words : List ℕ) (history : List Stamped)
     → IsReady h header_of machines words → slice_get machines c ≡ Some m → IsSoundSomewhere (header_of m) (script m)
-      → event_in words (next_act (script m)) ≡ None
+    → event_in words (next_act (script m)) ≡ None
     → (scripts : List Script) → IsPlaying h script scripts machines words history → newest_first history ≡ after_turn scripts c (newest_first history)
 no_turn_is h header_of script machines c m words history ready here sound none scripts playing =
     ap (with_event c (newest_first history)) (sym (event_is h script scripts machines words history c m playing here
@@ -348,7 +348,7 @@ pub machine_within : {M : Type 0} (h : Header) (header_of : M → Header) (scrip
     → IsWithin (length words) act
 machine_within h header_of script machines c m words act ready here sound is =
     subst (IsWithin (length words)) (sym is)
-      (within h (script m) (length words) ready.room (subst (λ h. IsSoundSomewhere h (script m)) (ready.made c m here) sound))
+    (within h (script m) (length words) ready.room (subst (λ h. IsSoundSomewhere h (script m)) (ready.made c m here) sound))
 
 -- the turn that has been played
 pub turn_played : {M : Type 0} (h : Header) (header_of : M → Header) (script : M
@@ -361,7 +361,7 @@ turn_played h header_of script machines c m n words later_words did history late
   count = length-set machines c n;
   plays = λ scripts playing. subst (λ words. IsPlaying h script scripts (set machines c n) words later_history) (sym words_are)
       (subst (IsPlaying h script scripts (set machines c n) (words_with words c did)) (sym history_is)
-        (next_playing h header_of script machines c (length history) m n words did history t scripts playing));
+      (next_playing h header_of script machines c (length history) m n words did history t scripts playing));
   history = λ scripts playing. ap newest_first history_is ∙ turn_is h header_of script machines c m n words did history t scripts playing;
 }
 
@@ -370,7 +370,7 @@ pub no_turn_played : {M : Type 0} (h : Header) (header_of : M → Header) (scrip
     → Script) (machines : List M) (c : ℕ) (m : M) (words later_words : List ℕ)
     (history : List Stamped)
     → IsReady h header_of machines words → slice_get machines c ≡ Some m → IsSoundSomewhere (header_of m) (script m)
-      → event_in words (next_act (script m)) ≡ None
+    → event_in words (next_act (script m)) ≡ None
     → later_words ≡ words
     → HasPlayed h header_of script (c ∷ []) (scene machines words history) (scene machines later_words history)
 no_turn_played h header_of script machines c m words later_words history ready here sound none words_are = record {

@@ -60,7 +60,7 @@ rounds_more n zero = append-nil (numbers_below n)
 rounds_more n (suc rounds) =
     let e : suc rounds + 1 ≡ suc (rounds + 1) = omega arith in
     ap (rounds_over n) e ∙ ap (λ xs. numbers_below n ++ xs) (rounds_more n rounds)
-      ∙ sym (append_assoc (numbers_below n) (rounds_over n rounds) (numbers_below n))
+    ∙ sym (append_assoc (numbers_below n) (rounds_over n rounds) (numbers_below n))
 
 -- one round more
 pub one_round_more : {M : Type 0} (h : Header) (header_of : M → Header) (script : M → Script) (a b c : Scene M) (rounds : ℕ)

@@ -100,7 +100,7 @@ pub none_open : (h : Header) (earlier : List Stamped) → AllKeep h earlier → 
 none_open h earlier keep rest = none_any (λ c. is_some (open_call c (filter_map log_entry earlier))) 0 h.callers (λ c from to.
     let low : c < h.callers = omega arith in
     isnt_open c (standing_in (part_of c earlier)) (filter_map log_entry earlier) (agrees h c earlier (keep c low))
-      (ap (λ s. is_none s.called) (rest c low)))
+    (ap (λ s. is_none s.called) (rest c low)))
 
 -- a fault is no broken rule
 fault_isnt : (h : Header) (states : List Amounts) (ps : List (Place Entry)) (line : ℕ) (rule : Rule)
@@ -110,7 +110,7 @@ fault_isnt h states (place ∷ ps) line rule e = by_fault (fault_at h states pla
   where
     by_fault : (o : Option Why) → (first_answer (violation_at h states) ps ≡ Some (Malformed line rule) → ⊥)
         → option_or (option_map (Violation (line_of (position_of place))) o) (first_answer (violation_at h states) ps)
-          ≡ Some (Malformed line rule) → ⊥
+        ≡ Some (Malformed line rule) → ⊥
     by_fault None later e = later e
     by_fault (Some why) later e = cc
 
@@ -155,7 +155,7 @@ all_rest h scripts history sound legal played c low =
     let part = part_of c (newest_first history) in
     rests_at_stop h (standing_in part) (left_after (script_of scripts c) part)
     (sound_left h (script_of scripts c) part (sound.sound c low) (played c).plays
-      (are_answers (cells_of h) (newest_first history) c legal)) (played c).done
+    (are_answers (cells_of h) (newest_first history) c legal)) (played c).done
 
 -- so a broken rule that is named is that of raced blocks
 pub only_races : (h : Header) (scripts : List Script) (history : List Stamped) → AreSoundScripts h scripts → is_legal (cells_of h) history ≡ true

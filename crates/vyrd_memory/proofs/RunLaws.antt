@@ -40,15 +40,15 @@ all_by_number p q (m ∷ machines) k same =
     let here : k + 0 ≡ k = omega arith in
     ap (λ b. b && list_all p machines) (same 0 m refl ∙ ap q here)
     ∙ ap (λ b. q k && b) (all_by_number p q machines (k + 1) (λ i x is. let there : k + suc i ≡ k + 1 + i = omega arith in
-      same (suc i) x is ∙ ap q there))
+    same (suc i) x is ∙ ap q there))
 
 pub done_is : {M : Type 0} (h : Header) (script : M → Script) (scripts : List Script) (machines : List M) (words : List ℕ) (history : List Stamped)
     → IsPlaying h script scripts machines words history
-      → list_all (λ m. is_done (next_act (script m))) machines ≡ are_done scripts (newest_first history)
+    → list_all (λ m. is_done (next_act (script m))) machines ≡ are_done scripts (newest_first history)
 done_is h script scripts machines words history playing =
     all_by_number (λ m. is_done (next_act (script m))) (λ c. is_done (act_of scripts c (newest_first history))) machines 0
     (λ i m is. let e : 0 + i ≡ i = omega arith in ap is_done (sym (act_is h script scripts machines words history i m playing is))
-      ∙ ap (λ i. is_done (act_of scripts i (newest_first history))) (sym e))
+    ∙ ap (λ i. is_done (act_of scripts i (newest_first history))) (sym e))
     ∙ ap (λ n. list_all (λ c. is_done (act_of scripts c (newest_first history))) (numbers_below n)) playing.count
 
 -- a history only grows
@@ -141,7 +141,7 @@ history_is h header_of script turns a b c start none first rest =
     ∙ ap (λ n. after_turns scripts (rounds_over n rest.rounds) (newest_first b.history)) (first.count ∙ start.count)
     ∙ rounds_are scripts rest.rounds (newest_first b.history)
     ∙ ap (after_rounds scripts rest.rounds) (first.history scripts start
-      ∙ ap (λ history. after_turns scripts (turns_of turns) (newest_first history)) none)
+    ∙ ap (λ history. after_turns scripts (turns_of turns) (newest_first history)) none)
 
 pub runs_to : {M : Type 0} (h : Header) (header_of : M → Header) (script : M → Script) (turns : List Turn) (a b c : Scene M)
     → IsPlaying h script (map script a.machines) a.machines a.words a.history → a.history ≡ [] → HasPlayed h header_of script (turns_of turns) a b
@@ -161,7 +161,7 @@ runs_to h header_of script turns a b c start none first rest done =
 pub gets_stuck : {M : Type 0} (h : Header) (header_of : M → Header) (script : M → Script) (turns : List Turn) (a b c : Scene M)
     → IsPlaying h script (map script a.machines) a.machines a.words a.history → a.history ≡ [] → HasPlayed h header_of script (turns_of turns) a b
     → HaveComeToRest h header_of script b c → list_all (λ m. is_done (next_act (script m))) c.machines ≡ false
-      → GetsStuck (map script a.machines) turns
+    → GetsStuck (map script a.machines) turns
 gets_stuck h header_of script turns a b c start none first rest undone =
     let scripts = map script a.machines in
     let end = rest.played.plays scripts (first.plays scripts start) in
@@ -172,7 +172,7 @@ gets_stuck h header_of script turns a b c start none first rest undone =
       stuck = ap (are_stuck scripts) (sym (history_is h header_of script turns a b c start none first rest))
           ∙ both_true (not (are_done scripts (newest_first c.history)))
           (list_all (λ i. is_done (act_of scripts i (newest_first c.history))
-            || is_held_up (newest_first c.history) (act_of scripts i (newest_first c.history))) (numbers_below (length scripts)))
+          || is_held_up (newest_first c.history) (act_of scripts i (newest_first c.history))) (numbers_below (length scripts)))
           (ap not (sym (done_is h script scripts c.machines c.words c.history end) ∙ undone))
           (all_held_up scripts (newest_first c.history) 0 (length scripts) still);
     }

@@ -20,8 +20,11 @@ pub loads_in : (n cell : ℕ) (rest : ℕ → Script) → ((answer : ℕ) → En
 loads_in n cell rest ends = (omega arith, λ e. cc, λ on answer is. in_more n (n + 1 - 1) (rest answer) (omega arith) (ends answer))
 
 pub acts_in : (n : ℕ) (act : Act) (later : Script) → is_return act ≡ false → EndsByReturn n later → EndsByReturn (n + 1) (perform act later)
-acts_in n act later on ends = (omega arith, λ e. absurd (not_both (is_return act) on e),
-    λ on answer is. in_more n (n + 1 - 1) later (omega arith) ends)
+acts_in n act later on ends = (
+  omega arith,
+  λ e. absurd (not_both (is_return act) on e),
+  λ on answer is. in_more n (n + 1 - 1) later (omega arith) ends,
+)
 
 -- one way or the other
 pub either_in : (n : ℕ) (b : Bool) (x y : Script) → EndsByReturn n x → EndsByReturn n y → EndsByReturn n (cond b x y)

@@ -66,7 +66,7 @@ no_call h s Done called may = may_isnt may
     may_isnt e = sym e
 no_call h s (Mark (Call method args)) called may =
     absurd (not_both s.called called
-      (idle_called s (second_true (same_subject (subject_of method) h.subject && are_args h.size method args) (is_at_rest s) may)))
+    (idle_called s (second_true (same_subject (subject_of method) h.subject && are_args h.size method args) (is_at_rest s) may)))
   where
     not_both : (o : Option Method) → is_some o ≡ true → is_none o ≡ true → ⊥
     not_both None some none = cc
@@ -76,7 +76,7 @@ no_call h s (Mark (Call method args)) called may =
     idle_called s e =
         second_true (holds_none s) (is_none s.called)
         (first_true (holds_none s && is_none s.called) (not s.committed)
-          (first_true (holds_none s && is_none s.called && not s.committed) (not s.in_block) e))
+        (first_true (holds_none s && is_none s.called && not s.committed) (not s.in_block) e))
 no_call h s (Mark (Return reply)) called may = refl
 no_call h s (Mark (Write word value)) called may = refl
 no_call h s (Mark Commit) called may = refl

@@ -46,7 +46,7 @@ callable_mark h op e = first_true (same_subject (subject_of op.method) h.subject
 pub callable_method : (h : Header) (op : Op) → is_callable h op ≡ true → subject_of op.method ≡ h.subject
 callable_method h op e =
     same_subjects (subject_of op.method) h.subject
-      (first_true (same_subject (subject_of op.method) h.subject) (are_args h.size op.method op.args) (callable_mark h op e))
+    (first_true (same_subject (subject_of op.method) h.subject) (are_args h.size op.method op.args) (callable_mark h op e))
 
 pub callable_args : (h : Header) (op : Op) → is_callable h op ≡ true → are_args h.size op.method op.args ≡ true
 callable_args h op e = second_true (same_subject (subject_of op.method) h.subject) (are_args h.size op.method op.args) (callable_mark h op e)
@@ -61,7 +61,7 @@ operations-sound h body (op ∷ ops) each callable = (
   both_true (same_subject (subject_of op.method) h.subject && are_args h.size op.method op.args) true
       (callable_mark h op (first_true (is_callable h op) (are_callable h ops) callable)) refl,
   λ answer is. followed-sound h (just_called op.method) (body op) (operations body ops)
-    (each op (first_true (is_callable h op) (are_callable h ops) callable))
+      (each op (first_true (is_callable h op) (are_callable h ops) callable))
       (operations-sound h body ops each (second_true (is_callable h op) (are_callable h ops) callable)),
 )
 
@@ -94,10 +94,11 @@ bound_is_some Tree n TrLookup = omega arith
 pub operations-in_time : (h : Header) (body : Op → Script) (ops : List Op) → AreBounded h body → are_callable h ops ≡ true
     → EndsWithin (first_bound h ops) (operations body ops)
 operations-in_time h body [] each callable = tt
-operations-in_time h body (op ∷ ops) each callable =
-    (bound_is_some h.subject h.size op.method,
-      λ goes answer is. followed-ends (bound_of h op.method - 1) (body op) (operations body ops)
-      (each op (first_true (is_callable h op) (are_callable h ops) callable)))
+operations-in_time h body (op ∷ ops) each callable = (
+  bound_is_some h.subject h.size op.method,
+  λ goes answer is. followed-ends (bound_of h op.method - 1) (body op) (operations body ops)
+      (each op (first_true (is_callable h op) (are_callable h ops) callable)),
+)
 
 -- what comes next of the operation in hand comes next of all
 pub followed-next : (a b : Script) → next_act a ≢ Done → next_act (followed_by a b) ≡ next_act a
@@ -190,18 +191,18 @@ return_answered (Mark kind) ends = refl
 
 pub player_rests : {P : Type 0} (h : Header) (n : ℕ) (rest : P → Script) (progress : Option P) (body : Op → Script) (ops : List Op)
     → HandIs h n rest progress → is_return (next_act (player_script rest progress body ops)) ≡ true
-      → is_between (after_answer (player_script rest progress body ops) 0) ≡ true
+    → is_between (after_answer (player_script rest progress body ops) 0) ≡ true
 player_rests h n rest None body ops hand ends = operations-rests body ops ends
 player_rests h n rest (Some p) body ops hand ends =
     let goes = in_hand_goes_on h n (rest p) hand in
     let ends' : is_return (next_act (rest p)) ≡ true = sym (ap is_return (followed-next (rest p) (operations body ops) goes)) ∙ ends in
     ap is_between (followed-after (rest p) (operations body ops) 0 goes
-      ∙ ap (λ s. followed_by s (operations body ops)) (in_hand_over h n (rest p) 0 hand ends' (return_answered (next_act (rest p)) ends')))
+    ∙ ap (λ s. followed_by s (operations body ops)) (in_hand_over h n (rest p) 0 hand ends' (return_answered (next_act (rest p)) ends')))
     ∙ operations-between body ops
 
 pub player_done : {P : Type 0} (h : Header) (n later : ℕ) (rest : P → Script) (progress : Option P) (body : Op → Script) (ops : List Op)
     → later ≡ bounds_of h ops → HandIs h n rest progress → (is_none progress ≡ true → n ≡ 0)
-      → player_script rest progress body ops ≡ stop → n + later ≡ 0
+    → player_script rest progress body ops ≡ stop → n + later ≡ 0
 player_done h n later rest None body ops sum hand idle e = omega (arith, sum, operations-done h body ops e, idle refl)
 player_done h n later rest (Some p) body ops sum hand idle e =
     absurd (followed-goes_on (rest p) (operations body ops) (in_hand_goes_on h n (rest p) hand) e)

@@ -83,8 +83,12 @@ after_mark s BlockCommit = record { locks = s.locks; called = s.called; committe
 -- what an act makes of it
 abbrev pub after_act : Standing → Act → Standing
 after_act s (Take lock) = record { locks = lock ∷ s.locks; called = s.called; committed = s.committed; in_block = s.in_block }
-after_act s (Give lock) = record { locks = filter (λ held. not (held == lock)) s.locks; called = s.called;
-    committed = s.committed; in_block = s.in_block }
+after_act s (Give lock) = record {
+  locks = filter (λ held. not (held == lock)) s.locks;
+  called = s.called;
+  committed = s.committed;
+  in_block = s.in_block;
+}
 after_act s (Mark kind) = after_mark s kind
 after_act s _ = s
 

@@ -31,10 +31,10 @@ search_next look a s x ended some fewer next =
 pub find_next : (h : Header) (variant : Variant) (value : ℕ) (found : Option ℕ → Script) (place : Finding) (look : Look) (a s answer : ℕ)
     → place ≡ finding.Load look → answer ≢ 0 → look.after ≢ 0 → a ≡ look.after - 1 → s ≡ look.slot + 1
     → find_from (suc a) s value (λ slot. find_unlock h variant (bucket_of h value) (found slot))
-      ≡ after_answer (finding_rest h variant value found place) answer
+    ≡ after_answer (finding_rest h variant value found place) answer
 find_next h variant value found place look a s answer at taken some fewer next =
     let on : Option ℕ → Script = λ slot. find_unlock h variant (bucket_of h value) (found slot) in
     ap (λ n. find_from n s value on) (one_fewer a look.after some fewer) ∙ ap (λ n. find_from look.after n value on) next
     ∙ ap (λ b. cond b (reserve look.slot value (on (Some look.slot))) (find_from look.after (look.slot + 1) value on))
-      (sym (isnt_same answer 0 taken))
+    (sym (isnt_same answer 0 taken))
     ∙ ap (λ p. after_answer (finding_rest h variant value found p) answer) (sym at)

@@ -73,7 +73,7 @@ own_next n blocks earlier c kind block low own all = λ d low_d. by_same c d
     (λ same. subst (λ x. Own x (get_or (set blocks c block) x None) (entry c kind ∷ earlier)) same
     (subst (λ b. Own c b (entry c kind ∷ earlier)) (sym (get_or-set_same blocks c block None low)) own))
     (λ other. subst (λ b. Own d b (entry c kind ∷ earlier)) (sym (get_or-set_other blocks c d block None (differs c d other)))
-      (own_other d c kind (get_or blocks d None) earlier other (all d low_d)))
+    (own_other d c kind (get_or blocks d None) earlier other (all d low_d)))
 
 -- a closed block
 own_closed : (c : ℕ) (block : Option (List (ℕ × ℕ))) (entries : List Entry) → is_some block ≡ false → has_block c entries ≡ false
@@ -91,8 +91,12 @@ block_write d c word value earlier = ap (λ o. unwrap_or o false) (no_answer d c
 -- a write outside a block
 pub followed_through : (kept : Kept) (earlier : List Entry) (c word value : ℕ) (changed : List ℕ) → c < kept.header.callers
     → word < plain_words kept.header → is_open kept c ≡ false
-    → HasFollowed kept earlier → HasFollowed (record { header = kept.header; words = set kept.words word value;
-      blocks = kept.blocks; changed = changed }) (entry c (Write word value) ∷ earlier)
+    → HasFollowed kept earlier → HasFollowed (record {
+      header = kept.header;
+      words = set kept.words word value;
+      blocks = kept.blocks;
+      changed = changed;
+    }) (entry c (Write word value) ∷ earlier)
 followed_through kept earlier c word value changed low low_w closed followed =
     let out : has_block c earlier ≡ false = sym (followed.blocks c low) ∙ closed in
     followed_from _ _
@@ -121,15 +125,19 @@ own_kept c word value block earlier inside own = record {
 
 pub followed_kept : (kept : Kept) (earlier : List Entry) (c word value : ℕ) → c < kept.header.callers → c < length kept.blocks → is_open kept c ≡ true
     → HasFollowed kept earlier
-    → HasFollowed (record { header = kept.header; words = kept.words;
-      blocks = set kept.blocks c (Some (insert_entry nat_eq (kept_writes kept c) word value)); changed = kept.changed })
-      (entry c (Write word value) ∷ earlier)
+    → HasFollowed (record {
+      header = kept.header;
+      words = kept.words;
+      blocks = set kept.blocks c (Some (insert_entry nat_eq (kept_writes kept c) word value));
+      changed = kept.changed;
+    })
+    (entry c (Write word value) ∷ earlier)
 followed_kept kept earlier c word value low low' opened followed =
     let inside : has_block c earlier ≡ true = sym (followed.blocks c low) ∙ opened in
     followed_from _ _
     (followed.words ∙ sym (words_held kept.header earlier c word value inside))
     (own_next kept.header.callers kept.blocks earlier c (Write word value) _ low'
-      (own_kept c word value (get_or kept.blocks c None) earlier inside (own_of kept earlier followed c low)) (own_of kept earlier followed))
+    (own_kept c word value (get_or kept.blocks c None) earlier inside (own_of kept earlier followed c low)) (own_of kept earlier followed))
 
 -- a block is opened
 words_open : (h : Header) (earlier : List Entry) (c : ℕ) → words_after h (entry c BlockOpen ∷ earlier) ≡ words_after h earlier
@@ -144,8 +152,12 @@ own_open c earlier = record {
 }
 
 pub followed_open : (kept : Kept) (earlier : List Entry) (c : ℕ) → c < length kept.blocks → HasFollowed kept earlier
-    → HasFollowed (record { header = kept.header; words = kept.words; blocks = set kept.blocks c (Some []);
-      changed = kept.changed }) (entry c BlockOpen ∷ earlier)
+    → HasFollowed (record {
+      header = kept.header;
+      words = kept.words;
+      blocks = set kept.blocks c (Some []);
+      changed = kept.changed;
+    }) (entry c BlockOpen ∷ earlier)
 followed_open kept earlier c low followed =
     followed_from _ _ (followed.words ∙ sym (words_open kept.header earlier c))
     (own_next kept.header.callers kept.blocks earlier c BlockOpen (Some []) low (own_open c earlier) (own_of kept earlier followed))
@@ -170,7 +182,7 @@ at_map f k (suc n) (suc i) low = at_map f (k + 1) n i (omega arith) ∙ ap f (om
 value_append : (first rest : List (ℕ × ℕ)) (w : ℕ) → value_after (first ++ rest) w ≡ unwrap_or (first_answer (given_to w) first) (value_after rest w)
 value_append first rest w = ap (λ o. unwrap_or o 0) (first_answer-append (given_to w) first rest)
     ∙ elim (first_answer (given_to w) first) as (λ o. unwrap_or (option_or o (first_answer (given_to w) rest)) 0
-      ≡ unwrap_or o (unwrap_or (first_answer (given_to w) rest) 0)) [
+    ≡ unwrap_or o (unwrap_or (first_answer (given_to w) rest) 0)) [
       | None ↦ refl
       | Some v ↦ refl
     ]
@@ -184,7 +196,7 @@ words_close : (h : Header) (earlier : List Entry) (c : ℕ) (kind : Kind) (words
 unfolding words_after
 words_close h earlier c kind words writes ends size is once values =
     is_map (with_writes words writes) (value_after (effects_at earlier c kind ++ effects earlier)) 0 (plain_words h)
-      (length-with_writes words writes ∙ size)
+    (length-with_writes words writes ∙ size)
     (λ i low.
     let place : 0 + i ≡ i = omega arith in
     let was : get_or words i 0 ≡ value_after (effects earlier) i
@@ -199,31 +211,43 @@ words_close h earlier c kind words writes ends size is once values =
 followed_end : (kept : Kept) (earlier : List Entry) (c : ℕ) (kind : Kind) (changed : List ℕ)
     → effects_at earlier c kind ≡ block_writes c earlier → open_or_close kind ≡ Some false
     → c < kept.header.callers → c < length kept.blocks → length kept.words ≡ plain_words kept.header → is_open kept c ≡ true
-      → HasFollowed kept earlier
-    → HasFollowed (record { header = kept.header; words = with_writes kept.words (kept_writes kept c);
-      blocks = set kept.blocks c None; changed = changed }) (entry c kind ∷ earlier)
+    → HasFollowed kept earlier
+    → HasFollowed (record {
+      header = kept.header;
+      words = with_writes kept.words (kept_writes kept c);
+      blocks = set kept.blocks c None;
+      changed = changed;
+    }) (entry c kind ∷ earlier)
 followed_end kept earlier c kind changed ends edge low low' size opened followed =
     let inside : has_block c earlier ≡ true = sym (followed.blocks c low) ∙ opened in
     let once : AllOnce (words_of (kept_writes kept c)) = subst AllOnce (sym (followed.order c low inside)) (once_written (block_writes c earlier)) in
     let out : has_block c (entry c kind ∷ earlier) ≡ false = own_block c kind earlier
-      ∙ ap (λ o. unwrap_or (option_or o (first_answer (by_caller c open_or_close) earlier)) false) edge in
+    ∙ ap (λ o. unwrap_or (option_or o (first_answer (by_caller c open_or_close) earlier)) false) edge in
     followed_from _ _
     (words_close kept.header earlier c kind kept.words (kept_writes kept c) ends size followed.words once (λ w. followed.values c w low inside))
     (own_next kept.header.callers kept.blocks earlier c kind None low' (own_closed c None (entry c kind ∷ earlier) refl out)
-      (own_of kept earlier followed))
+    (own_of kept earlier followed))
 
 pub followed_close : (kept : Kept) (earlier : List Entry) (c : ℕ) (changed : List ℕ)
     → c < kept.header.callers → c < length kept.blocks → length kept.words ≡ plain_words kept.header → is_open kept c ≡ true
-      → HasFollowed kept earlier
-    → HasFollowed (record { header = kept.header; words = with_writes kept.words (kept_writes kept c);
-      blocks = set kept.blocks c None; changed = changed }) (entry c BlockClose ∷ earlier)
+    → HasFollowed kept earlier
+    → HasFollowed (record {
+      header = kept.header;
+      words = with_writes kept.words (kept_writes kept c);
+      blocks = set kept.blocks c None;
+      changed = changed;
+    }) (entry c BlockClose ∷ earlier)
 followed_close kept earlier c changed = followed_end kept earlier c BlockClose changed refl refl
 
 pub followed_commit : (kept : Kept) (earlier : List Entry) (c : ℕ) (changed : List ℕ)
     → c < kept.header.callers → c < length kept.blocks → length kept.words ≡ plain_words kept.header → is_open kept c ≡ true
-      → HasFollowed kept earlier
-    → HasFollowed (record { header = kept.header; words = with_writes kept.words (kept_writes kept c);
-      blocks = set kept.blocks c None; changed = changed }) (entry c BlockCommit ∷ earlier)
+    → HasFollowed kept earlier
+    → HasFollowed (record {
+      header = kept.header;
+      words = with_writes kept.words (kept_writes kept c);
+      blocks = set kept.blocks c None;
+      changed = changed;
+    }) (entry c BlockCommit ∷ earlier)
 followed_commit kept earlier c changed = followed_end kept earlier c BlockCommit changed refl refl
 
 -- an entry that is no write and touches no block
@@ -234,7 +258,7 @@ followed_quiet kept earlier c kind words edge writes followed =
     followed_from kept (entry c kind ∷ earlier) (followed.words ∙ sym words)
     (λ d low. own_same d (get_or kept.blocks d None) earlier (entry c kind ∷ earlier)
     (ap (λ o. unwrap_or o false) (no_answer d c open_or_close kind earlier edge)) (writes (c == d) (block_writes d earlier))
-      (own_of kept earlier followed d low))
+    (own_of kept earlier followed d low))
 
 pub followed_call : (kept : Kept) (earlier : List Entry) (c : ℕ) (method : Method) (args : Args) → HasFollowed kept earlier
     → HasFollowed kept (entry c (Call method args) ∷ earlier)
@@ -272,7 +296,7 @@ pub followed_none : (h : Header) (changed : List ℕ)
 unfolding words_after
 followed_none h changed = followed_from _ _
     (is_map (replicate (plain_words h) 0) (value_after []) 0 (plain_words h) (length-replicate {A = ℕ} (plain_words h) 0)
-      (λ i low. zeros (plain_words h) i))
+    (λ i low. zeros (plain_words h) i))
     (λ c low. own_closed c (get_or (replicate h.callers None) c None) [] (ap is_some (alike h.callers c None)) refl)
 
 -- what follows from an `Ok`

@@ -25,12 +25,12 @@ same_place : (w k v q u : ℕ) (rest : Option ℕ) → k ≡ q
     → option_or (given_to w (q, v)) rest ≡ option_or (given_to w (k, v)) (option_or (given_to w (q, u)) rest)
 same_place w k v q u rest e =
     subst (λ x. option_or (cond (x == w) (Some v) None) rest
-      ≡ option_or (cond (k == w) (Some v) None) (option_or (cond (x == w) (Some u) None) rest)) e
+    ≡ option_or (cond (k == w) (Some v) None) (option_or (cond (x == w) (Some u) None) rest)) e
     (twice v u rest (k == w))
 
 swapped : (v u : ℕ) (rest : Option ℕ) (a b : Bool) → (a ≡ true → b ≡ true → ⊥)
     → option_or (cond a (Some u) None) (option_or (cond b (Some v) None) rest)
-      ≡ option_or (cond b (Some v) None) (option_or (cond a (Some u) None) rest)
+    ≡ option_or (cond b (Some v) None) (option_or (cond a (Some u) None) rest)
 swapped v u rest true true apart = absurd (apart refl refl)
 swapped v u rest true false apart = refl
 swapped v u rest false true apart = refl
@@ -54,7 +54,7 @@ value_kept w k v ((q, u) ∷ es) = by_place (k == q) refl (value_kept w k v es)
     by_place : (b : Bool) → (k == q) ≡ b
         → first_answer (given_to w) (insert_entry nat_eq es k v) ≡ option_or (given_to w (k, v)) (first_answer (given_to w) es)
         → first_answer (given_to w) (insert_entry nat_eq ((q, u) ∷ es) k v)
-          ≡ option_or (given_to w (k, v)) (option_or (given_to w (q, u)) (first_answer (given_to w) es))
+        ≡ option_or (given_to w (k, v)) (option_or (given_to w (q, u)) (first_answer (given_to w) es))
     by_place true e rest = ap (first_answer (given_to w)) (inserted k v q u es true e)
         ∙ same_place w k v q u (first_answer (given_to w) es) (same_of k q e)
     by_place false e rest = ap (first_answer (given_to w)) (inserted k v q u es false e) ∙ ap (option_or (given_to w (q, u))) rest
@@ -132,7 +132,7 @@ value_with words ((q, u) ∷ es) w low once = by_place (q == w) refl (value_with
     by_place true e rest =
         let place : q ≡ w = same_of q w e in
         let none : first_answer (given_to w) es
-          ≡ None = no_value w es (subst (λ x. list_any (λ other. x == other) (keys_of es) ≡ false) place once.0) in
+        ≡ None = no_value w es (subst (λ x. list_any (λ other. x == other) (keys_of es) ≡ false) place once.0) in
         rest ∙ ap (λ o. unwrap_or o (get_or (set words q u) w 0)) none
         ∙ subst (λ x. get_or (set words x u) w 0 ≡ u) (sym place) (get_or-set_same words w u 0 low)
         ∙ ap (λ b. unwrap_or (option_or (cond b (Some u) None) (first_answer (given_to w) es)) (get_or words w 0)) (sym e)

@@ -33,9 +33,9 @@ sound_set h words blocks changed count capacity sound c block low in_range words
   writes = λ d. by_same c d
       (λ same. subst (λ x. AreInRange (plain_words h) (unwrap_or (get_or (set blocks c block) x None) [])) same
       (subst (λ b. AreInRange (plain_words h) (unwrap_or b []))
-        (sym (get_or-set_same blocks c block None (omega (arith, sound.all_blocks)))) in_range))
+      (sym (get_or-set_same blocks c block None (omega (arith, sound.all_blocks)))) in_range))
       (λ other. subst (λ b. AreInRange (plain_words h) (unwrap_or b []))
-        (sym (get_or-set_other blocks c d block None (differs c d other))) (sound.writes d));
+      (sym (get_or-set_other blocks c d block None (differs c d other))) (sound.writes d));
   changed_words = rest.changed_words;
   counted =
       let sums : kept_count (set blocks c block) + length (unwrap_or (get_or blocks c None) []) ≡ kept_count blocks + length (unwrap_or block [])
@@ -57,15 +57,15 @@ pub sound_kept : (h : Header) (words : List ℕ) (blocks : List (Option (List (�
     → (c word value : ℕ) (read block : Option (List (ℕ × ℕ))) → c < h.callers → word < plain_words h → value < 2 ^ 63
     → read ≡ get_or blocks c None → block ≡ Some (insert_entry nat_eq (unwrap_or read []) word value)
     → (changed' : List ℕ) (more count' capacity' : ℕ) → changed' ≡ changed
-      → length (unwrap_or block []) ≡ length (unwrap_or read []) + more → count' ≡ count + more → length changed' + count' ≤ capacity'
+    → length (unwrap_or block []) ≡ length (unwrap_or read []) + more → count' ≡ count + more → length changed' + count' ≤ capacity'
     → IsSound h words (set blocks c block) changed' count' capacity'
 sound_kept h words blocks changed count capacity sound c word value read block low low_w small is new changed' more count' capacity' same longer counts room =
     let size : length (unwrap_or read []) ≡ length (unwrap_or (get_or blocks c None) []) = ap (λ b. length (unwrap_or b [])) is in
     let in_range : AreInRange (plain_words h) (unwrap_or read []) =
-      subst (λ b. AreInRange (plain_words h) (unwrap_or b [])) (sym is) (sound.writes c) in
+    subst (λ b. AreInRange (plain_words h) (unwrap_or b [])) (sym is) (sound.writes c) in
     let more_in_range = in_range_kept (plain_words h) word value (unwrap_or read []) low_w small in_range in
     sound_set h words blocks changed count capacity sound c block low
-      (subst (λ b. AreInRange (plain_words h) (unwrap_or b [])) (sym new) more_in_range)
+    (subst (λ b. AreInRange (plain_words h) (unwrap_or b [])) (sym new) more_in_range)
     words changed' count' capacity' (omega arith)
     (record {
       all_words = sound.all_words;
@@ -79,7 +79,7 @@ pub sound_closed : (h : Header) (words : List ℕ) (blocks : List (Option (List 
     → IsSound h words blocks changed count capacity
     → (c : ℕ) → c < h.callers → (count' capacity' : ℕ) → count' ≡ count - length (unwrap_or (get_or blocks c None) []) → capacity ≤ capacity'
     → IsSound h (with_writes words (unwrap_or (get_or blocks c None) [])) (set blocks c None)
-      (changed ++ keys_of (unwrap_or (get_or blocks c None) [])) count' capacity'
+    (changed ++ keys_of (unwrap_or (get_or blocks c None) [])) count' capacity'
 sound_closed h words blocks changed count capacity sound c low count' capacity' counts more =
     let writes = unwrap_or (get_or blocks c None) [] in
     let few = kept_at_most blocks c (omega (arith, low, sound.all_blocks)) in

@@ -52,12 +52,12 @@ chain_link : (h : ℕ) (by_word links : List ℕ) (first : ℕ) (ws : List ℕ) 
     → get_or by_word w 0 ≢ h → IsChain h by_word links first ws → IsChain h by_word (set links w y) first ws
 chain_link h by_word links first ws w y free chain =
     subst (λ b. IsChain h b (set links w y) first ws) (set-get_or by_word w 0)
-      (chain_other h by_word links first ws w (get_or by_word w 0) y free free chain)
+    (chain_other h by_word links first ws w (get_or by_word w 0) y free free chain)
 
 -- a free word is put before the holder's words
 pub chain_more : (h : ℕ) (by_word links : List ℕ) (first : ℕ) (ws : List ℕ) (w : ℕ)
     → w < length by_word → w < length links → get_or by_word w 0 ≡ 0 → 0 ≢ h → IsChain h by_word links first ws
-      → IsChain h (set by_word w h) (set links w first) (w + 1) (w ∷ ws)
+    → IsChain h (set by_word w h) (set links w first) (w + 1) (w ∷ ws)
 chain_more h by_word links first ws w low low' free some chain =
     let back : set (set by_word w h) w 0 ≡ by_word = set-set_same by_word w h 0 ∙ ap (set by_word w) (sym free) ∙ set-get_or by_word w 0 in
     let free' : get_or by_word w 0 ≢ h = λ e. some (sym free ∙ e) in
@@ -99,7 +99,7 @@ chain_released g h by_word links first (w ∷ ws) some other chain =
       chain.0,
       released_at g by_word w ∙ ap (released g) chain.1 ∙ released_other g h other,
       subst (λ b. IsChain h b links (get_or links w 0) ws) moved
-        (chain_released g h (set by_word w 0) links (get_or links w 0) ws some other chain.2),
+          (chain_released g h (set by_word w 0) links (get_or links w 0) ws some other chain.2),
     )
 
 -- after it has let go, a holder has no word
@@ -203,7 +203,7 @@ linked_hold by_word links firsts c w low low_c free linked = record {
   few_callers = omega (arith, linked.few_callers, length-set firsts c (w + 1));
   lengths = length-set links w (get_or firsts c 0) ∙ linked.lengths ∙ sym (length-set by_word w (c + 1));
   holders = λ q. let e = at_most_set by_word w (c + 1) (length firsts) linked.holders (omega arith) q in
-    omega (arith, e, length-set firsts c (w + 1));
+      omega (arith, e, length-set firsts c (w + 1));
   chains = λ d low_d. by_same d c (λ same. own d same) (λ other. others d (omega (arith, low_d, length-set firsts c (w + 1))) other);
 }
   where
@@ -222,9 +222,9 @@ linked_hold by_word links firsts c w low low_c free linked = record {
         let was = linked.chains d low_d in
         let now : IsChain (d + 1) (set by_word w (c + 1)) (set links w (get_or firsts c 0)) (get_or firsts d 0) was.words
         = chain_other (d + 1) by_word links (get_or firsts d 0) was.words w (c + 1) (get_or firsts c 0)
-          (λ e. some_one d (sym free ∙ e)) (λ e. apart_one c d other (sym e)) was.chain in
+        (λ e. some_one d (sym free ∙ e)) (λ e. apart_one c d other (sym e)) was.chain in
         subst (λ f. IsLinked (d + 1) (set by_word w (c + 1)) (set links w (get_or firsts c 0)) f)
-          (sym (get_or-set_other firsts c d (w + 1) 0 (differs c d other)))
+        (sym (get_or-set_other firsts c d (w + 1) 0 (differs c d other)))
         (record { words = was.words; chain = now })
 
 pub released_le : (g n m : ℕ) → n ≤ m → released g n ≤ m
@@ -238,7 +238,7 @@ linked_release by_word links firsts c low_c linked = record {
   few_callers = omega (arith, linked.few_callers, length-set firsts c 0);
   lengths = linked.lengths ∙ sym (length-map by_word (released (c + 1)));
   holders = λ q. let e = released_le (c + 1) (get_or by_word q 0) (length firsts) (linked.holders q) in
-    omega (arith, e, released_at (c + 1) by_word q, length-set firsts c 0);
+      omega (arith, e, released_at (c + 1) by_word q, length-set firsts c 0);
   chains = λ d low_d. by_same d c (λ same. own d same) (λ other. others d (omega (arith, low_d, length-set firsts c 0)) other);
 }
   where

@@ -58,9 +58,9 @@ phases_next : (n : ℕ) (phases : List Phase) (earlier : List Entry) (c : ℕ) (
     → (d : ℕ) → d < n → slice_get (set phases c next) d ≡ Some (phase_of d (entry c kind ∷ earlier))
 phases_next n phases earlier c kind next low is all = λ d low_d. by_same c d
     (λ same. subst (λ x. slice_get (set phases c next) x ≡ Some (phase_of x (entry c kind ∷ earlier))) same
-      (slice_get-set_same phases c next low ∙ ap Some is))
+    (slice_get-set_same phases c next low ∙ ap Some is))
     (λ other. slice_get-set_other phases c d next (differs c d (flipped c d other)) ∙ all d low_d
-      ∙ ap Some (sym (phase_of-other d c kind earlier other)))
+    ∙ ap Some (sym (phase_of-other d c kind earlier other)))
 
 -- what a caller holds after an entry that touches no block and not this word
 holds_quiet : (d c w : ℕ) (kind : Kind) (earlier : List Entry) → open_or_close kind ≡ None → write_or_open w kind ≡ None
@@ -101,7 +101,7 @@ never_one g n some = by_same n g
 still_one : (g n h : ℕ) → h ≢ g → h ≢ 0 → (released g n == h) ≡ (n == h)
 still_one g n h other some = by_same n g
     (λ same. ap (λ x. released g x == h) same ∙ ap (λ x. x == h) (released_own g)
-      ∙ (let a : (0 == h) ≡ false = grind (arith, nat_tests) in let b : (n == h) ≡ false = grind (arith, nat_tests) in a ∙ sym b))
+    ∙ (let a : (0 == h) ≡ false = grind (arith, nat_tests) in let b : (n == h) ≡ false = grind (arith, nat_tests) in a ∙ sym b))
     (λ apart. ap (λ x. x == h) (released_other g n (differs g n apart)))
 
 next_apart : (c d : ℕ) → (c == d) ≡ false → d + 1 ≢ c + 1
@@ -114,7 +114,7 @@ held_end by_word c d w kind earlier edge was =
     (λ same. subst (λ x. Held (map (released (c + 1)) by_word) x w (entry c kind ∷ earlier)) same
     (holds_own c w kind earlier
     ∙ ap (λ o. unwrap_or (option_or o (first_answer (by_caller c open_or_close) earlier)) false
-      && unwrap_or (option_or (write_or_open w kind) (first_answer (by_caller c (write_or_open w)) earlier)) false) edge
+    && unwrap_or (option_or (write_or_open w kind) (first_answer (by_caller c (write_or_open w)) earlier)) false) edge
     ∙ sym (never_one (c + 1) (get_or by_word w 0) (λ e. absurd (omega arith)))
     ∙ ap (λ x. x == c + 1) (sym (released_at (c + 1) by_word w))))
     (λ other. holds_other d c w kind earlier other ∙ was
@@ -142,7 +142,7 @@ held_write_out : (by_word : List ℕ) (c d w value : ℕ) (earlier : List Entry)
 held_write_out by_word c d w value earlier out was = by_same c d
     (λ same. subst (λ x. Held by_word x w (entry c (Write w value) ∷ earlier)) same
     (holds_own c w (Write w value) earlier
-      ∙ ap (λ b. b && unwrap_or (option_or (write_or_open w (Write w value)) (first_answer (by_caller c (write_or_open w)) earlier)) false) out
+    ∙ ap (λ b. b && unwrap_or (option_or (write_or_open w (Write w value)) (first_answer (by_caller c (write_or_open w)) earlier)) false) out
     ∙ sym (no_block_no_word c w earlier out) ∙ subst (λ x. Held by_word x w earlier) (sym same) was))
     (λ other. holds_other d c w (Write w value) earlier other ∙ was)
 
@@ -164,7 +164,7 @@ held_write_free by_word c d w value earlier inside low free was = by_same c d
     (λ other. holds_other d c w (Write w value) earlier other ∙ was
     ∙ ap (λ x. x == d + 1) free
     ∙ (let apart : d ≢ c = differs c d (flipped c d other) in let a : (0 == d + 1) ≡ false = grind (arith, nat_tests) in
-      let b : (c + 1 == d + 1) ≡ false = grind (arith, nat_tests) in a ∙ sym b)
+    let b : (c + 1 == d + 1) ≡ false = grind (arith, nat_tests) in a ∙ sym b)
     ∙ ap (λ x. x == d + 1) (sym (get_or-set_same by_word w (c + 1) 0 low)))
 
 -- the word itself, of a caller in a block that holds it already
@@ -207,7 +207,7 @@ held_written h by_word c d w value earlier before low_d low true true e f =
 held_written h by_word c d w value earlier before low_d low true false e f =
     held_write_again by_word c d w value earlier e
     (whose h.callers by_word c w earlier (before.high w) (λ x low_x. before.was x w low_x low)
-      (write_kept h c w value earlier before.rules).not_raced f)
+    (write_kept h c w value earlier before.rules).not_raced f)
     (before.was d w low_d low)
 
 held_next : (h : Header) (by_word : List ℕ) (c : ℕ) (kind : Kind) (earlier : List Entry) → Before h by_word c kind earlier
@@ -248,19 +248,26 @@ high_next by_word inside c n BlockCommit low high w = let e = released_le (c + 1
     omega (arith, e, released_at (c + 1) by_word w)
 high_next by_word inside c n (Write word value) low high w =
     elim (inside && (get_or by_word word 0 == 0)) as (λ b. get_or (cond b (set by_word word (c + 1)) by_word) w 0 ≤ n) [
-  | true ↦ at_most_set by_word word (c + 1) n high (omega arith) w
-  | false ↦ high w
-]
+      | true ↦ at_most_set by_word word (c + 1) n high (omega arith) w
+      | false ↦ high w
+    ]
 
 -- one more entry that keeps the rules
 pub followed_next : (kept : Kept) (earlier : List Entry) (c : ℕ) (kind : Kind) (next : Phase)
     → c < kept.header.callers → length kept.phases ≡ kept.header.callers → length kept.holders ≡ plain_words kept.header
     → next ≡ phase_of c (entry c kind ∷ earlier) → broken_rule kept.header earlier (entry c kind) ≡ None → HasFollowed kept earlier
-    → HasFollowed (record { header = kept.header; phases = set kept.phases c next;
-      holders = holders_after kept.holders (has_block c earlier) c kind }) (entry c kind ∷ earlier)
+    → HasFollowed (record {
+      header = kept.header;
+      phases = set kept.phases c next;
+      holders = holders_after kept.holders (has_block c earlier) c kind;
+    }) (entry c kind ∷ earlier)
 followed_next kept earlier c kind next low phases words is rules followed =
-    let before : Before kept.header kept.holders c kind earlier = record { rules = rules; words = words; high = followed.callers;
-      was = followed.holders } in
+    let before : Before kept.header kept.holders c kind earlier = record {
+      rules = rules;
+      words = words;
+      high = followed.callers;
+      was = followed.holders;
+    } in
     record {
       phases = phases_next kept.header.callers kept.phases earlier c kind next (omega arith) is followed.phases;
       holders = held_next kept.header kept.holders c kind earlier before;
@@ -304,7 +311,7 @@ open_is earlier (phase ∷ phases) k all =
     let here : phase ≡ phase_of k earlier = first ∙ ap (λ c. phase_of c earlier) (omega arith) in
     let rest = open_is earlier phases (k + 1) (λ i low. all (suc i) (omega arith) ∙ ap (λ c. Some (phase_of c earlier)) (omega arith)) in
     (λ i. is_some (here i).open_method || rest i)
-      ∙ ap (λ b. b || list_any (λ c. is_some (open_call c earlier)) (numbers_from (k + 1) (length phases))) (is_some_map (open_call k earlier))
+    ∙ ap (λ b. b || list_any (λ c. is_some (open_call c earlier)) (numbers_from (k + 1) (length phases))) (is_some_map (open_call k earlier))
   where
     is_some_map : (o : Option Called) → is_some (option_map (λ called. called.method) o) ≡ is_some o
     is_some_map None = refl

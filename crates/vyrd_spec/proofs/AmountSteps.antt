@@ -13,7 +13,7 @@ amount_given s k a = amount_of-with_amount s k a k ∙ ap (λ b. cond b a (amoun
 pub given_back : (s : Amounts) (k a : ℕ) → IsAmounts s → with_amount (with_amount s k a) k (amount_of s k) ≡ s
 given_back s k a is =
     same_amounts (with_amount (with_amount s k a) k (amount_of s k)) s
-      (IsAmounts-with_amount (with_amount s k a) k (amount_of s k) (IsAmounts-with_amount s k a is)) is
+    (IsAmounts-with_amount (with_amount s k a) k (amount_of s k) (IsAmounts-with_amount s k a is)) is
     (λ q. amount_of-with_amount (with_amount s k a) k (amount_of s k) q ∙ by_key q (q == k) refl)
   where
     by_key : (q : ℕ) (b : Bool) → (q == k) ≡ b → cond b (amount_of s k) (amount_of (with_amount s k a) q) ≡ amount_of s q

@@ -50,7 +50,7 @@ next_state-formed CaEvict args reply s t is = by_replies IsAmounts reply _ _ _ t
 next_state-formed TrInsert args reply s t is =
     let set : IsAmounts (with_amount s args.a (2 ^ 32 + args.b)) = IsAmounts-with_amount s args.a (2 ^ 32 + args.b) is in
     by_replies IsAmounts reply _ _ _ t is (where_allowed IsAmounts (not (is_present s args.a)) _ set)
-      (where_allowed IsAmounts (is_present s args.a) _ set)
+    (where_allowed IsAmounts (is_present s args.a) _ set)
 next_state-formed TrDelete args reply s t is =
     by_replies IsAmounts reply _ _ _ t (where_allowed IsAmounts (not (is_present s args.a)) s is)
     (where_allowed IsAmounts (is_present s args.a) (with_amount s args.a 0) (IsAmounts-with_amount s args.a 0 is)) tt
@@ -134,7 +134,7 @@ pub next_state-pairs : (method : Method) (args : Args) (reply : ℕ) (s t : Amou
 next_state-pairs CaWrite args reply s t of low low_b low_c all =
     by_replies ArePairs reply _ _ _ t tt
     (AllAmounts-with_amount (λ chunk pair. (chunk < 2 ^ 32) × (pair < 2 ^ 64)) s args.a (args.c * 2 ^ 32 + args.b) all
-      (λ some. (low, omega arith))) tt
+    (λ some. (low, omega arith))) tt
 next_state-pairs CaFlush args reply s t of low low_b low_c all = by_replies ArePairs reply _ _ _ t tt all tt
 next_state-pairs CaEvict args reply s t of low low_b low_c all = by_replies ArePairs reply _ _ _ t tt all tt
 next_state-pairs CaRead args reply s t of low low_b low_c all = λ e. cc
@@ -156,14 +156,14 @@ pub next_state-values : (method : Method) (args : Args) (reply : ℕ) (s t : Amo
 next_state-values TrInsert args reply s t of low low_b all =
     let set : AreValues (with_amount s args.a (2 ^ 32 + args.b)) =
     AllAmounts-with_amount (λ key amount. (key < 2 ^ 32) × (2 ^ 32 ≤ amount) × (amount < 2 ^ 33)) s args.a (2 ^ 32 + args.b) all
-      (λ some. (low, omega arith, omega arith)) in
+    (λ some. (low, omega arith, omega arith)) in
     by_replies AreValues reply _ _ _ t all (where_allowed AreValues (not (is_present s args.a)) _ set)
-      (where_allowed AreValues (is_present s args.a) _ set)
+    (where_allowed AreValues (is_present s args.a) _ set)
 next_state-values TrDelete args reply s t of low low_b all =
     let gone : AreValues (with_amount s args.a 0) =
     AllAmounts-with_amount (λ key amount. (key < 2 ^ 32) × (2 ^ 32 ≤ amount) × (amount < 2 ^ 33)) s args.a 0 all (λ some. absurd (some refl)) in
     by_replies AreValues reply _ _ _ t (where_allowed AreValues (not (is_present s args.a)) s all)
-      (where_allowed AreValues (is_present s args.a) _ gone) tt
+    (where_allowed AreValues (is_present s args.a) _ gone) tt
 next_state-values TrLookup args reply s t of low low_b all = λ e. cc
 next_state-values MsInsert args reply s t of low low_b all = cc
 next_state-values MsInsertPair args reply s t of low low_b all = cc

@@ -75,7 +75,7 @@ header_known line version subject size callers is =
     ∙ ap (header_from text) fields
     ∙ (λ i. header_spelled text (number_of_decimal version v i) (subject_read subject i) (number_of_decimal size s i) (number_of_decimal callers c i))
     ∙ ap (λ b. cond b (ok_or (header_of version subject size callers) UnknownVersion) (Err BadHeader))
-      (both_true _ _ (both_true _ _ (is_below version (2 ^ 32) is.0) is.1) (bytes_same text))
+    (both_true _ _ (both_true _ _ (is_below version (2 ^ 32) is.0) is.1) (bytes_same text))
   where
     text : List ℕ
     text = header_line version subject size callers
@@ -111,9 +111,9 @@ spelled_none line version (Some subject) size callers none =
     by_test false e = refl
     by_test true e =
         let same = (bytes_eq-Decides (header_line version subject size callers) line).0
-          (second_true (nat_lt version (2 ^ 32) && is_sized size callers) _ e) in
+        (second_true (nat_lt version (2 ^ 32) && is_sized size callers) _ e) in
         absurd (none version subject size callers (below_of version (2 ^ 32) (first_true _ _ (first_true _ _ e)))
-          (second_true (nat_lt version (2 ^ 32)) _ (first_true _ _ e)) (sym same))
+        (second_true (nat_lt version (2 ^ 32)) _ (first_true _ _ e)) (sym same))
 
 from_none : (line : List ℕ) (fields : List (List ℕ)) → AreNumbersRead line None → header_from line fields ≡ Err BadHeader
 from_none line [] none = refl
@@ -130,8 +130,13 @@ header_unknown line none = sym (from_none line (fields_of line) none)
 -- the header that was made is the one with the numbers
 made_if : (h : Header) (b : Bool) (e : is_within h.version h.size h.callers ≡ b) → b ≡ true
     → Some h ≡ header_if h.version h.subject h.size h.callers b e
-made_if h true e t = ap (λ w. Some (record { version = h.version; subject = h.subject; size = h.size; callers = h.callers;
-    within = w })) (Bool-set _ _ h.within e)
+made_if h true e t = ap (λ w. Some (record {
+  version = h.version;
+  subject = h.subject;
+  size = h.size;
+  callers = h.callers;
+  within = w;
+})) (Bool-set _ _ h.within e)
 made_if h false e t = cc
 
 pub made : (version : ℕ) (subject : Subject) (size callers : ℕ) (h : Header) → h.version ≡ version → h.subject ≡ subject

@@ -41,7 +41,7 @@ fine_on r input lines fine = ap (unless_faulty r input lines) fine
 line_step : (input : Input) (h : Header) (n : ℕ) (line more : List ℕ) → lacks 10 line ≡ true
     → lines_read input h.subject n (slice_split (λ b. b == 10) (line ++ 10 ∷ more))
     ≡ cond (nat_lt input.max_lines n) (stopped n (Some TooManyLines))
-      (cond (bytes_eq line end_line) (after_end input (n + 1) (slice_split (λ b. b == 10) more))
+    (cond (bytes_eq line end_line) (after_end input (n + 1) (slice_split (λ b. b == 10) more))
     (entry_before n (entry_in h.subject line) (lines_read input h.subject (n + 1) (slice_split (λ b. b == 10) more))))
 line_step input h n line more lack =
     let p = parts_of more in
@@ -52,13 +52,16 @@ line_step input h n line more lack =
 -- the header's line, then the others
 header_step : (input : Input) (line more : List ℕ) → lacks 10 line ≡ true
     → text_read input (slice_split (λ b. b == 10) (line ++ 10 ∷ more))
-    ≡ elim (header_in line) as (λ _. Reading) [ Ok h ↦ header_before h
-      (lines_read input h.subject 2 (slice_split (λ b. b == 10) more)) | Err rule ↦ stopped 1 (Some rule) ]
+    ≡ elim (header_in line) as (λ _. Reading) [
+      | Ok h ↦ header_before h
+          (lines_read input h.subject 2 (slice_split (λ b. b == 10) more))
+      | Err rule ↦ stopped 1 (Some rule)
+    ]
 header_step input line more lack =
     let p = parts_of more in
     ap (text_read input) (split_at 10 line more lack ∙ ap (λ ps. line ∷ ps) p.2)
     ∙ ap (λ ps. elim (header_in line) as
-      (λ _. Reading) [ Ok h ↦ header_before h (lines_read input h.subject 2 ps) | Err rule ↦ stopped 1 (Some rule) ]) (sym p.2)
+    (λ _. Reading) [ Ok h ↦ header_before h (lines_read input h.subject 2 ps) | Err rule ↦ stopped 1 (Some rule) ]) (sym p.2)
 
 -- what a line is to a reader where nothing is wrong yet
 module _ (r : ReaderState) (line : List ℕ) (lack : lacks 10 line ≡ true) (fine : r.fault ≡ None) (low : 1 ≤ r.max_lines) where
@@ -101,11 +104,14 @@ module _ (r : ReaderState) (line : List ℕ) (lack : lacks 10 line ≡ true) (fi
           on w (10 ∷ more)
           ∙ ap (λ o. lines_on (input_to r w) r.line o r.ended (slice_split (λ b. b == 10) (line ++ 10 ∷ more))) no_header
           ∙ header_step (input_to r w) line more lack
-          ∙ ap (λ x. elim x as (λ _. Reading) [ Ok g ↦ header_before g
-            (lines_read (input_to r w) g.subject 2 (slice_split (λ b. b == 10) more)) | Err y ↦ stopped 1 (Some y) ]) good
+          ∙ ap (λ x. elim x as (λ _. Reading) [
+            | Ok g ↦ header_before g
+                (lines_read (input_to r w) g.subject 2 (slice_split (λ b. b == 10) more))
+            | Err y ↦ stopped 1 (Some y)
+          ]) good
           ∙ (λ i. lines_on (input_to r w) (sym two i) (Some h) (sym not_ended i) (slice_split (λ b. b == 10) more))
           ∙ sym (fine_on (record r { line = r.line + 1; header = Some h; unfinished = [] }) (input_to r w)
-            (slice_split (λ b. b == 10) more) fine)) fol;
+          (slice_split (λ b. b == 10) more) fine)) fol;
       noticed = fine_on (record r { line = r.line + 1; header = Some h; unfinished = [] }) (so_far r) ([] ∷ []) fine
           ∙ ap (λ b. lines_on (so_far r) (r.line + 1) (Some h) b ([] ∷ [])) not_ended
           ∙ (λ i. record { header = Some h; entries = []; ended = sym not_ended i; fault = sym fine i });
@@ -122,8 +128,12 @@ module _ (r : ReaderState) (line : List ℕ) (lack : lacks 10 line ≡ true) (fi
 
     -- what is known where a rule is broken
     broken : (b : Bool) → r.ended ≡ b → (rule : Rule)
-        → ◌≡◌ {A = Reading} (record { header = Some h; entries = []; ended = b;
-          fault = Some (record { line = r.line; rule = rule }) }) (known r (Some (record { line = r.line; rule = rule })))
+        → ◌≡◌ {A = Reading} (record {
+          header = Some h;
+          entries = [];
+          ended = b;
+          fault = Some (record { line = r.line; rule = rule });
+        }) (known r (Some (record { line = r.line; rule = rule })))
     broken b is rule i = record { header = sym has i; entries = []; ended = sym is i; fault = Some (record { line = r.line; rule = rule }) }
 
     past_end : (rule : Rule) → first_broken
@@ -147,7 +157,7 @@ module _ (r : ReaderState) (line : List ℕ) (lack : lacks 10 line ≡ true) (fi
             (later false is false (10 ∷ [])
             ∙ ap (header_before h) (line_step (so_far r) h r.line line [] lack)
             ∙ ap (λ b. header_before h (cond b (stopped r.line (Some TooManyLines))
-              (cond (bytes_eq line end_line) (after_end (so_far r) (r.line + 1) ([] ∷ []))
+            (cond (bytes_eq line end_line) (after_end (so_far r) (r.line + 1) ([] ∷ []))
             (entry_before r.line (entry_in h.subject line) (lines_read (so_far r) h.subject (r.line + 1) ([] ∷ [])))))) past
             ∙ broken false is TooManyLines)
 
@@ -165,9 +175,9 @@ module _ (r : ReaderState) (line : List ℕ) (lack : lacks 10 line ≡ true) (fi
             later false not_ended w (10 ∷ more)
             ∙ ap (header_before h) (line_step (input_to r w) h r.line line more lack)
             ∙ ap (λ b. header_before h (cond b (stopped r.line (Some TooManyLines))
-              (cond (bytes_eq line end_line) (after_end (input_to r w) (r.line + 1) (slice_split (λ b. b == 10) more))
+            (cond (bytes_eq line end_line) (after_end (input_to r w) (r.line + 1) (slice_split (λ b. b == 10) more))
             (entry_before r.line (entry_in h.subject line)
-              (lines_read (input_to r w) h.subject (r.line + 1) (slice_split (λ b. b == 10) more)))))) within
+            (lines_read (input_to r w) h.subject (r.line + 1) (slice_split (λ b. b == 10) more)))))) within
 
         pub end_read : bytes_eq line end_line ≡ true
             → IsLineTaken (with_line r line) [] (record r { line = r.line + 1; ended = true; unfinished = [] })
@@ -177,10 +187,10 @@ module _ (r : ReaderState) (line : List ℕ) (lack : lacks 10 line ≡ true) (fi
               entry_line_on w more
               ∙ ap (λ b. header_before h (cond b (after_end (input_to r w) (r.line + 1) (slice_split (λ b. b == 10) more))
               (entry_before r.line (entry_in h.subject line)
-                (lines_read (input_to r w) h.subject (r.line + 1) (slice_split (λ b. b == 10) more))))) is_end
+              (lines_read (input_to r w) h.subject (r.line + 1) (slice_split (λ b. b == 10) more))))) is_end
               ∙ ap (λ o. lines_on (input_to r w) (r.line + 1) o true (slice_split (λ b. b == 10) more)) (sym has)
               ∙ sym (fine_on (record r { line = r.line + 1; ended = true; unfinished = [] }) (input_to r w)
-                (slice_split (λ b. b == 10) more) fine)) fol;
+              (slice_split (λ b. b == 10) more) fine)) fol;
           noticed = fine_on (record r { line = r.line + 1; ended = true; unfinished = [] }) (so_far r) ([] ∷ []) fine
               ∙ ap (λ o. lines_on (so_far r) (r.line + 1) o true ([] ∷ [])) has
               ∙ (λ i. record { header = sym has i; entries = []; ended = true; fault = sym fine i });
@@ -189,12 +199,12 @@ module _ (r : ReaderState) (line : List ℕ) (lack : lacks 10 line ≡ true) (fi
         module _ (isnt_end : bytes_eq line end_line ≡ false) where
           plain_line_on : (w : Bool) (more : List ℕ) → goes_on (with_line r line) w (10 ∷ more)
               ≡ header_before h (entry_before r.line (entry_in h.subject line)
-                (lines_read (input_to r w) h.subject (r.line + 1) (slice_split (λ b. b == 10) more)))
+              (lines_read (input_to r w) h.subject (r.line + 1) (slice_split (λ b. b == 10) more)))
           plain_line_on w more =
               entry_line_on w more
               ∙ ap (λ b. header_before h (cond b (after_end (input_to r w) (r.line + 1) (slice_split (λ b. b == 10) more))
               (entry_before r.line (entry_in h.subject line)
-                (lines_read (input_to r w) h.subject (r.line + 1) (slice_split (λ b. b == 10) more))))) isnt_end
+              (lines_read (input_to r w) h.subject (r.line + 1) (slice_split (λ b. b == 10) more))))) isnt_end
 
           pub entry_read : (e : Entry) → entry_in h.subject line ≡ Some e
               → IsLineTaken (with_line r line) (e ∷ []) (record r { line = r.line + 1; unfinished = [] })
@@ -203,10 +213,10 @@ module _ (r : ReaderState) (line : List ℕ) (lack : lacks 10 line ≡ true) (fi
             follows = λ es before fol. step (with_line r line) (r.line + 1) r.header r.ended r.fault [] es (e ∷ []) before (10 ∷ []) (λ w more.
                 plain_line_on w more
                 ∙ ap (λ o. header_before h (entry_before r.line o
-                  (lines_read (input_to r w) h.subject (r.line + 1) (slice_split (λ b. b == 10) more)))) found
+                (lines_read (input_to r w) h.subject (r.line + 1) (slice_split (λ b. b == 10) more)))) found
                 ∙ (λ i. with_entries (e ∷ []) (lines_on (input_to r w) (r.line + 1) (sym has i) (sym not_ended i) (slice_split (λ b. b == 10) more)))
                 ∙ ap (with_entries (e ∷ [])) (sym
-                  (fine_on (record r { line = r.line + 1; unfinished = [] }) (input_to r w) (slice_split (λ b. b == 10) more) fine))) fol;
+                (fine_on (record r { line = r.line + 1; unfinished = [] }) (input_to r w) (slice_split (λ b. b == 10) more) fine))) fol;
             noticed = fine_on (record r { line = r.line + 1; unfinished = [] }) (so_far r) ([] ∷ []) fine
                 ∙ (λ i. lines_on (so_far r) (r.line + 1) (has i) (not_ended i) ([] ∷ []))
                 ∙ (λ i. record { header = sym has i; entries = []; ended = sym not_ended i; fault = sym fine i });

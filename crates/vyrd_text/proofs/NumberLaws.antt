@@ -56,7 +56,7 @@ module _ (text ds : List ℕ) (rest : Option (List ℕ)) (e : text ≡ ds ++ aft
   too_large i front h digit small large =
       let all_more : AllDigits 10 (take (i + 1) text) = digits_more 10 text i h front digit in
       let value_more : digits_value 10 (take (i + 1) text) ≡ digits_value 10 (take i text) * 10 + digit_value (get_or text i 0) =
-        digits_value_more 10 text i h in
+      digits_value_more 10 text i h in
       let within : i + 1 ≤ length ds = digits_within (i + 1) ds rest (rw e at all_more) (rw e at (let l : i + 1 ≤ length text = omega arith in l)) in
       let same : take (i + 1) text ≡ take (i + 1) ds = ap (take (i + 1)) e ∙ take-append-le (i + 1) ds (after_field rest) within in
       let part : digits_value 10 (take (i + 1) ds) ≤ digits_value 10 ds = digits_value-take-le 10 ds (i + 1) (omega arith) in
@@ -108,7 +108,7 @@ number_found text value end field small some canonical =
     let many : length (take end text) ≡ end = length-take-le end text field.within in
     let spelled : decimal (digits_value 10 (take end text)) ≡ take end text =
     decimal-digits_value (numerals_by_value (AllDigits 10) tells_digits) (take end text) field.digits (omega arith) canonical
-      (omega (arith, field.value_is)) in
+    (omega (arith, field.value_is)) in
     record {
       within = field.within;
       spelled = sym spelled ∙ ap decimal (sym field.value_is);

@@ -25,7 +25,7 @@ pub one_before_space : (m n : ℕ) (r s : List ℕ) → m < 2 ^ 64 → n < 2 ^ 6
 one_before_space m n r s low small e =
     let parts : decimal m ∷ slice_split (λ b. b == 32) r ≡ decimal n ∷ slice_split (λ b. b == 32) s =
     sym (split_at 32 (decimal m) r (decimal_lacks 32 m no_space low)) ∙ ap (slice_split (λ b. b == 32)) e
-      ∙ split_at 32 (decimal n) s (decimal_lacks 32 n no_space small) in
+    ∙ split_at 32 (decimal n) s (decimal_lacks 32 n no_space small) in
     let same : decimal m ≡ decimal n = cc in
     let tails : 32 ∷ r ≡ 32 ∷ s = append_cancel_left (decimal m) (32 ∷ r) (32 ∷ s) (e ∙ ap (λ t. t ++ 32 ∷ s) (sym same)) in
     (decimal_injective m n low small same, cc)

@@ -31,10 +31,10 @@ read_now r bytes is_whole es follows =
 noticed_of : (r : ReaderState) (bytes : List ℕ) → HasRead r bytes → IsNoticed r
 noticed_of r bytes has =
     let now : reading (so_far r) bytes ≡ with_entries (entries_of r bytes) (goes_on r false []) =
-      read_now r bytes false (entries_of r bytes) has.follows in
+    read_now r bytes false (entries_of r bytes) has.follows in
     let none : (goes_on r false []).entries ≡ [] =
     append_cancel_left (entries_of r bytes) (goes_on r false []).entries [] (sym (ap (λ read. read.entries) now)
-      ∙ sym (append-nil (entries_of r bytes))) in
+    ∙ sym (append-nil (entries_of r bytes))) in
     let header : (goes_on r false []).header ≡ r.header = sym (ap (λ read. read.header) now) ∙ sym has.header in
     let done : (goes_on r false []).ended ≡ r.ended = sym (ap (λ read. read.ended) now) ∙ sym has.ended in
     let fault : (goes_on r false []).fault ≡ r.fault = sym (ap (λ read. read.fault) now) ∙ sym has.fault in
@@ -100,7 +100,7 @@ fed_then a b c xs ys before middle after hs fed taken grown = record {
 at_end : (a b h : Bool) (bad : Rule)
     → cond a (Some TooManyLines) (cond b (Some bad) (cond (h && false) (Some NoLineFeed) (cond false (Some NoEnd) None))) ≡ None
     → cond a (Some TooManyLines) (cond b (Some bad) (cond (h && true) (Some NoLineFeed) (cond true (Some NoEnd) None)))
-      ≡ Some (cond h NoLineFeed NoEnd)
+    ≡ Some (cond h NoLineFeed NoEnd)
 at_end true b h bad e = cc
 at_end false true h bad e = cc
 at_end false false true bad e = refl
@@ -175,10 +175,10 @@ module _ (r : ReaderState) (bytes : List ℕ) (has : HasRead r bytes) where
               let known_none = (λ i. (lines_on (so_far r) r.line (sym is i) r.ended (sym one i)).fault) ∙ nothing_wrong in
               ap (λ read. read.fault) at_whole ∙ (λ i. (lines_on (whole r) r.line (is i) r.ended (one i)).fault)
               ∙ ap (fault_on 1) (at_end (has_any r.unfinished && nat_lt r.max_lines 1) (nat_lt 64 (length r.unfinished))
-                (has_any r.unfinished) BadHeader (no_fault 1 _ known_none))
+              (has_any r.unfinished) BadHeader (no_fault 1 _ known_none))
               ∙ ap (λ n. Some (record { line = n; rule = cond (has_any r.unfinished) NoLineFeed NoEnd })) (sym (first is))
           by_header (Some h) is =
               let known_none = (λ i. (lines_on (so_far r) r.line (sym is i) (sym not_ended i) (sym one i)).fault) ∙ nothing_wrong in
               ap (λ read. read.fault) at_whole ∙ (λ i. (lines_on (whole r) r.line (is i) (not_ended i) (one i)).fault)
               ∙ ap (fault_on r.line) (at_end (has_any r.unfinished && nat_lt r.max_lines r.line) (nat_lt 64 (length r.unfinished))
-                (has_any r.unfinished) BadEntry (no_fault r.line _ known_none))
+              (has_any r.unfinished) BadEntry (no_fault r.line _ known_none))

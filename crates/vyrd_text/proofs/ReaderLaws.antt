@@ -34,14 +34,32 @@ fault_found r es before xs f low follows is is_whole more =
 pub step : (r : ReaderState) (line : ℕ) (header : Option Header) (is_ended : Bool) (fault : Option TextFault)
     (unfinished : List ℕ) (es gs : List Entry) (before xs : List ℕ)
     → ((is_whole : Bool) (more : List ℕ) → goes_on r is_whole (xs ++ more)
-    ≡ with_entries gs (goes_on (record { max_lines = r.max_lines; line = line; header = header; ended = is_ended; fault = fault;
-      unfinished = unfinished }) is_whole more))
+    ≡ with_entries gs (goes_on (record {
+      max_lines = r.max_lines;
+      line = line;
+      header = header;
+      ended = is_ended;
+      fault = fault;
+      unfinished = unfinished;
+    }) is_whole more))
     → Follows r es before
-    → Follows (record { max_lines = r.max_lines; line = line; header = header; ended = is_ended; fault = fault;
-      unfinished = unfinished }) (es ++ gs) (before ++ xs)
+    → Follows (record {
+      max_lines = r.max_lines;
+      line = line;
+      header = header;
+      ended = is_ended;
+      fault = fault;
+      unfinished = unfinished;
+    }) (es ++ gs) (before ++ xs)
 step r line header is_ended fault unfinished es gs before xs on follows is_whole more =
-    let new : ReaderState = record { max_lines = r.max_lines; line = line; header = header; ended = is_ended; fault = fault;
-      unfinished = unfinished } in
+    let new : ReaderState = record {
+      max_lines = r.max_lines;
+      line = line;
+      header = header;
+      ended = is_ended;
+      fault = fault;
+      unfinished = unfinished;
+    } in
     ap (reading (record { max_lines = r.max_lines; is_whole = is_whole })) (append_assoc before xs more) ∙ follows is_whole (xs ++ more)
     ∙ ap (with_entries es) (on is_whole more) ∙ twice es gs (goes_on new is_whole more)
 
@@ -74,7 +92,7 @@ line_at_once a c line found empty taken = record {
   follows = λ es before f is_whole more.
       ap (λ t. reading (record { max_lines = c.max_lines; is_whole = is_whole }) (t ++ more)) (sym (append_assoc before line (10 ∷ [])))
       ∙ taken.follows es (before ++ line) (λ w m. longer_line a es before line f w m
-        ∙ ap (λ t. with_entries es (goes_on (with_line a (t ++ line)) w m)) empty) is_whole more;
+      ∙ ap (λ t. with_entries es (goes_on (with_line a (t ++ line)) w m)) empty) is_whole more;
   noticed = λ n. taken.noticed;
 }
 
@@ -86,7 +104,7 @@ faulty_taken a f xs low is = record {
       fault_found a es before xs f low fol (ap (unless_faulty a (so_far a) (slice_split (λ b. b == 10) (a.unfinished ++ xs))) is) is_whole more
       ∙ ap (λ t. with_entries t (known a (Some f))) (sym (append-nil es))
       ∙ ap (λ o. with_entries (es ++ [])
-        (unless_faulty a (record { max_lines = a.max_lines; is_whole = is_whole }) (slice_split (λ b. b == 10) (a.unfinished ++ more)) o)) (sym is);
+      (unless_faulty a (record { max_lines = a.max_lines; is_whole = is_whole }) (slice_split (λ b. b == 10) (a.unfinished ++ more)) o)) (sym is);
   noticed = λ n. n;
 }
 

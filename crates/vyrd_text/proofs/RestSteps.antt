@@ -43,8 +43,12 @@ module _ (r : ReaderState) (fine : r.fault ≡ None) (low : 1 ≤ r.max_lines) (
         ∙ ap (λ h. lines_on (so_far r) r.line h r.ended ((r.unfinished ++ xs) ∷ [])) no_header
         ∙ ap (stopped 1) (unfinished_cases r.max_lines 1 BadHeader (r.unfinished ++ xs)
         ∙ (λ i. cond (any i && isnt_below r.max_lines 1 low i) (Some TooManyLines) (is i)))
-        ∙ (λ i. record { header = sym no_header i; entries = []; ended = sym not_ended i;
-          fault = option_map (λ rule. record { line = sym one i; rule = rule }) o })
+        ∙ (λ i. record {
+          header = sym no_header i;
+          entries = [];
+          ended = sym not_ended i;
+          fault = option_map (λ rule. record { line = sym one i; rule = rule }) o;
+        })
 
     pub first_long : 64 < length r.unfinished + length xs → goes_on r false xs ≡ known r (Some (record { line = r.line; rule = BadHeader }))
     first_long h = first_rest (Some BadHeader)
@@ -61,7 +65,7 @@ module _ (r : ReaderState) (fine : r.fault ≡ None) (low : 1 ≤ r.max_lines) (
         on
         ∙ (λ i. lines_on (so_far r) r.line (has i) (done i) ((r.unfinished ++ xs) ∷ []))
         ∙ ap (λ b. header_before h (ended r.line
-          (first_broken (((b || false) && nat_lt r.max_lines r.line breaks TooManyLines) ∷ ((b || false) breaks AfterEnd) ∷ [])))) any
+        (first_broken (((b || false) && nat_lt r.max_lines r.line breaks TooManyLines) ∷ ((b || false) breaks AfterEnd) ∷ [])))) any
         ∙ ap (λ p. header_before h (ended r.line p)) is
         ∙ (λ i. record { header = sym has i; entries = []; ended = sym done i; fault = fault_on r.line o })
 
@@ -73,7 +77,7 @@ module _ (r : ReaderState) (fine : r.fault ≡ None) (low : 1 ≤ r.max_lines) (
         ∙ (λ i. lines_on (so_far r) r.line (has i) (going i) ((r.unfinished ++ xs) ∷ []))
         ∙ ap (λ p. header_before h (stopped r.line p)) (unfinished_cases r.max_lines r.line BadEntry (r.unfinished ++ xs)
         ∙ ap (λ b. cond (b && nat_lt r.max_lines r.line) (Some TooManyLines)
-          (cond (nat_lt 64 (length (r.unfinished ++ xs))) (Some BadEntry) None)) any ∙ is)
+        (cond (nat_lt 64 (length (r.unfinished ++ xs))) (Some BadEntry) None)) any ∙ is)
         ∙ (λ i. record { header = sym has i; entries = []; ended = sym going i; fault = fault_on r.line o })
 
     pub rest_past : r.max_lines < r.line → goes_on r false xs ≡ known r (Some (record { line = r.line; rule = TooManyLines }))
@@ -83,7 +87,7 @@ module _ (r : ReaderState) (fine : r.fault ≡ None) (low : 1 ≤ r.max_lines) (
         by_end true is = ended_rest (Some TooManyLines) is (ap (λ b. cond b (Some TooManyLines) (Some AfterEnd)) (is_below r.max_lines r.line past))
         by_end false is = entry_rest (Some TooManyLines) is
             (ap (λ b. cond b (Some TooManyLines) (cond (nat_lt 64 (length (r.unfinished ++ xs))) (Some BadEntry) None))
-              (is_below r.max_lines r.line past))
+            (is_below r.max_lines r.line past))
 
     module _ (within : r.line ≤ r.max_lines) where
       pub rest_after_end : r.ended ≡ true → goes_on r false xs ≡ known r (Some (record { line = r.line; rule = AfterEnd }))

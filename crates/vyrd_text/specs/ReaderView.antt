@@ -11,8 +11,14 @@ abbrev pub fault_of : LineFault → TextFault
 fault_of fault = record { line = fault.line; rule = fault.rule }
 
 abbrev pub state_of : Inside → ReaderState
-state_of r = record { max_lines = r.max_lines; line = r.line; header = r.header; ended = r.ended;
-    fault = option_map fault_of r.fault; unfinished = r.unfinished }
+state_of r = record {
+  max_lines = r.max_lines;
+  line = r.line;
+  header = r.header;
+  ended = r.ended;
+  fault = option_map fault_of r.fault;
+  unfinished = r.unfinished;
+}
 
 abbrev pub IsSteadyInside : Inside → Type 0
 IsSteadyInside r = IsSteady (state_of r)

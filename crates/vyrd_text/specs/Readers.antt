@@ -54,7 +54,7 @@ unless_faulty reader input lines (Some fault) = known reader (Some fault)
 abbrev pub goes_on : ReaderState → Bool → List ℕ → Reading
 goes_on reader is_whole more =
     unless_faulty reader (record { max_lines = reader.max_lines; is_whole = is_whole })
-        (slice_split (λ b. b == 10) (reader.unfinished ++ more)) reader.fault
+    (slice_split (λ b. b == 10) (reader.unfinished ++ more)) reader.fault
 
 -- whatever comes next, the reading of all bytes is these entries and then what the reader makes of what comes
 abbrev pub Follows : ReaderState → List Entry → List ℕ → Type 0

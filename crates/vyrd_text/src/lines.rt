@@ -5,7 +5,7 @@ ghost use Rattle.vyrd_text.specs.Steps.{is_one_line};
 
 use memchr::memchr;
 
-/// The bytes before the first line feed, and those after it.
+/// The bytes before the first line feed, and those after it. None where there is no line feed.
 pub fn split_line(text: &[u8]) -> Option<(&[u8], &[u8])>
     ensures { MatchOption result (is_one_line text.now ≡ true) (λ r. (is_one_line r.0.now ≡ true) × (text.now ≡ r.0.now ++ 10 ∷ r.1.now)) }
 {

@@ -51,7 +51,7 @@ module _ (p : Plan) (s : St) (r : Kept p s) (id : ℕ) (v : Record) (at : get_el
   others_claim : (k : ℕ) → k < p.plain + p.locks → ((w n : ℕ) → InHand p.plain By k w n v.stage → ⊥) → (c : ℕ) → G.claimer k ≡ Some c → c ≢ By
   others_claim k inside not_here c is same = not_here (slice_index s.words (k + 1)) (last_value G.history k)
       (subst (InHand p.plain By k (slice_index s.words (k + 1)) (last_value G.history k)) Mine.at_stage
-        (in_hand p.plain G.stage k _ _ By (G.claimer k) (is ∙ ap Some same) (r.cells k inside)))
+      (in_hand p.plain G.stage k _ _ By (G.claimer k) (is ∙ ap Some same) (r.cells k inside)))
 
   module _ (k0 : ℕ) (inside : k0 < p.plain + p.locks) where
     -- the cells after a step at k0 with a new action of this caller
@@ -68,14 +68,14 @@ module _ (p : Plan) (s : St) (r : Kept p s) (id : ℕ) (v : Record) (at : get_el
         (λ no. subst (FitsCell p.plain (upd G.stage By st) k (slice_index words (k + 1)) (last_value h k)) (sym (upd_else G.claimer k0 o k no))
         (refit p.plain (upd G.stage By st) k _ _ _ _ (G.claimer k) (elsewhere k no) (same k no)
         (fits_other p.plain G.stage (upd G.stage By st) k _ _ (G.claimer k)
-          (λ c is. upd_else G.stage By st c (others_claim k l (λ w n. not_here k w n no) c is)) (r.cells k l))))
+        (λ c is. upd_else G.stage By st c (others_claim k l (λ w n. not_here k w n no) c is)) (r.cells k l))))
 
     -- the claims after it: the new action is at k0, if it is anywhere, and then the cell is claimed
     pub claims_moved : (st : Stage) (o : Option ℕ) → ((k : ℕ) → IsAt st k → (k ≡ k0) × (o ≡ Some By)) → ((c : ℕ) → c ≢ By → G.claimer k0 ≡ Some c → ⊥)
         → (c k : ℕ) → IsAt (upd G.stage By st c) k → upd G.claimer k0 o k ≡ Some c
     claims_moved st o new free c k at' = dite (ℕ_discrete c By)
         (λ e. let n = new k (subst (λ (x : Stage). IsAt x k) (upd_here G.stage By st c e) at') in upd_here G.claimer k0 o k n.0
-          ∙ n.1 ∙ ap Some (sym e))
+        ∙ n.1 ∙ ap Some (sym e))
         (λ no. let was = r.claims c k (subst (λ (x : Stage). IsAt x k) (upd_else G.stage By st c no) at') in
         let apart : k ≢ k0 = λ e. free c no (ap G.claimer (sym e) ∙ was) in upd_else G.claimer k0 o k apart ∙ was)
 

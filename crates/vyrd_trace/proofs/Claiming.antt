@@ -59,7 +59,7 @@ module _ (p : Plan) where
   won : (s : St) (r : Kept p s) (id : ℕ) (c : List (ℕ × Unit {0})) (v : Record) (k0 old new : ℕ) (st : Stage) (l : Look)
       → get_elem? s.views id ≡ some v → v.live ≡ true → k0 < p.plain + p.locks → v.stage ≡ Rest
       → old % 2 ≡ 0 → (p.plain ≤ k0 → old ≡ 0) → new ≡ old + 1 → slice_index s.words (k0 + 1) ≡ old → st ≡ Claimed k0 (old / 2)
-        → Kept p (stepped s (k0 + 1) new id c (acting v st l) keeps)
+      → Kept p (stepped s (k0 + 1) new id c (acting v st l) keeps)
   won s r id c v k0 old new st l at live inside rest even lock up hit is =
       let by : ℕ = v.caller in
       let g = r.ghost_state in
@@ -80,13 +80,17 @@ module _ (p : Plan) where
         legal = r.legal;
         short = let a = r.short by in let b = ap length mine.whole in omega arith;
         claims = claims_moved p s r id v at live k0 inside st o (λ k x. let y : k0 ≡ k = subst (λ (q : Stage). IsAt q k) is x in
-          (sym y, refl)) (λ c no has. let f = free.0 in absurd (cc));
+            (sym y, refl)) (λ c no has. let f = free.0 in absurd (cc));
         cells = moved p s r id v at live k0 inside st new o words g.history
-          (λ k no. get_or-set_other s.words (k0 + 1) (k + 1) new 0 (λ z. no (omega arith)))
-          (get_or-set_same s.words (k0 + 1) new 0 (omega arith)) (λ k _. refl)
+            (λ k no. get_or-set_other s.words (k0 + 1) (k + 1) new 0 (λ z. no (omega arith)))
+            (get_or-set_same s.words (k0 + 1) new 0 (omega arith)) (λ k _. refl)
             (nowhere_rest p.plain by k0 v.stage rest)
-            (subst (InHand p.plain by k0 new (last_value g.history k0)) (sym (upd_here g.stage by st by refl ∙ is)) (refl,
-              omega arith, omega arith, (λ z. let q = lock z in omega arith)));
+            (subst (InHand p.plain by k0 new (last_value g.history k0)) (sym (upd_here g.stage by st by refl ∙ is)) (
+              refl,
+              omega arith,
+              omega arith,
+              (λ z. let q = lock z in omega arith),
+            ));
       }
 
   -- a try of a claim: won where the word is the expected one, and else nothing changes but the looks
@@ -111,6 +115,6 @@ module _ (p : Plan) where
         keeps,
         tt,
         subst (λ (b : Bool). Kept p (stepped s (k0 + 1) (either b new n) id me.1 (acting me.0 me.0.stage l) keeps))
-          (sym (ne_eqb n old miss)) (unmoved s r id me.1 me.0 l at live (k0 + 1)),
+            (sym (ne_eqb n old miss)) (unmoved s r id me.1 me.0 l at live (k0 + 1)),
         ((λ hit. absurd (miss hit)), (λ _. refl)),
       ))

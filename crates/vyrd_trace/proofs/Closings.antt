@@ -49,16 +49,21 @@ has_any n g id v rest k (suc i) l e = k.others i l e
 module _ (p : Plan) (s : St) (r : Kept p s) (id : ℕ) (v : Record) (hs : List HandView) (at : get_elem? s.views id
     ≡ some v) (live : v.live ≡ true) (rest : v.stage ≡ Rest)
     (all : own_lane v ∷ v.gathered ≡ own_lanes hs) (count : length hs ≡ p.callers) (order : (i : ℕ) (d : HandView) → i < length hs
-      → (slice_index_or hs i d).caller ≡ i) where
+    → (slice_index_or hs i d).caller ≡ i) where
   abbrev G : Ghost
   G = r.ghost_state
 
   -- the one seat has the lane of every hand
   has : (c : ℕ) → c < length hs → (h : HandView) × (HasLane G id (own_lane_of h)) × (h.caller ≡ c)
       × (slice_index_or (lanes_of hs) c [] ≡ h.lane) × ((d : HandView) → slice_index_or hs c d ≡ h)
-  has c l = let f = lane_at hs c l in
-      (f.0, has_any p.callers G id v rest (r.seats id v at live) c (own_lane_of f.0) (ap (λ (ls : List Lane). slice_get ls c) all
-      ∙ f.1), ap (λ (h : HandView). h.caller) (sym (f.3 f.0)) ∙ order c f.0 l, f.2, f.3)
+  has c l = let f = lane_at hs c l in (
+    f.0,
+    has_any p.callers G id v rest (r.seats id v at live) c (own_lane_of f.0) (ap (λ (ls : List Lane). slice_get ls c) all
+        ∙ f.1),
+    ap (λ (h : HandView). h.caller) (sym (f.3 f.0)) ∙ order c f.0 l,
+    f.2,
+    f.3,
+  )
 
   parts : (c : ℕ) → c < length hs → part c G.history ≡ slice_index_or (lanes_of hs) c []
   parts c l = let f = has c l in ap (λ (x : ℕ). part x G.history) (sym f.2) ∙ f.1.whole ∙ sym f.3
@@ -141,7 +146,7 @@ pub closed_facts : (p : Plan) (words : List ℕ) (slots : List (Unit {0})) (id :
     → Final (Seen (Kept p) id v) words slots → v.live ≡ true → v.stage ≡ Rest → own_lane v ∷ v.gathered ≡ own_lanes hs
     → length hs ≡ p.callers → ((i : ℕ) (d : HandView) → i < length hs → (slice_index_or hs i d).caller ≡ i)
     → (h : List Stamped) × IsMerge h (lanes_of hs) × (is_legal (cells_in p) h ≡ true) × AreParts h hs × AreTwice p h words
-      × (length h ≡ sum_by size hs)
+    × (length h ≡ sum_by size hs)
 closed_facts p words slots id v hs f live rest all count order =
     let s = f.0 in
     let r = f.1.0 in

@@ -42,8 +42,12 @@ opens p some_caller = record {
   where
     one : (j : ℕ) (v : Record) → get_elem? (first_record ∷ []) j ≡ some v → v.live ≡ true
         → Knows p.callers (record { history = []; owner = upd (λ _. None) 0 (Some 0); stage = λ _. Rest; claimer = λ _. None }) j v
-    one zero v e live = subst (Knows p.callers (record { history = []; owner = upd (λ _. None) 0 (Some 0); stage = λ _. Rest;
-        claimer = λ _. None }) 0) (some-injective first_record v e) record {
+    one zero v e live = subst (Knows p.callers (record {
+      history = [];
+      owner = upd (λ _. None) 0 (Some 0);
+      stage = λ _. Rest;
+      claimer = λ _. None;
+    }) 0) (some-injective first_record v e) record {
       owned = upd_here (λ _. None) 0 (Some 0) 0 refl;
       whole = refl;
       at_stage = refl;
@@ -94,7 +98,7 @@ splits p id v live zeroth room s r at =
     let idle = r.idle v.next free in
     let h : Ghost = record { history = g.history; owner = upd g.owner v.next (Some new); stage = g.stage; claimer = g.claimer } in
     let others = λ (c j : ℕ) (o : g.owner c ≡ Some j). let no : c ≢ v.next = λ e. let f : g.owner c
-      ≡ g.owner v.next = ap g.owner e in absurd (cc) in upd_else g.owner v.next (Some new) c no ∙ o in
+    ≡ g.owner v.next = ap g.owner e in absurd (cc) in upd_else g.owner v.next (Some new) c no ∙ o in
     let positive : v.next ≢ 0 = λ e. let f : g.owner v.next ≡ g.owner v.caller = ap g.owner (e ∙ sym zeroth) in
     let m = mine.owned in absurd (cc) in record {
       ghost_state = h;
@@ -105,7 +109,7 @@ splits p id v live zeroth room s r at =
       claims = r.claims;
       cells = r.cells;
       idle = λ c none_owns. let no : c ≢ v.next = λ e. let f : upd g.owner v.next (Some new) c
-        ≡ Some new = upd_here g.owner v.next (Some new) c e in absurd (cc) in
+          ≡ Some new = upd_here g.owner v.next (Some new) c e in absurd (cc) in
           r.idle c (sym (upd_else g.owner v.next (Some new) c no) ∙ none_owns);
       outside = λ c le. upd_else g.owner v.next (Some new) c (λ e. omega arith) ∙ r.outside c le;
       seats = λ j u e alive. ⊎_elim
@@ -123,7 +127,7 @@ splits p id v live zeroth room s r at =
           (λ (y : (j ≢ id) × (get_elem? s.views j ≡ some u)). let k = r.seats j u y.1 alive in
           knows_kept p.callers g h j u refl (λ _. refl) (λ c. others c j)
           (λ z. let f : g.owner u.caller ≡ g.owner v.caller = ap g.owner (z ∙ sym zeroth) in let a = k.owned in
-            let b = mine.owned in absurd (y.0 (cc))) k)
+          let b = mine.owned in absurd (y.0 (cc))) k)
           (at_set s.views id j (dealer v) u x))
           (λ (x : (j ≡ new) × (dealt v ≡ u)). subst (λ (z : ℕ × Record). Knows p.callers h z.0 z.1) (λ q. (sym x.0 q, x.1 q))
           record {
@@ -170,8 +174,8 @@ joins p id v other w live alive rest s r at differ there =
     let g = r.ghost_state in
     let mine = r.seats id v at live in
     let was : get_elem? s.views other
-      ≡ some w = ⊎_elim (λ (t : (other ≡ id) × (gathering v w ≡ w)). absurd (differ t.0))
-      (λ (t : (other ≢ id) × (get_elem? s.views other ≡ some w)). t.1) (at_set s.views id other (gathering v w) w there) in
+    ≡ some w = ⊎_elim (λ (t : (other ≡ id) × (gathering v w ≡ w)). absurd (differ t.0))
+    (λ (t : (other ≢ id) × (get_elem? s.views other ≡ some w)). t.1) (at_set s.views id other (gathering v w) w there) in
     let theirs = r.seats other w was alive in
     let h : Ghost = record { history = g.history; owner = λ c. given other id (g.owner c); stage = g.stage; claimer = g.claimer } in
     let keeps = λ (c j : ℕ) (apart : j ≢ other) (o : g.owner c ≡ Some j). ap (given other id) o ∙ given_else other id j apart in
@@ -188,7 +192,7 @@ joins p id v other w live alive rest s r at differ there =
       apart = λ i l e. ⊎_elim
           (λ (x : slice_get v.gathered i ≡ Some l). mine.apart i l x)
           (λ (x : (j : ℕ) × (slice_get (own_lane w ∷ w.gathered) j ≡ Some l)). apart_from g v.caller l.caller id other mine.owned
-            (their l x.0 x.1 theirs) differ)
+          (their l x.0 x.1 theirs) differ)
           (slice_get_append v.gathered (own_lane w ∷ w.gathered) i l e);
       unmade = λ z c le. ap (given other id) (mine.unmade z c le);
     } in record {
@@ -220,6 +224,10 @@ joins p id v other w live alive rest s r at differ there =
         → ((c : ℕ) → g.owner c ≡ Some other → given other id (g.owner c) ≡ Some id)
         → HasLane (record { history = g.history; owner = λ c. given other id (g.owner c); stage = g.stage; claimer = g.claimer }) id l
     taken {g} l zero e k moves = let same : own_lane w ≡ l = cc in
-        subst (HasLane (record { history = g.history; owner = λ c. given other id (g.owner c); stage = g.stage;
-          claimer = g.claimer }) id) same record { owned = moves w.caller k.owned; whole = k.whole; rests = k.at_stage ∙ rest }
+        subst (HasLane (record {
+          history = g.history;
+          owner = λ c. given other id (g.owner c);
+          stage = g.stage;
+          claimer = g.claimer;
+        }) id) same record { owned = moves w.caller k.owned; whole = k.whole; rests = k.at_stage ∙ rest }
     taken {g} l (suc j) e k moves = let x = k.others j l e in record { owned = moves l.caller x.owned; whole = x.whole; rests = x.rests }

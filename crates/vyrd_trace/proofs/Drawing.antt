@@ -41,10 +41,10 @@ module _ (p : Plan) (few : p.callers ≤ 64) (short : p.limit ≤ 16777216) wher
       → stage v.caller ≡ st → ((by : ℕ) → by ≢ v.caller → stage by ≡ r.ghost_state.stage by)
       → ((by k : ℕ) → IsAt (stage by) k → claimer k ≡ Some by)
       → ((k : ℕ) → k < p.plain + p.locks
-        → FitsCell p.plain stage k (slice_index s.words (k + 1))
-        (last_value (r.ghost_state.history ++ stamp (slice_index s.words 0) v.caller did ∷ []) k) (claimer k))
+      → FitsCell p.plain stage k (slice_index s.words (k + 1))
+      (last_value (r.ghost_state.history ++ stamp (slice_index s.words 0) v.caller did ∷ []) k) (claimer k))
       → Kept p (stepped s 0 ((slice_index s.words 0 + 1) % 2 ^ 64) id c
-        (changed v (v.lane ++ stamp (slice_index s.words 0) v.caller did ∷ []) st v.look) keeps)
+      (changed v (v.lane ++ stamp (slice_index s.words 0) v.caller did ∷ []) st v.look) keeps)
   drew_keeps s r id c v did stage claimer st at live room may in_hand_now others claims cells =
       let n : ℕ = slice_index s.words 0 in
       let g = r.ghost_state in
@@ -69,7 +69,7 @@ module _ (p : Plan) (few : p.callers ≤ 64) (short : p.limit ≤ 16777216) wher
         short = omega (arith, length-append v.lane (e ∷ []));
         claims = claims;
         cells = λ k l. refit p.plain stage k _ _ _ _ (claimer k)
-          (get_or-set_other s.words 0 (k + 1) ((n + 1) % 2 ^ 64) 0 (λ z. omega arith)) refl (cells k l);
+            (get_or-set_other s.words 0 (k + 1) ((n + 1) % 2 ^ 64) 0 (λ z. omega arith)) refl (cells k l);
       }
 
   -- a mark changes no action and no cell
@@ -85,7 +85,7 @@ module _ (p : Plan) (few : p.callers ≤ 64) (short : p.limit ≤ 16777216) wher
         keeps,
         tt,
         drew_keeps s r id me.1 v (Marked kind) g.stage g.claimer v.stage at live room
-          (may_mark (cells_in p) (newest_first g.history) v.caller kind mark) mine.at_stage (λ _ _. refl) r.claims
+            (may_mark (cells_in p) (newest_first g.history) v.caller kind mark) mine.at_stage (λ _ _. refl) r.claims
             (λ k l. refit p.plain g.stage k _ _ _ _ (g.claimer k) refl (value-snoc g.history e k) (r.cells k l)),
         (refl, below p s r v mine.whole n r.counted),
       )
@@ -115,14 +115,14 @@ module _ (p : Plan) (few : p.callers ≤ 64) (short : p.limit ≤ 16777216) wher
         keeps,
         tt,
         drew_keeps s r id me.1 v did (upd g.stage by st) (upd g.claimer k0 o) st at live room (follows g.history cell.2 cell.3)
-          (upd_here g.stage by st by refl) (λ c no. upd_else g.stage by st c no)
+            (upd_here g.stage by st by refl) (λ c no. upd_else g.stage by st c no)
             (claims_moved p s r id v at live k0 inside st o (λ k x. let y : k0 ≡ k = subst (λ (q : Stage). IsAt q k) next x in
-              (sym y, refl)) (λ c no is. no (sym (same_some by c (sym mine_is ∙ is)))))
+            (sym y, refl)) (λ c no is. no (sym (same_some by c (sym mine_is ∙ is)))))
             (moved p s r id v at live k0 inside st (slice_index s.words (k0 + 1)) o s.words hist (λ k _. refl) refl
-              (λ k no. value-snoc g.history e k ∙ away k (last_value g.history k) no)
+            (λ k no. value-snoc g.history e k ∙ away k (last_value g.history k) no)
             (nowhere p.plain by k0 b v.stage claimed)
             (subst (InHand p.plain by k0 (slice_index s.words (k0 + 1)) (last_value hist k0))
-              (sym (upd_here g.stage by st by refl ∙ next)) (refl, cell.1, now, lock))),
+            (sym (upd_here g.stage by st by refl ∙ next)) (refl, cell.1, now, lock))),
         (refl, below p s r v mine.whole n r.counted),
       )
 
@@ -141,23 +141,23 @@ module _ (p : Plan) (few : p.callers ≤ 64) (short : p.limit ≤ 16777216) wher
       let st : Stage = Giving k0 in
       let o : Option ℕ = Some by in
       let was : last_value g.history k0
-        ≡ by + 1 = held_value (cells_in p) k0 by g.history lock r.legal (ap (λ (l : List Stamped). last_value l k0) mine.whole ∙ held) in
+      ≡ by + 1 = held_value (cells_in p) k0 by g.history lock r.legal (ap (λ (l : List Stamped). last_value l k0) mine.whole ∙ held) in
       let free = held_cell p.plain g.stage k0 (slice_index s.words (k0 + 1)) (last_value g.history k0) by (g.claimer k0) lock was
-        (mine.at_stage ∙ rest) (r.cells k0 inside) in
+      (mine.at_stage ∙ rest) (r.cells k0 inside) in
       let now : last_value hist k0 ≡ 0 = value-snoc g.history e k0 ∙ rw (eq-eqb k0 k0 refl) refl in
       let word : slice_index s.words (k0 + 1) ≡ 2 * (by + 1) = free.1 ∙ ap (λ (x : ℕ). 2 * x) was in (
         with_event v n (Gave k0),
         keeps,
         tt,
         drew_keeps s r id me.1 v (Gave k0) (upd g.stage by st) (upd g.claimer k0 o) st at live room
-          (may_give (cells_in p) (newest_first g.history) by k0 lock inside was) (upd_here g.stage by st by refl)
-          (λ c no. upd_else g.stage by st c no)
+            (may_give (cells_in p) (newest_first g.history) by k0 lock inside was) (upd_here g.stage by st by refl)
+            (λ c no. upd_else g.stage by st c no)
             (claims_moved p s r id v at live k0 inside st o (λ k x. (sym x, refl)) (λ c no is. let f = free.0 in absurd (cc)))
             (moved p s r id v at live k0 inside st (slice_index s.words (k0 + 1)) o s.words hist (λ k _. refl) refl
-              (λ k no. value-snoc g.history e k ∙ rw (ne_eqb k0 k (λ x. no (sym x))) refl)
+            (λ k no. value-snoc g.history e k ∙ rw (ne_eqb k0 k (λ x. no (sym x))) refl)
             (nowhere_rest p.plain by k0 v.stage rest)
             (subst (InHand p.plain by k0 (slice_index s.words (k0 + 1)) (last_value hist k0))
-              (sym (upd_here g.stage by st by refl)) (refl, lock, word, now))),
+            (sym (upd_here g.stage by st by refl)) (refl, lock, word, now))),
         (refl, below p s r v mine.whole n r.counted),
       )
 
@@ -171,8 +171,8 @@ module _ (p : Plan) (few : p.callers ≤ 64) (short : p.limit ≤ 16777216) wher
       (λ h is _. may_read (cells_in p) (newest_first h) me.0.caller k x a (sym is))
   draws slots id me (Wrote k x) live room may = let a = may.0 in let b : ℕ = before_of me.0.stage in
       acts slots id me (Wrote k x) k b x live room (omega arith) may.2 refl (λ j w no. rw (ne_eqb k j (λ e. no (sym e))) refl)
-        (rw (eq-eqb k k refl) refl) (λ z. absurd (omega arith)) (λ h _ _. may_write (cells_in p) (newest_first h) me.0.caller k x a may.1)
+      (rw (eq-eqb k k refl) refl) (λ z. absurd (omega arith)) (λ h _ _. may_write (cells_in p) (newest_first h) me.0.caller k x a may.1)
   draws slots id me (Took k) live room may =
       acts slots id me (Took k) k 0 (me.0.caller + 1) live room may.1 may.2 refl
-        (λ j w no. rw (ne_eqb k j (λ e. no (sym e))) refl) (rw (eq-eqb k k refl) refl) (λ _. refl)
-        (λ h is _. may_take (cells_in p) (newest_first h) me.0.caller k may.0 may.1 is)
+      (λ j w no. rw (ne_eqb k j (λ e. no (sym e))) refl) (rw (eq-eqb k k refl) refl) (λ _. refl)
+      (λ h is _. may_take (cells_in p) (newest_first h) me.0.caller k may.0 may.1 is)

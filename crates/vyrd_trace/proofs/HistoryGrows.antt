@@ -64,12 +64,12 @@ legal-snoc z h e legal number caller may =
     ∙ list_all-append (is_legal_at z) (map (with_later (e ∷ [])) (places_after [] h)) (places_after (newest_first h) (e ∷ []))
     ∙ both_true _ _ (list_all-map (is_legal_at z) (with_later (e ∷ [])) (places_after [] h) ∙ legal)
     (both_true _ _ (both_true _ _ (both_true _ _ (is_same e.number (length (newest_first h)) (number
-      ∙ sym (length-newest_first h))) (is_below e.caller z.callers caller)) may) refl)
+    ∙ sym (length-newest_first h))) (is_below e.caller z.callers caller)) may) refl)
 
 -- what the event at a place is, after those before it
 facts_at : (z : Cells) (earlier : List Stamped) (x : Stamped) (xs : List Stamped) → list_all (is_legal_at z) (places_after earlier (x ∷ xs)) ≡ true
     → (x.number ≡ length earlier) × (x.caller < z.callers) × (may_do z earlier x.caller x.did ≡ true)
-      × (list_all (is_legal_at z) (places_after (x ∷ earlier) xs) ≡ true)
+    × (list_all (is_legal_at z) (places_after (x ∷ earlier) xs) ≡ true)
 facts_at z earlier x xs legal =
     let here = first_true (is_legal_at z (record { earlier = earlier; here = x; later = xs })) _ legal in
     let both = first_true _ _ here in (
@@ -106,7 +106,7 @@ module _ (z : Cells) (P : List Stamped → Type 0) (none : P [])
   onward h (x ∷ xs) so_far legal =
       let f = facts_at z (newest_first h) x xs legal in
       let next = onward (h ++ x ∷ []) xs (more h x so_far f.2)
-        (ap (λ earlier. list_all (is_legal_at z) (places_after earlier xs)) (newest_first-push h x) ∙ f.3) in
+      (ap (λ earlier. list_all (is_legal_at z) (places_after earlier xs)) (newest_first-push h x) ∙ f.3) in
       subst P (append_assoc h (x ∷ []) xs) next
 
   -- what holds of no event, and after each event that may come next, holds of a legal history

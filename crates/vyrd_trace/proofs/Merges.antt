@@ -85,7 +85,7 @@ module _ (h : List Stamped) (lanes : List (List Stamped)) (m : IsMerge h lanes) 
   pub merge_step : (c : ℕ) (lane old new : List Stamped) → c < length lanes → slice_index_or lanes c [] ≡ lane
       → ((i : ℕ) → slice_get old i ≡ slice_get h i → slice_get new i ≡ slice_get h i) → All (StandsIn new) lane
       → ((i : ℕ) (e : Stamped) → slice_get h i ≡ Some e → e.caller < c → slice_get old i ≡ Some e) → (i : ℕ) (e : Stamped)
-        → slice_get h i ≡ Some e → e.caller < c + 1 → slice_get new i ≡ Some e
+      → slice_get h i ≡ Some e → e.caller < c + 1 → slice_get new i ≡ Some e
   merge_step c lane old new l is kept placed so_far i e at below = dite (ℕ_discrete e.caller c)
       (λ same.
       let f = in_part c h i e at same in let there : part c h ≡ lane = m.parts c l ∙ is in

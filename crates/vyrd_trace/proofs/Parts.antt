@@ -120,7 +120,7 @@ held_value z k c h lock legal =
     legal_induction z (HoldsToo k c) (λ t. absurd (omega arith)) (λ l e so_far may. let s = held_step z k c l e.caller e.did lock so_far may in
     dite (ℕ_discrete e.caller c)
     (λ is. λ t. value-snoc l e k ∙ s.0 is (sym (value-snoc (part c l) e k)
-      ∙ ap (λ (p : List Stamped). last_value p k) (sym (part-mine c l e is)) ∙ t))
+    ∙ ap (λ (p : List Stamped). last_value p k) (sym (part-mine c l e is)) ∙ t))
     (λ no. λ t. value-snoc l e k ∙ s.1 no (ap (λ (p : List Stamped). last_value p k) (sym (part-other c l e no)) ∙ t))) h legal
 
 all_below : (z : Cells) (h : List Stamped) → is_legal z h ≡ true → All (λ (e : Stamped). e.number < length h) h
@@ -147,11 +147,11 @@ part_in c (x ∷ xs) k d l = at (eqb x.caller c) refl (λ j l'. part_in c xs j d
     at false is more =
         let same : part c (x ∷ xs) ≡ part c xs = ap (λ (b : Bool). cond b (x ∷ part c xs) (part c xs)) is in
         let f = more k (subst (λ (q : List Stamped). k < length q) same l) in
-          (suc f.0, f.1 ∙ ap (λ (q : List Stamped). Some (slice_index_or q k d)) (sym same))
+        (suc f.0, f.1 ∙ ap (λ (q : List Stamped). Some (slice_index_or q k d)) (sym same))
     at true is more =
         let same : part c (x ∷ xs) ≡ x ∷ part c xs = ap (λ (b : Bool). cond b (x ∷ part c xs) (part c xs)) is in
         let f = here k more (subst (λ (q : List Stamped). k < length q) same l) in
-          (f.0, f.1 ∙ ap (λ (q : List Stamped). Some (slice_index_or q k d)) (sym same))
+        (f.0, f.1 ∙ ap (λ (q : List Stamped). Some (slice_index_or q k d)) (sym same))
 
 pub in_part : (c : ℕ) (h : List Stamped) (i : ℕ) (e : Stamped) → slice_get h i ≡ Some e → e.caller ≡ c
     → (k : ℕ) × (k < length (part c h)) × ((d : Stamped) → slice_index_or (part c h) k d ≡ e)
@@ -170,5 +170,8 @@ in_part c (x ∷ xs) (suc i) e q is = let f = in_part c xs i e q is in at (eqb x
         (f.0, subst (λ (q : List Stamped). f.0 < length q) (sym p) f.1, λ d. ap (λ (q : List Stamped). slice_index_or q f.0 d) p ∙ f.2 d)
     at true is' f =
         let p : part c (x ∷ xs) ≡ x ∷ part c xs = ap (λ (b : Bool). cond b (x ∷ part c xs) (part c xs)) is' in
-        let l = f.1 in (suc f.0, subst (λ (q : List Stamped). suc f.0 < length q) (sym p) (omega arith),
-          λ d. ap (λ (q : List Stamped). slice_index_or q (suc f.0) d) p ∙ f.2 d)
+        let l = f.1 in (
+          suc f.0,
+          subst (λ (q : List Stamped). suc f.0 < length q) (sym p) (omega arith),
+          λ d. ap (λ (q : List Stamped). slice_index_or q (suc f.0) d) p ∙ f.2 d,
+        )

@@ -21,7 +21,7 @@ module _ (p : Plan) where
   ends : (s : St) (r : Kept p s) (id : ℕ) (c : List (ℕ × Unit {0})) (v : Record) (k0 x : ℕ) (at : get_elem? s.views id
       ≡ some v) (live : v.live ≡ true) → k0 < p.plain + p.locks → r.ghost_state.claimer k0 ≡ Some v.caller
       → x ≡ 2 * last_value r.ghost_state.history k0 → ((k w n : ℕ) → k ≢ k0 → InHand p.plain v.caller k w n v.stage → ⊥)
-        → Kept p (stepped s (k0 + 1) x id c (acting v Rest v.look) keeps)
+      → Kept p (stepped s (k0 + 1) x id c (acting v Rest v.look) keeps)
   ends s r id c v k0 x at live inside mine_is twice elsewhere =
       let by : ℕ = v.caller in
       let g = r.ghost_state in
@@ -38,8 +38,8 @@ module _ (p : Plan) where
         short = let a = r.short by in let b = ap length mine.whole in omega arith;
         claims = claims_moved p s r id v at live k0 inside Rest None (λ k z. absurd z) (λ c no is. no (same_some c by (sym is ∙ mine_is)));
         cells = moved p s r id v at live k0 inside Rest x None (set s.words (k0 + 1) x) g.history
-          (λ k no. get_or-set_other s.words (k0 + 1) (k + 1) x 0 (λ z. no (omega arith)))
-          (get_or-set_same s.words (k0 + 1) x 0 (omega arith)) (λ k _. refl) elsewhere twice;
+            (λ k no. get_or-set_other s.words (k0 + 1) (k + 1) x 0 (λ z. no (omega arith)))
+            (get_or-set_same s.words (k0 + 1) x 0 (omega arith)) (λ k _. refl) elsewhere twice;
       }
 
   -- the publish: the action in hand ends
@@ -53,10 +53,14 @@ module _ (p : Plan) where
       let mine_is : g.claimer k0 ≡ Some by = r.claims by k0 (subst (λ (q : Stage). IsAt q k0) (sym (mine.at_stage ∙ drawn_is)) refl) in
       let cell : InHand p.plain by k0 (slice_index s.words (k0 + 1)) (last_value g.history k0) (Drawn k0 b m) =
       subst (InHand p.plain by k0 (slice_index s.words (k0 + 1)) (last_value g.history k0)) (mine.at_stage
-        ∙ drawn_is) (in_hand p.plain g.stage k0 _ _ by (g.claimer k0) mine_is (r.cells k0 inside)) in
-      (acting v Rest v.look, keeps, tt,
+      ∙ drawn_is) (in_hand p.plain g.stage k0 _ _ by (g.claimer k0) mine_is (r.cells k0 inside)) in (
+        acting v Rest v.look,
+        keeps,
+        tt,
         ends s r id me.1 v k0 x at live inside mine_is (twice
-        ∙ ap (λ (q : ℕ). 2 * q) (sym cell.2)) (nowhere_drawn p.plain by k0 b m v.stage drawn_is), refl)
+            ∙ ap (λ (q : ℕ). 2 * q) (sym cell.2)) (nowhere_drawn p.plain by k0 b m v.stage drawn_is),
+        refl,
+      )
 
   pub publishes_give : (slots id : ℕ) (me : Sitting) (k0 x : ℕ) → me.0.live ≡ true → k0 < p.plain + p.locks → me.0.stage ≡ Giving k0 → x ≡ 0
       → Allows (Kept p) slots id me (k0 + 1) (λ _. x) (λ _. published (step slots (k0 + 1) x 0 none) me x)
@@ -68,10 +72,14 @@ module _ (p : Plan) where
       let mine_is : g.claimer k0 ≡ Some by = r.claims by k0 (subst (λ (q : Stage). IsAt q k0) (sym (mine.at_stage ∙ drawn_is)) refl) in
       let cell : InHand p.plain by k0 (slice_index s.words (k0 + 1)) (last_value g.history k0) (Giving k0) =
       subst (InHand p.plain by k0 (slice_index s.words (k0 + 1)) (last_value g.history k0)) (mine.at_stage
-        ∙ drawn_is) (in_hand p.plain g.stage k0 _ _ by (g.claimer k0) mine_is (r.cells k0 inside)) in
-      (acting v Rest v.look, keeps, tt,
+      ∙ drawn_is) (in_hand p.plain g.stage k0 _ _ by (g.claimer k0) mine_is (r.cells k0 inside)) in (
+        acting v Rest v.look,
+        keeps,
+        tt,
         ends s r id me.1 v k0 x at live inside mine_is (twice
-        ∙ ap (λ (q : ℕ). 2 * q) (sym cell.3)) (nowhere_giving p.plain by k0 v.stage drawn_is), refl)
+            ∙ ap (λ (q : ℕ). 2 * q) (sym cell.3)) (nowhere_giving p.plain by k0 v.stage drawn_is),
+        refl,
+      )
 
   pub stores : (slots id : ℕ) (me : Sitting) (k0 x : ℕ) → me.0.live ≡ true → k0 < p.plain + p.locks → Ends me.0.stage k0 x
       → Allows (Kept p) slots id me (k0 + 1) (λ _. x) (λ _. published (step slots (k0 + 1) x 0 none) me x)

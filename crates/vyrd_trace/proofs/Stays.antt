@@ -84,7 +84,7 @@ pub record Turn (p : Plan) (words : List ℕ) (g h : Ghost) (v : Record) (lane :
 pub turned : (p : Plan) (s : St) (r : Kept p s) (i n id : ℕ) (c : List (ℕ × Unit {0})) (v : Record) (lane : List Stamped)
     (st : Stage) (look : Look) (h : Ghost)
     → get_elem? s.views id ≡ some v → v.live ≡ true → Turn p (set s.words i n) r.ghost_state h v lane st
-      → Kept p (stepped s i n id c (changed v lane st look) keeps)
+    → Kept p (stepped s i n id c (changed v lane st look) keeps)
 turned p s r i n id c v lane st look h at live t =
     let g = r.ghost_state in
     let mine = r.seats id v at live in record {
@@ -94,7 +94,7 @@ turned p s r i n id c v lane st look h at live t =
       legal = t.legal;
       short = λ by. dite (ℕ_discrete by v.caller)
           (λ e. let a : length (part by h.history) ≡ length lane = ap (λ (x : ℕ). length (part x h.history)) e
-            ∙ ap length t.whole in let b = t.short in omega arith)
+          ∙ ap length t.whole in let b = t.short in omega arith)
           (λ e. let a : length (part by h.history) ≡ length (part by g.history) = ap length (t.same.parts by e) in let b = r.short by in omega arith);
       claims = t.claims;
       cells = t.cells;
@@ -105,7 +105,7 @@ turned p s r i n id c v lane st look h at live t =
       outside = λ by le. t.same.owners by ∙ r.outside by le;
       seats = λ j u e alive. ⊎_elim
           (λ (x : (j ≡ id) × (changed v lane st look ≡ u)). subst (λ (y : ℕ × Record). Knows p.callers h y.0 y.1)
-            (λ q. (sym x.0 q, x.1 q)) (knows_changed p.callers g h id v lane st look t.same t.whole t.at_stage mine))
+          (λ q. (sym x.0 q, x.1 q)) (knows_changed p.callers g h id v lane st look t.same t.whole t.at_stage mine))
           (λ (x : (j ≢ id) × (get_elem? s.views j ≡ some u)). knows_stays p.callers g h v.caller id j u t.same mine.owned x.0 (r.seats j u x.1 alive))
           (at_set s.views id j (changed v lane st look) u e);
     }

@@ -47,8 +47,14 @@ with_look hand look = record { table = hand.table; caller = hand.caller; limit =
 
 -- the hand with exactly this one event more, for which it used one of its spare room
 abbrev pub with_one_more : HandView → ℕ → Did → Look → HandView
-with_one_more hand number did look = record { table = hand.table; caller = hand.caller; limit = hand.limit;
-    spare = hand.spare - 1; lane = hand.lane ++ stamp number hand.caller did ∷ []; look = look }
+with_one_more hand number did look = record {
+  table = hand.table;
+  caller = hand.caller;
+  limit = hand.limit;
+  spare = hand.spare - 1;
+  lane = hand.lane ++ stamp number hand.caller did ∷ [];
+  look = look;
+}
 
 -- The word was found at the cell since `before`: it is the last word found, and both it and the first word found there
 -- were found at later looks than those that were made before.

@@ -15,8 +15,14 @@ no_look = record { looks = 0; cell = 0; first = 0; first_at = 0; last = 0; last_
 
 -- one more look, the first of its call: the word found at the cell
 abbrev pub look_first : Look → ℕ → ℕ → Look
-look_first look cell word = record { looks = look.looks + 1; cell = cell; first = word; first_at = look.looks + 1; last = word;
-    last_at = look.looks + 1 }
+look_first look cell word = record {
+  looks = look.looks + 1;
+  cell = cell;
+  first = word;
+  first_at = look.looks + 1;
+  last = word;
+  last_at = look.looks + 1;
+}
 
 -- one more look, at the cell looked at before
 abbrev pub look_again : Look → ℕ → ℕ → Look
@@ -46,8 +52,15 @@ own_lane v = record { caller = v.caller; events = v.lane }
 
 -- a record with the lanes of another one too
 abbrev pub gathering : Record → Record → Record
-gathering v w = record { live = v.live; caller = v.caller; next = v.next; lane = v.lane;
-    gathered = v.gathered ++ own_lane w ∷ w.gathered; stage = v.stage; look = v.look }
+gathering v w = record {
+  live = v.live;
+  caller = v.caller;
+  next = v.next;
+  lane = v.lane;
+  gathered = v.gathered ++ own_lane w ∷ w.gathered;
+  stage = v.stage;
+  look = v.look;
+}
 
 -- a record whose lanes another one has
 abbrev pub spent : Record
@@ -72,5 +85,12 @@ drawn stage caller (Marked kind) = stage
 
 -- the record with one event more
 abbrev pub with_event : Record → ℕ → Did → Record
-with_event v number did = record { live = v.live; caller = v.caller; next = v.next;
-    lane = v.lane ++ stamp number v.caller did ∷ []; gathered = v.gathered; stage = drawn v.stage v.caller did; look = v.look }
+with_event v number did = record {
+  live = v.live;
+  caller = v.caller;
+  next = v.next;
+  lane = v.lane ++ stamp number v.caller did ∷ [];
+  gathered = v.gathered;
+  stage = drawn v.stage v.caller did;
+  look = v.look;
+}

@@ -1,6 +1,6 @@
--- One isnt_at_most entry in a node.
-use Rattle.std.proofs.Common.{◌≡◌, ℕ, zero, suc, ◌+◌, ◌-◌, ◌<◌, ◌≤◌, List, [], ◌∷◌, ◌++◌, length, take, drop, refl, ap, ◌∙◌, sym, subst, arith}
-use Rattle.std.specs.Prelude.{Bool, cond, insert, Option, None}
+-- One more entry in a node.
+use Rattle.std.proofs.Common.{◌≡◌, ℕ, zero, suc, ◌+◌, ◌-◌, ◌<◌, ◌≤◌, List, [], ◌∷◌, length, take, drop, refl, ap, ◌∙◌, sym, arith}
+use Rattle.std.specs.Prelude.{cond, insert, Option, None}
 use Rattle.std.proofs.lemmas.List.{length-take-le}
 use Rattle.vyrd_base.specs.declared.header.Header.{Header}
 use Rattle.vyrd_base.specs.declared.log.Kind.{Kind}
@@ -17,12 +17,12 @@ use Rattle.vyrd_tree.specs.Rests.Visits.{arrived_at}
 use Rattle.vyrd_tree.specs.Cells.{count_cell, unlock_node}
 use Rattle.vyrd_tree.specs.Walk.{Arrived}
 use Rattle.vyrd_tree.specs.Split.{with_unused, write_entries, place_below, with_entry, add_entry, split, split_entry, split_key, first_key, upper_half}
-use Rattle.vyrd_tree.specs.Ascent.{add_child, ascend_once, ascend}
-use Rattle.vyrd_tree.specs.Procedures.{place_of, insert_in}
-use Rattle.vyrd_tree.specs.Rests.Errands.{add_rest, next_round, round, after_split, close_for, unsplit}
+use Rattle.vyrd_tree.specs.Ascent.{add_child}
+use Rattle.vyrd_tree.specs.Procedures.{insert_in}
+use Rattle.vyrd_tree.specs.Rests.Errands.{add_rest, next_round, after_split, close_for, unsplit}
 use Rattle.vyrd_tree.specs.Laws.Fits.{length_insert}
 
--- the first entries with one isnt_at_most among them
+-- the first entries with one more among them
 insert_in_take : (slots : List (ℕ × ℕ)) (place count : ℕ) (e : ℕ × ℕ) → place ≤ count → count ≤ length slots
     → insert (take count slots) place e ≡ take (suc count) (insert slots place e)
 insert_in_take slots zero count e le fits = refl
@@ -42,7 +42,8 @@ take_4 n xs few = again 4 n xs few
 -- the rewriting of a node, with this many entries
 abbrev rewriting : Header → ℕ → ℕ → List (ℕ × ℕ) → ℕ → Kind → Script → Script
 rewriting h node place entries count close later =
-    perform (Mark BlockOpen) (write_entries node place (drop place entries) (perform (Store (count_cell node) count) (perform (Mark close) (unlock_node h node later))))
+    perform (Mark BlockOpen) (write_entries node place (drop place entries)
+    (perform (Store (count_cell node) count) (perform (Mark close) (unlock_node h node later))))
 
 -- a new entry in a node that is full
 abbrev filled : Header → Task → Errand → Arrived → ℕ → ℕ → Script
@@ -73,8 +74,10 @@ added h task v count place key value five four close low len at le is first clos
     next ∙ ap suc (sym fits) ∙ sym (length_insert (take count slots) place (key, value)) in
     ap (λ es. rewriting h node place es (count + 1) close (returns 1)) shorter
     ∙ ap (λ n. rewriting h node place (insert (take count slots) place (key, value)) n close (returns 1)) count_is
-    ∙ ap (λ k. rewriting h node place (insert (take count slots) place (key, value)) (length (insert (take count slots) place (key, value))) k (returns 1)) closes
-    ∙ ap (λ p. rewriting h node p (insert (take count slots) p (key, value)) (length (insert (take count slots) p (key, value))) (close_for v.errand) (returns 1)) at
+    ∙ ap (λ k. rewriting h node place (insert (take count slots) place (key, value))
+    (length (insert (take count slots) place (key, value))) k (returns 1)) closes
+    ∙ ap (λ p. rewriting h node p (insert (take count slots) p (key, value)) (length (insert (take count slots) p (key, value)))
+    (close_for v.errand) (returns 1)) at
     ∙ ap (λ b. cond b (add_entry h (visited v count) key value (close_for v.errand) (returns 1)) (filled h task v.errand (visited v count) key value))
     (sym (is_below (length (take count slots)) 4 (omega (arith, fits, low))))
 
@@ -103,12 +106,14 @@ overflows h task v count place key value five high few len at is =
     (opened h task v (with_entry (take count slots) key value) (place_below key (take count slots))))
     (sym (isnt_below (length (take count slots)) 4 (omega (arith, fits))))
 
-pub added_child : (h : Header) (task : Task) (e : Errand) (a : Ascent) (at : Arrived) (key value : ℕ) → e ≡ errand.Ascent a → a.level < at.level → key ≡ a.key
+pub added_child : (h : Header) (task : Task) (e : Errand) (a : Ascent) (at : Arrived) (key value : ℕ) → e ≡ errand.Ascent a
+    → a.level < at.level → key ≡ a.key
     → value ≡ a.node.number → add_rest h task e at key value ≡ add_child h a.level a.key a.node.number at (returns 1) (next_round h task a)
 added_child h task e a at key value is above is_key is_value =
     ap (λ x. add_rest h task x at key value) is ∙ ap (λ k. add_rest h task (errand.Ascent a) at k value) is_key
     ∙ ap (add_rest h task (errand.Ascent a) at a.key) is_value
-    ∙ ap (λ b. cond b (unlock_node h at.node (returns 1)) (add_rest h task (errand.Ascent a) at a.key a.node.number)) (sym (isnt_at_most at.level a.level above))
+    ∙ ap (λ b. cond b (unlock_node h at.node (returns 1)) (add_rest h task (errand.Ascent a) at a.key a.node.number))
+    (sym (isnt_at_most at.level a.level above))
 
 pub inserted_new : (h : Header) (task : Task) (e : Errand) (at : Arrived) (place : Option ℕ) (key value : ℕ) → e ≡ errand.Operation → place ≡ None
     → key ≡ task.key → value ≡ task.value → add_rest h task e at key value ≡ insert_in h task.variant task.key task.value at place

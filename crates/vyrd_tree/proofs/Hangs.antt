@@ -63,7 +63,8 @@ module _ (size : ℕ) (words : List ℕ) (low : ℕ → ℕ) (level key node : �
       used : node ≤ last
       used = at_most_of node last (first_true (nat_le node last) (level_of words node == level) two)
 
-      inner : (n : ℕ) → level_of words n ≢ 0 → leads_elsewhere words node n ≡ true → list_all (λ entry. not (entry.1 == node)) (entries_of words n) ≡ true
+      inner : (n : ℕ) → level_of words n ≢ 0 → leads_elsewhere words node n ≡ true
+          → list_all (λ entry. not (entry.1 == node)) (entries_of words n) ≡ true
       inner n some e = ap (λ b. b || list_all (λ entry. not (entry.1 == node)) (entries_of words n)) (sym (isnt_same (level_of words n) 0 some)) ∙ e
 
   passes : IsHanging size (slice_index words) low level key node → hangs_in size words level key node ≡ true
@@ -80,10 +81,12 @@ module _ (size : ℕ) (words : List ℕ) (low : ℕ → ℕ) (level key node : �
       by_level n used (inl leaf) = ap (λ b. b || list_all (λ entry. not (entry.1 == node)) (entries_of words n)) (is_same (level_of words n) 0 leaf)
       by_level n used (inr some) =
           ap (λ b. b || list_all (λ entry. not (entry.1 == node)) (entries_of words n)) (isnt_same (level_of words n) 0 some)
-          ∙ all_passes (λ entry. not (entry.1 == node)) (λ entry. entry.1 ≢ node) (λ entry other. ap not (isnt_same entry.1 node other)) (entries_of words n)
+          ∙ all_passes (λ entry. not (entry.1 == node)) (λ entry. entry.1 ≢ node)
+          (λ entry other. ap not (isnt_same entry.1 node other)) (entries_of words n)
           (subst (Each (λ entry. entry.1 ≢ node)) (sym (same n used)) (is.unnamed n used some))
 
-pub hanging_says : (h : Header) (m : Memory) (low : ℕ → ℕ) (level key node : ℕ) → h.subject ≡ Tree → IsTree h.size m low → is_hanging h m level key node ≡ true
+pub hanging_says : (h : Header) (m : Memory) (low : ℕ → ℕ) (level key node : ℕ) → h.subject ≡ Tree → IsTree h.size m low
+    → is_hanging h m level key node ≡ true
     → IsHanging h.size m low level key node
 hanging_says h m low level key node is t e =
     hanging_same_words h.size (slice_index (words_in h m)) m low level key node back there (says h.size (words_in h m) low level key node there e)
@@ -94,7 +97,8 @@ hanging_says h m low level key node is t e =
     there : IsTree h.size (slice_index (words_in h m)) low
     there = same_words_tree h.size m (slice_index (words_in h m)) low (words_same h m is) t
 
-pub hanging_passes : (h : Header) (m : Memory) (low : ℕ → ℕ) (level key node : ℕ) → h.subject ≡ Tree → IsTree h.size m low → IsHanging h.size m low level key node
+pub hanging_passes : (h : Header) (m : Memory) (low : ℕ → ℕ) (level key node : ℕ) → h.subject ≡ Tree → IsTree h.size m low
+    → IsHanging h.size m low level key node
     → is_hanging h m level key node ≡ true
 hanging_passes h m low level key node is t hangs =
     passes h.size (words_in h m) low level key node (same_words_tree h.size m (slice_index (words_in h m)) low (words_same h m is) t)

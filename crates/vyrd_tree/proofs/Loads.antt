@@ -1,6 +1,6 @@
 -- The loads of a node's keys and values, one after the other.
-use Rattle.std.proofs.Common.{◌≡◌, ℕ, zero, suc, ◌+◌, ◌-◌, ◌<◌, ◌≤◌, List, [], ◌∷◌, ◌++◌, length, map, take, drop, refl, ap, ◌∙◌, sym, subst, arith}
-use Rattle.std.specs.Prelude.{slice_index_or, slice_set}
+use Rattle.std.proofs.Common.{◌≡◌, ℕ, zero, suc, ◌+◌, ◌-◌, ◌<◌, ◌≤◌, List, [], ◌∷◌, ◌++◌, length, take, drop, refl, ap, ◌∙◌, sym, arith}
+use Rattle.std.specs.Prelude.{slice_set}
 use Rattle.std.proofs.lemmas.List.{append-nil, get_or-take, length-take-le}
 use Rattle.std.proofs.Math.Seq.{drop-cons}
 use Rattle.std.proofs.Math.ListN.{drop_of_length-le}
@@ -48,7 +48,8 @@ value_first slots place count node loaded low fits =
     ∙ ap (λ n. step (Load (value_cell node place)) (λ value. load_values (keys_of (drop n (take count slots))) node (place + 1) (λ entries.
     loaded ((key_at slots place, value) ∷ entries)))) (sym (one_more place))
 
-pub value_comes : (h : Header) (task : Task) (v : Visit) (slot : Slot) (place count : ℕ) → slot.place ≡ place → slot.of ≡ count → count ≤ length v.entries.slots
+pub value_comes : (h : Header) (task : Task) (v : Visit) (slot : Slot) (place count : ℕ) → slot.place ≡ place → slot.of ≡ count
+    → count ≤ length v.entries.slots
     → loading h task v (Value slot) ≡ values_from_rest h task v place count
 value_comes h task v slot place count at among fits =
     sym (value_first v.entries.slots slot.place slot.of v.node.number (λ entries.
@@ -64,5 +65,6 @@ values_came h task v place count le ge fits =
     let len : length (take count v.entries.slots) ≡ count = length-take-le count v.entries.slots fits in
     ap (λ es. arrived_for h task v.errand (arrived_at v es))
     (ap (λ n. take n v.entries.slots) same ∙ sym (append-nil (take place v.entries.slots)))
-    ∙ ap (λ es. load_values (keys_of es) v.node.number place (λ entries. arrived_for h task v.errand (arrived_at v (take place v.entries.slots ++ entries))))
+    ∙ ap (λ es. load_values (keys_of es) v.node.number place
+    (λ entries. arrived_for h task v.errand (arrived_at v (take place v.entries.slots ++ entries))))
     (sym (drop_of_length-le (take count v.entries.slots) (omega (arith, len))))

@@ -1,5 +1,5 @@
 -- A node is split, and the round that follows.
-use Rattle.std.proofs.Common.{◌≡◌, ℕ, zero, suc, ◌+◌, ◌-◌, ◌<◌, ◌≤◌, List, [], ◌∷◌, ◌++◌, length, take, drop, refl, ap, ◌∙◌, sym, subst, arith}
+use Rattle.std.proofs.Common.{◌≡◌, ℕ, suc, ◌+◌, ◌-◌, ◌<◌, List, take, drop, ap, ◌∙◌, sym, arith}
 use Rattle.vyrd_base.specs.declared.header.Header.{Header}
 use Rattle.vyrd_base.specs.declared.log.Kind.{Kind}
 use Rattle.vyrd_base.specs.declared.log.Kind.TheVariants.{BlockOpen}
@@ -14,8 +14,8 @@ use Rattle.vyrd_tree.specs.declared.place.Full.{Full}
 use Rattle.vyrd_tree.specs.declared.place.Need.TheVariants as need
 use Rattle.vyrd_tree.specs.Cells.{count_cell, bound_cell, right_cell, unlock_node}
 use Rattle.vyrd_tree.specs.Split.{write_entries, write_node, first_key}
-use Rattle.vyrd_tree.specs.Ascent.{ascend_once, ascend}
-use Rattle.vyrd_tree.specs.Rests.Errands.{next_round, round, after_split, close_for}
+use Rattle.vyrd_tree.specs.Ascent.{ascend}
+use Rattle.vyrd_tree.specs.Rests.Errands.{round, after_split, close_for}
 use Rattle.vyrd_tree.specs.Rests.Unused.{found_for}
 use Rattle.vyrd_tree.proofs.Added.{take_4}
 
@@ -23,7 +23,8 @@ use Rattle.vyrd_tree.proofs.Added.{take_4}
 abbrev parting : Header → Full → ℕ → List (ℕ × ℕ) → List (ℕ × ℕ) → ℕ → ℕ → Kind → Script → Script
 parting h full new upper lower key word close later = perform (Mark BlockOpen) (write_node new full.level full.bound full.right upper
     (write_entries full.node.number full.place (drop full.place lower)
-    (perform (Store (count_cell full.node.number) 3) (perform (Store (bound_cell full.node.number) key) (perform (Store (right_cell full.node.number) word)
+    (perform (Store (count_cell full.node.number) 3)
+    (perform (Store (bound_cell full.node.number) key) (perform (Store (right_cell full.node.number) word)
     (perform (Mark close) (unlock_node h full.node.number later)))))))
 
 pub parted : (h : Header) (task : Task) (full : Full) (new : ℕ) (upper lower : List (ℕ × ℕ)) (key word : ℕ) (close : Kind) (later : Script)

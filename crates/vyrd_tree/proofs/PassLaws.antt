@@ -35,9 +35,11 @@ use Rattle.vyrd_tree.proofs.Hangs.{hanging_says, hanging_passes}
 abbrev EndsRound : Header → ℕ → ℕ → Script → (ℕ → ℕ → ℕ → Script) → Amounts → Option Outcome → Type 0
 EndsRound h c level ending next state o =
     (after : Memory) × (state_in h after ≡ Some state)
-    × ((o ≡ alone c ending after) ⊎ ((key : ℕ) × (node : ℕ) × (o ≡ alone c (next (level + 1) key node) after) × (is_hanging h after (level + 1) key node ≡ true)))
+    × ((o ≡ alone c ending after) ⊎ ((key : ℕ) × (node : ℕ) × (o ≡ alone c (next (level + 1) key node) after)
+    × (is_hanging h after (level + 1) key node ≡ true)))
 
-pub round_keeps_state : (h : Header) (c level key node : ℕ) (ending : Script) (next : ℕ → ℕ → ℕ → Script) (memory : Memory) (state : Amounts) → h.subject ≡ Tree
+pub round_keeps_state : (h : Header) (c level key node : ℕ) (ending : Script) (next : ℕ → ℕ → ℕ
+    → Script) (memory : Memory) (state : Amounts) → h.subject ≡ Tree
     → state_in h memory ≡ Some state → is_hanging h memory level key node ≡ true → KeepsState h c level key node ending next memory state
 round_keeps_state h c level key node ending next memory state is e hangs = record { after = o.0; stands = o.1; goes_on = goes_on o.2 }
   where
@@ -51,7 +53,11 @@ round_keeps_state h c level key node ending next memory state is e hangs = recor
     o = round_played h c memory st.low state level key node ending next (EndsRound h c level ending next state) st.held st.free
         (hanging_says h memory st.low level key node is st.held.tree hangs)
         (λ m low shown free. (m, stands m low shown free, inl refl))
-        (λ m low key' node' shown free hangs'. (m, stands m low shown free, inr (key', node', refl, hanging_passes h m low (level + 1) key' node' is shown.tree hangs')))
+        (λ m low key' node' shown free hangs'. (
+          m,
+          stands m low shown free,
+          inr (key', node', refl, hanging_passes h m low (level + 1) key' node' is shown.tree hangs'),
+        ))
 
     goes_on : (alone c (ascend_once h Correct level key node ending next) memory ≡ alone c ending o.0) ⊎
         ((key' : ℕ) × (node' : ℕ) × (alone c (ascend_once h Correct level key node ending next) memory ≡ alone c (next (level + 1) key' node') o.0)
@@ -67,9 +73,11 @@ SplitsOff h c state o =
     (key : ℕ) × (leaf : ℕ) × (after : Memory) × (o ≡ alone c (ascend h Correct 16 0 key leaf (returns 1)) after) × (state_in h after ≡ Some state)
     × (is_hanging h after 0 key leaf ≡ true)
 
-pub insert_splits_leaf : (h : Header) (c : ℕ) (args : Args) (memory : Memory) (state : Amounts) → h.subject ≡ Tree → state_in h memory ≡ Some state → args.a < 2 ^ 32
+pub insert_splits_leaf : (h : Header) (c : ℕ) (args : Args) (memory : Memory) (state : Amounts) → h.subject ≡ Tree
+    → state_in h memory ≡ Some state → args.a < 2 ^ 32
     → args.b < 2 ^ 32
-    → amount_of state args.a ≡ 0 → memory (count_cell (leaf_of h memory args.a)) ≡ 4 → memory (used_cell h) + 1 < h.size → SplitsLeaf h c args memory state
+    → amount_of state args.a ≡ 0 → memory (count_cell (leaf_of h memory args.a)) ≡ 4 → memory (used_cell h) + 1 < h.size
+    → SplitsLeaf h c args memory state
 insert_splits_leaf h c args memory state is e small_key small none full room = record {
   key = o.0;
   leaf = o.1;
@@ -131,14 +139,17 @@ insert_splits_leaf h c args memory state is e small_key small none full room = r
             ))))
           where
             splitting : ℕ → Script
-            splitting u = split_entry h (loaded_at m n) args.a args.b u BlockCommit (ascend h Correct 16 0 (split_key (loaded_at m n) args.a args.b) u (returns 1))
+            splitting u = split_entry h (loaded_at m n) args.a args.b u BlockCommit
+                (ascend h Correct 16 0 (split_key (loaded_at m n) args.a args.b) u (returns 1))
 
             by_room : Bool → Script
-            by_room room = cond room (add_entry h (loaded_at m n) args.a args.b BlockCommit (returns 1)) (with_unused h (changes_nothing h n) splitting)
+            by_room room = cond room (add_entry h (loaded_at m n) args.a args.b BlockCommit (returns 1))
+                (with_unused h (changes_nothing h n) splitting)
 
         by_place : (o : Option ℕ) → place_of args.a (entries_at m n) ≡ o
             → Q (alone c (insert_in h Correct args.a args.b (loaded_at m n) (place_of args.a (entries_at m n))) m)
-        by_place None e = subst (λ o. Q (alone c (insert_in h Correct args.a args.b (loaded_at m n) o) m)) (sym e) (new_key (not_found args.a (entries_at m n) e))
+        by_place None e = subst (λ o. Q (alone c (insert_in h Correct args.a args.b (loaded_at m n) o) m)) (sym e)
+            (new_key (not_found args.a (entries_at m n) e))
         by_place (Some i) e =
             let found = found_around args.a (entries_at m n) i e in
             absurd (let some = present h m low state n args.a found.0 found.2 found.1 at found.4 in omega (arith, none, some))

@@ -33,7 +33,8 @@ leaf_found size m low key t (suc left) n used leaf from more =
         (record { in_use = used; leaf = leaf; covers = record { from = from; to = below } })
 
     by_bound : (bound_at m n ≡ 0) ⊎ (bound_at m n ≢ 0) → (bound_at m n ≤ key) ⊎ (key < bound_at m n)
-        → (right_at m n ≤ last_in size m → level_at m (right_at m n) ≡ 0 → low (right_at m n) ≤ key → after_of (last_in size m) m low (right_at m n) < left
+        → (right_at m n ≤ last_in size m → level_at m (right_at m n) ≡ 0 → low (right_at m n) ≤ key
+        → after_of (last_in size m) m low (right_at m n) < left
         → LeafOf size m low key (leaf_from left m key (right_at m n))) → LeafOf size m low key
         (cond (is_past (bound_at m n) key) (leaf_from left m key (right_at m n)) n)
     by_bound (inl none) order later = here (λ some. absurd (some none))
@@ -59,7 +60,8 @@ by_outcome : (P : Type 0) (says : ℕ → Memory → Type 0) (o : Option Outcome
 by_outcome P says None e both = absurd e
 by_outcome P says (Some outcome) e both = let b = both outcome.reply outcome.memory e in (b.0, b.1)
 
-pub insert_gives_up : (h : Header) (memory : Memory) (state : Amounts) (c key value : ℕ) → h.subject ≡ Tree → state_in h memory ≡ Some state → key < 2 ^ 32
+pub insert_gives_up : (h : Header) (memory : Memory) (state : Amounts) (c key value : ℕ) → h.subject ≡ Tree
+    → state_in h memory ≡ Some state → key < 2 ^ 32
     → value < 2 ^ 32
     → GivesUpWhere (HasNoRoom h memory state key) (alone c (insert_entry h Correct key value) memory)
 insert_gives_up h memory state c key value is e small_key small =
@@ -74,10 +76,12 @@ insert_gives_up h memory state c key value is e small_key small =
     )
     says reply after (inr (inl d)) = (
       λ none. absurd (let one = d.0 in omega (arith, none, one)),
-      λ room. absurd (with_room d.3.4 (ap (λ n. memory (count_cell n)) (sym (leaf_is h memory d.3.0 key d.3.1 d.3.2 d.3.3)) ∙ room.full) room.no_node),
+      λ room. absurd (with_room d.3.4 (ap (λ n. memory (count_cell n)) (sym (leaf_is h memory d.3.0 key d.3.1 d.3.2 d.3.3))
+          ∙ room.full) room.no_node),
     )
       where
-        with_room : (count_at memory d.3.1 < 4) ⊎ (last_in h.size memory + 1 < h.size) → count_at memory d.3.1 ≡ 4 → h.size ≤ last_in h.size memory + 1 → ⊥
+        with_room : (count_at memory d.3.1 < 4) ⊎ (last_in h.size memory + 1 < h.size) → count_at memory d.3.1 ≡ 4
+            → h.size ≤ last_in h.size memory + 1 → ⊥
         with_room (inl less) full none = omega (arith, less, full)
         with_room (inr room) full none = omega (arith, room, none)
     says reply after (inr (inr d)) = (λ none. absurd (let two = d.0 in omega (arith, none, two)), λ room. absurd (d.1 room.absent))

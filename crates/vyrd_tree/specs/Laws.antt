@@ -19,11 +19,13 @@ use Rattle.vyrd_tree.specs.Laws.Sound.{procedure_sound}
 use Rattle.vyrd_tree.specs.Laws.Ends.{procedure_ends}
 
 -- each is sound
-pub tree_is_sound : (h : Header) (variant : Variant) (op : Op) → h.subject ≡ Tree → subject_of op.method ≡ Tree → are_args h.size op.method op.args ≡ true
+pub tree_is_sound : (h : Header) (variant : Variant) (op : Op) → h.subject ≡ Tree → subject_of op.method ≡ Tree
+    → are_args h.size op.method op.args ≡ true
     → are_small op.args ≡ true → IsSound h (just_called op.method) (tree_procedure h variant op)
 tree_is_sound h variant op is of args small = procedure_sound h variant op.method op.args is of small
 
 -- each comes to its return in time
-pub tree_ends_in_time : (h : Header) (variant : Variant) (op : Op) → h.subject ≡ Tree → subject_of op.method ≡ Tree → are_args h.size op.method op.args ≡ true
+pub tree_ends_in_time : (h : Header) (variant : Variant) (op : Op) → h.subject ≡ Tree → subject_of op.method ≡ Tree
+    → are_args h.size op.method op.args ≡ true
     → are_small op.args ≡ true → EndsByReturn (bound_of h op.method - 1) (tree_procedure h variant op)
 tree_ends_in_time h variant op is of args small = procedure_ends h variant op.method op.args.a op.args.b is of

@@ -30,7 +30,8 @@ pub record GoesOnFrom (h : Header) (c level : ℕ) (round : Script) (memory afte
   pub hangs : is_hanging h after (level + 1) key node ≡ true
 
 -- A round, played alone, comes to words that stand for the same state, and there the ascent stops or the next round begins.
-pub record KeepsState (h : Header) (c level key node : ℕ) (stops : Script) (next : ℕ → ℕ → ℕ → Script) (memory : Memory) (state : Amounts) : Type 0 where
+pub record KeepsState (h : Header) (c level key node : ℕ) (stops : Script) (next : ℕ → ℕ → ℕ
+    → Script) (memory : Memory) (state : Amounts) : Type 0 where
   pub after : Memory
   pub stands : state_in h after ≡ Some state
   pub goes_on : (alone c (ascend_once h Correct level key node stops next) memory ≡ alone c stops after)

@@ -25,17 +25,18 @@ pub mod NodeSplit
 pub mod Ascended
 pub mod NewKey
 pub mod Inserted
-use Rattle.std.proofs.Common.{◌≡◌, ◌≢◌, ℕ, ◌+◌, ◌-◌, ◌<◌, ◌≤◌, ◌^◌, inl, inr, Bool, true, false, cond, not, Option, Some, None, refl, ap, ◌∙◌, sym, subst, arith}
+use Rattle.std.proofs.Common.{◌≡◌, ◌≢◌, ℕ, ◌+◌, ◌-◌, ◌<◌, ◌^◌, inl, inr, true, false, cond, not, Option, Some, None, refl, ap, ◌∙◌, sym, subst, arith}
 use Rattle.std.specs.Prelude.{◌==◌, ◌&&◌, nat_lt, IsSome}
 use Rattle.std.specs.Bool.{then_some}
 use Rattle.vyrd_base.specs.declared.header.Header.{Header}
 use Rattle.vyrd_base.specs.declared.subject.Subject.TheVariants.{Tree}
 use Rattle.vyrd_base.specs.declared.subject.Method.{Method}
-use Rattle.vyrd_base.specs.declared.subject.Method.TheVariants.{MsInsert, MsInsertPair, MsDelete, MsLookup, CaWrite, CaFlush, CaEvict, CaRead, TrInsert, TrDelete, TrLookup}
+use Rattle.vyrd_base.specs.declared.subject.Method.TheVariants.{MsInsert, MsInsertPair, MsDelete, MsLookup, CaWrite, CaFlush}
+use Rattle.vyrd_base.specs.declared.subject.Method.TheVariants.{CaEvict, CaRead, TrInsert, TrDelete, TrLookup}
 use Rattle.vyrd_base.specs.declared.subject.Args.{Args}
 use Rattle.vyrd_base.specs.Subjects.{subject_of, are_args, is_observer}
 use Rattle.vyrd_base.specs.Amounts.{Amounts, amount_of, with_amount}
-use Rattle.vyrd_base.specs.Specification.{by_reply, is_present, next_state, answer_in}
+use Rattle.vyrd_base.specs.Specification.{is_present, next_state, answer_in}
 use Rattle.vyrd_base.proofs.TestLaws.{first_true, second_true, is_same, isnt_same, below_of}
 use Rattle.vyrd_memory.specs.declared.op.Op.{Op}
 use Rattle.vyrd_memory.specs.declared.op.Variant.TheVariants.{Correct}
@@ -53,7 +54,8 @@ abbrev says_of : Op → Amounts → ℕ → Option Amounts
 says_of op s reply = state_after (is_observer op.method) op reply s
 
 meets : (h : Header) (op : Op) (script : Script) (c : ℕ) (memory : Memory) (s : Amounts) → h.subject ≡ Tree
-    → (Q : ℕ → Memory → Type 0) → EndsSo Q (alone c script memory) → ((reply : ℕ) (after : Memory) → Q reply after → Meets h (says_of op s) reply after)
+    → (Q : ℕ → Memory → Type 0) → EndsSo Q (alone c script memory)
+    → ((reply : ℕ) (after : Memory) → Q reply after → Meets h (says_of op s) reply after)
     → MeetsSpecification h op script c memory s
 meets h op script c memory s is Q ended says =
     let o = ended_with (alone c script memory) Q ended in
@@ -82,11 +84,13 @@ by_method_right h TrInsert args is of small_key small c memory s st =
     next : Amounts
     next = with_amount s args.a (2 ^ 32 + args.b)
 
-    says : (reply : ℕ) (after : Memory) → InsertDone h memory s args.a args.b reply after → Meets h (says_of (record { method = TrInsert; args = args }) s) reply after
+    says : (reply : ℕ) (after : Memory) → InsertDone h memory s args.a args.b reply after
+        → Meets h (says_of (record { method = TrInsert; args = args }) s) reply after
     says reply after (inl d) = record { state = s; allowed = ap (λ r. next_state TrInsert args r s) d.0; stands = d.2 }
     says reply after (inr (inl d)) = record {
       state = next;
-      allowed = ap (λ r. next_state TrInsert args r s) d.0 ∙ ap (λ b. then_some (not b) (with_amount s args.a (2 ^ 32 + args.b))) (isnt_there s args.a d.1);
+      allowed = ap (λ r. next_state TrInsert args r s) d.0
+          ∙ ap (λ b. then_some (not b) (with_amount s args.a (2 ^ 32 + args.b))) (isnt_there s args.a d.1);
       stands = d.2;
     }
     says reply after (inr (inr d)) = record {
@@ -97,7 +101,12 @@ by_method_right h TrInsert args is of small_key small c memory s st =
 by_method_right h TrDelete args is of small_key small c memory s st =
     meets h (record { method = TrDelete; args = args }) (delete h Correct args.a) c memory s is _ (delete_alone h c memory s args.a st)
     (λ reply after d. elim d as (λ d. Meets h (says_of (record { method = TrDelete; args = args }) s) reply after) [
-      | inl d ↦ record { state = s; allowed = ap (λ r. next_state TrDelete args r s) d.1 ∙ ap (λ b. then_some (not b) s) (isnt_there s args.a d.0); stands = d.2 }
+      | inl d ↦ record {
+        state = s;
+        allowed = ap (λ r. next_state TrDelete args r s) d.1
+            ∙ ap (λ b. then_some (not b) s) (isnt_there s args.a d.0);
+        stands = d.2;
+      }
       | inr d ↦ record {
         state = with_amount s args.a 0;
         allowed = ap (λ r. next_state TrDelete args r s) d.1
@@ -132,7 +141,8 @@ by_method_right h CaEvict args is of small_key small c memory s st = absurd (cc)
 by_method_right h CaRead args is of small_key small c memory s st = absurd (cc)
 
 -- From a memory that stands for a state an operation of the tree, played alone, ends in one that stands for the next state.
-pub tree_is_right_alone : (h : Header) (op : Op) → h.subject ≡ Tree → subject_of op.method ≡ Tree → are_args h.size op.method op.args ≡ true → are_small op.args ≡ true
+pub tree_is_right_alone : (h : Header) (op : Op) → h.subject ≡ Tree → subject_of op.method ≡ Tree
+    → are_args h.size op.method op.args ≡ true → are_small op.args ≡ true
     → IsRightAlone h op (tree_procedure h Correct op)
 tree_is_right_alone h op is of args small = λ c memory s e.
     (let two = first_true (nat_lt op.args.a (2 ^ 32) && nat_lt op.args.b (2 ^ 32)) (nat_lt op.args.c (2 ^ 32)) small in

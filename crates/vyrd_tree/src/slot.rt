@@ -1,6 +1,6 @@
 //! The slots of a node, each of which holds an entry.
 
-ghost use Rattle.std.specs.Prelude.{◌≡◌, ◌+◌, ◌<◌, ◌≤◌, MatchOption};
+ghost use Rattle.std.specs.Prelude.{◌≡◌, ◌<◌, ◌≤◌, MatchOption};
 
 /// A slot of a node: the place of an entry among the node's first entries, of which there are so many.
 #[derive(Clone, Copy)]
@@ -22,12 +22,5 @@ impl Slot {
         } else {
             None
         }
-    }
-
-    /// The slot that comes after it.
-    pub(crate) fn next(self) -> Option<Slot>
-        ensures { MatchOption result (self.of ≤ self.place + 1) (λ slot. (slot.place ≡ self.place + 1) × (slot.of ≡ self.of)) }
-    {
-        Slot::new(self.place + 1, self.of)
     }
 }

@@ -27,7 +27,7 @@ added-append (x ∷ xs) ys s = added-append xs ys (plus_amount s x.0 x.1)
 pub collected-append : (xs ys : List (ℕ × ℕ)) → collected (xs ++ ys) ≡ added (collected xs) ys
 collected-append xs ys =
     same_amounts (collected (xs ++ ys)) (added (collected xs) ys) (IsAmounts-collected (xs ++ ys))
-      (IsAmounts-added ys (collected xs) (IsAmounts-collected xs))
+    (IsAmounts-added ys (collected xs) (IsAmounts-collected xs))
     (λ q. omega (arith, amount_of-collected (xs ++ ys) q, given-append q xs ys, amount_of-added ys (collected xs) q, amount_of-collected xs q))
 
 -- all parts, added to nothing

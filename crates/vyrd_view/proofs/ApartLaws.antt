@@ -161,7 +161,7 @@ apart_here a b i x y in_a in_b is_x is_y apart =
 -- where one list ends, the first pair that the other has left
 pub apart_end : (a b : Amounts) (n : ℕ) → n ≡ min (length a) (length b)
     → first_apart (drop n a) (drop n b)
-      ≡ option_or (option_map (λ pair. pair.0) (slice_get a (length b))) (option_map (λ pair. pair.0) (slice_get b (length a)))
+    ≡ option_or (option_map (λ pair. pair.0) (slice_get a (length b))) (option_map (λ pair. pair.0) (slice_get b (length a)))
 apart_end [] [] n is = let none : n ≡ 0 = omega arith in ap (λ i. first_apart (drop i []) (drop i [])) none
 apart_end (x ∷ a) [] n is = let none : n ≡ 0 = omega arith in ap (λ i. first_apart (drop i (x ∷ a)) (drop i [])) none
 apart_end [] (y ∷ b) n is = let none : n ≡ 0 = omega arith in ap (λ i. first_apart (drop i []) (drop i (y ∷ b))) none

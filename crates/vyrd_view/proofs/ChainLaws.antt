@@ -92,7 +92,7 @@ pub walk_ends : (size : ℕ) (words : List ℕ) (sums t : Amounts) (flags : List
     → t ≡ added sums (node_parts words n) → right_of words n ≡ 0 → t ≡ collected (chain_parts size words)
 walk_ends size words sums t flags left n walk within more ends =
     more ∙ onward size words sums flags left n walk true (get_or (set flags n true) (right_of words n) true) within
-      (is_same (right_of words n) 0 ends) refl
+    (is_same (right_of words n) 0 ends) refl
 
 -- at a link past the nodes or back to the chain
 pub walk_breaks : (size : ℕ) (words : List ℕ) (sums t : Amounts) (flags : List Bool) (left n : ℕ)

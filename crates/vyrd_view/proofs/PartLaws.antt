@@ -37,8 +37,11 @@ slot_at_most words q i = by_state (slice_index words (2 * i) == 2)
 -- so many slots give a value at most as much
 pub slots_at_most : (words : List ℕ) (n q : ℕ) → amount_of (collected (flat_map (slot_parts words) (numbers_below n))) q ≤ n
 slots_at_most words n q =
-    omega (arith, amount_of-collected (flat_map (slot_parts words) (numbers_below n)) q,
-      given_at_most (slot_parts words) 1 q 0 n (slot_at_most words q))
+    omega (
+      arith,
+      amount_of-collected (flat_map (slot_parts words) (numbers_below n)) q,
+      given_at_most (slot_parts words) 1 q 0 n (slot_at_most words q),
+    )
 
 chunk_elsewhere : (size h q : ℕ) (c : Chunk) → q ≢ h → q ≢ size + h → given q (chunk_parts size h c) ≡ 0
 chunk_elsewhere size h q c apart past = by_chunk (is_chunk c)
@@ -87,7 +90,7 @@ place_parts words n j = entry_parts (node_word words n (4 + j), node_word words 
 
 entries-places : (words : List ℕ) (n k m : ℕ)
     → flat_map entry_parts (map (λ j. (node_word words n (4 + j), node_word words n (8 + j))) (numbers_from k m))
-      ≡ flat_map (place_parts words n) (numbers_from k m)
+    ≡ flat_map (place_parts words n) (numbers_from k m)
 entries-places words n k zero = refl
 entries-places words n k (suc m) = ap (λ xs. place_parts words n k ++ xs) (entries-places words n (k + 1) m)
 
@@ -96,8 +99,10 @@ pub node_parts-places : (words : List ℕ) (n : ℕ) → node_parts words n ≡ 
 node_parts-places words n = entries-places words n 0 (min (count_of words n) 4)
 
 pub places_at_most : (words : List ℕ) (n m q : ℕ) → given q (flat_map (place_parts words n) (numbers_below m)) ≤ m * 2 ^ 33
-places_at_most words n m q = given_at_most (place_parts words n) (2 ^ 33) q 0 m (λ j. entry_at_most q (node_word words n (4 + j),
-    node_word words n (8 + j)))
+places_at_most words n m q = given_at_most (place_parts words n) (2 ^ 33) q 0 m (λ j. entry_at_most q (
+  node_word words n (4 + j),
+  node_word words n (8 + j),
+))
 
 pub node_at_most : (words : List ℕ) (n q : ℕ) → given q (node_parts words n) ≤ 2 ^ 35
 node_at_most words n q =

@@ -125,7 +125,7 @@ begun_in_sound line w found = from (fields_of line) found
     spelled subject size callers variant false t f = cc
     spelled subject size callers variant true t f =
         of_header subject size callers variant (is_within 1 size callers) refl
-          (sym ((bytes_eq-Decides (work_header_line subject size callers variant) line).0 t)) f
+        (sym ((bytes_eq-Decides (work_header_line subject size callers variant) line).0 t)) f
 
     if_spelled : (subject : Option Subject) (size callers : ℕ) (variant : Option Variant)
         → begun_if_spelled line subject size callers variant ≡ Some w → IsBegun line w

@@ -122,7 +122,7 @@ pub items_more : (w : Workload) (x : Item) → broken_by w x ≡ None → items_
 items_more w (item.Op o) none = ops_items w.ops o w.turns (before_turns w o none)
 items_more w (item.Turns t) none =
     ap (λ ts. map item.Op w.ops ++ ts) (map-append item.Turns w.turns (t ∷ []))
-      ∙ sym (append_assoc (map item.Op w.ops) (map item.Turns w.turns) (item.Turns t ∷ []))
+    ∙ sym (append_assoc (map item.Op w.ops) (map item.Turns w.turns) (item.Turns t ∷ []))
 
 -- an operation that fits breaks no rule where there is room for it
 pub op_unbroken : (w : Workload) (o : WorkOp) → is_op_of w.header o ≡ true → w.turns ≡ [] → length w.ops < 200000 → broken_by w (item.Op o) ≡ None

@@ -1,17 +1,14 @@
 -- The scripts of a workload that keeps its limits are sound.
-use Rattle.std.proofs.Common.{◌≡◌, ℕ, zero, suc, ◌+◌, ◌<◌, true, false, List, [], ◌∷◌, map, length, refl, ap, ◌∙◌, sym, subst, arith}
+use Rattle.std.proofs.Common.{◌≡◌, ℕ, zero, suc, ◌+◌, ◌<◌, map, length, refl, ap, ◌∙◌, sym, subst, arith}
 use Rattle.std.specs.Prelude.{slice_index_or}
 use Rattle.vyrd_base.specs.declared.header.Header.{Header}
 use Rattle.vyrd_base.specs.declared.subject.Subject.{Subject}
 use Rattle.vyrd_base.specs.declared.subject.Subject.TheVariants.{Multiset, Cache, Tree}
-use Rattle.vyrd_base.specs.Places.{numbers_from, numbers_below}
-use Rattle.vyrd_memory.specs.declared.op.Op.{Op}
+use Rattle.vyrd_base.specs.Places.{numbers_from}
 use Rattle.vyrd_memory.specs.declared.op.Variant.{Variant}
-use Rattle.vyrd_memory.specs.Scripts.{Script, stop, operations}
-use Rattle.vyrd_memory.specs.Soundness.{IsSound, at_rest, just_called}
-use Rattle.vyrd_memory.specs.Players.{is_callable, are_callable}
+use Rattle.vyrd_memory.specs.Scripts.{Script, stop}
+use Rattle.vyrd_memory.specs.Soundness.{IsSound, at_rest}
 use Rattle.vyrd_memory.specs.PlayerLaws.{AreSound, operations-sound, callable_method, callable_args, callable_small}
-use Rattle.vyrd_memory.specs.Turns.{script_of}
 use Rattle.vyrd_memory.specs.Runs.{AreSoundScripts}
 use Rattle.vyrd_multiset.specs.Laws.Sound.{procedure_is_sound}
 use Rattle.vyrd_cache.specs.Laws.{cache_is_sound}
@@ -46,5 +43,5 @@ scripts_sound w limits = record {
       let e : 0 + c ≡ c = omega arith in
       subst (IsSound w.header at_rest) (sym (script_at (work_script w) 0 w.header.callers c low ∙ ap (work_script w) e))
       (operations-sound w.header (procedure_in w.header.subject w.header w.variant) (ops_of c w.ops)
-        (procedures_sound w.header.subject w.header w.variant refl) (ops_are_callable w c limits));
+      (procedures_sound w.header.subject w.header w.variant refl) (ops_are_callable w c limits));
 }

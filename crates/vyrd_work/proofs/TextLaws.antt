@@ -8,8 +8,6 @@ use Rattle.std.proofs.lemmas.List.{append-nil}
 use Rattle.std.proofs.lemmas.Slice.Eq.{bytes_eq-Decides}
 use Rattle.std.proofs.lemmas.List.Splits.{join_with_byte-slice_split}
 use Rattle.vyrd_base.specs.declared.header.Header.{Header}
-use Rattle.vyrd_base.specs.declared.subject.Subject.TheVariants.{Tree}
-use Rattle.vyrd_base.specs.Subjects.{same_subject}
 use Rattle.vyrd_base.specs.Spelling.{ended_line, end_line}
 use Rattle.vyrd_base.specs.Reading.{has_any}
 use Rattle.vyrd_base.proofs.SplitLaws.{lacks, all_lack, split_at}
@@ -186,7 +184,7 @@ of_parts h variant ops turns = record { header = h; variant = variant; ops = ops
 turns_read : (h : Header) (variant : Variant) (ops : List WorkOp) (past todo : List Turn) (n : ℕ) → AllByRecursion (λ t. is_turn_of h t ≡ true) todo
     → length past + length todo ≤ 200000 → turns_in past + turns_in todo ≤ 4000000
     → lines_read (of_parts h variant ops past) n (map item_line (map item.Turns todo) ++ end_line ∷ [] ∷ [])
-      ≡ Ok (of_parts h variant ops (past ++ todo))
+    ≡ Ok (of_parts h variant ops (past ++ todo))
 turns_read h variant ops past [] n all count total = ap (λ ts. Ok (of_parts h variant ops ts)) (sym (append-nil past))
 turns_read h variant ops past (t ∷ todo) n all count total =
     let w = of_parts h variant ops past in
@@ -208,7 +206,7 @@ ops_read h variant past [] next lines r n all small count on =
 ops_read h variant past (o ∷ todo) next lines r n all small count on =
     let w = of_parts h variant past [] in
     item_step w n (item.Op o) (map item_line (map item.Op todo) ++ next ∷ lines) (some_lines (map item.Op todo) next lines)
-      (op_is_item h o all.0 small.0)
+    (op_is_item h o all.0 small.0)
     (op_unbroken w o all.0 refl (omega arith))
     ∙ ops_read h variant (past ++ o ∷ []) todo next lines r (n + 1) all.1 small.1 (omega (arith, length-append past (o ∷ [])))
     (λ m. ap (λ os. lines_read (of_parts h variant os []) m (next ∷ lines)) (append_assoc past (o ∷ []) todo) ∙ on m)
@@ -247,7 +245,7 @@ turns_lack h (t ∷ turns) all = both_true _ _ (item_line_whole h.subject (item.
 items_lack : (h : Header) (ops : List WorkOp) (turns : List Turn) → AllByRecursion (λ o. is_op_of h o ≡ true) ops
     → AllByRecursion (λ o. are_small o.op.args ≡ true) ops
     → AllByRecursion (λ t. is_turn_of h t ≡ true) turns
-      → all_lack 10 (map item_line (map item.Op ops ++ map item.Turns turns) ++ end_line ∷ []) ≡ true
+    → all_lack 10 (map item_line (map item.Op ops ++ map item.Turns turns) ++ end_line ∷ []) ≡ true
 items_lack h [] turns all small rest = turns_lack h turns rest
 items_lack h (o ∷ ops) turns all small rest =
     both_true _ _ (item_line_whole h.subject (item.Op o) (op_is_item h o all.0 small.0)) (items_lack h ops turns all.1 small.1 rest)

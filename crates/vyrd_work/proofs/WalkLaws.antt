@@ -26,7 +26,7 @@ then_lines n lines read = elim read as (λ _. Result Workload Refusal) [ Ok more
 -- a later line, then the others
 pub lines_step : (w : Workload) (n : ℕ) (line more : List ℕ) → lacks 10 line ≡ true
     → lines_read w n (cut (line ++ 10 ∷ more))
-      ≡ cond (bytes_eq line end_line) (ended w (n + 1) (cut more)) (then_lines n (cut more) (line_read w line))
+    ≡ cond (bytes_eq line end_line) (ended w (n + 1) (cut more)) (then_lines n (cut more) (line_read w line))
 lines_step w n line more lack =
     let p = parts_of more in
     ap (lines_read w n) (split_at 10 line more lack ∙ ap (λ ps. line ∷ ps) p.2)
@@ -62,7 +62,7 @@ lines_last w n rest lack = ap (lines_read w n) (split_whole 10 rest lack)
 -- the first line, then the others
 pub first_step : (line more : List ℕ) → lacks 10 line ≡ true
     → work_reading (line ++ 10 ∷ more)
-      ≡ elim (first_read line) as (λ _. Result Workload Refusal) [ Ok w ↦ lines_read w 2 (cut more) | Err rule ↦ refused 1 rule ]
+    ≡ elim (first_read line) as (λ _. Result Workload Refusal) [ Ok w ↦ lines_read w 2 (cut more) | Err rule ↦ refused 1 rule ]
 unfolding work_reading
 first_step line more lack =
     let p = parts_of more in

@@ -43,7 +43,7 @@ met h op script c old new state next reply ends is allowed = record {
 -- the memory stands for a state where its chunk k is known
 kept : (h : Header) (old new : Memory) (state : Amounts) (k : ℕ) (chunk : Chunk) → h.subject ≡ Cache → Stands h old state → k < h.size
     → Leaves old new k (lock_of h k) → new (lock_of h k) ≡ 0 → chunk_of new k ≡ chunk → is_sound_chunk chunk ≡ true
-      → shown chunk ≡ shown (chunk_of old k)
+    → shown chunk ≡ shown (chunk_of old k)
     → Stands h new state
 kept h old new state k chunk is s low leaves free e sound same =
     kept_chunk h old new state k is s low leaves free (ap is_sound_chunk e ∙ sound) (ap shown e ∙ same)
@@ -244,7 +244,7 @@ read_alone h args is low c memory state e = by_state (memory (5 * args.a) == 0) 
     allowed reply pair =
         let same : reply ≡ amount_of state args.a = pair ∙ sym (shown_at h memory state args.a is s low) in
         ap (λ n. cond (n == amount_of state args.a) (Some state) None) same
-          ∙ ap (λ b. cond b (Some state) None) (same_number (amount_of state args.a))
+        ∙ ap (λ b. cond b (Some state) None) (same_number (amount_of state args.a))
 
     fetched_low : ℕ
     fetched_low = held c (lock_of h args.a) memory (5 * args.a + 3)
@@ -284,14 +284,14 @@ read_alone h args is low c memory state e = by_state (memory (5 * args.a) == 0) 
         (after_none h.size c args.a memory low) sound refl)
         (allowed (joined (held c (lock_of h args.a) memory (5 * args.a + 1)) (held c (lock_of h args.a) memory (5 * args.a + 2)))
         (ap (λ n. joined n (held c (lock_of h args.a) memory (5 * args.a + 2))) (loaded 1 (omega arith))
-          ∙ ap (joined (memory (5 * args.a + 1))) (loaded 2 (omega arith))
+        ∙ ap (joined (memory (5 * args.a + 1))) (loaded 2 (omega arith))
         ∙ joined_small (memory (5 * args.a + 1)) (memory (5 * args.a + 2)) (small (chunk_of memory args.a) sound).cached_lo
         (small (chunk_of memory args.a) sound).cached_hi
         ∙ sym (shown_cached (chunk_of memory args.a) there)))
 
 pub procedure_right_alone : (h : Header) (method : Method) (args : Args) → h.subject ≡ Cache → subject_of method ≡ Cache
     → are_args h.size method args ≡ true → are_small args ≡ true
-      → IsRightAlone h (record { method = method; args = args }) (procedure_of h Correct method args)
+    → IsRightAlone h (record { method = method; args = args }) (procedure_of h Correct method args)
 procedure_right_alone h method args is of_cache fit few = by_method method of_cache (chunk_below h.size method args of_cache fit)
   where
     by_method : (method : Method) → subject_of method ≡ Cache → args.a < h.size

@@ -53,7 +53,7 @@ pub sound_at : (h : Header) (memory : Memory) (state : Amounts) (k : ℕ) → h.
     → is_sound_chunk (chunk_of memory k) ≡ true
 sound_at h memory state k is s low =
     ap is_sound_chunk (sym (chunk_in h memory k is low))
-      ∙ all_pass (λ j. is_sound_chunk (chunk_at (words_in h memory) j)) 0 h.size all k (omega arith) (omega arith)
+    ∙ all_pass (λ j. is_sound_chunk (chunk_at (words_in h memory) j)) 0 h.size all k (omega arith) (omega arith)
   where
     all : is_sound Cache h.size (words_in h memory) ≡ true
     all = subst (λ subject. is_sound subject h.size (words_in h memory) ≡ true) is s.sound
@@ -69,7 +69,7 @@ parts_sound size k c sound =
     let formed : is_chunk c ≡ true = first_true (is_chunk c) (not (c.state == 1) || cached_pair c == stored_pair c) sound in
     let whole : (c.state == 1 && not (cached_pair c == stored_pair c)) ≡ false =
     unharmed (c.state == 1) (cached_pair c == stored_pair c)
-      (second_true (is_chunk c) (not (c.state == 1) || cached_pair c == stored_pair c) sound) in
+    (second_true (is_chunk c) (not (c.state == 1) || cached_pair c == stored_pair c) sound) in
     rw (formed, whole)
 
 -- what chunk j gives
@@ -155,7 +155,7 @@ amounts_changed h old new state k q is s low leaves sound = by_key (q == k) refl
     same_parts j from to apart =
         let below : j < h.size = omega arith in
         ap (chunk_parts h.size j) (chunk_in h old j is below ∙ sym (other_chunk h.size old new k j leaves low below apart)
-          ∙ sym (chunk_in h new j is below))
+        ∙ sym (chunk_in h new j is below))
 
     change : given q (flat_map (part_at h new) (numbers_from 0 h.size)) + given q (part_at h old k)
         ≡ given q (flat_map (part_at h old) (numbers_from 0 h.size)) + given q (part_at h new k)
@@ -167,7 +167,7 @@ amounts_changed h old new state k q is s low leaves sound = by_key (q == k) refl
         let before : given q (part_at h old k) ≡ shown (chunk_of old k) =
         given_at h old q k is low (sound_at h old state k is s low) ∙ ap (λ b. cond b (shown (chunk_of old k)) 0) e in
         let after : given q (part_at h new k) ≡ shown (chunk_of new k) = given_at h new q k is low sound
-          ∙ ap (λ b. cond b (shown (chunk_of new k)) 0) e in
+        ∙ ap (λ b. cond b (shown (chunk_of new k)) 0) e in
         let all : given q (flat_map (part_at h old) (numbers_from 0 h.size)) ≡ shown (chunk_of old k) =
         sym (amounts_given h old state q is s) ∙ ap (amount_of state) (same_of q k e) ∙ shown_at h old state k is s low in
         let now : given q (flat_map (part_at h new) (numbers_from 0 h.size)) ≡ shown (chunk_of new k) = omega (arith, change, before, after, all) in
@@ -228,7 +228,7 @@ same_amount state k is =
 -- Where the chunk shows the same pair as before, the memory stands for the same state.
 pub kept_chunk : (h : Header) (old new : Memory) (state : Amounts) (k : ℕ) → h.subject ≡ Cache → Stands h old state → k < h.size
     → Leaves old new k (5 * h.size + k) → new (5 * h.size + k) ≡ 0 → is_sound_chunk (chunk_of new k) ≡ true
-      → shown (chunk_of new k) ≡ shown (chunk_of old k)
+    → shown (chunk_of new k) ≡ shown (chunk_of old k)
     → Stands h new state
 kept_chunk h old new state k is s low leaves free sound same =
     subst (Stands h new) (ap (with_amount state k) (same ∙ sym (shown_at h old state k is s low)) ∙ same_amount state k (is_amounts h old state s))

@@ -60,7 +60,7 @@ ends_put_cached h chunk low high n some = ends_list
 ends_put_cached_bare : (h : Header) (chunk low high : ℕ) → EndsByReturn 13 (put_cached_bare h chunk low high)
 ends_put_cached_bare h chunk low high = ends_list
     (Give (lock_of h chunk) ∷ Store (cached_low chunk) low ∷ Store (cached_high chunk) high ∷ Mark Commit ∷ Mark
-      (Return 1) ∷ []) 13 (omega arith) refl
+    (Return 1) ∷ []) 13 (omega arith) refl
 
 ends_put_stored : (h : Header) (chunk state : ℕ) → EndsByReturn 13 (put_stored h chunk state)
 ends_put_stored h chunk state = two_loads (cached_low chunk) (cached_high chunk) (λ low high.

@@ -113,13 +113,13 @@ sound_put_cached : (h : Header) (chunk low high : ℕ) → h.subject ≡ Cache �
     → IsSound h (holding (lock_of h chunk) CaWrite false false) (put_cached h chunk low high)
 sound_put_cached h chunk low high is few x y =
     pair_block h chunk CaWrite (cached_low chunk) low (cached_high chunk) high 2 is few refl (omega arith) (omega arith)
-      (omega arith) (omega arith) (omega arith)
+    (omega arith) (omega arith) (omega arith)
 
 sound_put_cached_bare : (h : Header) (chunk low high : ℕ) → h.subject ≡ Cache → chunk < h.size → low < 2 ^ 32 → high < 2 ^ 32
     → IsSound h (holding (lock_of h chunk) CaWrite false false) (put_cached_bare h chunk low high)
 sound_put_cached_bare h chunk low high is few x y =
     given h chunk CaWrite false (in_order
-      (Store (cached_low chunk) low ∷ Store (cached_high chunk) high ∷ Mark Commit ∷ Mark (Return 1) ∷ [])) is few (
+    (Store (cached_low chunk) low ∷ Store (cached_high chunk) high ∷ Mark Commit ∷ Mark (Return 1) ∷ [])) is few (
       may_store h (unlocked CaWrite false) CaWrite (cached_low chunk) low is (omega arith) (omega arith) refl,
       λ _ _. (
         may_store h (unlocked CaWrite false) CaWrite (cached_high chunk) high is (omega arith) (omega arith) refl,

@@ -59,13 +59,23 @@ stored-other c lock memory a x b y s z cell apart other upper lower =
 
 -- the chunk after its cached pair and its state were stored
 abbrev pub with_cached : ℕ → ℕ → ℕ → Chunk → Chunk
-with_cached state low high chunk = record { state = state; cached_lo = low; cached_hi = high; stored_lo = chunk.stored_lo;
-    stored_hi = chunk.stored_hi }
+with_cached state low high chunk = record {
+  state = state;
+  cached_lo = low;
+  cached_hi = high;
+  stored_lo = chunk.stored_lo;
+  stored_hi = chunk.stored_hi;
+}
 
 -- and after its stored pair and its state were
 abbrev pub with_stored : ℕ → ℕ → ℕ → Chunk → Chunk
-with_stored state low high chunk = record { state = state; cached_lo = chunk.cached_lo; cached_hi = chunk.cached_hi;
-    stored_lo = low; stored_hi = high }
+with_stored state low high chunk = record {
+  state = state;
+  cached_lo = chunk.cached_lo;
+  cached_hi = chunk.cached_hi;
+  stored_lo = low;
+  stored_hi = high;
+}
 
 abbrev pub with_state : ℕ → Chunk → Chunk
 with_state state chunk = record chunk { state = state }
@@ -74,14 +84,14 @@ pub after_cached : (size c k : ℕ) (memory : Memory) (state low high : ℕ) →
     → chunk_of (stored c (5 * size + k) memory (5 * k + 1) low (5 * k + 2) high (5 * k) state) k ≡ with_cached state low high (chunk_of memory k)
 after_cached size c k memory state low high few =
     same_chunk (chunk_of (stored c (5 * size + k) memory (5 * k + 1) low (5 * k + 2) high (5 * k) state) k)
-      (with_cached state low high (chunk_of memory k))
+    (with_cached state low high (chunk_of memory k))
     (stored-state c (5 * size + k) memory (5 * k + 1) low (5 * k + 2) high (5 * k) state (omega arith))
     (stored-low c (5 * size + k) memory (5 * k + 1) low (5 * k + 2) high (5 * k) state (omega arith) (omega arith) (omega arith))
     (stored-high c (5 * size + k) memory (5 * k + 1) low (5 * k + 2) high (5 * k) state (omega arith) (omega arith))
     (stored-other c (5 * size + k) memory (5 * k + 1) low (5 * k + 2) high (5 * k) state (5 * k + 3) (omega arith) (omega arith)
-      (omega arith) (omega arith))
+    (omega arith) (omega arith))
     (stored-other c (5 * size + k) memory (5 * k + 1) low (5 * k + 2) high (5 * k) state (5 * k + 4) (omega arith) (omega arith)
-      (omega arith) (omega arith))
+    (omega arith) (omega arith))
 
 pub leaves_cached : (size c k : ℕ) (memory : Memory) (state low high : ℕ)
     → Leaves memory (stored c (5 * size + k) memory (5 * k + 1) low (5 * k + 2) high (5 * k) state) k (5 * size + k)
@@ -92,12 +102,12 @@ pub after_stored : (size c k : ℕ) (memory : Memory) (state low high : ℕ) →
     → chunk_of (stored c (5 * size + k) memory (5 * k + 3) low (5 * k + 4) high (5 * k) state) k ≡ with_stored state low high (chunk_of memory k)
 after_stored size c k memory state low high few =
     same_chunk (chunk_of (stored c (5 * size + k) memory (5 * k + 3) low (5 * k + 4) high (5 * k) state) k)
-      (with_stored state low high (chunk_of memory k))
+    (with_stored state low high (chunk_of memory k))
     (stored-state c (5 * size + k) memory (5 * k + 3) low (5 * k + 4) high (5 * k) state (omega arith))
     (stored-other c (5 * size + k) memory (5 * k + 3) low (5 * k + 4) high (5 * k) state (5 * k + 1) (omega arith) (omega arith)
-      (omega arith) (omega arith))
+    (omega arith) (omega arith))
     (stored-other c (5 * size + k) memory (5 * k + 3) low (5 * k + 4) high (5 * k) state (5 * k + 2) (omega arith) (omega arith)
-      (omega arith) (omega arith))
+    (omega arith) (omega arith))
     (stored-low c (5 * size + k) memory (5 * k + 3) low (5 * k + 4) high (5 * k) state (omega arith) (omega arith) (omega arith))
     (stored-high c (5 * size + k) memory (5 * k + 3) low (5 * k + 4) high (5 * k) state (omega arith) (omega arith))
 
@@ -110,7 +120,7 @@ leaves_stored size c k memory state low high = λ cell e0 e1 e2 e3 e4 lock.
 pub only_state-other : (c lock : ℕ) (memory : Memory) (s z cell : ℕ) → cell ≢ lock → cell ≢ s → only_state c lock memory s z cell ≡ memory cell
 only_state-other c lock memory s z cell apart other =
     other_cell (with_cell (held c lock memory) s z) lock 0 cell apart ∙ other_cell (held c lock memory) s z cell other
-      ∙ held_load c lock memory cell apart
+    ∙ held_load c lock memory cell apart
 
 pub after_state : (size c k : ℕ) (memory : Memory) (state : ℕ) → k < size
     → chunk_of (only_state c (5 * size + k) memory (5 * k) state) k ≡ with_state state (chunk_of memory k)

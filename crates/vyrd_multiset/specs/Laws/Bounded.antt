@@ -25,9 +25,9 @@ find_from_ends n zero slot value found ends = in_more n (n + 2 + 0) (found None)
 find_from_ends n (suc left) slot value found ends =
     in_more (n + 2 + left + 1) (n + 2 + suc left) (find_from (suc left) slot value found) (omega arith)
     (loads_in (n + 2 + left) (state_word slot)
-      (λ state. cond (state == 0) (reserve slot value (found (Some slot))) (find_from left (slot + 1) value found))
+    (λ state. cond (state == 0) (reserve slot value (found (Some slot))) (find_from left (slot + 1) value found))
     (λ state. elim (state == 0) as (λ b. EndsByReturn (n + 2 + left)
-      (cond b (reserve slot value (found (Some slot))) (find_from left (slot + 1) value found))) [
+    (cond b (reserve slot value (found (Some slot))) (find_from left (slot + 1) value found))) [
       | true ↦ in_more (n + 1 + 1) (n + 2 + left) (reserve slot value (found (Some slot))) (omega arith)
           (acts_in (n + 1) (Store (value_word slot) value) (perform (Store (state_word slot) 1) (found (Some slot))) refl
           (acts_in n (Store (state_word slot) 1) (found (Some slot)) refl (ends (Some slot))))
@@ -44,13 +44,13 @@ search_from_ends n (suc left) slot value ended ends =
     in_more (n + (left + left) + 1 + 1) (n + (suc left + suc left)) (search_from (suc left) slot value ended) (omega arith)
     (loads_in (n + (left + left) + 1) (state_word slot)
     (λ state. cond (state == 2) (compare slot value (ended (Some slot)) (search_from left (slot + 1) value ended))
-      (search_from left (slot + 1) value ended))
+    (search_from left (slot + 1) value ended))
     (λ state. elim (state == 2) as (λ b. EndsByReturn (n + (left + left) + 1)
     (cond b (compare slot value (ended (Some slot)) (search_from left (slot + 1) value ended)) (search_from left (slot + 1) value ended))) [
       | true ↦ loads_in (n + (left + left)) (value_word slot)
-        (λ loaded. cond (loaded == value) (ended (Some slot)) (search_from left (slot + 1) value ended))
+          (λ loaded. cond (loaded == value) (ended (Some slot)) (search_from left (slot + 1) value ended))
           (λ loaded. elim (loaded == value) as
-            (λ b. EndsByReturn (n + (left + left)) (cond b (ended (Some slot)) (search_from left (slot + 1) value ended))) [
+          (λ b. EndsByReturn (n + (left + left)) (cond b (ended (Some slot)) (search_from left (slot + 1) value ended))) [
             | true ↦ in_more n (n + (left + left)) (ended (Some slot)) (omega arith) (ends (Some slot))
             | false ↦ on
           ])
@@ -66,7 +66,7 @@ find_ends n h Correct value found ends =
     in_more (n + 1 + 2 + 4 + 1) (n + 8) (lock h b script) (omega arith)
     (acts_in (n + 1 + 2 + 4) (Take (lock_of h b)) script refl
     (find_from_ends (n + 1) 4 (first_slot b) value (λ slot. unlock h b (found slot))
-      (λ slot. acts_in n (Give (lock_of h b)) (found slot) refl (ends slot))))
+    (λ slot. acts_in n (Give (lock_of h b)) (found slot) refl (ends slot))))
 find_ends n h Broken value found ends =
     in_more (n + 2 + 4) (n + 8) (find_from 4 (first_slot (bucket_of h value)) value found) (omega arith)
     (find_from_ends n 4 (first_slot (bucket_of h value)) value found ends)
@@ -140,7 +140,7 @@ first_found_ends h variant x y (Some slot_x) = find_ends 9 h variant y (second_f
 deleted_ends : (h : Header) (x : ℕ) (slot : Option ℕ) → EndsByReturn 5 (deleted h x slot)
 deleted_ends h x None = in_more 3 5 (deleted h x None) (omega arith)
     (acts_in 2 (Mark Commit) (unlock h (bucket_of h x) (returns 0)) refl
-      (acts_in 1 (Give (lock_of h (bucket_of h x))) (returns 0) refl (returns_in 0)))
+    (acts_in 1 (Give (lock_of h (bucket_of h x))) (returns 0) refl (returns_in 0)))
 deleted_ends h x (Some slot) = commit_state_ends h (bucket_of h x) slot 0
 
 looked_up_ends : (h : Header) (x : ℕ) (slot : Option ℕ) → EndsByReturn 2 (looked_up h x slot)
@@ -154,7 +154,7 @@ by_method_ends h variant MsInsert x y of =
     in_more (6 + 8) 31 (insert h variant x) (omega arith) (find_ends 6 h variant x (inserted h x) (inserted_ends h x))
 by_method_ends h variant MsInsertPair x y of =
     in_more (17 + 8) 31 (insert_pair h variant x y) (omega arith)
-      (find_ends 17 h variant x (first_found h variant x y) (first_found_ends h variant x y))
+    (find_ends 17 h variant x (first_found h variant x y) (first_found_ends h variant x y))
 by_method_ends h variant MsDelete x y of =
     in_more (5 + 9) 31 (delete h x) (omega arith) (search_in_ends 5 h x (deleted h x) (deleted_ends h x))
 by_method_ends h variant MsLookup x y of =
@@ -171,4 +171,4 @@ pub procedure_ends_in_time : (h : Header) (variant : Variant) (op : Op) → h.su
     → are_args h.size op.method op.args ≡ true → are_small op.args ≡ true → EndsByReturn (bound_of h op.method - 1) (multiset_procedure h variant op)
 procedure_ends_in_time h variant op is of args small =
     subst (λ s. EndsByReturn (bound_in s h.size op.method - 1) (multiset_procedure h variant op)) (sym is)
-      (by_method_ends h variant op.method op.args.a op.args.b of)
+    (by_method_ends h variant op.method op.args.a op.args.b of)

@@ -38,7 +38,7 @@ kept h before after s m same =
     (λ valid. ap (λ v. v % h.size) (same 1) ∙ m.sound 0 (omega (arith, some_size h)) (sym (same 0) ∙ valid)) m.formed
     (λ q. ap (λ n. amount_of s q + n)
     (ap (λ a. given q (cond (a == 2) ((before 1, 1) ∷ []) [])) (sym (same 0))
-      ∙ ap (λ v. given q (cond (after 0 == 2) ((v, 1) ∷ []) [])) (sym (same 1))))
+    ∙ ap (λ v. given q (cond (after 0 == 2) ((v, 1) ∷ []) [])) (sym (same 1))))
 
 -- a slot was reserved for a value, and nothing else has changed
 pub record Reserved (before after : Memory) (j value : ℕ) : Type 0 where
@@ -101,7 +101,7 @@ find_played h c memory Q value found free some none =
 abbrev pub InsertDone : Header → Memory → Amounts → ℕ → ℕ → Memory → Type 0
 InsertDone h memory s x reply after =
     ((reply ≡ 1) × IsMultiset h after (plus_amount s x 1) × (1 ≤ free_slots_for h memory x))
-      ⊎ ((reply ≡ 0) × IsMultiset h after s × (free_slots_for h memory x ≡ 0))
+    ⊎ ((reply ≡ 0) × IsMultiset h after s × (free_slots_for h memory x ≡ 0))
 
 -- one slot gets a state while the lock is held
 abbrev stored_under : Memory → ℕ → ℕ → ℕ → ℕ → Memory
@@ -110,7 +110,7 @@ stored_under memory lock c j state = with_cell (with_cell (with_cell memory lock
 stored_state : (memory : Memory) (lock c j state : ℕ) → 2 * j + 1 < lock → stored_under memory lock c j state (2 * j) ≡ state
 stored_state memory lock c j state high =
     other_cell (with_cell (with_cell memory lock (c + 1)) (2 * j) state) lock 0 (2 * j) (omega (arith, high))
-      ∙ changed_cell (with_cell memory lock (c + 1))
+    ∙ changed_cell (with_cell memory lock (c + 1))
     (2 * j) state
 
 stored_others : (memory : Memory) (lock c j state : ℕ) → memory lock ≡ 0 → (cell : ℕ) → cell ≢ 2 * j
@@ -132,14 +132,14 @@ insert_done h c memory s x m =
         let range = in_range h x j from to in
         let high : 2 * j + 1 < lock_of h (bucket_of h x) = lock_is_high h (bucket_of h x) j range.0 in
         let free : after (lock_of h (bucket_of h x)) ≡ 0 = r.others held (omega (arith, high)) (omega (arith, high))
-          ∙ m.free (bucket_of h x) (bucket_low h x) in
+        ∙ m.free (bucket_of h x) (bucket_low h x) in
         take_played c held (commit_state h (bucket_of h x) j 2) after (InsertDone h memory s x) free
         (inl (
           refl,
           made_valid h memory (stored_under after held c j 2) s j x m range.0
-            (λ cell a b. stored_others after held c j 2 free cell a ∙ r.others cell a b)
+              (λ cell a b. stored_others after held c j 2 free cell a ∙ r.others cell a b)
               (omega (arith, is_free)) (stored_state after held c j 2 high)
-                (stored_others after held c j 2 free (2 * j + 1) (omega arith) ∙ r.value_is) range.1,
+              (stored_others after held c j 2 free (2 * j + 1) (omega arith) ∙ r.value_is) range.1,
           free_some memory 4 (4 * bucket_of h x) j from to is_free,
         ))
 
@@ -147,7 +147,7 @@ insert_done h c memory s x m =
 abbrev pub DeleteDone : Header → Amounts → ℕ → ℕ → Memory → Type 0
 DeleteDone h s x reply after =
     ((reply ≡ 1) × IsMultiset h after (with_amount s x (amount_of s x - 1)) × (1 ≤ amount_of s x))
-      ⊎ ((reply ≡ 0) × IsMultiset h after s × (amount_of s x ≡ 0))
+    ⊎ ((reply ≡ 0) × IsMultiset h after s × (amount_of s x ≡ 0))
 
 -- it was said whether a value is there
 abbrev pub LookupDone : Header → Amounts → ℕ → ℕ → Memory → Type 0
@@ -167,7 +167,7 @@ search_played h c memory s Q x ended m some none =
     (search_from_played c (with_cell memory held (c + 1)) Q 4 (first_slot b) x ended
     (λ j from to valid has. some j (in_range h x j from to).0 (sym (untouched j from to).0 ∙ valid) (sym (untouched j from to).1 ∙ has))
     (λ no_slot. none (isnt_there h memory s x m (λ j from to valid has. no_slot j from to ((untouched j from to).0
-      ∙ valid) ((untouched j from to).1 ∙ has)))))
+    ∙ valid) ((untouched j from to).1 ∙ has)))))
   where
     untouched : (j : ℕ) → 4 * bucket_of h x ≤ j → j < 4 * bucket_of h x + 4
         → (with_cell memory (lock_of h (bucket_of h x)) (c + 1) (2 * j) ≡ memory (2 * j)) ×
@@ -203,7 +203,7 @@ lookup_done h c memory s x m =
     let held : ℕ = lock_of h (bucket_of h x) in
     let free : memory (lock_of h (bucket_of h x)) ≡ 0 = m.free (bucket_of h x) (bucket_low h x) in
     let same : IsMultiset h (with_cell (with_cell memory held (c + 1)) held 0) s =
-      kept h memory (with_cell (with_cell memory held (c + 1)) held 0) s m
+    kept h memory (with_cell (with_cell memory held (c + 1)) held 0) s m
     (unlocked memory held c free) in
     search_played h c memory s (LookupDone h s x) x (looked_up h x) m
     (λ j low valid has. (same, inl (refl, is_there h memory s j x m low valid has)))
@@ -226,7 +226,7 @@ both_valid h before after s x y j k m low_j low_k apart state_j value_j of_j sta
     (changed_cell before (2 * j) 2) (other_cell before (2 * j) 2 (2 * j + 1) (omega arith) ∙ value_j) of_j)
     low_k (λ cell a b. by_place cell a (cell == 2 * j) refl)
     (let state : with_cell before (2 * j) 2 (2 * k) ≡ 1 = other_cell before (2 * j) 2 (2 * k) (omega (arith, apart))
-      ∙ state_k in omega (arith, state))
+    ∙ state_k in omega (arith, state))
     after_k (others (2 * k + 1) (omega arith) (omega arith) ∙ value_k) of_k
   where
     by_place : (cell : ℕ) → cell ≢ 2 * k → (b : Bool) → (cell == 2 * j) ≡ b → after cell ≡ with_cell before (2 * j) 2 cell
@@ -261,7 +261,7 @@ room h memory x y j k from_j to_j from_k to_k apart free_j free_k = by_bucket (b
         (free_two memory 4 (4 * bucket_of h x) j k from_j to_j (omega (arith, from_k, one)) (omega (arith, to_k, one)) apart free_j free_k)
     by_bucket false e =
         ap (λ b. b && nat_le 1 (free_slots_for h memory y))
-          (at_least 1 (free_slots_for h memory x) (free_some memory 4 (4 * bucket_of h x) j from_j to_j free_j))
+        (at_least 1 (free_slots_for h memory x) (free_some memory 4 (4 * bucket_of h x) j from_j to_j free_j))
         ∙ at_least 1 (free_slots_for h memory y) (free_some memory 4 (4 * bucket_of h y) k from_k to_k free_k)
 
 -- one slot was found for x, and then none for y
@@ -308,7 +308,7 @@ commit_both_played : (h : Header) (c : ℕ) (before : Memory) (Q : ℕ → Memor
     → Ended (alone c (commit_both h first second j k) before) Q
 commit_both_played h c before Q first second j k free_first free_second low_j low_k apart done =
     take_played c (lock_of h first) (lock_other h first second (validate_both h first second j k)) before Q free_first
-      (by_test (first == second) refl)
+    (by_test (first == second) refl)
   where
     by_test : (same : Bool) → (first == second) ≡ same
         → Ended (alone c (under_first h first second j k same) (with_cell before (lock_of h first) (c + 1))) Q
@@ -317,7 +317,7 @@ commit_both_played h c before Q first second j k free_first free_second low_j lo
         let held : Memory = with_cell before (lock_of h first) (c + 1) in
         done (with_cell (stored held j k) f 0)
         (other_cell (stored held j k) f 0 (2 * j) (omega (arith, low_j))
-          ∙ other_cell (with_cell held (2 * j) 2) (2 * k) 2 (2 * j) (omega (arith, apart))
+        ∙ other_cell (with_cell held (2 * j) 2) (2 * k) 2 (2 * j) (omega (arith, apart))
         ∙ changed_cell held (2 * j) 2)
         (other_cell (stored held j k) f 0 (2 * k) (omega (arith, low_k)) ∙ changed_cell (with_cell held (2 * j) 2) (2 * k) 2)
         (λ cell a b. given_back before (stored held j k) f cell free_first (λ off.
@@ -331,13 +331,13 @@ commit_both_played h c before Q first second j k free_first free_second low_j lo
         take_played c g (validated h first second j k false) held Q (other_cell before f (c + 1) g (omega (arith, other)) ∙ free_second)
         (done (with_cell (with_cell (stored both j k) g 0) f 0)
         (other_cell (with_cell (stored both j k) g 0) f 0 (2 * j) (omega (arith, low_j))
-          ∙ other_cell (stored both j k) g 0 (2 * j) (omega (arith, low_j))
+        ∙ other_cell (stored both j k) g 0 (2 * j) (omega (arith, low_j))
         ∙ other_cell (with_cell both (2 * j) 2) (2 * k) 2 (2 * j) (omega (arith, apart)) ∙ changed_cell both (2 * j) 2)
         (other_cell (with_cell (stored both j k) g 0) f 0 (2 * k) (omega (arith, low_k))
-          ∙ other_cell (stored both j k) g 0 (2 * k) (omega (arith, low_k))
+        ∙ other_cell (stored both j k) g 0 (2 * k) (omega (arith, low_k))
         ∙ changed_cell (with_cell both (2 * j) 2) (2 * k) 2)
         (λ cell a b. given_back before (with_cell (stored both j k) g 0) f cell free_first
-          (λ off_f. given_back before (stored both j k) g cell free_second (λ off_g.
+        (λ off_f. given_back before (stored both j k) g cell free_second (λ off_g.
         other_cell (with_cell both (2 * j) 2) (2 * k) 2 cell b ∙ other_cell both (2 * j) 2 cell a ∙ other_cell held g (c + 1) cell off_g
         ∙ other_cell before f (c + 1) cell off_f))))
 
@@ -400,7 +400,7 @@ pair_done h c memory s x y m =
         -- no slot was found for y: that of x is freed
         no_second : (last : Memory) → ((cell : ℕ) → last cell ≡ after cell)
             → ((k : ℕ) → 4 * bucket_of h y ≤ k → k < 4 * bucket_of h y + 4 → after (2 * k) ≢ 0)
-              → Ended (alone c (second_found h Correct x y j None) last)
+            → Ended (alone c (second_found h Correct x y j None) last)
             (PairDone h memory s x y)
         no_second last same taken =
             take_played c held (perform (Store (state_word j) 0) (unlock h (bucket_of h x) gives_up)) last (PairDone h memory s x y) free
@@ -409,7 +409,7 @@ pair_done h c memory s x y m =
               left_invalid h memory (stored_under last held c j 0) s j m range.0
                   (λ cell a b. stored_others last held c j 0 free cell a ∙ same cell ∙ r.others cell a b)
                   (omega (arith, is_free)) (let state = stored_state last held c j 0 (lock_is_high h (bucket_of h x) j range.0) in
-                    omega (arith, state)),
+                  omega (arith, state)),
               one_room h memory x y j from to
                   (λ k from_k to_k apart free_k. taken k from_k to_k (r.others (2 * k) (omega (arith, apart)) (omega (arith, apart)) ∙ free_k)),
             ))

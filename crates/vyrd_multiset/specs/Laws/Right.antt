@@ -56,7 +56,7 @@ by_method_right : (h : Header) (method : Method) (args : Args) → h.subject ≡
     → MeetsSpecification h (record { method = method; args = args }) (by_method h Correct method args.a args.b) c memory s
 by_method_right h MsInsert args is of c memory s m =
     meets h (record { method = MsInsert; args = args }) (insert h Correct args.a) c memory s is (InsertDone h memory s args.a)
-        (insert_done h c memory s args.a m) says
+    (insert_done h c memory s args.a m) says
   where
     says : (reply : ℕ) (after : Memory) → InsertDone h memory s args.a reply after → Meets h (record { method = MsInsert; args = args }) s reply after
     says reply after (inl d) = record {
@@ -87,7 +87,7 @@ by_method_right h MsInsertPair args is of c memory s m =
     }
 by_method_right h MsDelete args is of c memory s m =
     meets h (record { method = MsDelete; args = args }) (delete h args.a) c memory s is (DeleteDone h s args.a)
-        (delete_done h c memory s args.a m) says
+    (delete_done h c memory s args.a m) says
   where
     fewer : Amounts
     fewer = with_amount s args.a (amount_of s args.a - 1)
@@ -106,7 +106,7 @@ by_method_right h MsDelete args is of c memory s m =
     }
 by_method_right h MsLookup args is of c memory s m =
     meets h (record { method = MsLookup; args = args }) (lookup h args.a) c memory s is (LookupDone h s args.a)
-        (lookup_done h c memory s args.a m) says
+    (lookup_done h c memory s args.a m) says
   where
     says : (reply : ℕ) (after : Memory) → LookupDone h s args.a reply after → Meets h (record { method = MsLookup; args = args }) s reply after
     says reply after (m', inl d) = record {

@@ -126,8 +126,12 @@ pub changed : (h : Header) (before after : Memory) (s t : Amounts) (i : ℕ) →
 changed h before after s t i m low others sound formed amounts = record {
   sound = λ j fits valid. by_place j fits valid (j == i) refl;
   free = λ b fits. others (8 * h.size + b) (omega arith) (omega arith) ∙ m.free b fits;
-  shows = λ q. omega (arith, given-changed (parts_in before) (parts_in after) q 0 (4 * h.size) i (omega arith) (omega arith) same,
-      m.shows q, amounts q);
+  shows = λ q. omega (
+    arith,
+    given-changed (parts_in before) (parts_in after) q 0 (4 * h.size) i (omega arith) (omega arith) same,
+    m.shows q,
+    amounts q,
+  );
   formed = formed;
 }
   where
@@ -163,7 +167,7 @@ pub made_valid : (h : Header) (before after : Memory) (s : Amounts) (i x : ℕ) 
     → before (2 * i) ≢ 2 → after (2 * i) ≡ 2 → after (2 * i + 1) ≡ x → i / 4 ≡ bucket_of h x → IsMultiset h after (plus_amount s x 1)
 made_valid h before after s i x m low others invalid valid has of =
     changed h before after s (plus_amount s x 1) i m low others (λ v. ap (λ n. n % h.size) has
-      ∙ sym of) (IsAmounts-with_amount s x (amount_of s x + 1) m.formed)
+    ∙ sym of) (IsAmounts-with_amount s x (amount_of s x + 1) m.formed)
     (λ q. omega (arith, gives_nothing before i q invalid, gives_one after i q x valid has, amount_of-plus s x 1 q))
 
 -- a slot that isn't valid stays so
@@ -200,7 +204,7 @@ pub made_free : (h : Header) (before after : Memory) (s : Amounts) (i x : ℕ) �
     → before (2 * i) ≡ 2 → before (2 * i + 1) ≡ x → after (2 * i) ≢ 2 → IsMultiset h after (with_amount s x (amount_of s x - 1))
 made_free h before after s i x m low others valid has invalid =
     changed h before after s (with_amount s x (amount_of s x - 1)) i m low others (λ v. absurd (invalid v))
-      (IsAmounts-with_amount s x (amount_of s x - 1) m.formed)
+    (IsAmounts-with_amount s x (amount_of s x - 1) m.formed)
     (λ q. one_less q (q == x) refl)
   where
     some : 1 ≤ amount_of s x

@@ -46,7 +46,7 @@ value_is_plain h is slot low = ap (λ s. nat_lt (2 * slot + 1) (plain_words_of s
 is_its_lock : (h : Header) → h.subject ≡ Multiset → (bucket : ℕ) → bucket < h.size → is_lock (cells_of h) (lock_of h bucket) ≡ true
 is_its_lock h is bucket low =
     ap (λ s. nat_le (plain_words_of s h.size) (8 * h.size + bucket)
-      && nat_lt (8 * h.size + bucket) (plain_words_of s h.size + lock_words_of s h.size)) is
+    && nat_lt (8 * h.size + bucket) (plain_words_of s h.size + lock_words_of s h.size)) is
     ∙ between (8 * h.size) h.size (8 * h.size + bucket) (omega arith) (omega arith)
 
 -- what a caller is in the middle of, where it holds these locks and has called this method
@@ -103,9 +103,9 @@ find_from_sound h s (suc left) slot value found is called fits low some none =
     (state_is_plain h is slot (omega arith))
     (λ state. elim (state == 0) as (λ b. IsSound h s (cond b (reserve slot value (found (Some slot))) (find_from left (slot + 1) value found))) [
       | true ↦ store_sound h s (value_word slot) value (perform (Store (state_word slot) 1) (found (Some slot)))
-        (value_is_plain h is slot (omega arith)) low called
+          (value_is_plain h is slot (omega arith)) low called
           (store_sound h s (state_word slot) 1 (found (Some slot)) (state_is_plain h is slot (omega arith)) (omega arith) called
-            (some slot (omega arith)))
+          (some slot (omega arith)))
       | false ↦ find_from_sound h s left (slot + 1) value found is called (omega arith) low some none
     ])
 
@@ -117,7 +117,7 @@ search_from_sound h s (suc left) slot value ended is fits some none =
     let on : IsSound h s (search_from left (slot + 1) value ended) = search_from_sound h s left (slot + 1) value ended is (omega arith) some none in
     load_sound h s (state_word slot)
     (λ state. cond (state == 2) (compare slot value (ended (Some slot)) (search_from left (slot + 1) value ended))
-      (search_from left (slot + 1) value ended))
+    (search_from left (slot + 1) value ended))
     (state_is_plain h is slot (omega arith))
     (λ state. elim (state == 2) as (λ b. IsSound h s
     (cond b (compare slot value (ended (Some slot)) (search_from left (slot + 1) value ended)) (search_from left (slot + 1) value ended))) [
@@ -140,7 +140,7 @@ find_sound h Correct method value found is low some none =
     let b : ℕ = bucket_of h value in
     take_first h b method false (find_from 4 (first_slot b) value (λ slot. unlock h b (found slot))) is (bucket_low h value)
     (find_from_sound h (holding (lock_of h b ∷ []) method false) 4 (first_slot b) value (λ slot. unlock h b (found slot)) is refl
-      (slots_fit h value) low
+    (slots_fit h value) low
     (λ i fits. give_last h b method false (found (Some i)) is (bucket_low h value) (some i fits))
     (give_last h b method false (found None) is (bucket_low h value) none))
 find_sound h Broken method value found is low some none =
@@ -183,7 +183,7 @@ undo_sound h method x is mutates slot low =
     let b : ℕ = bucket_of h x in
     take_first h b method false (perform (Store (state_word slot) 0) (unlock h b gives_up)) is (bucket_low h x)
     (store_sound h (holding (lock_of h b ∷ []) method false) (state_word slot) 0 (unlock h b gives_up)
-      (state_is_plain h is slot low) (omega arith) refl
+    (state_is_plain h is slot low) (omega arith) refl
     (give_last h b method false gives_up is (bucket_low h x) (gives_up_sound h method mutates)))
 
 -- the block of a pair is sound under locks with which what follows is
@@ -196,9 +196,9 @@ validate_both_sound h method locks first second slot_x slot_y is mutates low_x l
   λ answer is'.
       store_sound h (in_block locks method) (state_word slot_x) 2
       (perform (Store (state_word slot_y) 2) (perform (Mark BlockCommit) (unlock_both h first second)))
-        (state_is_plain h is slot_x low_x) (omega arith) refl
+      (state_is_plain h is slot_x low_x) (omega arith) refl
       (store_sound h (in_block locks method) (state_word slot_y) 2 (perform (Mark BlockCommit) (unlock_both h first second))
-        (state_is_plain h is slot_y low_y)
+      (state_is_plain h is slot_y low_y)
       (omega arith) refl
       (simp mutates, λ answer' is''. sound)),
 )
@@ -214,7 +214,7 @@ commit_both_sound : (h : Header) (method : Method) (first second slot_x slot_y :
     → IsSound h (holding [] method false) (commit_both h first second slot_x slot_y)
 commit_both_sound h method first second slot_x slot_y is mutates low_first low_second low_x low_y =
     take_first h first method false (lock_other h first second (validate_both h first second slot_x slot_y)) is low_first
-      (by_test (first == second) refl)
+    (by_test (first == second) refl)
   where
     last : IsSound h (holding (lock_of h first ∷ []) method true) (unlock h first (returns 1))
     last = give_last h first method true (returns 1) is low_first (returns_sound h method 1)
@@ -224,7 +224,7 @@ commit_both_sound h method first second slot_x slot_y is mutates low_first low_s
     by_test true e =
         validate_both_sound h method (lock_of h first ∷ []) first second slot_x slot_y is mutates low_x low_y
         (subst (λ b. IsSound h (holding (lock_of h first ∷ []) method true)
-          (cond b (unlock h first (returns 1)) (unlock h second (unlock h first (returns 1)))))
+        (cond b (unlock h first (returns 1)) (unlock h second (unlock h first (returns 1)))))
         (sym e) last)
     by_test false e =
         let apart : (lock_of h first == lock_of h second) ≡ false = other_lock h first second e in (
@@ -284,10 +284,10 @@ by_method_sound h variant MsInsertPair x y is of small_x small_y =
     (gives_up_sound h MsInsertPair refl)
 by_method_sound h variant MsDelete x y is of small_x small_y =
     search_in_sound h MsDelete x (deleted h x) is (λ slot low. commit_state_sound h MsDelete x slot 0 is refl low (omega arith))
-      (absent_sound h MsDelete x is refl)
+    (absent_sound h MsDelete x is refl)
 by_method_sound h variant MsLookup x y is of small_x small_y =
     search_in_sound h MsLookup x (looked_up h x) is (λ slot low. looked_up_sound h MsLookup x is refl (Some slot))
-      (looked_up_sound h MsLookup x is refl None)
+    (looked_up_sound h MsLookup x is refl None)
 by_method_sound h variant CaWrite x y is of small_x small_y = cc
 by_method_sound h variant CaFlush x y is of small_x small_y = cc
 by_method_sound h variant CaEvict x y is of small_x small_y = cc

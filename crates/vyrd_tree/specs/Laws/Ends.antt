@@ -22,7 +22,7 @@ use Rattle.vyrd_tree.specs.Walk.{Arrived, walk_from}
 use Rattle.vyrd_tree.specs.Split.{with_unused, write_entries, write_node, place_below, with_entry, rewrite, add_entry, lower_half, upper_half, first_key, split}
 use Rattle.vyrd_tree.specs.Split.{split_entry, split_key}
 use Rattle.vyrd_tree.specs.Ascent.{grow_root, add_child, ascend_once, ascend}
-use Rattle.vyrd_tree.specs.Procedures.{changes_nothing, walk_down, place_of, reply_of, look_in, lookup, delete_in, delete, insert_new}
+use Rattle.vyrd_tree.specs.Procedures.{changes_nothing, walk_down, place_of, reply_of, look_in, lookup, delete_in, delete}
 use Rattle.vyrd_tree.specs.Procedures.{insert_in, insert_entry, by_method}
 use Rattle.vyrd_tree.specs.Laws.Fits.{length_insert, length_remove, two_above, three_below}
 use Rattle.vyrd_tree.specs.Laws.Timed.{walk_in}
@@ -31,7 +31,8 @@ use Rattle.vyrd_tree.specs.Laws.Timed.{walk_in}
 unused_in : (n : ℕ) (h : Header) (none : Script) (found : ℕ → Script) → EndsByReturn n none → ((new : ℕ) → EndsByReturn n (found new))
     → EndsByReturn (n + 4) (with_unused h none found)
 unused_in n h none found none_ends found_ends =
-    let got : ℕ → Script = λ used. cond (nat_le h.size (used + 1)) (unlock_used h none) (perform (Store (used_cell h) (used + 1)) (unlock_used h (found (used + 1)))) in
+    let got : ℕ → Script = λ used. cond (nat_le h.size (used + 1)) (unlock_used h none)
+    (perform (Store (used_cell h) (used + 1)) (unlock_used h (found (used + 1)))) in
     in_more (n + 2 + 1 + 1) (n + 4) (with_unused h none found) (omega arith)
     (acts_in (n + 2 + 1) (Take (used_lock h)) (step (Load (used_cell h)) got) refl
     (loads_in (n + 2) (used_cell h) got (λ used.
@@ -65,7 +66,8 @@ node_in n node level bound right entries later few ends =
     (acts_in (n + 2 * length entries) (Store (right_cell node) right) (write_entries node 0 entries later) refl
     (entries_in n node 0 entries later ends)))))
 
-rewrite_in : (n : ℕ) (h : Header) (node place : ℕ) (entries : List (ℕ × ℕ)) (close : Kind) (later : Script) → length entries ≤ 4 → is_return (Mark close) ≡ false
+rewrite_in : (n : ℕ) (h : Header) (node place : ℕ) (entries : List (ℕ × ℕ)) (close : Kind) (later : Script) → length entries ≤ 4
+    → is_return (Mark close) ≡ false
     → EndsByReturn n later → EndsByReturn (n + 12) (rewrite h node place entries close later)
 rewrite_in n h node place entries close later few closes ends =
     let ending : Script = perform (Mark close) (unlock_node h node later) in
@@ -80,10 +82,12 @@ rewrite_in n h node place entries close later few closes ends =
 add_in : (n : ℕ) (h : Header) (at : Arrived) (key value : ℕ) (close : Kind) (later : Script) → length at.entries ≤ 3 → is_return (Mark close) ≡ false
     → EndsByReturn n later → EndsByReturn (n + 12) (add_entry h at key value close later)
 add_in n h at key value close later few closes ends =
-    let count : length (with_entry at.entries key value) ≡ suc (length at.entries) = length_insert at.entries (place_below key at.entries) (key, value) in
+    let count : length (with_entry at.entries key value)
+    ≡ suc (length at.entries) = length_insert at.entries (place_below key at.entries) (key, value) in
     rewrite_in n h at.node (place_below key at.entries) (with_entry at.entries key value) close later (omega (arith, count, few)) closes ends
 
-split_in : (n : ℕ) (h : Header) (at : Arrived) (key value new : ℕ) (close : Kind) (later : Script) → length at.entries ≤ 4 → is_return (Mark close) ≡ false
+split_in : (n : ℕ) (h : Header) (at : Arrived) (key value new : ℕ) (close : Kind) (later : Script) → length at.entries ≤ 4
+    → is_return (Mark close) ≡ false
     → EndsByReturn n later → EndsByReturn (n + 20) (split_entry h at key value new close later)
 split_in n h at key value new close later few closes ends =
     let place : ℕ = place_below key at.entries in
@@ -94,7 +98,8 @@ split_in n h at key value new close later few closes ends =
     let from_count : Script = perform (Store (count_cell at.node) 3) from_bound in
     let few_five : length five ≤ 5 = omega (arith, length_insert at.entries place (key, value), few) in
     let left : length (drop place (lower_half five)) ≤ 3 = omega (arith, length-drop place (lower_half five), three_below five) in
-    in_more (n + 1 + 1 + 1 + 1 + 1 + 2 * length (drop place (lower_half five)) + 8 + 1) (n + 20) (split_entry h at key value new close later) (omega (arith, left))
+    in_more (n + 1 + 1 + 1 + 1 + 1 + 2 * length (drop place (lower_half five)) + 8 + 1) (n + 20)
+    (split_entry h at key value new close later) (omega (arith, left))
     (acts_in (n + 1 + 1 + 1 + 1 + 1 + 2 * length (drop place (lower_half five)) + 8) (Mark BlockOpen) (split at place five new ending) refl
     (node_in (n + 1 + 1 + 1 + 1 + 1 + 2 * length (drop place (lower_half five))) new at.level at.bound at.right (upper_half five)
     (write_entries at.node place (drop place (lower_half five)) from_count) (two_above five few_five)
@@ -115,14 +120,17 @@ one_more_in : (n : ℕ) (h : Header) (at : Arrived) (key value : ℕ) (close : K
 one_more_in n h at key value close later none next few closes later_ends none_ends next_ends = by_room (nat_lt (length at.entries) 4) refl
   where
     by_room : (b : Bool) → nat_lt (length at.entries) 4 ≡ b
-        → EndsByReturn (n + 24) (cond b (add_entry h at key value close later) (with_unused h none (λ new. split_entry h at key value new close (next new))))
+        → EndsByReturn (n + 24) (cond b (add_entry h at key value close later)
+        (with_unused h none (λ new. split_entry h at key value new close (next new))))
     by_room true room = in_more (n + 12) (n + 24) (add_entry h at key value close later) (omega arith)
-        (let some : suc (length at.entries) ≤ 4 = lower (length at.entries) 4 room in add_in n h at key value close later (omega (arith, some)) closes later_ends)
+        (let some : suc (length at.entries) ≤ 4 = lower (length at.entries) 4 room in
+        add_in n h at key value close later (omega (arith, some)) closes later_ends)
     by_room false full = in_more (n + 20 + 4) (n + 24) (with_unused h none (λ new. split_entry h at key value new close (next new))) (omega arith)
         (unused_in (n + 20) h none (λ new. split_entry h at key value new close (next new)) none_ends
         (λ new. split_in n h at key value new close (next new) few closes (next_ends new)))
 
-child_in : (n : ℕ) (h : Header) (level key node : ℕ) (at : Arrived) (stops : Script) (next : ℕ → ℕ → ℕ → Script) → length at.entries ≤ 4 → EndsByReturn n stops
+child_in : (n : ℕ) (h : Header) (level key node : ℕ) (at : Arrived) (stops : Script) (next : ℕ → ℕ → ℕ → Script)
+    → length at.entries ≤ 4 → EndsByReturn n stops
     → ((level key node : ℕ) → EndsByReturn n (next level key node)) → EndsByReturn (n + 24) (add_child h level key node at stops next)
 child_in n h level key node at stops next few stops_end next_ends =
     let unlocked : EndsByReturn (n + 1) (unlock_node h at.node stops) = acts_in n (Give (lock_of h at.node)) stops refl stops_end in
@@ -133,14 +141,17 @@ child_in n h level key node at stops next few stops_end next_ends =
     (one_more_in n h at key node BlockClose stops (unlock_node h at.node stops) (next (level + 1) (split_key at key node)) few refl stops_end
     (in_more (n + 1) (n + 20) (unlock_node h at.node stops) (omega arith) unlocked) (next_ends (level + 1) (split_key at key node)))
 
-grow_in : (n : ℕ) (h : Header) (level key node root : ℕ) (stops : Script) → EndsByReturn n stops → EndsByReturn (n + 16) (grow_root h level key node root stops)
+grow_in : (n : ℕ) (h : Header) (level key node root : ℕ) (stops : Script) → EndsByReturn n stops
+    → EndsByReturn (n + 16) (grow_root h level key node root stops)
 grow_in n h level key node root stops ends =
     let pair : List (ℕ × ℕ) = (0, root) ∷ (key, node) ∷ [] in
     let ending : Script = perform (Mark BlockClose) (unlock_root h stops) in
     in_more (n + 12 + 4) (n + 16) (grow_root h level key node root stops) (omega arith)
-    (unused_in (n + 12) h (unlock_root h stops) (λ new. perform (Mark BlockOpen) (write_node new (level + 1) 0 0 pair (perform (Store (root_cell h) new) ending)))
+    (unused_in (n + 12) h (unlock_root h stops)
+    (λ new. perform (Mark BlockOpen) (write_node new (level + 1) 0 0 pair (perform (Store (root_cell h) new) ending)))
     (in_more (n + 1) (n + 12) (unlock_root h stops) (omega arith) (acts_in n (Give (root_lock h)) stops refl ends))
-    (λ new. in_more (n + 1 + 1 + 1 + 8 + 1) (n + 12) (perform (Mark BlockOpen) (write_node new (level + 1) 0 0 pair (perform (Store (root_cell h) new) ending)))
+    (λ new. in_more (n + 1 + 1 + 1 + 8 + 1) (n + 12)
+    (perform (Mark BlockOpen) (write_node new (level + 1) 0 0 pair (perform (Store (root_cell h) new) ending)))
     (omega arith)
     (acts_in (n + 1 + 1 + 1 + 8) (Mark BlockOpen) (write_node new (level + 1) 0 0 pair (perform (Store (root_cell h) new) ending)) refl
     (node_in (n + 1 + 1 + 1) new (level + 1) 0 0 pair (perform (Store (root_cell h) new) ending) (omega arith)
@@ -149,7 +160,8 @@ grow_in n h level key node root stops ends =
 
 -- a round: two loads between two acts of the lock, a walk, and one more entry
 round_in : (n : ℕ) (h : Header) (variant : Variant) (level key node : ℕ) (stops : Script) (next : ℕ → ℕ → ℕ → Script) → EndsByReturn n stops
-    → ((level key node : ℕ) → EndsByReturn n (next level key node)) → EndsByReturn (n + (13 * h.size + 28)) (ascend_once h variant level key node stops next)
+    → ((level key node : ℕ) → EndsByReturn n (next level key node))
+    → EndsByReturn (n + (13 * h.size + 28)) (ascend_once h variant level key node stops next)
 round_in n h variant level key node stops next ends next_ends =
     let m : ℕ = n + 24 + 13 * h.size in
     let walk : ℕ → Script = λ root. walk_from h variant key (level + 1) h.size root stops (λ at. add_child h level key node at stops next) in
@@ -182,11 +194,13 @@ ascend_in n h variant (suc left) level key node stops ends =
     (in_more n (n + left * round) stops (omega arith) ends) (λ level' key' node'. ascend_in n h variant left level' key' node' stops ends))
 
 unchanged_in : (h : Header) (node : ℕ) → EndsByReturn 3 (changes_nothing h node)
-unchanged_in h node = acts_in 2 (Mark Commit) (unlock_node h node (returns 0)) refl (acts_in 1 (Give (lock_of h node)) (returns 0) refl (returns_in 0))
+unchanged_in h node = acts_in 2 (Mark Commit) (unlock_node h node (returns 0)) refl
+    (acts_in 1 (Give (lock_of h node)) (returns 0) refl (returns_in 0))
 
 -- the walk of an operation
 down_in : (n : ℕ) (h : Header) (variant : Variant) (key : ℕ) (lost : Script) (arrived : Arrived → Script) → EndsByReturn n lost
-    → ((at : Arrived) → length at.entries ≤ 4 → EndsByReturn n (arrived at)) → EndsByReturn (n + 13 * h.size + 1) (walk_down h variant key lost arrived)
+    → ((at : Arrived) → length at.entries ≤ 4 → EndsByReturn n (arrived at))
+    → EndsByReturn (n + 13 * h.size + 1) (walk_down h variant key lost arrived)
 down_in n h variant key lost arrived lost_ends ends =
     loads_in (n + 13 * h.size) (root_cell h) (λ root. walk_from h variant key 0 h.size root lost arrived)
     (λ root. walk_in n h variant key 0 h.size root lost arrived lost_ends ends)
@@ -213,14 +227,19 @@ insert_in_time h variant key value at (Some place) few =
 delete_in_time : (h : Header) (at : Arrived) (place : Option ℕ) → length at.entries ≤ 4 → EndsByReturn 13 (delete_in h at place)
 delete_in_time h at None few = in_more 3 13 (changes_nothing h at.node) (omega arith) (unchanged_in h at.node)
 delete_in_time h at (Some place) few =
-    rewrite_in 1 h at.node place (remove at.entries place) BlockCommit (returns 1) (omega (arith, length_remove at.entries place, few)) refl (returns_in 1)
+    rewrite_in 1 h at.node place (remove at.entries place) BlockCommit (returns 1) (omega (
+      arith,
+      length_remove at.entries place,
+      few,
+    )) refl (returns_in 1)
 
 by_method_in : (h : Header) (variant : Variant) (method : Method) (a b : ℕ) → subject_of method ≡ Tree
     → EndsByReturn (tree_bound h.size method - 1) (by_method h variant method a b)
 by_method_in h variant TrInsert a b of =
     in_more (after_arrival h.size + 24 + 13 * h.size + 1) (17 * (16 * h.size + 40) - 1) (insert_entry h variant a b) (omega arith)
     (down_in (after_arrival h.size + 24) h variant a gives_up (λ at. insert_in h variant a b at (place_of a at.entries))
-    (in_more 2 (after_arrival h.size + 24) gives_up (omega arith) gives_up_in) (λ at few. insert_in_time h variant a b at (place_of a at.entries) few))
+    (in_more 2 (after_arrival h.size + 24) gives_up (omega arith) gives_up_in)
+    (λ at few. insert_in_time h variant a b at (place_of a at.entries) few))
 by_method_in h variant TrDelete a b of =
     in_more (13 + 13 * h.size + 1) (16 * h.size + 40 - 1) (delete h variant a) (omega arith)
     (down_in 13 h variant a gives_up (λ at. delete_in h at (place_of a at.entries)) (in_more 2 13 gives_up (omega arith) gives_up_in)
@@ -242,4 +261,5 @@ by_method_in h variant CaRead a b of = cc
 pub procedure_ends : (h : Header) (variant : Variant) (method : Method) (a b : ℕ) → h.subject ≡ Tree → subject_of method ≡ Tree
     → EndsByReturn (bound_of h method - 1) (by_method h variant method a b)
 procedure_ends h variant method a b is of =
-    subst (λ subject. EndsByReturn (bound_in subject h.size method - 1) (by_method h variant method a b)) (sym is) (by_method_in h variant method a b of)
+    subst (λ subject. EndsByReturn (bound_in subject h.size method - 1) (by_method h variant method a b)) (sym is)
+    (by_method_in h variant method a b of)

@@ -1,11 +1,11 @@
 -- The numbers of entries fit, and there are few of them, when one more comes in, one goes, or five are parted.
-use Rattle.std.proofs.Common.{◌≡◌, ℕ, zero, suc, ◌+◌, ◌-◌, ◌^◌, ◌<◌, ◌≤◌, min, Bool, true, false, cond, List, [], ◌∷◌, length, take, drop, refl, ap, ◌∙◌, sym, arith}
-use Rattle.std.specs.Prelude.{◌==◌, nat_lt, insert, remove, position, Option, Some, None}
+use Rattle.std.proofs.Common.{◌≡◌, ℕ, zero, suc, ◌+◌, ◌-◌, ◌^◌, ◌<◌, ◌≤◌, min, Bool, true, false, cond, List, [], ◌∷◌, length, take, drop, refl, ap, arith}
+use Rattle.std.specs.Prelude.{◌==◌, nat_lt, insert, remove, Some, None}
 use Rattle.std.specs.List.{position_or_len}
 use Rattle.std.proofs.lemmas.Bool.Decides.{nat_tests}
 use Rattle.std.proofs.lemmas.List.{length-drop, length-take}
 use Rattle.std.proofs.lemmas.List.Sums.{count_by-le-length}
-use Rattle.vyrd_tree.specs.Split.{place_below, with_entry, lower_half, upper_half, first_key}
+use Rattle.vyrd_tree.specs.Split.{place_below, lower_half, upper_half, first_key}
 use Rattle.vyrd_tree.specs.Procedures.{place_of}
 use Rattle.vyrd_tree.specs.Laws.Walks.{AreSmallEntries}
 
@@ -65,7 +65,8 @@ place_low key entries place e =
 
 -- entries from a place on stand below place 4, where the place is at most 4
 pub ends_low : (entries : List (ℕ × ℕ)) (place : ℕ) → length entries ≤ 4 → place ≤ 4 → place + length (drop place entries) ≤ 4
-ends_low entries place few low = let len : length (drop place entries) ≡ length entries - place = length-drop place entries in omega (arith, len, few, low)
+ends_low entries place few low = let len : length (drop place entries) ≡ length entries - place = length-drop place entries in
+    omega (arith, len, few, low)
 
 -- the halves of five entries
 pub two_above : (five : List (ℕ × ℕ)) → length five ≤ 5 → length (upper_half five) ≤ 2

@@ -1,6 +1,6 @@
 -- Each procedure is sound.
-use Rattle.std.proofs.Common.{◌≡◌, ℕ, zero, suc, ◌+◌, ◌*◌, ◌^◌, ◌<◌, ◌≤◌, Bool, true, false, cond, List, [], ◌∷◌, length, take, drop, refl, ap, ◌∙◌, sym, arith}
-use Rattle.std.specs.Prelude.{nat_lt, nat_le, ◌||◌, ◌&&◌, Option, Some, None, remove, insert, IsTrue}
+use Rattle.std.proofs.Common.{◌≡◌, ℕ, zero, suc, ◌+◌, ◌^◌, ◌<◌, ◌≤◌, Bool, true, false, cond, List, [], ◌∷◌, length, drop, refl, arith}
+use Rattle.std.specs.Prelude.{nat_lt, nat_le, ◌||◌, Option, Some, None, remove, IsTrue}
 use Rattle.std.proofs.lemmas.Bool.Decides.{nat_tests}
 use Rattle.vyrd_base.specs.declared.header.Header.{Header}
 use Rattle.vyrd_base.specs.declared.subject.Subject.TheVariants.{Tree}
@@ -43,8 +43,9 @@ the_used_lock h = (omega arith, omega arith)
 the_root_lock : (h : Header) → IsLock h (root_lock h)
 the_root_lock h = (omega arith, omega arith)
 
--- an unused node, with a below_of lock held
-unused_sound : (h : Header) (method : Method) (committed : Bool) (lock : ℕ) (none : Script) (found : ℕ → Script) → h.subject ≡ Tree → lock < used_lock h
+-- an unused node, with a lower lock held
+unused_sound : (h : Header) (method : Method) (committed : Bool) (lock : ℕ) (none : Script) (found : ℕ → Script)
+    → h.subject ≡ Tree → lock < used_lock h
     → IsSound h (holding (lock ∷ []) method committed false) none
     → ((new : ℕ) → new < h.size → IsSound h (holding (lock ∷ []) method committed false) (found new))
     → IsSound h (holding (lock ∷ []) method committed false) (with_unused h none found)
@@ -56,19 +57,22 @@ unused_sound h method committed lock none found is low none_sound found_sound =
     (λ full. gives_second h method committed false lock (used_lock h) none is (the_used_lock h) low none_sound)
     (λ room. stores h (used_lock h ∷ lock ∷ []) method committed false (used_cell h) (used + 1) (unlock_used h (found (used + 1))) is (omega arith)
     (omega (arith, above_of h.size (used + 1) room, size_fits h))
-    (gives_second h method committed false lock (used_lock h) (found (used + 1)) is (the_used_lock h) low (found_sound (used + 1) (above_of h.size (used + 1) room))))))
+    (gives_second h method committed false lock (used_lock h) (found (used + 1)) is (the_used_lock h) low
+    (found_sound (used + 1) (above_of h.size (used + 1) room))))))
   where
     got : ℕ → Script
     got used = cond (nat_le h.size (used + 1)) (unlock_used h none) (perform (Store (used_cell h) (used + 1)) (unlock_used h (found (used + 1))))
 
-entries_sound : (h : Header) (lock : ℕ) (method : Method) (committed : Bool) (node place : ℕ) (entries : List (ℕ × ℕ)) (later : Script) → h.subject ≡ Tree
+entries_sound : (h : Header) (lock : ℕ) (method : Method) (committed : Bool) (node place : ℕ) (entries : List (ℕ × ℕ))
+    (later : Script) → h.subject ≡ Tree
     → node < h.size → place + length entries ≤ 4 → AreSmallEntries entries → IsSound h (holding (lock ∷ []) method committed true) later
     → IsSound h (holding (lock ∷ []) method committed true) (write_entries node place entries later)
 entries_sound h lock method committed node place [] later is low fits small sound = sound
 entries_sound h lock method committed node place (entry ∷ entries) later is low fits small sound =
     stores h (lock ∷ []) method committed true (key_cell node place) entry.0
     (perform (Store (value_cell node place) entry.1) (write_entries node (place + 1) entries later)) is (omega (arith, low, fits)) small.0
-    (stores h (lock ∷ []) method committed true (value_cell node place) entry.1 (write_entries node (place + 1) entries later) is (omega (arith, low, fits)) small.1
+    (stores h (lock ∷ []) method committed true (value_cell node place) entry.1 (write_entries node (place + 1) entries later) is
+    (omega (arith, low, fits)) small.1
     (entries_sound h lock method committed node (place + 1) entries later is low (omega (arith, fits)) small.2 sound))
 
 node_sound : (h : Header) (lock : ℕ) (method : Method) (committed : Bool) (node level bound right : ℕ) (entries : List (ℕ × ℕ)) (later : Script)
@@ -80,7 +84,8 @@ node_sound h lock method committed node level bound right entries later is low l
     (perform (Store (right_cell node) right) (write_entries node 0 entries later)))) is (omega (arith, low)) l
     (stores h (lock ∷ []) method committed true (count_cell node) 2 (perform (Store (bound_cell node) bound)
     (perform (Store (right_cell node) right) (write_entries node 0 entries later))) is (omega (arith, low)) (omega arith)
-    (stores h (lock ∷ []) method committed true (bound_cell node) bound (perform (Store (right_cell node) right) (write_entries node 0 entries later)) is
+    (stores h (lock ∷ []) method committed true (bound_cell node) bound
+    (perform (Store (right_cell node) right) (write_entries node 0 entries later)) is
     (omega (arith, low)) b
     (stores h (lock ∷ []) method committed true (right_cell node) right (write_entries node 0 entries later) is (omega (arith, low)) r
     (entries_sound h lock method committed node 0 entries later is low (omega (arith, few)) small sound))))
@@ -101,12 +106,15 @@ opens : (h : Header) (lock : ℕ) (method : Method) (committed : Bool) (later : 
     → IsSound h (holding (lock ∷ []) method committed false) (perform (Mark BlockOpen) later)
 opens h lock method committed later sound = (refl, λ _ _. sound)
 
-rewrite_sound : (h : Header) (method : Method) (before after : Bool) (node place : ℕ) (entries : List (ℕ × ℕ)) (close : Kind) (later : Script) → h.subject ≡ Tree
+rewrite_sound : (h : Header) (method : Method) (before after : Bool) (node place : ℕ) (entries : List (ℕ × ℕ)) (close : Kind)
+    (later : Script) → h.subject ≡ Tree
     → node < h.size → place ≤ 4 → length entries ≤ 4 → AreSmallEntries entries → Closes h (lock_of h node) method before after close
-    → IsSound h (holding [] method after false) later → IsSound h (holding (lock_of h node ∷ []) method before false) (rewrite h node place entries close later)
+    → IsSound h (holding [] method after false) later
+    → IsSound h (holding (lock_of h node ∷ []) method before false) (rewrite h node place entries close later)
 rewrite_sound h method before after node place entries close later is low at few small closes sound =
     opens h (lock_of h node) method before
-    (write_entries node place (drop place entries) (perform (Store (count_cell node) (length entries)) (perform (Mark close) (unlock_node h node later))))
+    (write_entries node place (drop place entries)
+    (perform (Store (count_cell node) (length entries)) (perform (Mark close) (unlock_node h node later))))
     (entries_sound h (lock_of h node) method before node place (drop place entries)
     (perform (Store (count_cell node) (length entries)) (perform (Mark close) (unlock_node h node later))) is low (ends_low entries place few at)
     (small_drop place entries small)
@@ -116,16 +124,19 @@ rewrite_sound h method before after node place entries close later is low at few
 
 add_sound : (h : Header) (method : Method) (before after : Bool) (at : Arrived) (key value : ℕ) (close : Kind) (later : Script) → h.subject ≡ Tree
     → IsLoaded h at → nat_lt (length at.entries) 4 ≡ true → key < 2 ^ 63 → value < 2 ^ 63 → Closes h (lock_of h at.node) method before after close
-    → IsSound h (holding [] method after false) later → IsSound h (holding (lock_of h at.node ∷ []) method before false) (add_entry h at key value close later)
+    → IsSound h (holding [] method after false) later
+    → IsSound h (holding (lock_of h at.node ∷ []) method before false) (add_entry h at key value close later)
 add_sound h method before after at key value close later is loaded room k v closes sound =
     let some : length at.entries < 4 = below_of (length at.entries) 4 room in
     rewrite_sound h method before after at.node (place_below key at.entries) (with_entry at.entries key value) close later is loaded.node
     (omega (arith, place_fits key at.entries, some)) (omega (arith, length_insert at.entries (place_below key at.entries) (key, value), some))
     (small_insert at.entries (place_below key at.entries) key value k v loaded.small) closes sound
 
-split_sound : (h : Header) (method : Method) (before after : Bool) (at : Arrived) (key value new : ℕ) (close : Kind) (later : Script) → h.subject ≡ Tree
+split_sound : (h : Header) (method : Method) (before after : Bool) (at : Arrived) (key value new : ℕ) (close : Kind)
+    (later : Script) → h.subject ≡ Tree
     → IsLoaded h at → key < 2 ^ 63 → value < 2 ^ 63 → new < h.size → Closes h (lock_of h at.node) method before after close
-    → IsSound h (holding [] method after false) later → IsSound h (holding (lock_of h at.node ∷ []) method before false) (split_entry h at key value new close later)
+    → IsSound h (holding [] method after false) later
+    → IsSound h (holding (lock_of h at.node ∷ []) method before false) (split_entry h at key value new close later)
 split_sound h method before after at key value new close later is loaded k v low closes sound =
     let lock : ℕ = lock_of h at.node in
     let place : ℕ = place_below key at.entries in
@@ -161,7 +172,8 @@ ended h method = returned h method true 1 (or_true (is_observer method))
     or_true true = refl
     or_true false = refl
 
-grow_sound : (h : Header) (method : Method) (level key node root : ℕ) (stops : Script) → h.subject ≡ Tree → level < 2 ^ 62 → key < 2 ^ 63 → node < h.size
+grow_sound : (h : Header) (method : Method) (level key node root : ℕ) (stops : Script) → h.subject ≡ Tree → level < 2 ^ 62
+    → key < 2 ^ 63 → node < h.size
     → root < h.size → IsSound h (holding [] method true false) stops
     → IsSound h (holding (root_lock h ∷ []) method true false) (grow_root h level key node root stops)
 grow_sound h method level key node root stops is l k n r sound =
@@ -171,9 +183,11 @@ grow_sound h method level key node root stops is l k n r sound =
     gives_last h method true false (root_lock h) stops is (the_root_lock h) sound in
     let small : AreSmallEntries pair = (omega arith, omega (arith, r, size_fits h), (k, omega (arith, n, size_fits h), tt)) in
     unused_sound h method true (root_lock h) (unlock_root h stops)
-    (λ new. perform (Mark BlockOpen) (write_node new (level + 1) 0 0 pair (perform (Store (root_cell h) new) ending))) is (omega arith) unlocked (λ new low.
+    (λ new. perform (Mark BlockOpen) (write_node new (level + 1) 0 0 pair (perform (Store (root_cell h) new) ending))) is
+    (omega arith) unlocked (λ new low.
     opens h (root_lock h) method true (write_node new (level + 1) 0 0 pair (perform (Store (root_cell h) new) ending))
-    (node_sound h (root_lock h) method true new (level + 1) 0 0 pair (perform (Store (root_cell h) new) ending) is low (omega (arith, l)) (omega arith)
+    (node_sound h (root_lock h) method true new (level + 1) 0 0 pair (perform (Store (root_cell h) new) ending) is low
+    (omega (arith, l)) (omega arith)
     (omega arith) (omega arith) small
     (stores h (root_lock h ∷ []) method true true (root_cell h) new ending is (omega arith) (omega (arith, low, size_fits h))
     (closes_only h (root_lock h) method true (unlock_root h stops) unlocked))))
@@ -194,9 +208,11 @@ child_sound h method level key node at stops next is k n stops_sound next_sound 
     either h (holding (lock_of h at.node ∷ []) method true false) (nat_le at.level level) (unlock_node h at.node stops)
     (cond (nat_lt (length at.entries) 4) (add_entry h at key node BlockClose stops) full) (λ low. unlocked) (λ high.
     either h (holding (lock_of h at.node ∷ []) method true false) (nat_lt (length at.entries) 4) (add_entry h at key node BlockClose stops) full
-    (λ room. add_sound h method true true at key node BlockClose stops is loaded room k value (closes_only h (lock_of h at.node) method true) stops_sound)
+    (λ room. add_sound h method true true at key node BlockClose stops is loaded room k value
+    (closes_only h (lock_of h at.node) method true) stops_sound)
     (λ none. unused_sound h method true (lock_of h at.node) (unlock_node h at.node stops)
-    (λ new. split_entry h at key node new BlockClose (next (level + 1) (split_key at key node) new)) is (omega (arith, loaded.node)) unlocked (λ new low.
+    (λ new. split_entry h at key node new BlockClose (next (level + 1) (split_key at key node) new)) is
+    (omega (arith, loaded.node)) unlocked (λ new low.
     split_sound h method true true at key node new BlockClose (next (level + 1) (split_key at key node) new) is loaded k value low
     (closes_only h (lock_of h at.node) method true) (next_sound (split_key at key node) new (split_key_small at key node loaded.small k value) low))))
 
@@ -204,7 +220,8 @@ round_sound : (h : Header) (variant : Variant) (method : Method) (level key node
     → level < 2 ^ 62 → key < 2 ^ 63 → node < h.size → IsSound h (holding [] method true false) stops → NextIsSound h method level next
     → IsSound h (holding [] method true false) (ascend_once h variant level key node stops next)
 round_sound h variant method level key node stops next is l k n stops_sound next_sound =
-    let unlocked : (later : Script) → IsSound h (holding [] method true false) later → IsSound h (holding (root_lock h ∷ []) method true false) (unlock_root h later) =
+    let unlocked : (later : Script) → IsSound h (holding [] method true false) later
+    → IsSound h (holding (root_lock h ∷ []) method true false) (unlock_root h later) =
     λ later sound. gives_last h method true false (root_lock h) later is (the_root_lock h) sound in
     let walk : ℕ → Script = λ root. walk_from h variant key (level + 1) h.size root stops (λ at. add_child h level key node at stops next) in
     let over : ℕ → ℕ → Script = λ root top. cond (nat_le top level) (grow_root h level key node root stops) (unlock_root h (walk root)) in
@@ -216,7 +233,8 @@ round_sound h variant method level key node stops next is l k n stops_sound next
     loads h (holding (root_lock h ∷ []) method true false) (level_cell root) (over root) is (omega (arith, r)) (λ top _.
     either h (holding (root_lock h ∷ []) method true false) (nat_le top level) (grow_root h level key node root stops) (unlock_root h (walk root))
     (λ below. grow_sound h method level key node root stops is l k n r stops_sound)
-    (λ past. unlocked (walk root) (walk_sound h variant method true key (level + 1) h.size root stops (λ at. add_child h level key node at stops next) is stops_sound
+    (λ past. unlocked (walk root) (walk_sound h variant method true key (level + 1) h.size root stops
+    (λ at. add_child h level key node at stops next) is stops_sound
     (λ at. child_sound h method level key node at stops next is k n stops_sound next_sound)))))
     (λ high. unlocked stops stops_sound)))
 
@@ -225,7 +243,8 @@ ascend_sound : (h : Header) (variant : Variant) (method : Method) (left level ke
     → IsSound h (holding [] method true false) (ascend h variant left level key node after)
 ascend_sound h variant method zero level key node after is fits k n sound = sound
 ascend_sound h variant method (suc left) level key node after is fits k n sound =
-    round_sound h variant method level key node after (λ level' key' node'. ascend h variant left level' key' node' after) is (omega (arith, fits)) k n sound
+    round_sound h variant method level key node after (λ level' key' node'. ascend h variant left level' key' node' after) is
+    (omega (arith, fits)) k n sound
     (λ key' node' k' n'. ascend_sound h variant method left (level + 1) key' node' after is (omega (arith, fits)) k' n' sound)
 
 -- with a node's lock held: commit, and give up
@@ -234,18 +253,22 @@ unchanged_sound : (h : Header) (method : Method) (node : ℕ) → h.subject ≡ 
 unchanged_sound h method node is low mutates =
     (rw mutates, λ _ _. gives_last h method true false (lock_of h node) (returns 0) is (node_lock h node low) (returned h method true 0 (rw mutates)))
 
-new_sound : (h : Header) (variant : Variant) (method : Method) (key value : ℕ) (at : Arrived) → h.subject ≡ Tree → is_observer method ≡ false → key < 2 ^ 63
+new_sound : (h : Header) (variant : Variant) (method : Method) (key value : ℕ) (at : Arrived) → h.subject ≡ Tree
+    → is_observer method ≡ false → key < 2 ^ 63
     → value < 2 ^ 63 → IsLoaded h at → IsSound h (holding (lock_of h at.node ∷ []) method false false) (insert_new h variant key value at)
 new_sound h variant method key value at is mutates k v loaded =
     let climb : ℕ → Script = λ new. ascend h variant 16 0 (split_key at key value) new (returns 1) in
     let full : Script = with_unused h (changes_nothing h at.node) (λ new. split_entry h at key value new BlockCommit (climb new)) in
-    either h (holding (lock_of h at.node ∷ []) method false false) (nat_lt (length at.entries) 4) (add_entry h at key value BlockCommit (returns 1)) full
-    (λ room. add_sound h method false true at key value BlockCommit (returns 1) is loaded room k v (closes_and_commits h (lock_of h at.node) method mutates)
+    either h (holding (lock_of h at.node ∷ []) method false false) (nat_lt (length at.entries) 4)
+    (add_entry h at key value BlockCommit (returns 1)) full
+    (λ room. add_sound h method false true at key value BlockCommit (returns 1) is loaded room k v
+    (closes_and_commits h (lock_of h at.node) method mutates)
     (ended h method))
     (λ none. unused_sound h method false (lock_of h at.node) (changes_nothing h at.node)
     (λ new. split_entry h at key value new BlockCommit (climb new)) is (omega (arith, loaded.node))
     (unchanged_sound h method at.node is loaded.node mutates) (λ new low.
-    split_sound h method false true at key value new BlockCommit (climb new) is loaded k v low (closes_and_commits h (lock_of h at.node) method mutates)
+    split_sound h method false true at key value new BlockCommit (climb new) is loaded k v low
+    (closes_and_commits h (lock_of h at.node) method mutates)
     (ascend_sound h variant method 16 0 (split_key at key value) new (returns 1) is (omega arith) (split_key_small at key value loaded.small k v) low
     (ended h method))))
 
@@ -261,7 +284,8 @@ insert_sound h variant method key value at (Some place) is mutates k v loaded fo
     (closes_and_commits h (lock_of h at.node) method mutates (unlock_node h at.node (returns 2))
     (gives_last h method true false (lock_of h at.node) (returns 2) is (node_lock h at.node loaded.node) (returned h method true 2 (rw mutates)))))
 
-delete_sound : (h : Header) (method : Method) (key : ℕ) (at : Arrived) (place : Option ℕ) → h.subject ≡ Tree → is_observer method ≡ false → IsLoaded h at
+delete_sound : (h : Header) (method : Method) (key : ℕ) (at : Arrived) (place : Option ℕ) → h.subject ≡ Tree
+    → is_observer method ≡ false → IsLoaded h at
     → place_of key at.entries ≡ place → IsSound h (holding (lock_of h at.node ∷ []) method false false) (delete_in h at place)
 delete_sound h method key at None is mutates loaded found = unchanged_sound h method at.node is loaded.node mutates
 delete_sound h method key at (Some place) is mutates loaded found =
@@ -300,7 +324,8 @@ by_method_sound h variant CaFlush a b is of k v = cc
 by_method_sound h variant CaEvict a b is of k v = cc
 by_method_sound h variant CaRead a b is of k v = cc
 
-pub procedure_sound : (h : Header) (variant : Variant) (method : Method) (args : Args) → h.subject ≡ Tree → subject_of method ≡ Tree → are_small args ≡ true
+pub procedure_sound : (h : Header) (variant : Variant) (method : Method) (args : Args) → h.subject ≡ Tree
+    → subject_of method ≡ Tree → are_small args ≡ true
     → IsSound h (just_called method) (by_method h variant method args.a args.b)
 procedure_sound h variant method args is of small = by_method_sound h variant method args.a args.b is of (small_a args small) (small_b args small)
   where

@@ -1,18 +1,17 @@
 -- Single acts of a sound procedure: the cells and the locks of a tree, and what an operation may do while it holds some.
-use Rattle.std.proofs.Common.{◌≡◌, ℕ, zero, suc, ◌+◌, ◌*◌, ◌^◌, ◌<◌, ◌≤◌, Bool, true, false, cond, not, List, [], ◌∷◌, Some, refl, ap, ◌∙◌, sym, subst, arith}
+use Rattle.std.proofs.Common.{◌≡◌, ℕ, ◌+◌, ◌*◌, ◌^◌, ◌<◌, ◌≤◌, Bool, true, false, cond, not, List, [], ◌∷◌, Some, refl, ap, ◌∙◌, sym, subst, arith}
 use Rattle.std.specs.Prelude.{◌==◌, ◌&&◌, ◌||◌, nat_lt, nat_le, filter}
 use Rattle.std.specs.List.{list_any}
 use Rattle.vyrd_base.specs.declared.header.Header.{Header}
 use Rattle.vyrd_base.specs.declared.subject.Subject.TheVariants.{Tree}
 use Rattle.vyrd_base.specs.declared.subject.Method.{Method}
-use Rattle.vyrd_base.specs.declared.log.Kind.TheVariants.{Commit}
 use Rattle.vyrd_base.specs.Subjects.{is_observer}
 use Rattle.vyrd_base.specs.Layout.{plain_words_of, lock_words_of}
 use Rattle.vyrd_base.specs.Histories.{cells_of, is_plain, is_lock}
 use Rattle.vyrd_base.proofs.TestLaws.{both_true, same_number, is_below, is_at_most, lower_isnt}
-use Rattle.vyrd_memory.specs.declared.act.Act.TheVariants.{Load, Store, Take, Give, Mark}
+use Rattle.vyrd_memory.specs.declared.act.Act.TheVariants.{Load, Store, Take, Give}
 use Rattle.vyrd_memory.specs.Scripts.{Script, step, perform, returns, gives_up}
-use Rattle.vyrd_memory.specs.Soundness.{Standing, IsSound, may_act, holds}
+use Rattle.vyrd_memory.specs.Soundness.{Standing, IsSound, holds}
 
 -- these locks are held in an execution of the method, and whether that has committed and whether a block is open
 abbrev pub holding : List ℕ → Method → Bool → Bool → Standing
@@ -72,13 +71,17 @@ pub gives_last : (h : Header) (method : Method) (committed in_block : Bool) (loc
 gives_last h method committed in_block lock later is fits sound = gives h [] method committed in_block lock later is fits refl sound
 
 -- another lock, which is higher than the one that is held
-pub takes_second : (h : Header) (method : Method) (committed in_block : Bool) (first lock : ℕ) (later : Script) → h.subject ≡ Tree → IsLock h lock → first < lock
-    → IsSound h (holding (lock ∷ first ∷ []) method committed in_block) later → IsSound h (holding (first ∷ []) method committed in_block) (perform (Take lock) later)
+pub takes_second : (h : Header) (method : Method) (committed in_block : Bool) (first lock : ℕ) (later : Script) → h.subject ≡ Tree
+    → IsLock h lock → first < lock
+    → IsSound h (holding (lock ∷ first ∷ []) method committed in_block) later
+    → IsSound h (holding (first ∷ []) method committed in_block) (perform (Take lock) later)
 takes_second h method committed in_block first lock later is fits higher sound =
     takes h (first ∷ []) method committed in_block lock later is fits (ap (λ b. b || false) (lower_isnt first lock higher)) sound
 
-pub gives_second : (h : Header) (method : Method) (committed in_block : Bool) (first lock : ℕ) (later : Script) → h.subject ≡ Tree → IsLock h lock → first < lock
-    → IsSound h (holding (first ∷ []) method committed in_block) later → IsSound h (holding (lock ∷ first ∷ []) method committed in_block) (perform (Give lock) later)
+pub gives_second : (h : Header) (method : Method) (committed in_block : Bool) (first lock : ℕ) (later : Script) → h.subject ≡ Tree
+    → IsLock h lock → first < lock
+    → IsSound h (holding (first ∷ []) method committed in_block) later
+    → IsSound h (holding (lock ∷ first ∷ []) method committed in_block) (perform (Give lock) later)
 gives_second h method committed in_block first lock later is fits higher sound =
     gives h (first ∷ []) method committed in_block lock later is fits (ap (λ b. cond (not b) (first ∷ []) []) (lower_isnt first lock higher)) sound
 
@@ -92,6 +95,7 @@ pub gave_up : (h : Header) (method : Method) → is_observer method ≡ false �
 gave_up h method mutates = (rw mutates, λ _ _. returned h method true 0 (rw mutates))
 
 -- both ways of a choice, each of which knows the test
-pub either : (h : Header) (s : Standing) (b : Bool) (x y : Script) → (b ≡ true → IsSound h s x) → (b ≡ false → IsSound h s y) → IsSound h s (cond b x y)
+pub either : (h : Header) (s : Standing) (b : Bool) (x y : Script) → (b ≡ true → IsSound h s x) → (b ≡ false → IsSound h s y)
+    → IsSound h s (cond b x y)
 either h s true x y e f = e refl
 either h s false x y e f = f refl

@@ -2,9 +2,9 @@
 use Rattle.std.proofs.Common.{◌≡◌, ℕ, zero, suc, ◌+◌, ◌*◌, ◌≤◌, min, cond, List, [], ◌∷◌, length, refl, ap, arith}
 use Rattle.std.specs.Prelude.{◌==◌, nat_lt}
 use Rattle.vyrd_base.specs.declared.header.Header.{Header}
-use Rattle.vyrd_memory.specs.declared.act.Act.TheVariants.{Load, Store, Take, Give, Mark}
+use Rattle.vyrd_memory.specs.declared.act.Act.TheVariants.{Load, Take, Give}
 use Rattle.vyrd_memory.specs.declared.op.Variant.{Variant}
-use Rattle.vyrd_memory.specs.Scripts.{Script, step, gives_up}
+use Rattle.vyrd_memory.specs.Scripts.{Script, step}
 use Rattle.vyrd_memory.specs.Bounds.{EndsByReturn}
 use Rattle.vyrd_memory.proofs.TimedActs.{in_more, loads_in, acts_in, either_in}
 use Rattle.vyrd_tree.specs.Cells.{level_cell, count_cell, bound_cell, right_cell, key_cell, value_cell, lock_of, unlock_node}
@@ -19,12 +19,14 @@ keys_in n (suc left) node place loaded ends =
     (λ key. keys_in n left node (place + 1) (λ keys. loaded (key ∷ keys)) (λ keys len. ends (key ∷ keys) (ap suc len))))
 
 values_in : (n : ℕ) (keys : List ℕ) (node place : ℕ) (loaded : List (ℕ × ℕ) → Script)
-    → ((entries : List (ℕ × ℕ)) → length entries ≡ length keys → EndsByReturn n (loaded entries)) → EndsByReturn (n + length keys) (load_values keys node place loaded)
+    → ((entries : List (ℕ × ℕ)) → length entries ≡ length keys → EndsByReturn n (loaded entries))
+    → EndsByReturn (n + length keys) (load_values keys node place loaded)
 values_in n [] node place loaded ends = in_more n (n + 0) (loaded []) (omega arith) (ends [] refl)
 values_in n (key ∷ keys) node place loaded ends =
     in_more (n + length keys + 1) (n + suc (length keys)) (load_values (key ∷ keys) node place loaded) (omega arith)
     (loads_in (n + length keys) (value_cell node place) (λ value. load_values keys node (place + 1) (λ entries. loaded ((key, value) ∷ entries)))
-    (λ value. values_in n keys node (place + 1) (λ entries. loaded ((key, value) ∷ entries)) (λ entries len. ends ((key, value) ∷ entries) (ap suc len))))
+    (λ value. values_in n keys node (place + 1) (λ entries. loaded ((key, value) ∷ entries))
+    (λ entries len. ends ((key, value) ∷ entries) (ap suc len))))
 
 -- at most 4 loads of keys, one of a child, and the unlock
 descend_in : (n : ℕ) (h : Header) (key node count : ℕ) (lost : Script) (visit : ℕ → Script) → count ≤ 4 → EndsByReturn n lost
@@ -40,7 +42,8 @@ descend_in n h key node count lost visit few lost_ends visit_ends =
     (λ child. acts_in n (Give (lock_of h node)) (visit child) refl (visit_ends child))))))
 
 -- at most 4 loads of keys and 4 of values
-arrive_in : (n node level count bound right : ℕ) (arrived : Arrived → Script) → count ≤ 4 → ((at : Arrived) → length at.entries ≤ 4 → EndsByReturn n (arrived at))
+arrive_in : (n node level count bound right : ℕ) (arrived : Arrived → Script) → count ≤ 4
+    → ((at : Arrived) → length at.entries ≤ 4 → EndsByReturn n (arrived at))
     → EndsByReturn (n + 8) (arrive node level count bound right arrived)
 arrive_in n node level count bound right arrived few ends =
     in_more (n + 4 + count) (n + 8) (arrive node level count bound right arrived) (omega (arith, few))
@@ -62,7 +65,8 @@ first_loads_in : (n node : ℕ) (rest : ℕ → ℕ → ℕ → ℕ → Script) 
 first_loads_in n node rest ends =
     in_more (n + 1 + 1 + 1 + 1) (n + 4) (first_loads node rest) (omega arith)
     (loads_in (n + 1 + 1 + 1) (level_cell node)
-    (λ level. step (Load (count_cell node)) (λ count. step (Load (bound_cell node)) (λ bound. step (Load (right_cell node)) (λ right. rest level count bound right))))
+    (λ level. step (Load (count_cell node))
+    (λ count. step (Load (bound_cell node)) (λ bound. step (Load (right_cell node)) (λ right. rest level count bound right))))
     (λ level. loads_in (n + 1 + 1) (count_cell node)
     (λ count. step (Load (bound_cell node)) (λ bound. step (Load (right_cell node)) (λ right. rest level count bound right)))
     (λ count. loads_in (n + 1) (bound_cell node) (λ bound. step (Load (right_cell node)) (λ right. rest level count bound right))
@@ -82,7 +86,8 @@ visit_in n m h variant key toward node lost visit arrived le lost_ends visit_end
     passes level count bound right =
         either_in (m + 8) (moves_right variant level bound key) (unlock_node h node (visit right))
         (cond (nat_lt toward level) (descend h key node (min count 4) lost visit) (arrive node level (min count 4) bound right arrived))
-        (in_more (m + 1) (m + 8) (unlock_node h node (visit right)) (omega arith) (acts_in m (Give (lock_of h node)) (visit right) refl (visit_ends right)))
+        (in_more (m + 1) (m + 8) (unlock_node h node (visit right)) (omega arith)
+        (acts_in m (Give (lock_of h node)) (visit right) refl (visit_ends right)))
         (either_in (m + 8) (nat_lt toward level) (descend h key node (min count 4) lost visit) (arrive node level (min count 4) bound right arrived)
         (in_more (m + 6) (m + 8) (descend h key node (min count 4) lost visit) (omega arith)
         (descend_in m h key node (min count 4) lost visit (four_at_most count) lost_ends visit_ends))
@@ -91,7 +96,8 @@ visit_in n m h variant key toward node lost visit arrived le lost_ends visit_end
 
 -- a walk with so many visits left
 pub walk_in : (n : ℕ) (h : Header) (variant : Variant) (key toward left node : ℕ) (lost : Script) (arrived : Arrived → Script) → EndsByReturn n lost
-    → ((at : Arrived) → length at.entries ≤ 4 → EndsByReturn n (arrived at)) → EndsByReturn (n + 13 * left) (walk_from h variant key toward left node lost arrived)
+    → ((at : Arrived) → length at.entries ≤ 4 → EndsByReturn n (arrived at))
+    → EndsByReturn (n + 13 * left) (walk_from h variant key toward left node lost arrived)
 walk_in n h variant key toward zero node lost arrived lost_ends ends = in_more n (n + 13 * 0) lost (omega arith) lost_ends
 walk_in n h variant key toward (suc left) node lost arrived lost_ends ends =
     in_more (n + 13 * left + 13) (n + 13 * suc left) (walk_from h variant key toward (suc left) node lost arrived) (omega arith)

@@ -1,5 +1,5 @@
 -- A walk is sound where what follows it is.
-use Rattle.std.proofs.Common.{◌≡◌, ℕ, zero, suc, ◌+◌, ◌*◌, ◌^◌, ◌<◌, ◌≤◌, min, Bool, true, false, cond, List, [], ◌∷◌, length, refl, ap, sym, arith}
+use Rattle.std.proofs.Common.{◌≡◌, ℕ, zero, suc, ◌+◌, ◌^◌, ◌<◌, ◌≤◌, min, Bool, true, false, cond, List, [], ◌∷◌, length, refl, ap, arith}
 use Rattle.std.specs.Prelude.{◌==◌, nat_lt, nat_le, ⊤}
 use Rattle.std.specs.List.{list_any}
 use Rattle.std.proofs.lemmas.Bool.Decides.{nat_tests}
@@ -72,24 +72,30 @@ child_low key (x ∷ y ∷ keys) (suc n) fits =
 abbrev at_node : Header → ℕ → Method → Bool → Standing
 at_node h node method committed = holding (lock_of h node ∷ []) method committed false
 
-descend_sound : (h : Header) (method : Method) (committed : Bool) (key node count : ℕ) (lost : Script) (visit : ℕ → Script) → h.subject ≡ Tree → node < h.size
+descend_sound : (h : Header) (method : Method) (committed : Bool) (key node count : ℕ) (lost : Script) (visit : ℕ → Script)
+    → h.subject ≡ Tree → node < h.size
     → count ≤ 4 → IsSound h (holding [] method committed false) lost → ((next : ℕ) → IsSound h (holding [] method committed false) (visit next))
     → IsSound h (at_node h node method committed) (descend h key node count lost visit)
 descend_sound h method committed key node count lost visit is low few lost_sound visit_sound =
-    keys_sound h (at_node h node method committed) count node 0 (λ keys. to_child h key node count keys lost visit) is low (omega (arith, few)) (λ keys len all.
+    keys_sound h (at_node h node method committed) count node 0 (λ keys. to_child h key node count keys lost visit) is low
+    (omega (arith, few)) (λ keys len all.
     either h (at_node h node method committed) (count == 0) (unlock_node h node lost)
     (step (Load (value_cell node (child_place key keys))) (λ child. unlock_node h node (visit child)))
     (λ none. gives_last h method committed false (lock_of h node) lost is (node_lock h node low) lost_sound)
     (λ some.
     let place : child_place key keys ≤ 3 = child_low key keys 3 (omega (arith, len, few)) in
-    loads h (at_node h node method committed) (value_cell node (child_place key keys)) (λ child. unlock_node h node (visit child)) is (omega (arith, place, low))
+    loads h (at_node h node method committed) (value_cell node (child_place key keys))
+    (λ child. unlock_node h node (visit child)) is (omega (arith, place, low))
     (λ child small. gives_last h method committed false (lock_of h node) (visit child) is (node_lock h node low) (visit_sound child))))
 
-arrive_sound : (h : Header) (method : Method) (committed : Bool) (node level count bound right : ℕ) (arrived : Arrived → Script) → h.subject ≡ Tree → node < h.size
-    → count ≤ 4 → level < 2 ^ 63 → bound < 2 ^ 63 → right < 2 ^ 63 → ((at : Arrived) → IsLoaded h at → IsSound h (at_node h at.node method committed) (arrived at))
+arrive_sound : (h : Header) (method : Method) (committed : Bool) (node level count bound right : ℕ) (arrived : Arrived → Script)
+    → h.subject ≡ Tree → node < h.size
+    → count ≤ 4 → level < 2 ^ 63 → bound < 2 ^ 63 → right < 2 ^ 63
+    → ((at : Arrived) → IsLoaded h at → IsSound h (at_node h at.node method committed) (arrived at))
     → IsSound h (at_node h node method committed) (arrive node level count bound right arrived)
 arrive_sound h method committed node level count bound right arrived is low few l b r sound =
-    keys_sound h (at_node h node method committed) count node 0 (λ keys. load_rest node level bound right keys arrived) is low (omega (arith, few)) (λ keys len all.
+    keys_sound h (at_node h node method committed) count node 0 (λ keys. load_rest node level bound right keys arrived) is low
+    (omega (arith, few)) (λ keys len all.
     values_sound h (at_node h node method committed) keys node 0
     (λ entries. arrived (record { node = node; level = level; bound = bound; right = right; entries = entries })) is low (omega (arith, len, few)) all
     (λ entries len' small. sound (record { node = node; level = level; bound = bound; right = right; entries = entries })
@@ -105,9 +111,11 @@ first_loads_sound : (h : Header) (s : Standing) (node : ℕ) (rest : ℕ → ℕ
     → IsSound h s (first_loads node rest)
 first_loads_sound h s node rest is low sound =
     loads h s (level_cell node)
-    (λ level. step (Load (count_cell node)) (λ count. step (Load (bound_cell node)) (λ bound. step (Load (right_cell node)) (λ right. rest level count bound right))))
+    (λ level. step (Load (count_cell node))
+    (λ count. step (Load (bound_cell node)) (λ bound. step (Load (right_cell node)) (λ right. rest level count bound right))))
     is (omega (arith, low)) (λ level l.
-    loads h s (count_cell node) (λ count. step (Load (bound_cell node)) (λ bound. step (Load (right_cell node)) (λ right. rest level count bound right)))
+    loads h s (count_cell node) (λ count. step (Load (bound_cell node))
+    (λ bound. step (Load (right_cell node)) (λ right. rest level count bound right)))
     is (omega (arith, low)) (λ count _.
     loads h s (bound_cell node) (λ bound. step (Load (right_cell node)) (λ right. rest level count bound right)) is (omega (arith, low)) (λ bound b.
     loads h s (right_cell node) (λ right. rest level count bound right) is (omega (arith, low)) (λ right r. sound level count bound right l b r))))
@@ -134,7 +142,8 @@ visit_sound h variant method committed key toward node lost visit arrived is low
         (λ down. descend_sound h method committed key node (min count 4) lost visit is low (four_at_most count) lost_sound visits_sound)
         (λ here. arrive_sound h method committed node level (min count 4) bound right arrived is low (four_at_most count) l b r sound))
 
-pub walk_sound : (h : Header) (variant : Variant) (method : Method) (committed : Bool) (key toward left node : ℕ) (lost : Script) (arrived : Arrived → Script)
+pub walk_sound : (h : Header) (variant : Variant) (method : Method) (committed : Bool) (key toward left node : ℕ) (lost : Script)
+    (arrived : Arrived → Script)
     → h.subject ≡ Tree → IsSound h (holding [] method committed false) lost
     → ((at : Arrived) → IsLoaded h at → IsSound h (at_node h at.node method committed) (arrived at))
     → IsSound h (holding [] method committed false) (walk_from h variant key toward left node lost arrived)

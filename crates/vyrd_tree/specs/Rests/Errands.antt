@@ -1,12 +1,11 @@
 -- What a walk is for, and what follows it.
-use Rattle.std.specs.Prelude.{◌≡◌, ℕ, ◌+◌, ◌-◌, nat_lt, List, length, take, MatchOption, Option, Some, None, if◌then◌else◌}
+use Rattle.std.specs.Prelude.{ℕ, ◌+◌, ◌-◌, nat_lt, length, if◌then◌else◌}
 use Rattle.vyrd_base.specs.declared.header.Header.{Header}
 use Rattle.vyrd_base.specs.declared.log.Kind.{Kind}
 use Rattle.vyrd_base.specs.declared.log.Kind.TheVariants.{BlockClose, BlockCommit}
 use Rattle.vyrd_memory.specs.Scripts.{Script, returns, gives_up}
 use Rattle.vyrd_tree.specs.declared.visit.Errand.TheVariants as errand
 use Rattle.vyrd_tree.specs.declared.task.Call.TheVariants as call
-use Rattle.vyrd_tree.specs.declared.slot.Slot.{Slot}
 use Rattle.vyrd_tree.specs.declared.visit.Ascent.{Ascent}
 use Rattle.vyrd_tree.specs.declared.visit.Errand.{Errand}
 use Rattle.vyrd_tree.specs.declared.task.Call.{Call}

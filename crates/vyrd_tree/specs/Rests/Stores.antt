@@ -24,7 +24,8 @@ entries_from w place later = write_entries w.node.number place (drop place (take
 
 -- from the value in a slot on
 abbrev pub value_from : Written → Slot → Script → Script
-value_from w slot later = perform (Store (value_cell w.node.number slot.place) (value_in w.entries slot.place)) (entries_from w (slot.place + 1) later)
+value_from w slot later = perform (Store (value_cell w.node.number slot.place) (value_in w.entries slot.place))
+    (entries_from w (slot.place + 1) later)
 
 -- from the key in a slot on
 abbrev pub key_from : Written → Slot → Script → Script
@@ -36,7 +37,8 @@ new_from w Level later = perform (Store (level_cell w.node.number) w.level) (per
     (perform (Store (bound_cell w.node.number) w.bound) (perform (Store (right_cell w.node.number) w.right) (entries_from w 0 later))))
 new_from w Count later = perform (Store (count_cell w.node.number) w.count)
     (perform (Store (bound_cell w.node.number) w.bound) (perform (Store (right_cell w.node.number) w.right) (entries_from w 0 later)))
-new_from w Bound later = perform (Store (bound_cell w.node.number) w.bound) (perform (Store (right_cell w.node.number) w.right) (entries_from w 0 later))
+new_from w Bound later = perform (Store (bound_cell w.node.number) w.bound)
+    (perform (Store (right_cell w.node.number) w.right) (entries_from w 0 later))
 new_from w Right later = perform (Store (right_cell w.node.number) w.right) (entries_from w 0 later)
 new_from w (Key slot) later = key_from w slot later
 new_from w (Value slot) later = value_from w slot later

@@ -40,7 +40,8 @@ GoesOnAt h c s level next Q = (m : Memory) (low : ℕ → ℕ) (key node : ℕ) 
     → Q (alone c (next level key node) m)
 
 -- no entry of the level above has the key of a node that hangs
-key_apart : (size : ℕ) (m : Memory) (low : ℕ → ℕ) (level key node n : ℕ) → IsTree size m low → IsHanging size m low level key node → n ≤ last_in size m → level_at m n
+key_apart : (size : ℕ) (m : Memory) (low : ℕ → ℕ) (level key node n : ℕ) → IsTree size m low → IsHanging size m low level key node
+    → n ≤ last_in size m → level_at m n
     ≡ level + 1
     → Each (λ x. x.0 ≢ key) (entries_at m n)
 key_apart size m low level key node n t hangs used level_is =
@@ -52,7 +53,8 @@ key_apart size m low level key node n t hangs used level_is =
         let lower : level_at m x.1 + 1 ≡ level_at m n = is.lower in
         let level_node : level_at m node ≡ level = hangs.level_is in
         let lows : low x.1 ≡ low node = is.key_is ∙ same ∙ sym hangs.low_is in
-        other (one_low size m low t (suc (low node)) x.1 node (omega arith) is.in_use hangs.in_use (omega (arith, lower, level_node, level_is)) (omega (arith, lows))
+        other (one_low size m low t (suc (low node)) x.1 node (omega arith) is.in_use hangs.in_use
+        (omega (arith, lower, level_node, level_is)) (omega (arith, lows))
         (λ some. (let on = next_of size m low t x.1 is.in_use some in let above = on.above in omega (arith, lows, above))))
 
 begins_apart : (from key : ℕ) (xs : Entries) → BeginsAt from xs → Each (λ x. x.0 ≢ key) xs → from ≢ key
@@ -103,7 +105,10 @@ child_added h c m low s level key node n ending next Q at hangs at_stop at_next 
 
     sound : AreEntries last (level_at m) low (level_at m n) (low n) (bound_at m n) (front ++ (key, node) ∷ back)
     sound =
-        entries_added last (level_at m) low (level_at m n) (low n) (bound_at m n) (entries_at m n) front back (key, node) (t.entries n at.in_use) place.2.is
+        entries_added last (level_at m) low (level_at m n) (low n) (bound_at m n) (entries_at m n) front back (
+          key,
+          node,
+        ) (t.entries n at.in_use) place.2.is
         (at.covers.from, at.covers.to) (λ none. absurd (omega (arith, level_is, none)))
         (λ some. begins_apart (low n) key (entries_at m n) ((t.entries n at.in_use).inner some).first apart)
         (λ some. record { in_use = hangs.in_use; lower = ap (λ n. n + 1) hangs.level_is ∙ sym at.level_is; key_is = hangs.low_is })
@@ -111,7 +116,8 @@ child_added h c m low s level key node n ending next Q at hangs at_stop at_next 
     -- the lock of the node is given back
     stopped : (m' : Memory) → ShowsBy h.size m' low s → SameLocks h m m' → Q (alone c ending (with_cell m' (lock_of h n) 0))
     stopped m' st locks =
-        at_stop (with_cell m' (lock_of h n) 0) low (shows_same_words h.size m' (with_cell m' (lock_of h n) 0) low s (released_words h m' (lock_of h n) (omega arith)) st)
+        at_stop (with_cell m' (lock_of h n) 0) low
+        (shows_same_words h.size m' (with_cell m' (lock_of h n) 0) low s (released_words h m' (lock_of h n) (omega arith)) st)
         (all_free h m' (lock_of h n) (still_free h m m' (lock_of h n) locks at.free))
 
     with_room : (4 ≤ length (entries_at m n)) ⊎ (length (entries_at m n) < 4) → Q (alone c (by_room (nat_lt (length (entries_at m n)) 4)) m)
@@ -119,7 +125,8 @@ child_added h c m low s level key node n ending next Q at hangs at_stop at_next 
         subst (λ b. Q (alone c (by_room b) m)) (sym (is_below (length (entries_at m n)) 4 less))
         (added_played h c m low s n key (level + 1) node BlockClose ending Q (λ m later. refl) at front back place.2 (omega (arith, less, count_is))
         (λ m' r locks. stopped m'
-        (rewritten_shows h.size m m' low s s at.shown n (front ++ (key, node) ∷ back) at.in_use r sound at.shown.formed (λ leaf. absurd (omega (arith, level_is, leaf)))
+        (rewritten_shows h.size m m' low s s at.shown n (front ++ (key, node) ∷ back) at.in_use r sound at.shown.formed
+        (λ leaf. absurd (omega (arith, level_is, leaf)))
         (λ q a used leaf off over. refl)) locks))
     with_room (inl full) =
         subst (λ b. Q (alone c (by_room b) m)) (sym (isnt_below (length (entries_at m n)) 4 full))
@@ -127,9 +134,11 @@ child_added h c m low s level key node n ending next Q at hangs at_stop at_next 
         (next (level + 1) (split_key (loaded_at m n) key node) new))
         (at.free (used_lock h) (omega arith) (omega arith) (omega (arith, fits)))
         (λ none. stopped m at.shown (λ cell high. refl))
-        (λ room. node_split h c m low s s n key (level + 1) node BlockClose (next (level + 1) (split_key (loaded_at m n) key node) (last_in h.size m + 1)) Q
+        (λ room. node_split h c m low s s n key (level + 1) node BlockClose
+        (next (level + 1) (split_key (loaded_at m n) key node) (last_in h.size m + 1)) Q
         (λ m later. refl) at front back place.2
-        (let few = t.few n at.in_use in omega (arith, few, full, count_is)) room sound at.shown.formed (λ leaf. absurd (omega (arith, level_is, leaf)))
+        (let few = t.few n at.in_use in omega (arith, few, full, count_is)) room sound at.shown.formed
+        (λ leaf. absurd (omega (arith, level_is, leaf)))
         (λ q a used leaf off over. refl)
         (λ m' low' st free hangs'. at_next m' low' (split_key (loaded_at m n) key node) (last_in h.size m + 1) st free hangs')))
 
@@ -140,7 +149,8 @@ pub round_played : (h : Header) (c : ℕ) (m : Memory) (low : ℕ → ℕ) (s : 
     → Q (alone c (ascend_once h Correct level key node ending next) m)
 round_played h c m low s level key node ending next Q st free hangs at_stop at_next =
     take_played c (root_lock h) under m Q root_free
-    (subst (λ b. Q (alone c (by_root b) held)) (sym (is_below root h.size (omega (arith, fits, root_used)))) (by_top (le_or (level_at held root) level)))
+    (subst (λ b. Q (alone c (by_root b) held)) (sym (is_below root h.size (omega (arith, fits, root_used))))
+    (by_top (le_or (level_at held root) level)))
   where
     held : Memory
     held = with_cell m (root_lock h) (c + 1)
@@ -208,7 +218,8 @@ round_played h c m low s level key node ending next Q st free hangs at_stop at_n
     walks lt =
         unlocked c (walking root) m (root_lock h) (c + 1) Q root_free
         (walk_arrives h c key (level + 1) m low ending (λ at. add_child h level key node at ending next) Q st.tree
-        (λ n low. free (lock_of h n) (omega arith) (omega (arith, low))) there h.size root (omega (arith, root_used, last_same)) (omega (arith, first))
+        (λ n low. free (lock_of h n) (omega arith) (omega (arith, low))) there h.size root (omega (arith, root_used, last_same))
+        (omega (arith, first))
         (omega (arith, lt, level_same))
         (let few = after_few (last_in h.size m) m low root (omega (arith, root_used, last_same)) in omega (arith, few, fits, last_same)))
       where

@@ -5,7 +5,8 @@ use Rattle.std.specs.List.{AllByRecursion as Each}
 use Rattle.vyrd_base.specs.TreeView.{entry_parts}
 use Rattle.vyrd_base.proofs.SumLaws.{given, given-append}
 use Rattle.vyrd_tree.specs.RightAlone.Nodes.{IsLeafEntry, Rising, InRange, Below, BeginsAt, AreEntries, IsChild}
-use Rattle.vyrd_tree.specs.RightAlone.Entries.{Entries, each_join, each_front, each_back, AllBelow, rising_join, rising_front, rising_back, rising_across, gives, gives-append, take_front, drop_front, place_is, IsBetween}
+use Rattle.vyrd_tree.specs.RightAlone.Entries.{Entries, each_join, each_front, each_back, AllBelow, rising_join, rising_front, rising_back}
+use Rattle.vyrd_tree.specs.RightAlone.Entries.{rising_across, gives, gives-append, take_front, drop_front, place_is, IsBetween}
 use Rattle.vyrd_tree.specs.Split.{place_below, with_entry, lower_half, upper_half, first_key}
 
 pub length_join : (xs ys : Entries) → length (xs ++ ys) ≡ length xs + length ys
@@ -31,7 +32,10 @@ each_without P front back entry all = each_join P front back (each_front P front
 rising_around : (front back : Entries) (entry : ℕ × ℕ) → Rising (front ++ back) → Each (λ x. x.0 < entry.0) front → Each (λ x. entry.0 < x.0) back
     → Rising (front ++ entry ∷ back)
 rising_around front back entry rise below above =
-    rising_join front (entry ∷ back) (rising_front front back rise) (above, rising_back front back rise) (across front below (rising_across front back rise))
+    rising_join front (entry ∷ back) (rising_front front back rise) (
+      above,
+      rising_back front back rise,
+    ) (across front below (rising_across front back rise))
   where
     across : (front : Entries) → Each (λ x. x.0 < entry.0) front → AllBelow front back → AllBelow front (entry ∷ back)
     across [] below all = tt
@@ -53,7 +57,8 @@ begins_around [] (x ∷ xs) entry from begins above later = absurd (let lt = lat
 begins_around (x ∷ xs) back entry from begins above later = begins
 
 -- one more entry, whose key is none of the others
-pub entries_added : (last : ℕ) (level low : ℕ → ℕ) (above from bound : ℕ) (xs front back : Entries) (entry : ℕ × ℕ) → AreEntries last level low above from bound xs
+pub entries_added : (last : ℕ) (level low : ℕ → ℕ) (above from bound : ℕ) (xs front back : Entries) (entry : ℕ × ℕ)
+    → AreEntries last level low above from bound xs
     → IsBetween entry.0 xs front back → InRange from bound entry → (above ≡ 0 → IsLeafEntry entry) → (above ≢ 0 → from ≢ entry.0)
     → (above ≢ 0 → IsChild last level low above entry)
     → AreEntries last level low above from bound (front ++ entry ∷ back)
@@ -63,7 +68,8 @@ entries_added last level low above from bound xs front back entry es is in_range
   leaf = λ none. each_around IsLeafEntry front back entry (subst (Each IsLeafEntry) is.parts (es.leaf none)) (leaf none);
   inner = λ some. let i = es.inner some in record {
     two = (let two = i.two in let parts = ap length is.parts ∙ length_join front back in let more = length_join front (entry ∷ back) in omega arith);
-    first = begins_around front back entry from (subst (BeginsAt from) is.parts i.first) (let le = in_range.0 in let other = apart some in omega arith) is.above;
+    first = begins_around front back entry from (subst (BeginsAt from) is.parts i.first) (let le = in_range.0 in
+        let other = apart some in omega arith) is.above;
     child = each_around (IsChild last level low above) front back entry (subst (Each (IsChild last level low above)) is.parts i.child) (child some);
   };
 }
@@ -79,10 +85,15 @@ entries_removed last level low above from bound front back entry leaf es = recor
 }
 
 -- another value for the key of a leaf's entry
-pub entries_replaced : (last : ℕ) (level low : ℕ → ℕ) (above from bound : ℕ) (front back : Entries) (entry : ℕ × ℕ) (value : ℕ) → above ≡ 0 → value < 2 ^ 32
-    → AreEntries last level low above from bound (front ++ entry ∷ back) → AreEntries last level low above from bound (front ++ (entry.0, value) ∷ back)
+pub entries_replaced : (last : ℕ) (level low : ℕ → ℕ) (above from bound : ℕ) (front back : Entries) (entry : ℕ × ℕ) (value : ℕ)
+    → above ≡ 0 → value < 2 ^ 32
+    → AreEntries last level low above from bound (front ++ entry ∷ back)
+    → AreEntries last level low above from bound (front ++ (entry.0, value) ∷ back)
 entries_replaced last level low above from bound front back entry value leaf small es = record {
-  rise = rising_around front back (entry.0, value) (rising_without front back entry es.rise) (below front (rising_across front (entry ∷ back) es.rise))
+  rise = rising_around front back (
+    entry.0,
+    value,
+  ) (rising_without front back entry es.rise) (below front (rising_across front (entry ∷ back) es.rise))
       (rising_back front (entry ∷ back) es.rise).0;
   in_range = each_around (InRange from bound) front back (entry.0, value) (each_without (InRange from bound) front back entry es.in_range)
       (let is = (each_back (InRange from bound) front (entry ∷ back) es.in_range).0 in (is.0, is.1));
@@ -96,7 +107,8 @@ entries_replaced last level low above from bound front back entry value leaf sma
     below (x ∷ xs) all = (all.0.0, below xs all.1)
 
 -- what is given where an entry is put between others
-pub gives_around : (q : ℕ) (front back : Entries) (entry : ℕ × ℕ) → gives q (front ++ entry ∷ back) ≡ given q (entry_parts entry) + gives q (front ++ back)
+pub gives_around : (q : ℕ) (front back : Entries) (entry : ℕ × ℕ)
+    → gives q (front ++ entry ∷ back) ≡ given q (entry_parts entry) + gives q (front ++ back)
 gives_around q front back entry =
     omega (arith, gives-append q front (entry ∷ back), gives-append q front back, given-append q (entry_parts entry) (flat_map entry_parts back))
 
@@ -110,7 +122,8 @@ pub record AreHalves (last : ℕ) (level low : ℕ → ℕ) (above from bound : 
   pub two : length (upper_half five) ≡ 2
   pub whole : five ≡ lower_half five ++ upper_half five
 
-pub halves : (last : ℕ) (level low : ℕ → ℕ) (above from bound : ℕ) (five : Entries) → length five ≡ 5 → AreEntries last level low above from bound five
+pub halves : (last : ℕ) (level low : ℕ → ℕ) (above from bound : ℕ) (five : Entries) → length five ≡ 5
+    → AreEntries last level low above from bound five
     → AreHalves last level low above from bound five
 halves last level low above from bound [] len es = absurd (omega (arith, len))
 halves last level low above from bound (a ∷ []) len es = absurd (omega (arith, len))
@@ -132,7 +145,8 @@ halves last level low above from bound (a ∷ b ∷ c ∷ d ∷ e ∷ []) len es
         rise = ((r.0.0, (r.0.1.0, tt)), ((r.1.0.0, tt), (tt, tt)));
         in_range = ((w.0.0, λ some. ad), ((w.1.0.0, λ some. bd), ((w.1.1.0.0, λ some. cd), tt)));
         leaf = λ none. (let l = es.leaf none in (l.0, (l.1.0, (l.1.1.0, tt))));
-        inner = λ some. (let i = es.inner some in record { two = omega arith; first = i.first; child = (i.child.0, (i.child.1.0, (i.child.1.1.0, tt))) });
+        inner = λ some. (let i = es.inner some in
+            record { two = omega arith; first = i.first; child = (i.child.0, (i.child.1.0, (i.child.1.1.0, tt))) });
       };
       upper = record {
         rise = ((de, tt), (tt, tt));

@@ -27,7 +27,8 @@ pub passing_most : (p : ℕ → Bool) (k n : ℕ) → passing p (numbers_from k 
 passing_most p k zero = omega arith
 passing_most p k (suc n) = by_test (p k) (passing_most p (k + 1) n)
   where
-    by_test : (b : Bool) → passing p (numbers_from (k + 1) n) ≤ n → cond b (1 + passing p (numbers_from (k + 1) n)) (passing p (numbers_from (k + 1) n)) ≤ suc n
+    by_test : (b : Bool) → passing p (numbers_from (k + 1) n) ≤ n
+        → cond b (1 + passing p (numbers_from (k + 1) n)) (passing p (numbers_from (k + 1) n)) ≤ suc n
     by_test true low = omega arith
     by_test false low = omega arith
 
@@ -49,7 +50,8 @@ pub passing_less : (p q : ℕ → Bool) (k n i : ℕ) → Implies p q k n → k 
     → passing p (numbers_from k n) < passing q (numbers_from k n)
 passing_less p q k zero i all from to fail pass = absurd (omega (arith, from, to))
 passing_less p q k (suc n) i all from to fail pass =
-    by_place (k == i) refl (passing_fewer p q (k + 1) n later) (λ apart. passing_less p q (k + 1) n i later (omega (arith, apart, from)) (omega (arith, to)) fail pass)
+    by_place (k == i) refl (passing_fewer p q (k + 1) n later)
+    (λ apart. passing_less p q (k + 1) n i later (omega (arith, apart, from)) (omega (arith, to)) fail pass)
   where
     later : Implies p q (k + 1) n
     later i from to pass = all i (omega arith) (omega arith) pass
@@ -69,8 +71,10 @@ passing_less p q k (suc n) i all from to fail pass =
         let at : k ≡ i = same_of k i e in
         let fail' : p k ≡ false = ap p at ∙ fail in
         let pass' : q k ≡ true = ap q at ∙ pass in
-        subst (λ a. cond a (1 + passing p (numbers_from (k + 1) n)) (passing p (numbers_from (k + 1) n)) < passing q (numbers_from k (suc n))) (sym fail')
-        (subst (λ b. passing p (numbers_from (k + 1) n) < cond b (1 + passing q (numbers_from (k + 1) n)) (passing q (numbers_from (k + 1) n))) (sym pass')
+        subst (λ a. cond a (1 + passing p (numbers_from (k + 1) n)) (passing p (numbers_from (k + 1) n))
+        < passing q (numbers_from k (suc n))) (sym fail')
+        (subst (λ b. passing p (numbers_from (k + 1) n)
+        < cond b (1 + passing q (numbers_from (k + 1) n)) (passing q (numbers_from (k + 1) n))) (sym pass')
         (omega arith))
     by_place false e low less = here (p k) (q k) refl refl (less (apart_of k i e))
 
@@ -96,13 +100,15 @@ passing_two p k n i j from apart to pass pass' =
     one_of a f t e = let at : a ≡ i = same_of a i e in ap p at ∙ pass
 
 -- where all that pass are one and the same, at most one passes
-pub passing_one : (p : ℕ → Bool) (k n : ℕ) → ((i j : ℕ) → k ≤ i → i < k + n → k ≤ j → j < k + n → p i ≡ true → p j ≡ true → i ≡ j) → passing p (numbers_from k n) ≤ 1
+pub passing_one : (p : ℕ → Bool) (k n : ℕ) → ((i j : ℕ) → k ≤ i → i < k + n → k ≤ j → j < k + n → p i ≡ true → p j ≡ true → i ≡ j)
+    → passing p (numbers_from k n) ≤ 1
 passing_one p k zero one = omega arith
 passing_one p k (suc n) one =
     by_test (p k) refl (passing_one p (k + 1) n (λ i j a b c d. one i j (omega arith) (omega arith) (omega arith) (omega arith)))
   where
     none : p k ≡ true → passing p (numbers_from (k + 1) n) ≤ 0
-    none pass = passing_none (k + 1) n (λ i from to pass'. let same = one k i (omega arith) (omega arith) (omega arith) (omega arith) pass pass' in omega arith)
+    none pass = passing_none (k + 1) n (λ i from to pass'. let same =
+        one k i (omega arith) (omega arith) (omega arith) (omega arith) pass pass' in omega arith)
       where
         passing_none : (k n : ℕ) → ((i : ℕ) → k ≤ i → i < k + n → p i ≡ true → ⊥) → passing p (numbers_from k n) ≤ 0
         passing_none k zero fail = omega arith
@@ -113,7 +119,8 @@ passing_one p k (suc n) one =
             here true e low = absurd (fail k (omega arith) (omega arith) e)
             here false e low = low
 
-    by_test : (b : Bool) → p k ≡ b → passing p (numbers_from (k + 1) n) ≤ 1 → cond b (1 + passing p (numbers_from (k + 1) n)) (passing p (numbers_from (k + 1) n)) ≤ 1
+    by_test : (b : Bool) → p k ≡ b → passing p (numbers_from (k + 1) n) ≤ 1
+        → cond b (1 + passing p (numbers_from (k + 1) n)) (passing p (numbers_from (k + 1) n)) ≤ 1
     by_test true e low = let fail = none e in omega arith
     by_test false e low = low
 
@@ -147,7 +154,8 @@ none_passes p k (suc n) e i from to = by_test (p k) refl e (none_passes p (k + 1
         by_place false apart = let off = apart_of k i apart in later is i (omega (arith, off, from)) (omega (arith, to))
 
 -- one that alone passes is found
-pub found_is : (p : ℕ → Bool) (k n i : ℕ) → k ≤ i → i < k + n → p i ≡ true → ((j : ℕ) → k ≤ j → j < k + n → p j ≡ true → j ≡ i) → find p (numbers_from k n) ≡ Some i
+pub found_is : (p : ℕ → Bool) (k n i : ℕ) → k ≤ i → i < k + n → p i ≡ true → ((j : ℕ) → k ≤ j → j < k + n → p j ≡ true → j ≡ i)
+    → find p (numbers_from k n) ≡ Some i
 found_is p k n i from to pass alone = by_found (find p (numbers_from k n)) refl
   where
     by_found : (o : Option ℕ) → find p (numbers_from k n) ≡ o → o ≡ Some i

@@ -1,7 +1,7 @@
 -- What lookups, deletes, and inserts that split no node have done, played alone.
-use Rattle.std.proofs.Common.{◌≡◌, ◌≢◌, ℕ, suc, ◌+◌, ◌<◌, ◌≤◌, ◌^◌, ◌⊎◌, inl, inr, Bool, true, false, cond, [], ◌∷◌, ◌++◌, length, Option, Some, None, refl, ap, ◌∙◌, sym, subst, arith}
-use Rattle.std.specs.Prelude.{◌==◌, nat_le, nat_lt, remove, slice_index}
-use Rattle.std.specs.Bool.{then_some}
+use Rattle.std.proofs.Common.{◌≡◌, ◌≢◌, ℕ, suc, ◌+◌, ◌<◌, ◌≤◌, ◌^◌, ◌⊎◌, inl, inr, Bool, true, false}
+use Rattle.std.proofs.Common.{cond, [], ◌∷◌, ◌++◌, length, Option, Some, None, refl, ap, ◌∙◌, sym, subst, arith}
+use Rattle.std.specs.Prelude.{◌==◌, remove}
 use Rattle.std.specs.List.{AllByRecursion as Each}
 use Rattle.vyrd_base.specs.declared.header.Header.{Header}
 use Rattle.vyrd_base.specs.declared.log.Kind.TheVariants.{BlockCommit}
@@ -11,9 +11,10 @@ use Rattle.vyrd_base.proofs.TestLaws.{same_of, apart_of, isnt_same}
 use Rattle.vyrd_memory.specs.declared.op.Variant.TheVariants.{Correct}
 use Rattle.vyrd_memory.specs.Scripts.{Script, returns, gives_up}
 use Rattle.vyrd_memory.specs.Alone.{Memory, with_cell, Outcome, alone}
-use Rattle.vyrd_tree.specs.RightAlone.Nodes.{level_at, count_at, bound_at, right_at, key_at, value_at, last_in, root_in, IsLeafEntry, AreEntries, AreEntriesAt, IsTree, entries_at, entries_from}
+use Rattle.vyrd_tree.specs.RightAlone.Nodes.{level_at, count_at, bound_at, last_in, IsLeafEntry, AreEntries, AreEntriesAt, IsTree, entries_at}
 use Rattle.vyrd_tree.specs.RightAlone.Order.{Covers, one_cover}
-use Rattle.vyrd_tree.specs.RightAlone.Entries.{Entries, gives, gives-append, gives_none, gives_one, entry_gives_none, take_front, found_around, not_found, IsAround, each_back}
+use Rattle.vyrd_tree.specs.RightAlone.Entries.{Entries, gives, gives-append, gives_none, gives_one, entry_gives_none}
+use Rattle.vyrd_tree.specs.RightAlone.Entries.{take_front, found_around, not_found, IsAround, each_back}
 use Rattle.vyrd_tree.specs.RightAlone.Changes.{length_join, entries_removed, gives_around}
 use Rattle.vyrd_tree.specs.RightAlone.Tested.{length-entries}
 use Rattle.vyrd_tree.specs.RightAlone.Held.{SameWords, StandsFor, Rewritten, rewritten_shows}
@@ -23,7 +24,7 @@ use Rattle.vyrd_tree.specs.RightAlone.Steps.{released, IsAt, is_at, SameLocks, s
 use Rattle.vyrd_tree.specs.Cells.{lock_of}
 use Rattle.vyrd_tree.specs.Walk.{Arrived}
 use Rattle.vyrd_tree.specs.Split.{rewrite}
-use Rattle.vyrd_tree.specs.Procedures.{changes_nothing, place_of, value_at as value_in, reply_of, lookup, delete_in, delete, replace_value}
+use Rattle.vyrd_tree.specs.Procedures.{place_of, value_at as value_in, reply_of, lookup, delete_in, delete}
 
 -- The key of a leaf's entry has 2^32 and the entry's value as its amount.
 pub present : (h : Header) (m : Memory) (low : ℕ → ℕ) (s : Amounts) (n key : ℕ) (front back : Entries) (entry : ℕ × ℕ) → IsAt h m low s n key 0
@@ -38,13 +39,15 @@ present h m low s n key front back entry at is =
     plus e f = omega arith
 
 -- A key that no entry of its leaf has isn't there.
-pub absent : (h : Header) (m : Memory) (low : ℕ → ℕ) (s : Amounts) (n key : ℕ) → IsAt h m low s n key 0 → Each (λ x. x.0 ≢ key) (entries_at m n) → amount_of s key ≡ 0
+pub absent : (h : Header) (m : Memory) (low : ℕ → ℕ) (s : Amounts) (n key : ℕ) → IsAt h m low s n key 0
+    → Each (λ x. x.0 ≢ key) (entries_at m n) → amount_of s key ≡ 0
 absent h m low s n key at apart =
     let es = at.shown.tree.entries n at.in_use in
     at.shown.shows key n at.in_use at.level_is at.covers ∙ gives_none key (entries_at m n) (es.leaf at.level_is) apart
 
 -- the amounts after one key's amount has changed, from what its leaf gives
-pub changed_inside : (s : Amounts) (key amount q : ℕ) (old new : Entries) → gives key new ≡ amount → (q ≢ key → gives q new ≡ gives q old) → amount_of s q ≡ gives q old
+pub changed_inside : (s : Amounts) (key amount q : ℕ) (old new : Entries) → gives key new ≡ amount
+    → (q ≢ key → gives q new ≡ gives q old) → amount_of s q ≡ gives q old
     → amount_of (with_amount s key amount) q ≡ gives q new
 changed_inside s key amount q old new here there before = amount_of-with_amount s key amount q ∙ by_key (q == key) refl
   where
@@ -53,7 +56,8 @@ changed_inside s key amount q old new here there before = amount_of-with_amount 
     by_key false e = before ∙ sym (there (apart_of q key e))
 
 -- the key of another leaf's range has the amount that it had
-pub changed_outside : (size : ℕ) (m : Memory) (low : ℕ → ℕ) (s : Amounts) (n key amount q a : ℕ) → IsTree size m low → n ≤ last_in size m → level_at m n ≡ 0
+pub changed_outside : (size : ℕ) (m : Memory) (low : ℕ → ℕ) (s : Amounts) (n key amount q a : ℕ) → IsTree size m low
+    → n ≤ last_in size m → level_at m n ≡ 0
     → Covers m low n key
     → a ≤ last_in size m → level_at m a ≡ 0 → a ≢ n → Covers m low a q → amount_of (with_amount s key amount) q ≡ amount_of s q
 changed_outside size m low s n key amount q a t used leaf over used_a leaf_a apart over_a =
@@ -61,7 +65,8 @@ changed_outside size m low s n key amount q a t used leaf over used_a leaf_a apa
     (isnt_same q key (λ e. apart (one_cover size m low t a n key used_a used (leaf_a ∙ sym leaf) (subst (Covers m low a) e over_a) over)))
 
 -- The leaf of the key has other entries, which give the key another amount and every other key the same.
-pub leaf_changed : (h : Header) (m m' : Memory) (low : ℕ → ℕ) (s : Amounts) (n key amount : ℕ) (new : Entries) → IsAt h m low s n key 0 → Rewritten h.size m m' n new
+pub leaf_changed : (h : Header) (m m' : Memory) (low : ℕ → ℕ) (s : Amounts) (n key amount : ℕ) (new : Entries)
+    → IsAt h m low s n key 0 → Rewritten h.size m m' n new
     → SameLocks h m m' → AreEntries (last_in h.size m) (level_at m) low (level_at m n) (low n) (bound_at m n) new → gives key new ≡ amount
     → ((q : ℕ) → q ≢ key → gives q new ≡ gives q (entries_at m n)) → StandsFor h (with_cell m' (lock_of h n) 0) (with_amount s key amount)
 leaf_changed h m m' low s n key amount new at r locks es here there =
@@ -82,15 +87,18 @@ pub record Meets (h : Header) (says : ℕ → Option Amounts) (reply : ℕ) (aft
   pub stands : StandsFor h after state
 
 -- only the lock of the node is given back
-pub nothing_changed : (h : Header) (m : Memory) (low : ℕ → ℕ) (s : Amounts) (n key level : ℕ) → IsAt h m low s n key level → StandsFor h (with_cell m (lock_of h n) 0) s
+pub nothing_changed : (h : Header) (m : Memory) (low : ℕ → ℕ) (s : Amounts) (n key level : ℕ) → IsAt h m low s n key level
+    → StandsFor h (with_cell m (lock_of h n) 0) s
 nothing_changed h m low s n key level at = released h m low s (lock_of h n) (omega arith) at.shown at.free
 
 -- what an operation does in the leaf of its key
 abbrev pub InLeaf : Header → ℕ → Memory → Amounts → ℕ → (Arrived → Script) → (Option Outcome → Type 0) → Type 0
-InLeaf h c before s key arrived Q = (m : Memory) (low : ℕ → ℕ) (n : ℕ) → SameWords h.size before m → IsAt h m low s n key 0 → Q (alone c (arrived (loaded_at m n)) m)
+InLeaf h c before s key arrived Q = (m : Memory) (low : ℕ → ℕ) (n : ℕ) → SameWords h.size before m → IsAt h m low s n key 0
+    → Q (alone c (arrived (loaded_at m n)) m)
 
 -- from the root to the leaf of the key
-pub walked_down : (h : Header) (c : ℕ) (m : Memory) (s : Amounts) (key : ℕ) (lost : Script) (arrived : Arrived → Script) (Q : Option Outcome → Type 0) → StandsFor h m s
+pub walked_down : (h : Header) (c : ℕ) (m : Memory) (s : Amounts) (key : ℕ) (lost : Script) (arrived : Arrived
+    → Script) (Q : Option Outcome → Type 0) → StandsFor h m s
     → InLeaf h c m s key arrived Q → Q (alone c (Rattle.vyrd_tree.specs.Procedures.walk_down h Correct key lost arrived) m)
 walked_down h c m s key lost arrived Q st there =
     walk_down_arrives h c key m st.low lost arrived Q st.held.tree (λ n low. st.free (lock_of h n) (omega arith) (omega (arith, low)))
@@ -107,12 +115,14 @@ value_is xs front back entry e = ap (λ ys. value_in ys (length front)) e ∙ at
 -- A lookup replies the key's value plus 1, or 0, and changes nothing.
 pub lookup_alone : (h : Header) (c : ℕ) (m : Memory) (s : Amounts) (key : ℕ) → StandsFor h m s
     → EndsSo (λ reply after. StandsFor h after s
-    × (((amount_of s key ≡ 0) × (reply ≡ 0)) ⊎ ((value : ℕ) × (amount_of s key ≡ 2 ^ 32 + value) × (reply ≡ value + 1)))) (alone c (lookup h Correct key) m)
+    × (((amount_of s key ≡ 0) × (reply ≡ 0)) ⊎ ((value : ℕ) × (amount_of s key ≡ 2 ^ 32 + value) × (reply ≡ value + 1))))
+    (alone c (lookup h Correct key) m)
 lookup_alone h c m s key st = walked_down h c m s key (returns 0) (λ at. Rattle.vyrd_tree.specs.Cells.unlock_node h at.node
     (returns (reply_of at.entries (place_of key at.entries)))) Q st there
   where
     Says : ℕ → Memory → Type 0
-    Says reply after = StandsFor h after s × (((amount_of s key ≡ 0) × (reply ≡ 0)) ⊎ ((value : ℕ) × (amount_of s key ≡ 2 ^ 32 + value) × (reply ≡ value + 1)))
+    Says reply after = StandsFor h after s
+        × (((amount_of s key ≡ 0) × (reply ≡ 0)) ⊎ ((value : ℕ) × (amount_of s key ≡ 2 ^ 32 + value) × (reply ≡ value + 1)))
 
     Q : Option Outcome → Type 0
     Q = EndsSo Says
@@ -120,8 +130,12 @@ lookup_alone h c m s key st = walked_down h c m s key (returns 0) (λ at. Rattle
     there : InLeaf h c m s key (λ at. Rattle.vyrd_tree.specs.Cells.unlock_node h at.node (returns (reply_of at.entries (place_of key at.entries)))) Q
     there m low n same at = by_place (place_of key (entries_at m n)) refl
       where
-        by_place : (o : Option ℕ) → place_of key (entries_at m n) ≡ o → Says (reply_of (entries_at m n) (place_of key (entries_at m n))) (with_cell m (lock_of h n) 0)
-        by_place None e = (nothing_changed h m low s n key 0 at, inl (absent h m low s n key at (not_found key (entries_at m n) e), ap (reply_of (entries_at m n)) e))
+        by_place : (o : Option ℕ) → place_of key (entries_at m n) ≡ o
+            → Says (reply_of (entries_at m n) (place_of key (entries_at m n))) (with_cell m (lock_of h n) 0)
+        by_place None e = (
+          nothing_changed h m low s n key 0 at,
+          inl (absent h m low s n key at (not_found key (entries_at m n) e), ap (reply_of (entries_at m n)) e),
+        )
         by_place (Some i) e =
             let found = found_around key (entries_at m n) i e in
             let is = found.4 in (
@@ -142,7 +156,8 @@ pub delete_alone : (h : Header) (c : ℕ) (m : Memory) (s : Amounts) (key : ℕ)
 delete_alone h c m s key st = walked_down h c m s key gives_up (λ at. delete_in h at (place_of key at.entries)) Q st there
   where
     Says : ℕ → Memory → Type 0
-    Says reply after = ((amount_of s key ≡ 0) × (reply ≡ 0) × StandsFor h after s) ⊎ ((amount_of s key ≢ 0) × (reply ≡ 1) × StandsFor h after (with_amount s key 0))
+    Says reply after = ((amount_of s key ≡ 0) × (reply ≡ 0) × StandsFor h after s)
+        ⊎ ((amount_of s key ≢ 0) × (reply ≡ 1) × StandsFor h after (with_amount s key 0))
 
     Q : Option Outcome → Type 0
     Q = EndsSo Says
@@ -181,7 +196,8 @@ delete_alone h c m s key st = walked_down h c m s key gives_up (λ at. delete_in
 
             remains : remove (entries_at m n) (length front) ≡ front ++ back
             remains =
-                ap (λ xs. remove xs (length front)) is.parts ∙ ap (λ xs. xs ++ Rattle.std.specs.Prelude.drop (suc (length front)) (front ++ entry ∷ back))
+                ap (λ xs. remove xs (length front)) is.parts
+                ∙ ap (λ xs. xs ++ Rattle.std.specs.Prelude.drop (suc (length front)) (front ++ entry ∷ back))
                 (take_front front (entry ∷ back))
                 ∙ ap (λ xs. front ++ xs) (drop_next front)
               where

@@ -1,5 +1,6 @@
 -- Lists of entries: what holds of a list that is put together from two, and how a new entry, a removed one and a split leave it.
-use Rattle.std.proofs.Common.{◌≡◌, ◌≢◌, ℕ, suc, ◌+◌, ◌<◌, ◌≤◌, ◌^◌, ◌⊎◌, inl, inr, Bool, true, false, cond, not, List, [], ◌∷◌, ◌++◌, Option, Some, None, refl, ap, ◌∙◌, sym, arith}
+use Rattle.std.proofs.Common.{◌≡◌, ◌≢◌, ℕ, suc, ◌+◌, ◌<◌, ◌≤◌, ◌^◌, ◌⊎◌, inl, inr, Bool, true, false}
+use Rattle.std.proofs.Common.{cond, not, List, [], ◌∷◌, ◌++◌, Option, Some, None, refl, ap, ◌∙◌, sym, arith}
 use Rattle.std.specs.Prelude.{◌==◌, ◌&&◌, nat_lt, length, take, drop, position, count_by, flat_map}
 use Rattle.std.specs.List.{AllByRecursion as Each, position_or_len}
 use Rattle.std.proofs.lemmas.Bool.Decides.{nat_tests}
@@ -196,7 +197,8 @@ found_around k (x ∷ xs) i e = by_key (x.0 == k) refl (found_around k xs)
     some_of true n e = (refl, cc)
     some_of false n e = cc
 
-    by_key : (b : Bool) → (x.0 == k) ≡ b → ((j : ℕ) → place_in k xs ≡ Some j → (front : Entries) × (entry : ℕ × ℕ) × (back : Entries) × (length front ≡ j)
+    by_key : (b : Bool) → (x.0 == k) ≡ b
+        → ((j : ℕ) → place_in k xs ≡ Some j → (front : Entries) × (entry : ℕ × ℕ) × (back : Entries) × (length front ≡ j)
         × IsAround k xs front entry back)
         → Around
     by_key true at later =

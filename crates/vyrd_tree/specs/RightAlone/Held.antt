@@ -14,7 +14,8 @@ use Rattle.vyrd_memory.specs.Alone.{Memory, words_in, state_in}
 use Rattle.vyrd_memory.proofs.Memories.{Stands, stands, standing, word_at}
 use Rattle.vyrd_memory.proofs.NumberLists.{map_alike}
 use Rattle.vyrd_memory.proofs.PartSums.{collected-is}
-use Rattle.vyrd_tree.specs.RightAlone.Nodes.{level_at, count_at, bound_at, right_at, key_at, value_at, last_in, root_in, AreEntries, AreEntriesAt, IsChild, LeadsOn, IsTree, entries_at, entries_from}
+use Rattle.vyrd_tree.specs.RightAlone.Nodes.{level_at, count_at, bound_at, right_at, key_at, value_at, last_in, root_in}
+use Rattle.vyrd_tree.specs.RightAlone.Nodes.{AreEntries, AreEntriesAt, IsChild, LeadsOn, IsTree, entries_at, entries_from}
 use Rattle.vyrd_tree.specs.RightAlone.Order.{Covers, covered}
 use Rattle.vyrd_tree.specs.RightAlone.Entries.{Entries, each_more, gives}
 use Rattle.vyrd_tree.specs.RightAlone.View.{leaf_gives}
@@ -40,7 +41,8 @@ entries_kept last last' level level' low low' above from bound xs more same_leve
 }
 
 -- entries from the same words are the same
-pub entries_alike : (m m' : Memory) (n place many : ℕ) → ((j : ℕ) → place ≤ j → j < place + many → (key_at m' n j ≡ key_at m n j) × (value_at m' n j ≡ value_at m n j))
+pub entries_alike : (m m' : Memory) (n place many : ℕ)
+    → ((j : ℕ) → place ≤ j → j < place + many → (key_at m' n j ≡ key_at m n j) × (value_at m' n j ≡ value_at m n j))
     → entries_from m' n place many ≡ entries_from m n place many
 entries_alike m m' n place many same =
     map_alike (λ j. (key_at m' n j, value_at m' n j)) (λ j. (key_at m n j, value_at m n j)) place many
@@ -54,7 +56,8 @@ pub record SameShape (size : ℕ) (m m' : Memory) : Type 0 where
   pub bound_is : (n : ℕ) → n ≤ last_in size m → bound_at m' n ≡ bound_at m n
   pub right_is : (n : ℕ) → n ≤ last_in size m → right_at m' n ≡ right_at m n
 
-pub same_shape_tree : (size : ℕ) (m m' : Memory) (low : ℕ → ℕ) → IsTree size m low → SameShape size m m' → ((n : ℕ) → n ≤ last_in size m → count_at m' n ≤ 4)
+pub same_shape_tree : (size : ℕ) (m m' : Memory) (low : ℕ → ℕ) → IsTree size m low → SameShape size m m'
+    → ((n : ℕ) → n ≤ last_in size m → count_at m' n ≤ 4)
     → ((n : ℕ) → n ≤ last_in size m → AreEntries (last_in size m) (level_at m) low (level_at m n) (low n) (bound_at m n) (entries_at m' n))
     → IsTree size m' low
 same_shape_tree size m m' low t same few entries = record {
@@ -62,7 +65,8 @@ same_shape_tree size m m' low t same few entries = record {
   root_in_use = (let fits = t.root_in_use in omega (arith, last_same, root_same));
   root_first = ap low root_same ∙ t.root_first;
   zero_leaf = same.level_is 0 (omega arith) ∙ t.zero_leaf;
-  highest = λ n used. (let high = t.highest n (was used) in let here = same.level_is n (was used) in let top = same.level_is (root_in size m) t.root_in_use in
+  highest = λ n used. (let high = t.highest n (was used) in let here = same.level_is n (was used) in
+      let top = same.level_is (root_in size m) t.root_in_use in
       let at = ap (level_at m') root_same in omega arith);
   ends = λ n used none. same.bound_is n (was used) ∙ t.ends n (was used) (sym (same.right_is n (was used)) ∙ none);
   link = λ n used on. link_is n (was used) on;
@@ -156,7 +160,10 @@ pub words_same : (h : Header) (m : Memory) → h.subject ≡ Tree → SameWords 
 words_same h m is cell low = word_at h m cell (let cells = cells_are h is in omega (arith, low, cells))
 
 pub covers_same : (size : ℕ) (m m' : Memory) (low : ℕ → ℕ) (n q : ℕ) → SameWords size m m' → n < size → Covers m low n q → Covers m' low n q
-covers_same size m m' low n q same fits over = record { from = over.from; to = subst (λ b. b ≢ 0 → q < b) (sym (same (12 * n + 2) (omega arith))) over.to }
+covers_same size m m' low n q same fits over = record {
+  from = over.from;
+  to = subst (λ b. b ≢ 0 → q < b) (sym (same (12 * n + 2) (omega arith))) over.to;
+}
 
 -- what a memory that stands for a state is
 pub stands_for : (h : Header) (m : Memory) (s : Amounts) → h.subject ≡ Tree → state_in h m ≡ Some s → StandsFor h m s
@@ -202,7 +209,8 @@ stands_for h m s is e = record {
         let fits : n < h.size = (let fits = t.last_low in omega (arith, used)) in
         ap (λ s. amount_of s q) (sym shown) ∙ amount_of-collected (chain_parts h.size words) q
         ∙ leaf_gives h.size words low of_words q n (let last = words_same h m is (12 * h.size + 1) (omega arith) in omega (arith, used, last))
-        (words_same h m is (12 * n + 0) (omega arith) ∙ leaf) (covers_same h.size m (slice_index (words_in h m)) low n q (words_same h m is) fits over)
+        (words_same h m is (12 * n + 0) (omega arith)
+        ∙ leaf) (covers_same h.size m (slice_index (words_in h m)) low n q (words_same h m is) fits over)
         ∙ ap (gives q) (same_words_entries h.size m (slice_index (words_in h m)) (words_same h m is) n fits (t.few n used))
 
 -- a memory that is so stands for the state
@@ -210,7 +218,8 @@ pub stands_so : (h : Header) (m : Memory) (s : Amounts) → h.subject ≡ Tree �
 unfolding view_of_words
 stands_so h m s is st = standing h m s (record {
   sound = ap (λ s. is_sound s h.size (words_in h m)) is ∙ words_of_tree h.size (words_in h m) low of_words;
-  free = λ lock from to. st.free lock (let plain = plain_is h is in omega (arith, plain, from)) (let cells = cells_are h is in omega (arith, cells, to));
+  free = λ lock from to. st.free lock (let plain = plain_is h is in omega (arith, plain, from)) (let cells = cells_are h is in
+      omega (arith, cells, to));
   shows = ap (λ s. collected (parts_of s h.size (words_in h m))) is ∙ collected-is (chain_parts h.size words) s st.held.formed given_is;
 })
   where
@@ -251,7 +260,8 @@ off_node : (a n i : ℕ) → (a < n) ⊎ (n < a) → i < 12 → (12 * a + i < 12
 off_node a n i (inl lt) low = inl (omega arith)
 off_node a n i (inr lt) low = inr (omega arith)
 
-pub rewritten_shape : (size : ℕ) (m m' : Memory) (low : ℕ → ℕ) (n : ℕ) (xs : Entries) → IsTree size m low → n ≤ last_in size m → Rewritten size m m' n xs
+pub rewritten_shape : (size : ℕ) (m m' : Memory) (low : ℕ → ℕ) (n : ℕ) (xs : Entries) → IsTree size m low → n ≤ last_in size m
+    → Rewritten size m m' n xs
     → SameShape size m m'
 rewritten_shape size m m' low n xs t used r = record {
   last_is = r.others (12 * size + 1) (omega arith) (inr (omega (arith, fits, used)));
@@ -265,7 +275,8 @@ rewritten_shape size m m' low n xs t used r = record {
     fits : last_in size m < size
     fits = t.last_low
 
-    by_place : (a : ℕ) → a ≤ last_in size m → (i : ℕ) → i < 12 → (a ≡ n) ⊎ ((a < n) ⊎ (n < a)) → (a ≡ n → m' (12 * a + i) ≡ m (12 * a + i)) → m' (12 * a + i)
+    by_place : (a : ℕ) → a ≤ last_in size m → (i : ℕ) → i < 12 → (a ≡ n) ⊎ ((a < n) ⊎ (n < a))
+        → (a ≡ n → m' (12 * a + i) ≡ m (12 * a + i)) → m' (12 * a + i)
         ≡ m (12 * a + i)
     by_place a used_a i low (inl at) here = here at
     by_place a used_a i low (inr apart) here = r.others (12 * a + i) (omega (arith, fits, used_a)) (off_node a n i apart low)
@@ -285,10 +296,12 @@ rewritten_others size m m' low n xs t r a used apart = (
     count = word 1 (omega arith)
 
 -- with sound entries it is a tree again
-pub rewritten_tree : (size : ℕ) (m m' : Memory) (low : ℕ → ℕ) (n : ℕ) (xs : Entries) → IsTree size m low → n ≤ last_in size m → Rewritten size m m' n xs
+pub rewritten_tree : (size : ℕ) (m m' : Memory) (low : ℕ → ℕ) (n : ℕ) (xs : Entries) → IsTree size m low → n ≤ last_in size m
+    → Rewritten size m m' n xs
     → AreEntries (last_in size m) (level_at m) low (level_at m n) (low n) (bound_at m n) xs → IsTree size m' low
 rewritten_tree size m m' low n xs t used r es =
-    same_shape_tree size m m' low t (rewritten_shape size m m' low n xs t used r) (λ a used_a. few a used_a (apart_or a n)) (λ a used_a. entries a used_a (apart_or a n))
+    same_shape_tree size m m' low t (rewritten_shape size m m' low n xs t used r) (λ a used_a. few a used_a (apart_or a n))
+    (λ a used_a. entries a used_a (apart_or a n))
   where
     few : (a : ℕ) → a ≤ last_in size m → (a ≡ n) ⊎ ((a < n) ⊎ (n < a)) → count_at m' a ≤ 4
     few a used_a (inl at) = subst (λ a. count_at m' a ≤ 4) (sym at) r.few
@@ -300,11 +313,13 @@ rewritten_tree size m m' low n xs t used r es =
         subst (λ a. AreEntries (last_in size m) (level_at m) low (level_at m a) (low a) (bound_at m a) (entries_at m' a)) (sym at)
         (subst (AreEntries (last_in size m) (level_at m) low (level_at m n) (low n) (bound_at m n)) (sym r.entries) es)
     entries a used_a (inr apart) =
-        subst (AreEntries (last_in size m) (level_at m) low (level_at m a) (low a) (bound_at m a)) (sym (rewritten_others size m m' low n xs t r a used_a apart).0)
+        subst (AreEntries (last_in size m) (level_at m) low (level_at m a) (low a) (bound_at m a))
+        (sym (rewritten_others size m m' low n xs t r a used_a apart).0)
         (t.entries a used_a)
 
 -- the state after a leaf has other entries
-pub rewritten_shows : (size : ℕ) (m m' : Memory) (low : ℕ → ℕ) (s s' : Amounts) (st : ShowsBy size m low s) (n : ℕ) (xs : Entries) → n ≤ last_in size m
+pub rewritten_shows : (size : ℕ) (m m' : Memory) (low : ℕ → ℕ) (s s' : Amounts) (st : ShowsBy size m low s) (n : ℕ) (xs : Entries)
+    → n ≤ last_in size m
     → Rewritten size m m' n xs
     → AreEntries (last_in size m) (level_at m) low (level_at m n) (low n) (bound_at m n) xs → IsAmounts s'
     → (level_at m n ≡ 0 → (q : ℕ) → Covers m low n q → amount_of s' q ≡ gives q xs)
@@ -313,7 +328,8 @@ pub rewritten_shows : (size : ℕ) (m m' : Memory) (low : ℕ → ℕ) (s s' : A
 rewritten_shows size m m' low s s' st n xs used r es formed inside outside = record {
   tree = rewritten_tree size m m' low n xs st.tree used r es;
   shows = λ q a used_a leaf over. (let used : a ≤ last_in size m = (let last = shape.last_is in omega (arith, used_a)) in
-      by_place q a used (sym (shape.level_is a used) ∙ leaf) (record { from = over.from; to = subst (λ b. b ≢ 0 → q < b) (shape.bound_is a used) over.to })
+      by_place q a used (sym (shape.level_is a used)
+      ∙ leaf) (record { from = over.from; to = subst (λ b. b ≢ 0 → q < b) (shape.bound_is a used) over.to })
       (apart_or a n));
   formed = formed;
 }
@@ -321,9 +337,11 @@ rewritten_shows size m m' low s s' st n xs used r es formed inside outside = rec
     shape : SameShape size m m'
     shape = rewritten_shape size m m' low n xs st.tree used r
 
-    by_place : (q a : ℕ) → a ≤ last_in size m → level_at m a ≡ 0 → Covers m low a q → (a ≡ n) ⊎ ((a < n) ⊎ (n < a)) → amount_of s' q ≡ gives q (entries_at m' a)
+    by_place : (q a : ℕ) → a ≤ last_in size m → level_at m a ≡ 0 → Covers m low a q → (a ≡ n) ⊎ ((a < n) ⊎ (n < a))
+        → amount_of s' q ≡ gives q (entries_at m' a)
     by_place q a used_a leaf over (inl at) =
         inside (subst (λ a. level_at m a ≡ 0) at leaf) q (subst (λ a. Covers m low a q) at over) ∙ ap (gives q) (sym r.entries)
         ∙ ap (λ a. gives q (entries_at m' a)) (sym at)
     by_place q a used_a leaf over (inr apart) =
-        outside q a used_a leaf apart over ∙ st.shows q a used_a leaf over ∙ ap (gives q) (sym (rewritten_others size m m' low n xs st.tree r a used_a apart).0)
+        outside q a used_a leaf apart over ∙ st.shows q a used_a leaf over
+        ∙ ap (gives q) (sym (rewritten_others size m m' low n xs st.tree r a used_a apart).0)

@@ -1,5 +1,6 @@
 -- What an insert has done, played alone.
-use Rattle.std.proofs.Common.{◌≡◌, ◌≢◌, ℕ, zero, suc, ◌+◌, ◌*◌, ◌<◌, ◌≤◌, ◌^◌, ◌⊎◌, inl, inr, Bool, cond, [], ◌∷◌, ◌++◌, length, Option, Some, None, refl, ap, ◌∙◌, sym, subst, arith}
+use Rattle.std.proofs.Common.{◌≡◌, ◌≢◌, ℕ, zero, suc, ◌+◌, ◌*◌, ◌<◌, ◌≤◌, ◌^◌, ◌⊎◌, inl, inr, Bool}
+use Rattle.std.proofs.Common.{cond, [], ◌∷◌, ◌++◌, length, Option, Some, None, refl, ap, ◌∙◌, sym, subst, arith}
 use Rattle.std.specs.Prelude.{nat_lt}
 use Rattle.std.specs.List.{AllByRecursion as Each}
 use Rattle.vyrd_base.specs.declared.header.Header.{Header}
@@ -14,9 +15,9 @@ use Rattle.vyrd_tree.specs.RightAlone.Counts.{le_or}
 use Rattle.vyrd_tree.specs.RightAlone.Nodes.{level_at, count_at, bound_at, key_at, value_at, last_in, IsLeafEntry, AreEntries, IsTree, entries_at, entries_from}
 use Rattle.vyrd_tree.specs.RightAlone.Order.{Covers}
 use Rattle.vyrd_tree.specs.RightAlone.Entries.{Entries, gives, gives-append, gives_one, entry_gives_it, entry_gives_none, found_around, not_found, IsAround, each_back}
-use Rattle.vyrd_tree.specs.RightAlone.Changes.{entries_added, entries_replaced, gives_around}
+use Rattle.vyrd_tree.specs.RightAlone.Changes.{entries_replaced, gives_around}
 use Rattle.vyrd_tree.specs.RightAlone.Tested.{length-entries}
-use Rattle.vyrd_tree.specs.RightAlone.Held.{SameWords, covers_same, ShowsBy, StandsFor, Rewritten, entries_alike}
+use Rattle.vyrd_tree.specs.RightAlone.Held.{SameWords, covers_same, StandsFor, Rewritten, entries_alike}
 use Rattle.vyrd_tree.specs.RightAlone.Played.{EndsSo}
 use Rattle.vyrd_tree.specs.RightAlone.Walked.{loaded_at}
 use Rattle.vyrd_tree.specs.RightAlone.Steps.{IsAt, unused_played}
@@ -29,7 +30,8 @@ use Rattle.vyrd_tree.specs.Ascent.{ascend}
 use Rattle.vyrd_tree.specs.Procedures.{changes_nothing, place_of, replace_value, insert_new, insert_in, insert_entry}
 
 -- an entry gets another value, and nothing else changes
-value_stored : (m : Memory) (node place many v : ℕ) (front : Entries) (entry : ℕ × ℕ) (back : Entries) → place + many ≤ 4 → entries_from m node place many
+value_stored : (m : Memory) (node place many v : ℕ) (front : Entries) (entry : ℕ × ℕ) (back : Entries) → place + many ≤ 4
+    → entries_from m node place many
     ≡ front ++ entry ∷ back
     → entries_from (with_cell m (12 * node + (8 + (place + length front))) v) node place many ≡ front ++ (entry.0, v) ∷ back
 value_stored m node place zero v [] entry back fits e = cc
@@ -37,7 +39,8 @@ value_stored m node place zero v (x ∷ front) entry back fits e = cc
 value_stored m node place (suc many) v [] entry back fits e =
     put (key_at m' node place) (value_at m' node place) (entries_from m' node (place + 1) many)
     (other_cell m (12 * node + (8 + (place + 0))) v (12 * node + (4 + place)) (omega (arith, fits)) ∙ head_key)
-    (let at : place + 0 ≡ place = omega arith in ap (λ p. with_cell m (12 * node + (8 + p)) v (12 * node + (8 + place))) at ∙ changed_cell m (12 * node + (8 + place)) v)
+    (let at : place + 0 ≡ place = omega arith in ap (λ p. with_cell m (12 * node + (8 + p)) v (12 * node + (8 + place))) at
+    ∙ changed_cell m (12 * node + (8 + place)) v)
     (entries_alike m m' node (place + 1) many (λ j from to. (
       other_cell m (12 * node + (8 + (place + 0))) v (12 * node + (4 + j)) (omega (arith, to, fits)),
       other_cell m (12 * node + (8 + (place + 0))) v (12 * node + (8 + j)) (omega (arith, from)),
@@ -88,14 +91,16 @@ pub record LeafOf (size : ℕ) (m : Memory) (low : ℕ → ℕ) (key n : ℕ) : 
 -- Nothing is inserted where the leaf of a new key is full and no node is unused. A new key gets the reply 1, another the reply 2.
 abbrev pub InsertDone : Header → Memory → Amounts → ℕ → ℕ → ℕ → Memory → Type 0
 InsertDone h m s key value reply after =
-    ((reply ≡ 0) × (amount_of s key ≡ 0) × StandsFor h after s × ((low : ℕ → ℕ) × (n : ℕ) × IsTree h.size m low × LeafOf h.size m low key n × (count_at m n ≡ 4))
+    ((reply ≡ 0) × (amount_of s key ≡ 0) × StandsFor h after s
+    × ((low : ℕ → ℕ) × (n : ℕ) × IsTree h.size m low × LeafOf h.size m low key n × (count_at m n ≡ 4))
     × (h.size ≤ last_in h.size m + 1))
     ⊎ (((reply ≡ 1) × (amount_of s key ≡ 0) × StandsFor h after (with_amount s key (2 ^ 32 + value))
     × ((low : ℕ → ℕ) × (n : ℕ) × IsTree h.size m low × LeafOf h.size m low key n × ((count_at m n < 4) ⊎ (last_in h.size m + 1 < h.size))))
     ⊎ ((reply ≡ 2) × (amount_of s key ≢ 0) × StandsFor h after (with_amount s key (2 ^ 32 + value))))
 
 -- in the leaf of the key
-module _ (h : Header) (c : ℕ) (before m : Memory) (low : ℕ → ℕ) (s : Amounts) (n key value : ℕ) (same : SameWords h.size before m) (at : IsAt h m low s n key 0)
+module _ (h : Header) (c : ℕ) (before m : Memory) (low : ℕ
+    → ℕ) (s : Amounts) (n key value : ℕ) (same : SameWords h.size before m) (at : IsAt h m low s n key 0)
     (small_key : key < 2 ^ 32) (small : value < 2 ^ 32) where
   abbrev last : ℕ
   last = last_in h.size m
@@ -144,7 +149,8 @@ module _ (h : Header) (c : ℕ) (before m : Memory) (low : ℕ → ℕ) (s : Amo
             (entries_replaced last (level_at m) low (level_at m n) (low n) (bound_at m n) front back entry value at.level_is small old)
             (gives_around key front back (entry.0, value) ∙ plus (entry_gives_it key (entry.0, value) new_leaf (sym is.key_is))
             (gives-append key front back) one.0 one.1)
-            (λ q apart. (let e = gives_around q front back (entry.0, value) in let f = gives_around q front back entry in let g = ap (gives q) is.parts in
+            (λ q apart. (let e = gives_around q front back (entry.0, value) in let f = gives_around q front back entry in
+            let g = ap (gives q) is.parts in
             let a = entry_gives_none q (entry.0, value) new_leaf (λ e. apart (sym e ∙ is.key_is)) in let b =
             entry_gives_none q entry leaves.0 (λ e. apart (sym e ∙ is.key_is)) in omega (arith, e, f, g, a, b))),
       )))
@@ -243,11 +249,14 @@ module _ (h : Header) (c : ℕ) (before m : Memory) (low : ℕ → ℕ) (s : Amo
               four : count_at m n ≡ 4
               four = omega (arith, few, full, count_is)
 
-  pub inserted_in : EndsSo (InsertDone h before s key value) (alone c (insert_in h Correct key value (loaded_at m n) (place_of key (entries_at m n))) m)
+  pub inserted_in : EndsSo (InsertDone h before s key value)
+      (alone c (insert_in h Correct key value (loaded_at m n) (place_of key (entries_at m n))) m)
   inserted_in = by_place (place_of key (entries_at m n)) refl
     where
-      by_place : (o : Option ℕ) → place_of key (entries_at m n) ≡ o → Q (alone c (insert_in h Correct key value (loaded_at m n) (place_of key (entries_at m n))) m)
-      by_place None e = subst (λ o. Q (alone c (insert_in h Correct key value (loaded_at m n) o) m)) (sym e) (added (not_found key (entries_at m n) e))
+      by_place : (o : Option ℕ) → place_of key (entries_at m n) ≡ o
+          → Q (alone c (insert_in h Correct key value (loaded_at m n) (place_of key (entries_at m n))) m)
+      by_place None e = subst (λ o. Q (alone c (insert_in h Correct key value (loaded_at m n) o) m)) (sym e)
+          (added (not_found key (entries_at m n) e))
       by_place (Some i) e =
           let found = found_around key (entries_at m n) i e in
           subst (λ o. Q (alone c (insert_in h Correct key value (loaded_at m n) o) m)) (sym e) (replaced i found.0 found.1 found.2 found.3 found.4)

@@ -84,4 +84,5 @@ module _ (h : Header) (c : ℕ) (m : Memory) (low : ℕ → ℕ) (s : Amounts) (
       (IsAmounts-with_amount s key (2 ^ 32 + value) at.shown.formed)
       (λ leaf q over. changed_inside s key (2 ^ 32 + value) q (entries_at m n) (front ++ (key, value) ∷ back) here (there q)
       (at.shown.shows q n at.in_use at.level_is over))
-      (λ q a used leaf off over. changed_outside h.size m low s n key (2 ^ 32 + value) q a t at.in_use at.level_is at.covers used leaf off over) goes_on
+      (λ q a used leaf off over. changed_outside h.size m low s n key
+      (2 ^ 32 + value) q a t at.in_use at.level_is at.covers used leaf off over) goes_on

@@ -22,7 +22,8 @@ use Rattle.vyrd_tree.specs.Split.{with_entry, place_below, lower_half, upper_hal
 use Rattle.vyrd_tree.specs.RightAlone.Held.{Rewritten}
 
 -- a node hangs as well in a memory with the same plain words
-pub hanging_same_words : (size : ℕ) (m m' : Memory) (low : ℕ → ℕ) (level key node : ℕ) → SameWords size m m' → IsTree size m low → IsHanging size m low level key node
+pub hanging_same_words : (size : ℕ) (m m' : Memory) (low : ℕ → ℕ) (level key node : ℕ) → SameWords size m m' → IsTree size m low
+    → IsHanging size m low level key node
     → IsHanging size m' low level key node
 hanging_same_words size m m' low level key node same t hangs = record {
   in_use = (let used = hangs.in_use in omega (arith, last_same, used));
@@ -51,7 +52,8 @@ pub record HasPlace (h : Header) (m : Memory) (n key value : ℕ) (front back : 
   pub many : length front + length back ≡ count_at m n
   pub is : IsBetween key (entries_at m n) front back
 
-pub placed : (h : Header) (m : Memory) (low : ℕ → ℕ) (s : Amounts) (n key level value : ℕ) → IsAt h m low s n key level → Each (λ x. x.0 ≢ key) (entries_at m n)
+pub placed : (h : Header) (m : Memory) (low : ℕ → ℕ) (s : Amounts) (n key level value : ℕ) → IsAt h m low s n key level
+    → Each (λ x. x.0 ≢ key) (entries_at m n)
     → (front : Entries) × (back : Entries) × HasPlace h m n key value front back
 placed h m low s n key level value at apart =
     let found = between key (entries_at m n) (at.shown.tree.entries n at.in_use).rise apart in
@@ -68,7 +70,8 @@ placed h m low s n key level value at apart =
     )
 
 -- a node with room for it gets the entry
-pub added_played : (h : Header) (c : ℕ) (m : Memory) (low : ℕ → ℕ) (s : Amounts) (n key level value : ℕ) (close : Kind) (later : Script) (Q : Option Outcome → Type 0)
+pub added_played : (h : Header) (c : ℕ) (m : Memory) (low : ℕ
+    → ℕ) (s : Amounts) (n key level value : ℕ) (close : Kind) (later : Script) (Q : Option Outcome → Type 0)
     → GoesOn close
     → IsAt h m low s n key level → (front back : Entries) → HasPlace h m n key value front back → count_at m n < 4
     → ((m' : Memory) → Rewritten h.size m m' n (front ++ (key, value) ∷ back) → SameLocks h m m' → Q (alone c later (with_cell m' (lock_of h n) 0)))

@@ -17,7 +17,8 @@ pub record IsLeft (size : ℕ) (m : Memory) (low : ℕ → ℕ) (n node : ℕ) :
   pub bound_is : bound_at m node ≡ low n
   pub lower : low node < low n
 
-pub left_of : (size : ℕ) (m : Memory) (low : ℕ → ℕ) → IsTree size m low → (n : ℕ) → n ≤ last_in size m → low n ≢ 0 → (node : ℕ) × IsLeft size m low n node
+pub left_of : (size : ℕ) (m : Memory) (low : ℕ → ℕ) → IsTree size m low → (n : ℕ) → n ≤ last_in size m → low n ≢ 0
+    → (node : ℕ) × IsLeft size m low n node
 left_of size m low t n used some =
     let l : HasLeft (last_in size m) m n = t.left n used some in
     let at : right_at m l.node ≡ n = l.leads in
@@ -50,11 +51,13 @@ one_low size m low t (suc fuel) a b more used_a used_b same from to =
     both_left : low a ≡ low b → (x y : ℕ) → IsLeft size m low b x → IsLeft size m low a y → x ≡ y → a ≡ b
     both_left e x y of_b of_a at = sym of_a.leads ∙ ap (right_at m) (sym at) ∙ of_b.leads
 
-    same_low : Earlier → low b ≢ 0 → low a ≡ low b → (x y : ℕ) → IsLeft size m low b x → IsLeft size m low a y → (low x ≤ low y) ⊎ (low y < low x) → a ≡ b
+    same_low : Earlier → low b ≢ 0 → low a ≡ low b → (x y : ℕ) → IsLeft size m low b x → IsLeft size m low a y
+        → (low x ≤ low y) ⊎ (low y < low x) → a ≡ b
     same_low earlier some e x y of_b of_a (inl le) =
         let fact : low y < low a = of_a.lower in
         let ends : bound_at m x ≡ low b = of_b.bound_is in
-        both_left e x y of_b of_a (earlier x y (omega arith) of_b.in_use of_a.in_use (of_b.same_level ∙ sym same ∙ sym of_a.same_level) le (λ some. omega arith))
+        both_left e x y of_b of_a (earlier x y (omega arith) of_b.in_use of_a.in_use (of_b.same_level ∙ sym same
+        ∙ sym of_a.same_level) le (λ some. omega arith))
     same_low earlier some e x y of_b of_a (inr lt) =
         let fact : low x < low b = of_b.lower in
         let ends : bound_at m y ≡ low a = of_a.bound_is in
@@ -91,7 +94,8 @@ pub record Covers (m : Memory) (low : ℕ → ℕ) (n k : ℕ) : Type 0 where
   pub to : Below k (bound_at m n)
 
 -- one node of a level has the key in its range
-pub one_cover : (size : ℕ) (m : Memory) (low : ℕ → ℕ) → IsTree size m low → (a b k : ℕ) → a ≤ last_in size m → b ≤ last_in size m → level_at m a ≡ level_at m b
+pub one_cover : (size : ℕ) (m : Memory) (low : ℕ → ℕ) → IsTree size m low → (a b k : ℕ) → a ≤ last_in size m → b ≤ last_in size m
+    → level_at m a ≡ level_at m b
     → Covers m low a k → Covers m low b k → a ≡ b
 one_cover size m low t a b k used_a used_b same over_a over_b = by_low (le_or (low a) (low b))
   where
@@ -103,7 +107,8 @@ one_cover size m low t a b k used_a used_b same over_a over_b = by_low (le_or (l
         (λ some. let from = over_a.from in let less = over_b.to some in omega arith))
 
 -- the node at a right link
-pub next_of : (size : ℕ) (m : Memory) (low : ℕ → ℕ) → IsTree size m low → (n : ℕ) → n ≤ last_in size m → bound_at m n ≢ 0 → LeadsOn (last_in size m) m low n
+pub next_of : (size : ℕ) (m : Memory) (low : ℕ → ℕ) → IsTree size m low → (n : ℕ) → n ≤ last_in size m → bound_at m n ≢ 0
+    → LeadsOn (last_in size m) m low n
 next_of size m low t n used some = t.link n used (λ none. some (t.ends n used none))
 
 -- a node of the level has the key in its range, if one begins at it or below
@@ -116,10 +121,12 @@ pub record IsCovered (size : ℕ) (m : Memory) (low : ℕ → ℕ) (level k : �
 pub covered_from : (size : ℕ) (m : Memory) (low : ℕ → ℕ) → IsTree size m low → (fuel n k : ℕ) → n ≤ last_in size m → low n ≤ k → k < low n + fuel
     → IsCovered size m low (level_at m n) k
 covered_from size m low t zero n k used from to = absurd (omega (arith, from, to))
-covered_from size m low t (suc fuel) n k used from to = by_bound (covered_from size m low t fuel (right_at m n) k) (zero_or (bound_at m n)) (le_or (bound_at m n) k)
+covered_from size m low t (suc fuel) n k used from to =
+    by_bound (covered_from size m low t fuel (right_at m n) k) (zero_or (bound_at m n)) (le_or (bound_at m n) k)
   where
     Onward : Type 0
-    Onward = right_at m n ≤ last_in size m → low (right_at m n) ≤ k → k < low (right_at m n) + fuel → IsCovered size m low (level_at m (right_at m n)) k
+    Onward = right_at m n ≤ last_in size m → low (right_at m n) ≤ k → k < low (right_at m n) + fuel
+        → IsCovered size m low (level_at m (right_at m n)) k
 
     here : Below k (bound_at m n) → IsCovered size m low (level_at m n) k
     here below = record { node = n; in_use = used; level_is = refl; covers = record { from = from; to = below } }
@@ -185,13 +192,15 @@ pub after_falls : (last : ℕ) (m : Memory) (low : ℕ → ℕ) (n x : ℕ) → 
 after_falls last m low n x used later =
     passing_less (is_after m low x) (is_after m low n) 0 (last + 1) x
     (λ i from to e. test_is (level_at m i) (level_at m n) (low n) (low i)
-    (later_still (level_at m i) (level_at m x) (low x) (low i) (level_at m n) (low n) (test_says (level_at m i) (level_at m x) (low x) (low i) e) later))
+    (later_still (level_at m i) (level_at m x) (low x) (low i) (level_at m n) (low n)
+    (test_says (level_at m i) (level_at m x) (low x) (low i) e) later))
     (omega arith) (omega arith) (test_fails (level_at m x) (low x)) (test_is (level_at m x) (level_at m n) (low n) (low x) later)
 
 -- and is below the number of the nodes in use
 pub after_few : (last : ℕ) (m : Memory) (low : ℕ → ℕ) (n : ℕ) → n ≤ last → after_of last m low n < last + 1
 after_few last m low n used =
     let less : after_of last m low n < passing (λ i. true) (numbers_from 0 (last + 1)) =
-    passing_less (is_after m low n) (λ i. true) 0 (last + 1) n (λ i from to e. refl) (omega arith) (omega arith) (test_fails (level_at m n) (low n)) refl in
+    passing_less (is_after m low n) (λ i. true) 0 (last + 1) n (λ i from to e. refl) (omega arith) (omega arith)
+    (test_fails (level_at m n) (low n)) refl in
     let most : passing (λ i. true) (numbers_from 0 (last + 1)) ≤ last + 1 = passing_most (λ i. true) 0 (last + 1) in
     omega arith

@@ -1,5 +1,6 @@
 -- How the parts of the procedures are played alone: loads, and stores in a row.
-use Rattle.std.proofs.Common.{◌≡◌, ◌≢◌, ℕ, zero, suc, ◌+◌, ◌*◌, ◌<◌, ◌≤◌, Bool, true, false, cond, ◌||◌, List, [], ◌∷◌, ◌++◌, map, Option, Some, None, refl, ap, ◌∙◌, sym, subst, arith}
+use Rattle.std.proofs.Common.{◌≡◌, ◌≢◌, ℕ, zero, suc, ◌+◌, ◌*◌, ◌<◌, ◌≤◌, Bool, true, false, cond, ◌||◌}
+use Rattle.std.proofs.Common.{List, [], ◌∷◌, ◌++◌, map, Option, Some, None, refl, ap, ◌∙◌, sym, subst, arith}
 use Rattle.std.specs.Prelude.{◌==◌, nat_le, length}
 use Rattle.std.specs.List.{list_any, AllByRecursion as Each}
 use Rattle.std.proofs.Math.Path.{fun_ext}
@@ -21,14 +22,16 @@ abbrev pub EndsSo : (ℕ → Memory → Type 0) → Option Outcome → Type 0
 EndsSo says None = ⊥
 EndsSo says (Some outcome) = says outcome.reply outcome.memory
 
-pub ended_with : (o : Option Outcome) (says : ℕ → Memory → Type 0) → EndsSo says o → (outcome : Outcome) × (o ≡ Some outcome) × says outcome.reply outcome.memory
+pub ended_with : (o : Option Outcome) (says : ℕ → Memory → Type 0) → EndsSo says o
+    → (outcome : Outcome) × (o ≡ Some outcome) × says outcome.reply outcome.memory
 ended_with None says e = absurd e
 ended_with (Some outcome) says e = (outcome, refl, e)
 
 -- a free lock is taken
 pub take_played : (c lock : ℕ) (later : Script) (memory : Memory) (Q : Option Outcome → Type 0) → memory lock ≡ 0
     → Q (alone c later (with_cell memory lock (c + 1))) → Q (alone c (perform (Take lock) later) memory)
-take_played c lock later memory Q free e = subst (λ b. Q (cond b (alone c later (with_cell memory lock (c + 1))) None)) (sym (ap (λ n. n == 0) free)) e
+take_played c lock later memory Q free e =
+    subst (λ b. Q (cond b (alone c later (with_cell memory lock (c + 1))) None)) (sym (ap (λ n. n == 0) free)) e
 
 -- a lock that was free, taken and given back: the memory is as it was
 pub given_back : (m : Memory) (lock v : ℕ) → m lock ≡ 0 → with_cell (with_cell m lock v) lock 0 ≡ m
@@ -54,7 +57,8 @@ keys_loaded c m (suc many) node place loaded = keys_loaded c m many node (place 
 pub values_loaded : (c : ℕ) (m : Memory) (many node place : ℕ) (loaded : Entries → Script)
     → alone c (load_values (map (key_at m node) (numbers_from place many)) node place loaded) m ≡ alone c (loaded (entries_from m node place many)) m
 values_loaded c m zero node place loaded = refl
-values_loaded c m (suc many) node place loaded = values_loaded c m many node (place + 1) (λ entries. loaded ((key_at m node place, value_at m node place) ∷ entries))
+values_loaded c m (suc many) node place loaded =
+    values_loaded c m many node (place + 1) (λ entries. loaded ((key_at m node place, value_at m node place) ∷ entries))
 
 -- the place of the last key that is at most this one
 pub child_is : (key : ℕ → ℕ) (k place many : ℕ) → list_any (λ other. nat_le other k) (map key (numbers_from place many)) ≡ true
@@ -85,9 +89,11 @@ child_is key k place (suc many) e =
         (omega arith, subst (λ i. key i ≤ k) at (says (key place) (sym (ap (λ b. nat_le (key place) k || b) none) ∙ e)))
 
 -- the first key is at most the low of the node
-pub any_from : (key : ℕ → ℕ) (k place many : ℕ) → 1 ≤ many → key place ≤ k → list_any (λ other. nat_le other k) (map key (numbers_from place many)) ≡ true
+pub any_from : (key : ℕ → ℕ) (k place many : ℕ) → 1 ≤ many → key place ≤ k
+    → list_any (λ other. nat_le other k) (map key (numbers_from place many)) ≡ true
 any_from key k place zero some le = absurd (omega (arith, some))
-any_from key k place (suc many) some le = ap (λ b. b || list_any (λ other. nat_le other k) (map key (numbers_from (place + 1) many))) (is_le (key place) k le)
+any_from key k place (suc many) some le =
+    ap (λ b. b || list_any (λ other. nat_le other k) (map key (numbers_from (place + 1) many))) (is_le (key place) k le)
   where
     is_le : (a b : ℕ) → a ≤ b → nat_le a b ≡ true
     is_le a b le = grind (arith, nat_tests)
@@ -106,7 +112,8 @@ each_number P f place (suc many) (suc i) all low =
 -- entries that stand in a node from this place on, and no other cell has changed
 pub record Written (m m' : Memory) (node place : ℕ) (xs : Entries) : Type 0 where
   pub stand : entries_from m' node place (length xs) ≡ xs
-  pub others : (cell : ℕ) → ((j : ℕ) → place ≤ j → j < place + length xs → (cell ≢ 12 * node + (4 + j)) × (cell ≢ 12 * node + (8 + j))) → m' cell ≡ m cell
+  pub others : (cell : ℕ) → ((j : ℕ) → place ≤ j → j < place + length xs
+      → (cell ≢ 12 * node + (4 + j)) × (cell ≢ 12 * node + (8 + j))) → m' cell ≡ m cell
 
 -- entries are written from a place on
 pub entries_written : (c : ℕ) (m : Memory) (Q : Option Outcome → Type 0) (node place : ℕ) (xs : Entries) (later : Script) → place + length xs ≤ 4
@@ -139,9 +146,11 @@ entries_written c m Q node place ((key, value) ∷ xs) later fits goes_on =
         w.stand
 
 -- two runs of entries side by side
-pub entries_join : (m : Memory) (node place a b : ℕ) → entries_from m node place (a + b) ≡ entries_from m node place a ++ entries_from m node (place + a) b
+pub entries_join : (m : Memory) (node place a b : ℕ)
+    → entries_from m node place (a + b) ≡ entries_from m node place a ++ entries_from m node (place + a) b
 entries_join m node place zero b =
-    let e : 0 + b ≡ b = omega arith in let f : place ≡ place + 0 = omega arith in ap (entries_from m node place) e ∙ ap (λ p. entries_from m node p b) f
+    let e : 0 + b ≡ b = omega arith in let f : place ≡ place + 0 = omega arith in ap (entries_from m node place) e
+    ∙ ap (λ p. entries_from m node p b) f
 entries_join m node place (suc a) b =
     let e : suc a + b ≡ suc (a + b) = omega arith in
     let f : place + 1 + a ≡ place + suc a = omega arith in
@@ -149,11 +158,13 @@ entries_join m node place (suc a) b =
     ∙ ap (λ p. entries_from m node place (suc a) ++ entries_from m node p b) f
 
 -- the front of a run
-pub entries_front : (m : Memory) (node place many : ℕ) (xs ys : Entries) → entries_from m node place many ≡ xs ++ ys → entries_from m node place (length xs) ≡ xs
+pub entries_front : (m : Memory) (node place many : ℕ) (xs ys : Entries) → entries_from m node place many ≡ xs ++ ys
+    → entries_from m node place (length xs) ≡ xs
 entries_front m node place many [] ys e = refl
 entries_front m node place zero (x ∷ xs) ys e = cc
 entries_front m node place (suc many) (x ∷ xs) ys e =
-    head_and_tail (key_at m node place, value_at m node place) x (entries_from m node (place + 1) many) (xs ++ ys) e (entries_front m node (place + 1) many xs ys)
+    head_and_tail (key_at m node place, value_at m node place) x (entries_from m node (place + 1) many) (xs ++ ys) e
+    (entries_front m node (place + 1) many xs ys)
   where
     head_and_tail : (a b : ℕ × ℕ) (zs ws : Entries) → a ∷ zs ≡ b ∷ ws → (zs ≡ ws → entries_from m node (place + 1) (length xs) ≡ xs)
         → a ∷ entries_from m node (place + 1) (length xs) ≡ b ∷ xs
@@ -163,7 +174,8 @@ entries_front m node place (suc many) (x ∷ xs) ys e =
         ap (λ z. z ∷ entries_from m node (place + 1) (length xs)) head ∙ ap (λ us. b ∷ us) (later tail)
 
 -- entries that stood before the place stand there still
-pub front_stands : (m m' : Memory) (node : ℕ) (many : ℕ) (front back xs : Entries) → entries_from m node 0 many ≡ front ++ back → Written m m' node (length front) xs
+pub front_stands : (m m' : Memory) (node : ℕ) (many : ℕ) (front back xs : Entries) → entries_from m node 0 many ≡ front ++ back
+    → Written m m' node (length front) xs
     → length front + length xs ≤ 4 → entries_from m' node 0 (length front + length xs) ≡ front ++ xs
 front_stands m m' node many front back xs e w fits =
     entries_join m' node 0 (length front) (length xs)

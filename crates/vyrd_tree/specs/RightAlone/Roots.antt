@@ -2,7 +2,8 @@
 use Rattle.std.proofs.Common.{◌≡◌, ◌≢◌, ℕ, ◌+◌, ◌*◌, ◌<◌, ◌≤◌, ◌⊎◌, inl, inr, [], ◌∷◌, refl, ap, ◌∙◌, sym, subst, arith}
 use Rattle.vyrd_base.specs.Amounts.{Amounts, IsAmounts, amount_of}
 use Rattle.vyrd_memory.specs.Alone.{Memory}
-use Rattle.vyrd_tree.specs.RightAlone.Nodes.{level_at, count_at, bound_at, right_at, last_in, root_in, AreEntries, AreEntriesAt, LeadsOn, HasLeft, IsTree, entries_at, entries_from}
+use Rattle.vyrd_tree.specs.RightAlone.Nodes.{level_at, count_at, bound_at, right_at, last_in, root_in, AreEntries}
+use Rattle.vyrd_tree.specs.RightAlone.Nodes.{AreEntriesAt, LeadsOn, HasLeft, IsTree, entries_at, entries_from}
 use Rattle.vyrd_tree.specs.RightAlone.Order.{Covers}
 use Rattle.vyrd_tree.specs.RightAlone.Entries.{Entries, gives}
 use Rattle.vyrd_tree.specs.RightAlone.Held.{entries_kept, entries_alike, ShowsBy}
@@ -83,7 +84,11 @@ module _ (size : ℕ) (m m' : Memory) (low : ℕ → ℕ) (key child : ℕ) (t :
       two = omega arith;
       first = refl;
       child = (
-        record { in_use = still root_used; lower = ap (λ n. n + 1) (level_same (root_in size m) root_used); key_is = low_same (root_in size m) root_used ∙ root_low },
+        record {
+          in_use = still root_used;
+          lower = ap (λ n. n + 1) (level_same (root_in size m) root_used);
+          key_is = low_same (root_in size m) root_used ∙ root_low;
+        },
         (record { in_use = still used; lower = ap (λ n. n + 1) (level_same child used ∙ same_level); key_is = low_same child used ∙ low_is }, tt),
       );
     };
@@ -94,13 +99,15 @@ module _ (size : ℕ) (m m' : Memory) (low : ℕ → ℕ) (key child : ℕ) (t :
     where
       by_new : (x ≤ last) ⊎ (x ≡ last + 1) → AreEntriesAt (last_in size m') m' low' x
       by_new (inl old) =
-          put (level_at m x) (low x) (bound_at m x) (entries_at m x) x (level_same x old) (low_same x old) (word_same x 2 old (omega arith)) (entries_same x old)
+          put (level_at m x) (low x) (bound_at m x) (entries_at m x) x (level_same x old) (low_same x old)
+          (word_same x 2 old (omega arith)) (entries_same x old)
           (entries_kept last (last_in size m') (level_at m) (level_at m') low low' (level_at m x) (low x) (bound_at m x) (entries_at m x)
           (omega (arith, last_same)) level_same low_same
           (t.entries x old))
       by_new (inr at) =
           subst (AreEntriesAt (last_in size m') m' low') (sym at)
-          (put (level_at m (root_in size m) + 1) 0 0 ((0, root_in size m) ∷ (key, child) ∷ []) u g.new_level low_new g.new_bound g.new_entries new_entries_are)
+          (put (level_at m (root_in size m) + 1) 0 0
+          ((0, root_in size m) ∷ (key, child) ∷ []) u g.new_level low_new g.new_bound g.new_entries new_entries_are)
 
   link_is : (x : ℕ) → x ≤ last → right_at m' x ≢ 0 → LeadsOn (last_in size m') m' low' x
   link_is x old on =
@@ -117,13 +124,17 @@ module _ (size : ℕ) (m m' : Memory) (low : ℕ → ℕ) (key child : ℕ) (t :
   top : level_at m' (root_in size m') ≡ level_at m (root_in size m) + 1
   top = ap (level_at m') g.root_is ∙ g.new_level
 
-  one_first_is : (a b : ℕ) → (a ≤ last) ⊎ (a ≡ last + 1) → (b ≤ last) ⊎ (b ≡ last + 1) → level_at m' a ≡ level_at m' b → low' a ≡ 0 → low' b ≡ 0 → a ≡ b
+  one_first_is : (a b : ℕ) → (a ≤ last) ⊎ (a ≡ last + 1) → (b ≤ last) ⊎ (b ≡ last + 1) → level_at m' a ≡ level_at m' b
+      → low' a ≡ 0 → low' b ≡ 0 → a ≡ b
   one_first_is a b (inl old_a) (inl old_b) level zero_a zero_b =
-      t.one_first a b old_a old_b (sym (level_same a old_a) ∙ level ∙ level_same b old_b) (sym (low_same a old_a) ∙ zero_a) (sym (low_same b old_b) ∙ zero_b)
+      t.one_first a b old_a old_b (sym (level_same a old_a) ∙ level ∙ level_same b old_b) (sym (low_same a old_a)
+      ∙ zero_a) (sym (low_same b old_b) ∙ zero_b)
   one_first_is a b (inl old_a) (inr at) level zero_a zero_b =
-      absurd (let high = t.highest a old_a in let same = level_same a old_a in let new = ap (level_at m') at ∙ g.new_level in omega (arith, high, same, new, level))
+      absurd (let high = t.highest a old_a in let same = level_same a old_a in let new = ap (level_at m') at
+      ∙ g.new_level in omega (arith, high, same, new, level))
   one_first_is a b (inr at) (inl old_b) level zero_a zero_b =
-      absurd (let high = t.highest b old_b in let same = level_same b old_b in let new = ap (level_at m') at ∙ g.new_level in omega (arith, high, same, new, level))
+      absurd (let high = t.highest b old_b in let same = level_same b old_b in let new = ap (level_at m') at
+      ∙ g.new_level in omega (arith, high, same, new, level))
   one_first_is a b (inr at) (inr at') level zero_a zero_b = at ∙ sym at'
 
   -- it is a tree again
@@ -168,7 +179,11 @@ module _ (size : ℕ) (m m' : Memory) (low : ℕ → ℕ) (key child : ℕ) (t :
   pub grown_shows : (s : Amounts) → IsAmounts s
       → ((q a : ℕ) → a ≤ last_in size m → level_at m a ≡ 0 → Covers m low a q → amount_of s q ≡ gives q (entries_at m a))
       → ShowsBy size m' (with_low low (last_in size m + 1) 0) s
-  grown_shows s formed shows = record { tree = grown_tree; shows = λ q a in_use leaf over. shows' q a leaf over (next_or a last (was in_use)); formed = formed }
+  grown_shows s formed shows = record {
+    tree = grown_tree;
+    shows = λ q a in_use leaf over. shows' q a leaf over (next_or a last (was in_use));
+    formed = formed;
+  }
     where
       shows' : (q a : ℕ) → level_at m' a ≡ 0 → Covers m' low' a q → (a ≤ last) ⊎ (a ≡ last + 1) → amount_of s q ≡ gives q (entries_at m' a)
       shows' q a leaf over (inl old) =

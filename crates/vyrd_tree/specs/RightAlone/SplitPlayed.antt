@@ -36,12 +36,15 @@ node_written c m Q node level bound right xs later two goes_on =
           ∙ other_cell m₂ (12 * node + 2) bound (12 * node + 0) (omega arith)
           ∙ other_cell m₁ (12 * node + 1) 2 (12 * node + 0) (omega arith) ∙ changed_cell m (12 * node + 0) level;
       count_is = count m' w;
-      bound_is = head m' w 2 (omega arith) ∙ other_cell m₃ (12 * node + 3) right (12 * node + 2) (omega arith) ∙ changed_cell m₂ (12 * node + 2) bound;
+      bound_is = head m' w 2 (omega arith) ∙ other_cell m₃ (12 * node + 3) right (12 * node + 2) (omega arith)
+          ∙ changed_cell m₂ (12 * node + 2) bound;
       right_is = head m' w 3 (omega arith) ∙ changed_cell m₃ (12 * node + 3) right;
       entries = ap (entries_from m' node 0) (count m' w ∙ sym two) ∙ w.stand;
       others = λ cell off. w.others cell (λ j from to. apart cell off j (omega (arith, to, two)))
-          ∙ other_cell m₃ (12 * node + 3) right cell (not_at cell off 3 (omega arith)) ∙ other_cell m₂ (12 * node + 2) bound cell (not_at cell off 2 (omega arith))
-          ∙ other_cell m₁ (12 * node + 1) 2 cell (not_at cell off 1 (omega arith)) ∙ other_cell m (12 * node + 0) level cell (not_at cell off 0 (omega arith));
+          ∙ other_cell m₃ (12 * node + 3) right cell (not_at cell off 3 (omega arith))
+          ∙ other_cell m₂ (12 * node + 2) bound cell (not_at cell off 2 (omega arith))
+          ∙ other_cell m₁ (12 * node + 1) 2 cell (not_at cell off 1 (omega arith))
+          ∙ other_cell m (12 * node + 0) level cell (not_at cell off 0 (omega arith));
     }))
   where
     m₁ : Memory
@@ -77,7 +80,8 @@ record IsLower (front back : Entries) (entry : ℕ × ℕ) (pre rest : Entries) 
   lower : lower_half (front ++ entry ∷ back) ≡ pre ++ drop (length front) (lower_half (front ++ entry ∷ back))
   place : (length pre ≡ length front) ⊎ (drop (length front) (lower_half (front ++ entry ∷ back)) ≡ [])
 
-lower_stood : (front back : Entries) (entry : ℕ × ℕ) → length front + length back ≡ 4 → (pre : Entries) × (rest : Entries) × IsLower front back entry pre rest
+lower_stood : (front back : Entries) (entry : ℕ × ℕ) → length front + length back ≡ 4
+    → (pre : Entries) × (rest : Entries) × IsLower front back entry pre rest
 lower_stood [] back entry four = ([], back, record { stood = refl; lower = refl; place = inl refl })
 lower_stood (a ∷ []) back entry four = (a ∷ [], back, record { stood = refl; lower = refl; place = inl refl })
 lower_stood (a ∷ b ∷ []) back entry four = (a ∷ b ∷ [], back, record { stood = refl; lower = refl; place = inl refl })
@@ -100,7 +104,8 @@ written_at : (m m' : Memory) (node place place' : ℕ) (xs : Entries) → place'
 written_at m m' node place place' xs e w = subst (λ place. Written m m' node place xs) (sym e) w
 
 -- The stores of a split, from where the new node was got on.
-pub split_played : (h : Header) (c : ℕ) (m : Memory) (Q : Option Outcome → Type 0) (n : ℕ) (front back : Entries) (entry : ℕ × ℕ) (close : Kind) (later : Script)
+pub split_played : (h : Header) (c : ℕ) (m : Memory) (Q : Option Outcome
+    → Type 0) (n : ℕ) (front back : Entries) (entry : ℕ × ℕ) (close : Kind) (later : Script)
     → GoesOn close
     → n ≤ last_in h.size m → last_in h.size m + 1 < h.size → count_at m n ≡ 4 → entries_at m n ≡ front ++ back
     → length (lower_half (front ++ entry ∷ back)) ≡ 3 → length (upper_half (front ++ entry ∷ back)) ≡ 2
@@ -135,7 +140,8 @@ split_played h c m Q n front back entry close later closes used room full before
     m₁ = with_cell m (used_cell h) (last_in h.size m + 1)
 
     ended : Script
-    ended = perform (Store (count_cell n) 3) (perform (Store (bound_cell n) key) (perform (Store (right_cell n) u) (perform (Mark close) (unlock_node h n later))))
+    ended = perform (Store (count_cell n) 3)
+        (perform (Store (bound_cell n) key) (perform (Store (right_cell n) u) (perform (Mark close) (unlock_node h n later))))
 
     at_n : Script
     at_n = write_entries n (length front) kept ended
@@ -159,7 +165,8 @@ split_played h c m Q n front back entry close later closes used room full before
         by_place (inl same) = omega (arith, same, three_of)
         by_place (inr none) = let e : length kept ≡ 0 = ap length none in omega (arith, e, four)
 
-    done : (m₂ m₃ : Memory) → NodeWritten m₁ m₂ u (level_at m n) (bound_at m n) (right_at m n) upper → Written m₂ m₃ n (length front) kept → Q (alone c ended m₃)
+    done : (m₂ m₃ : Memory) → NodeWritten m₁ m₂ u (level_at m n) (bound_at m n) (right_at m n) upper
+        → Written m₂ m₃ n (length front) kept → Q (alone c ended m₃)
     done m₂ m₃ w w' =
         subst Q (sym (closes end (alone c (unlock_node h n later) end)))
         (goes_on end (record {
@@ -170,7 +177,10 @@ split_played h c m Q n front back entry close later closes used room full before
           right_is = changed_cell e₂ (12 * n + 3) u;
           few = (let e = count_n in omega (arith, e));
           entries = ap (entries_from end n 0) (count_n ∙ sym three_of) ∙ entries_alike m₃ end n 0 (length pre + length kept)
-              (λ j from to. (end_same (12 * n + (4 + j)) (λ i low. omega (arith, low)), end_same (12 * n + (8 + j)) (λ i low. omega (arith, low)))) ∙ stands
+              (λ j from to. (
+                end_same (12 * n + (4 + j)) (λ i low. omega (arith, low)),
+                end_same (12 * n + (8 + j)) (λ i low. omega (arith, low)),
+              )) ∙ stands
               ∙ sym stood.2.lower;
           new_level = at_u 0 (omega arith) ∙ w.level_is;
           new_bound = at_u 2 (omega arith) ∙ w.bound_is;
@@ -195,7 +205,8 @@ split_played h c m Q n front back entry close later closes used room full before
             ∙ other_cell m₃ (12 * n + 1) 3 cell (off 1 (omega arith))
 
         count_n : count_at end n ≡ 3
-        count_n = other_cell e₂ (12 * n + 3) u (12 * n + 1) (omega arith) ∙ other_cell e₁ (12 * n + 2) key (12 * n + 1) (omega arith) ∙ changed_cell m₃ (12 * n + 1) 3
+        count_n = other_cell e₂ (12 * n + 3) u (12 * n + 1) (omega arith)
+            ∙ other_cell e₁ (12 * n + 2) key (12 * n + 1) (omega arith) ∙ changed_cell m₃ (12 * n + 1) 3
 
         -- cells that are none of the node's
         off_n : (cell : ℕ) → (cell < 12 * n + 1) ⊎ (12 * n + 12 ≤ cell) → end cell ≡ m₂ cell
@@ -225,7 +236,8 @@ split_played h c m Q n front back entry close later closes used room full before
         -- the node's entries before the split
         old_stand : entries_from m₂ n 0 4 ≡ pre ++ stood.1
         old_stand =
-            entries_alike m m₂ n 0 4 (λ j from to. (old (4 + j) (omega (arith, to)), old (8 + j) (omega (arith, to)))) ∙ ap (entries_from m n 0) (sym full) ∙ before
+            entries_alike m m₂ n 0 4 (λ j from to. (old (4 + j) (omega (arith, to)), old (8 + j) (omega (arith, to))))
+            ∙ ap (entries_from m n 0) (sym full) ∙ before
             ∙ stood.2.stood
           where
             old : (i : ℕ) → i < 12 → m₂ (12 * n + i) ≡ m (12 * n + i)
@@ -240,7 +252,8 @@ split_played h c m Q n front back entry close later closes used room full before
         stands = front_stands m₂ m₃ n 4 pre stood.1 kept old_stand (written_pre stood.2.place) (omega (arith, three_of))
 
 -- The stores of a new root, from where its node was got on.
-pub grow_played : (h : Header) (c : ℕ) (m : Memory) (Q : Option Outcome → Type 0) (level key child root : ℕ) (close : Kind) (later : Script) → GoesOn close
+pub grow_played : (h : Header) (c : ℕ) (m : Memory) (Q : Option Outcome
+    → Type 0) (level key child root : ℕ) (close : Kind) (later : Script) → GoesOn close
     → last_in h.size m + 1 < h.size → level ≡ level_at m (root_in h.size m) → root ≡ root_in h.size m
     → ((m' : Memory) → IsGrown h.size m m' key child → SameLocks h m m' → Q (alone c later m'))
     → Q (alone c (write_node (last_in h.size m + 1) (level + 1) 0 0 ((0, root) ∷ (key, child) ∷ [])

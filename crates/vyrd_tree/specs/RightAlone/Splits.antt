@@ -165,7 +165,8 @@ module _ (size : ℕ) (m m' : Memory) (low : ℕ → ℕ) (n : ℕ) (five : Entr
             in_use = (let in_use = l.in_use in omega (arith, last_same, right, in_use));
             same_level = ap (level_at m') right ∙ level_same (right_at m n) l.in_use ∙ l.same_level ∙ sym sp.new_level;
             begins = ap low' right ∙ low_same (right_at m n) l.in_use ∙ l.begins ∙ sym sp.new_bound;
-            above = (let bound = sp.new_bound in let above = l.above in let within = ha.within (omega (arith, above)) in omega (arith, low_new, bound, within));
+            above = (let bound = sp.new_bound in let above = l.above in let within = ha.within (omega (arith, above)) in
+                omega (arith, low_new, bound, within));
           }
 
       at_other : x ≤ last → x ≢ n → LeadsOn (last_in size m') m' low' x
@@ -192,8 +193,19 @@ module _ (size : ℕ) (m m' : Memory) (low : ℕ → ℕ) (n : ℕ) (five : Entr
   left_is x in_use some = by_new (next_or x last in_use)
     where
       by_left : (l : HasLeft last m x) → (l.node ≡ n) ⊎ (l.node ≢ n) → HasLeft (last_in size m') m' x
-      by_left l (inl at) = record { node = u; in_use = omega (arith, last_same); leads = sp.new_right ∙ sym (ap (right_at m) at) ∙ l.leads; some = l.some }
-      by_left l (inr apart) = record { node = l.node; in_use = still l.in_use; leads = word_same l.node 3 l.in_use apart (omega arith) ∙ l.leads; some = l.some }
+      by_left l (inl at) = record {
+        node = u;
+        in_use = omega (arith, last_same);
+        leads = sp.new_right ∙ sym (ap (right_at m) at)
+            ∙ l.leads;
+        some = l.some;
+      }
+      by_left l (inr apart) = record {
+        node = l.node;
+        in_use = still l.in_use;
+        leads = word_same l.node 3 l.in_use apart (omega arith) ∙ l.leads;
+        some = l.some;
+      }
 
       by_new : (x ≤ last) ⊎ (x ≡ last + 1) → HasLeft (last_in size m') m' x
       by_new (inl old) = let l = t.left x old (λ none. some (low_same x old ∙ none)) in by_left l (same_or l.node n)
@@ -258,7 +270,8 @@ module _ (size : ℕ) (m m' : Memory) (low : ℕ → ℕ) (n : ℕ) (five : Entr
     left = λ x in_use. left_is x (was in_use);
     one_first = λ a b in_use_a in_use_b level zero_a zero_b.
         (let old_a = first_is_old a (was in_use_a) zero_a in let old_b = first_is_old b (was in_use_b) zero_b in
-        t.one_first a b old_a old_b (sym (level_same a old_a) ∙ level ∙ level_same b old_b) (sym (low_same a old_a) ∙ zero_a) (sym (low_same b old_b) ∙ zero_b));
+        t.one_first a b old_a old_b (sym (level_same a old_a) ∙ level ∙ level_same b old_b) (sym (low_same a old_a)
+        ∙ zero_a) (sym (low_same b old_b) ∙ zero_b));
     few = λ x in_use. few_is x (was in_use);
     entries = λ x in_use. entries_are x (was in_use);
   }
@@ -271,7 +284,8 @@ module _ (size : ℕ) (m m' : Memory) (low : ℕ → ℕ) (n : ℕ) (five : Entr
       highest_is x in_use (inr at) = let high = t.highest n used in let same = ap (level_at m') at ∙ sp.new_level in omega (arith, top, high, same)
 
   above_all : (q : ℕ) → q < key → Each (λ x. x.0 ≢ q) (upper_half five)
-  above_all q lt = each_more (InRange key (bound_at m n)) (λ x. x.0 ≢ q) (λ x is e. (let le = is.0 in omega (arith, le, lt, e))) (upper_half five) ha.upper.in_range
+  above_all q lt = each_more (InRange key (bound_at m n)) (λ x. x.0 ≢ q) (λ x is e. (let le = is.0 in omega (arith, le, lt, e)))
+      (upper_half five) ha.upper.in_range
 
   below_all : (q : ℕ) → key ≤ q → Each (λ x. x.0 ≢ q) (lower_half five)
   below_all q le = each_more (InRange (low n) key) (λ x. x.0 ≢ q) (λ x is e. (let lt = is.1 (omega (arith, above_n)) in omega (arith, le, lt, e)))
@@ -306,7 +320,8 @@ module _ (size : ℕ) (m m' : Memory) (low : ℕ → ℕ) (n : ℕ) (five : Entr
           by_place old (inl at) =
               let leaf_n : level_at m n ≡ 0 = sym (level_same n used) ∙ sym (ap (level_at m') at) ∙ leaf in
               let from : low n ≤ q = (let from = over.from in let e = low_same n used in let f = ap low' at in omega (arith, from, e, f)) in
-              let lt : q < key = (let to = over.to in let bound = ap (bound_at m') at ∙ sp.bound_is in let less = to (omega (arith, bound, above_n)) in
+              let lt : q < key = (let to = over.to in let bound = ap (bound_at m') at
+              ∙ sp.bound_is in let less = to (omega (arith, bound, above_n)) in
               omega (arith, less, bound)) in
               let over_n : Covers m low n q = record { from = from; to = λ some. (let within = ha.within some in omega (arith, lt, within)) } in
               inside leaf_n q over_n ∙ lower_gives leaf_n q lt ∙ ap (gives q) (sym sp.entries) ∙ ap (λ x. gives q (entries_at m' x)) (sym at)
@@ -328,12 +343,15 @@ module _ (size : ℕ) (m m' : Memory) (low : ℕ → ℕ) (n : ℕ) (five : Entr
               inside leaf_n q over_n ∙ upper_gives leaf_n q le ∙ ap (gives q) (sym sp.new_entries) ∙ ap (λ x. gives q (entries_at m' x)) (sym at)
 
   -- no entry leads to the new node
-  unnamed_in : (above from bound : ℕ) (xs : Entries) → above ≢ 0 → AreEntries last (level_at m) low above from bound xs → Each (λ entry. entry.1 ≢ u) xs
+  unnamed_in : (above from bound : ℕ) (xs : Entries) → above ≢ 0 → AreEntries last (level_at m) low above from bound xs
+      → Each (λ entry. entry.1 ≢ u) xs
   unnamed_in above from bound xs some es =
-      each_more (IsChild last (level_at m) low above) (λ entry. entry.1 ≢ u) (λ entry is e. (let used = is.in_use in omega (arith, used, e))) xs (es.inner some).child
+      each_more (IsChild last (level_at m) low above) (λ entry. entry.1 ≢ u)
+      (λ entry is e. (let used = is.in_use in omega (arith, used, e))) xs (es.inner some).child
 
   -- and the new node hangs on the one that was split
-  pub split_hangs : IsHanging size m' (with_low low (last_in size m + 1) (first_key (upper_half five))) (level_at m n) (first_key (upper_half five)) (last_in size m + 1)
+  pub split_hangs : IsHanging size m' (with_low low (last_in size m + 1) (first_key (upper_half five))) (level_at m n)
+      (first_key (upper_half five)) (last_in size m + 1)
   split_hangs = record {
     in_use = omega (arith, last_same);
     level_is = sp.new_level;

@@ -34,7 +34,8 @@ shows_same_words size m m' low s same st = record {
     shows q n used leaf over =
         let t = st.tree in
         let fits : n < size = (let fits = t.last_low in omega (arith, used)) in
-        st.shows q n used (sym (same (12 * n + 0) (omega arith)) ∙ leaf) (covers_same size m' m low n q (λ cell small. sym (same cell small)) fits over)
+        st.shows q n used (sym (same (12 * n + 0) (omega arith))
+        ∙ leaf) (covers_same size m' m low n q (λ cell small. sym (same cell small)) fits over)
         ∙ ap (gives q) (sym (same_words_entries size m m' same n fits (t.few n used)))
 
 -- all locks but this one are free
@@ -98,7 +99,8 @@ abbrev pub GoesOn : Kind → Type 0
 GoesOn kind = (m : Memory) (later : Option Outcome) → after_kind kind m later ≡ later
 
 -- Entries are written from a place on, where the ones before it stand already, and then the count: the node has these entries.
-pub rewritten : (h : Header) (c : ℕ) (m : Memory) (Q : Option Outcome → Type 0) (node : ℕ) (many : ℕ) (front back xs : Entries) (close : Kind) (later : Script)
+pub rewritten : (h : Header) (c : ℕ) (m : Memory) (Q : Option Outcome
+    → Type 0) (node : ℕ) (many : ℕ) (front back xs : Entries) (close : Kind) (later : Script)
     → GoesOn close
     → node < h.size → entries_from m node 0 many ≡ front ++ back → length (front ++ xs) ≤ 4
     → ((m' : Memory) → Rewritten h.size m m' node (front ++ xs) → SameLocks h m m' → Q (alone c later (with_cell m' (lock_of h node) 0)))
@@ -140,7 +142,8 @@ rewritten h c m Q node many front back xs close later closes fits before few goe
         not_count cell (inl lt) = omega (arith, lt)
         not_count cell (inr le) = omega (arith, le)
 
-        not_entry : (cell : ℕ) → (cell < 12 * node + 1) ⊎ (12 * node + 12 ≤ cell) → (j : ℕ) → j < 4 → (cell ≢ 12 * node + (4 + j)) × (cell ≢ 12 * node + (8 + j))
+        not_entry : (cell : ℕ) → (cell < 12 * node + 1) ⊎ (12 * node + 12 ≤ cell) → (j : ℕ) → j < 4
+            → (cell ≢ 12 * node + (4 + j)) × (cell ≢ 12 * node + (8 + j))
         not_entry cell (inl lt) j low = (omega (arith, lt), omega (arith, lt))
         not_entry cell (inr le) j low = (omega (arith, le, low), omega (arith, le, low))
 

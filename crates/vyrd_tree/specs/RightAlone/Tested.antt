@@ -1,5 +1,6 @@
 -- Words that are a tree by the tests of each node, and a tree in a memory, are the same.
-use Rattle.std.proofs.Common.{◌≡◌, ◌≢◌, ℕ, zero, suc, ◌+◌, ◌-◌, ◌<◌, ◌≤◌, ◌^◌, ◌⊎◌, inl, inr, Bool, true, false, not, List, [], ◌∷◌, map, min, length, Option, Some, None, refl, ap, ◌∙◌, sym, subst, arith}
+use Rattle.std.proofs.Common.{◌≡◌, ◌≢◌, ℕ, zero, suc, ◌+◌, ◌-◌, ◌<◌, ◌≤◌, ◌^◌, ◌⊎◌, inl, inr, Bool, true, false}
+use Rattle.std.proofs.Common.{not, List, [], ◌∷◌, map, min, length, Option, Some, None, refl, ap, ◌∙◌, sym, subst, arith}
 use Rattle.std.specs.Prelude.{◌==◌, ◌&&◌, ◌||◌, nat_lt, nat_le, slice_index, count_by, is_none}
 use Rattle.std.specs.Option.{option_map_or}
 use Rattle.std.specs.List.{list_all, AllByRecursion as Each}
@@ -20,9 +21,13 @@ use Rattle.vyrd_tree.specs.RightAlone.Entries.{Entries}
 -- tests of a list
 pub all_says : {A : Type 0} (test : A → Bool) (P : A → Type 0) → ((x : A) → test x ≡ true → P x) → (xs : List A) → list_all test xs ≡ true → Each P xs
 all_says test P says [] e = tt
-all_says test P says (x ∷ xs) e = (says x (first_true (test x) (list_all test xs) e), all_says test P says xs (second_true (test x) (list_all test xs) e))
+all_says test P says (x ∷ xs) e = (
+  says x (first_true (test x) (list_all test xs) e),
+  all_says test P says xs (second_true (test x) (list_all test xs) e),
+)
 
-pub all_passes : {A : Type 0} (test : A → Bool) (P : A → Type 0) → ((x : A) → P x → test x ≡ true) → (xs : List A) → Each P xs → list_all test xs ≡ true
+pub all_passes : {A : Type 0} (test : A → Bool) (P : A → Type 0) → ((x : A) → P x → test x ≡ true) → (xs : List A) → Each P xs
+    → list_all test xs ≡ true
 all_passes test P passes [] all = refl
 all_passes test P passes (x ∷ xs) all = both_true (test x) (list_all test xs) (passes x all.0) (all_passes test P passes xs all.1)
 
@@ -76,7 +81,8 @@ leaf_says (key, value) e = record {
 }
 
 leaf_passes : (entry : ℕ × ℕ) → IsLeafEntry entry → is_leaf_entry entry ≡ true
-leaf_passes (key, value) is = both_true (nat_lt key (2 ^ 32)) (nat_lt value (2 ^ 32)) (is_below key (2 ^ 32) is.key_low) (is_below value (2 ^ 32) is.value_low)
+leaf_passes (key, value) is = both_true (nat_lt key (2 ^ 32)) (nat_lt value (2 ^ 32)) (is_below key (2 ^ 32) is.key_low)
+    (is_below value (2 ^ 32) is.value_low)
 
 begins_says : (low : ℕ) (xs : Entries) → begins_with low (map key_of xs) ≡ true → BeginsAt low xs
 begins_says low [] e = absurd (false_isnt e)
@@ -142,10 +148,12 @@ module _ (size : ℕ) (words : List ℕ) (is : is_tree size words ≡ true) wher
   each_node n = nat_le (level_of words n) (level_of words root) && is_sound_node last words n
 
   head_is : (nat_lt last size && nat_le root last && level_of words 0 == 0 && is_first last words root) ≡ true
-  head_is = first_true (nat_lt last size && nat_le root last && level_of words 0 == 0 && is_first last words root) (list_all each_node (nodes last)) is
+  head_is = first_true (nat_lt last size && nat_le root last && level_of words 0 == 0 && is_first last words root)
+      (list_all each_node (nodes last)) is
 
   all_are : list_all each_node (nodes last) ≡ true
-  all_are = second_true (nat_lt last size && nat_le root last && level_of words 0 == 0 && is_first last words root) (list_all each_node (nodes last)) is
+  all_are = second_true (nat_lt last size && nat_le root last && level_of words 0 == 0 && is_first last words root)
+      (list_all each_node (nodes last)) is
 
   node_is : (n : ℕ) → n ≤ last → each_node n ≡ true
   node_is n used = all_pass each_node 0 (last + 1) all_are n (omega arith) (omega arith)
@@ -153,12 +161,14 @@ module _ (size : ℕ) (words : List ℕ) (is : is_tree size words ≡ true) wher
   sound_is : (n : ℕ) → n ≤ last → is_sound_node last words n ≡ true
   sound_is n used = second_true (nat_le (level_of words n) (level_of words root)) (is_sound_node last words n) (node_is n used)
 
-  first_four : (n : ℕ) → n ≤ last → (is_linked last words n && is_bounded last words n && has_sound_keys last words n && has_sound_entries last words n) ≡ true
+  first_four : (n : ℕ) → n ≤ last
+      → (is_linked last words n && is_bounded last words n && has_sound_keys last words n && has_sound_entries last words n) ≡ true
   first_four n used = first_true (is_linked last words n && is_bounded last words n && has_sound_keys last words n && has_sound_entries last words n)
       (is_only_first last words n) (sound_is n used)
 
   first_three : (n : ℕ) → n ≤ last → (is_linked last words n && is_bounded last words n && has_sound_keys last words n) ≡ true
-  first_three n used = first_true (is_linked last words n && is_bounded last words n && has_sound_keys last words n) (has_sound_entries last words n) (first_four n used)
+  first_three n used = first_true (is_linked last words n && is_bounded last words n && has_sound_keys last words n)
+      (has_sound_entries last words n) (first_four n used)
 
   first_two : (n : ℕ) → n ≤ last → (is_linked last words n && is_bounded last words n) ≡ true
   first_two n used = first_true (is_linked last words n && is_bounded last words n) (has_sound_keys last words n) (first_three n used)
@@ -173,7 +183,8 @@ module _ (size : ℕ) (words : List ℕ) (is : is_tree size words ≡ true) wher
   keys_are n used = second_true (is_linked last words n && is_bounded last words n) (has_sound_keys last words n) (first_three n used)
 
   sound_entries : (n : ℕ) → n ≤ last → has_sound_entries last words n ≡ true
-  sound_entries n used = second_true (is_linked last words n && is_bounded last words n && has_sound_keys last words n) (has_sound_entries last words n)
+  sound_entries n used = second_true (is_linked last words n && is_bounded last words n && has_sound_keys last words n)
+      (has_sound_entries last words n)
       (first_four n used)
 
   only_is : (n : ℕ) → n ≤ last → is_only_first last words n ≡ true
@@ -209,7 +220,8 @@ module _ (size : ℕ) (words : List ℕ) (is : is_tree size words ≡ true) wher
     where
       few : passing (leads_to words n) (numbers_from 0 (last + 1)) ≤ 1
       few = subst (λ c. c ≤ 1) (count_is (leads_to words n) (nodes last))
-          (at_most_of (count_by (leads_to words n) (nodes last)) 1 (first_true (nat_le (count_by (leads_to words n) (nodes last)) 1) _ (linked_is n used)))
+          (at_most_of (count_by (leads_to words n) (nodes last)) 1
+          (first_true (nat_le (count_by (leads_to words n) (nodes last)) 1) _ (linked_is n used)))
 
       by_order : (x ≤ y) ⊎ (y < x) → x ≤ y
       by_order (inl le) = le
@@ -234,7 +246,11 @@ module _ (size : ℕ) (words : List ℕ) (is : is_tree size words ≡ true) wher
           let found = l.found x refl in
           let there : leads_to words next x ≡ true = leads_is next x found.1 found.2 in
           let used_next : next ≤ last = (link_is n used on).0 in
-          let same : x ≡ n = omega (arith, one_left next x n used_next found.0 used there here, one_left next n x used_next used found.0 here there) in
+          let same : x ≡ n = omega (
+            arith,
+            one_left next x n used_next found.0 used there here,
+            one_left next n x used_next used found.0 here there,
+          ) in
           l.low_is ∙ ap (bound_of words) same
 
   first_low : (n : ℕ) → n ≤ last → is_first last words n ≡ true → low n ≡ 0
@@ -263,10 +279,15 @@ module _ (size : ℕ) (words : List ℕ) (is : is_tree size words ≡ true) wher
     where
       by_left : (o : Option ℕ) → find_left last words n ≡ o → HasLeft last m n
       by_left None f = absurd (some (left_is last words n None f).low_is)
-      by_left (Some x) f = let found = (left_is last words n (Some x) f).found x refl in record { node = x; in_use = found.0; leads = found.1; some = found.2 }
+      by_left (Some x) f = let found = (left_is last words n (Some x) f).found x refl in
+          record { node = x; in_use = found.0; leads = found.1; some = found.2 }
 
   one_first_is : (a b : ℕ) → a ≤ last → b ≤ last → level_of words a ≡ level_of words b → low a ≡ 0 → low b ≡ 0 → a ≡ b
-  one_first_is a b used_a used_b same zero_a zero_b = omega (arith, half a b used_a used_b same zero_a zero_b, half b a used_b used_a (sym same) zero_b zero_a)
+  one_first_is a b used_a used_b same zero_a zero_b = omega (
+    arith,
+    half a b used_a used_b same zero_a zero_b,
+    half b a used_b used_a (sym same) zero_b zero_a,
+  )
     where
       half : (a b : ℕ) → a ≤ last → b ≤ last → level_of words a ≡ level_of words b → low a ≡ 0 → low b ≡ 0 → a ≤ b
       half a b used_a used_b same zero_a zero_b = by_order (le_or a b)
@@ -325,21 +346,25 @@ module _ (size : ℕ) (words : List ℕ) (is : is_tree size words ≡ true) wher
       let few = few_is n used in
       let es = entries_of words n in
       let same : entries_of words n ≡ entries_at m n = entries_are words n few in
-      let counted = first_true (nat_le (count_of words n) 4 && rises (keys_at words n)) (list_all (in_range_test n) (keys_at words n)) (keys_are n used) in
+      let counted = first_true (nat_le (count_of words n) 4 && rises (keys_at words n))
+      (list_all (in_range_test n) (keys_at words n)) (keys_are n used) in
       let ranged : list_all (in_range_test n) (map key_of (entries_of words n)) ≡ true =
       second_true (nat_le (count_of words n) 4 && rises (keys_at words n)) (list_all (in_range_test n) (keys_at words n)) (keys_are n used) in
-      let levels = by_level (level_of words n) (list_all is_leaf_entry (entries_of words n)) (nat_le 2 (count_of words n)) (begins_with (low n) (keys_at words n))
+      let levels = by_level (level_of words n) (list_all is_leaf_entry (entries_of words n)) (nat_le 2 (count_of words n))
+      (begins_with (low n) (keys_at words n))
       (list_all (is_child_entry last words (level_of words n)) (entries_of words n)) (sound_entries n used) in
       subst (AreEntries last (level_at m) low (level_at m n) (low n) (bound_at m n)) same
       (record {
         rise = rises_says es (second_true (nat_le (count_of words n) 4) (rises (keys_at words n)) counted);
-        in_range = all_says (λ entry. in_range_test n entry.0) (InRange (low n) (bound_at m n)) (λ entry e. range_says (low n) (bound_of words n) entry.0 e) es
+        in_range = all_says (λ entry. in_range_test n entry.0) (InRange (low n) (bound_at m n))
+            (λ entry e. range_says (low n) (bound_of words n) entry.0 e) es
             (sym (list_all-map (in_range_test n) key_of es) ∙ ranged);
         leaf = λ none. all_says is_leaf_entry IsLeafEntry leaf_says es (levels.0 none);
         inner = λ some. record {
           two = subst (λ c. 2 ≤ c) (sym (ap length same ∙ length-entries m n 0 (count_at m n))) (at_most_of 2 (count_of words n) (levels.1 some).0);
           first = begins_says (low n) es (levels.1 some).1;
-          child = all_says (is_child_entry last words (level_of words n)) (IsChild last (level_at m) low (level_at m n)) (child_says (level_of words n)) es
+          child = all_says (is_child_entry last words (level_of words n)) (IsChild last (level_at m) low (level_at m n))
+              (child_says (level_of words n)) es
               (levels.1 some).2;
         };
       })
@@ -367,12 +392,18 @@ module _ (size : ℕ) (words : List ℕ) (is : is_tree size words ≡ true) wher
   tree_of_words = record {
     last_low = below_of last size (first_true (nat_lt last size) (nat_le root last) head_two);
     root_in_use = root_used;
-    root_first = first_low root root_used (second_true (nat_lt last size && nat_le root last && level_of words 0 == 0) (is_first last words root) head_is);
+    root_first = first_low root root_used
+        (second_true (nat_lt last size && nat_le root last && level_of words 0 == 0) (is_first last words root) head_is);
     zero_leaf = same_of (level_of words 0) 0 (second_true (nat_lt last size && nat_le root last) (level_of words 0 == 0) head_three);
     highest = λ n used. at_most_of (level_of words n) (level_of words root)
         (first_true (nat_le (level_of words n) (level_of words root)) (is_sound_node last words n) (node_is n used));
     ends = λ n used none. ends_at (bound_of words n) (right_of words n) (low n) (bounded_is n used) none;
-    link = λ n used on. record { in_use = (link_is n used on).0; same_level = (link_is n used on).1; begins = begins_is n used on; above = above_is n used on };
+    link = λ n used on. record {
+      in_use = (link_is n used on).0;
+      same_level = (link_is n used on).1;
+      begins = begins_is n used on;
+      above = above_is n used on;
+    };
     left = has_left;
     one_first = one_first_is;
     few = few_is;
@@ -406,16 +437,21 @@ module _ (size : ℕ) (words : List ℕ) (low : ℕ → ℕ) (t : IsTree size (s
   leads_passes n x e some = both_true (right_of words x == n) (not (n == 0)) (is_same (right_of words x) n e) (ap not (isnt_same n 0 some))
 
   leads_says : (n x : ℕ) → leads_to words n x ≡ true → (right_of words x ≡ n) × (n ≢ 0)
-  leads_says n x e = (same_of (right_of words x) n (first_true (right_of words x == n) (not (n == 0)) e), some n (second_true (right_of words x == n) (not (n == 0)) e))
+  leads_says n x e = (
+    same_of (right_of words x) n (first_true (right_of words x == n) (not (n == 0)) e),
+    some n (second_true (right_of words x == n) (not (n == 0)) e),
+  )
     where
       some : (n : ℕ) → not (n == 0) ≡ true → n ≢ 0
       some n e = grind (arith, nat_tests)
 
   -- the left neighbour is found
-  found_left : (n : ℕ) → n ≤ last' → (o : Option ℕ) × (find_left last' words n ≡ o) × (is_none o ≡ (low n == 0)) × (option_map_or (bound_of words) o 0 ≡ low n)
+  found_left : (n : ℕ) → n ≤ last'
+      → (o : Option ℕ) × (find_left last' words n ≡ o) × (is_none o ≡ (low n == 0)) × (option_map_or (bound_of words) o 0 ≡ low n)
   found_left n used = by_low (zero_or (low n))
     where
-      by_low : (low n ≡ 0) ⊎ (low n ≢ 0) → (o : Option ℕ) × (find_left last' words n ≡ o) × (is_none o ≡ (low n == 0)) × (option_map_or (bound_of words) o 0 ≡ low n)
+      by_low : (low n ≡ 0) ⊎ (low n ≢ 0)
+          → (o : Option ℕ) × (find_left last' words n ≡ o) × (is_none o ≡ (low n == 0)) × (option_map_or (bound_of words) o 0 ≡ low n)
       by_low (inl none) = (None, none_is (leads_to words n) 0 (last' + 1) no_link, sym (is_same (low n) 0 none), sym none)
         where
           no_link : (i : ℕ) → 0 ≤ i → i < 0 + (last' + 1) → leads_to words n i ≡ true → ⊥
@@ -448,7 +484,8 @@ module _ (size : ℕ) (words : List ℕ) (low : ℕ → ℕ) (t : IsTree size (s
       (right_of words n) == level_of words n)
       (is_at_most (count_by (leads_to words n) (nodes last')) 1
       (subst (λ c. c ≤ 1) (sym (count_is (leads_to words n) (nodes last'))) (passing_one (leads_to words n) 0 (last' + 1)
-      (λ i j from_i to_i from_j to_j e f. let says = leads_says n i e in one_link n i j (omega arith) (omega arith) says.0 (leads_says n j f).0 says.1))))
+      (λ i j from_i to_i from_j to_j e f. let says = leads_says n i e in
+      one_link n i j (omega arith) (omega arith) says.0 (leads_says n j f).0 says.1))))
       (by_right (zero_or (right_of words n)))
     where
       or_first : (a b : Bool) → a ≡ true → (a || b) ≡ true
@@ -464,12 +501,14 @@ module _ (size : ℕ) (words : List ℕ) (low : ℕ → ℕ) (t : IsTree size (s
 
       by_right : (right_of words n ≡ 0) ⊎ (right_of words n ≢ 0) → (right_of words n == 0 || nat_le (right_of words n) last' && level_of words
           (right_of words n) == level_of words n) ≡ true
-      by_right (inl none) = or_first (right_of words n == 0) (nat_le (right_of words n) last' && level_of words (right_of words n) == level_of words n)
+      by_right (inl none) = or_first (right_of words n == 0) (nat_le (right_of words n) last'
+          && level_of words (right_of words n) == level_of words n)
           (is_same (right_of words n) 0 none)
       by_right (inr on) =
           let link = t.link n used on in
           or_second (right_of words n == 0) (nat_le (right_of words n) last' && level_of words (right_of words n) == level_of words n)
-          (both_true (nat_le (right_of words n) last') (level_of words (right_of words n) == level_of words n) (is_at_most (right_of words n) last' link.in_use)
+          (both_true (nat_le (right_of words n) last') (level_of words (right_of words n) == level_of words n)
+          (is_at_most (right_of words n) last' link.in_use)
           (is_same (level_of words (right_of words n)) (level_of words n) link.same_level))
 
   bounded_passes : (n : ℕ) → n ≤ last' → is_bounded last' words n ≡ true
@@ -499,7 +538,8 @@ module _ (size : ℕ) (words : List ℕ) (low : ℕ → ℕ) (t : IsTree size (s
       (ap (λ xs. rises (map key_of xs)) same ∙ rises_passes (entries_at m' n) es.rise))
       (ap (λ k. list_all (range_test k) (keys_at words n)) (low_is n used)
       ∙ ap (λ xs. list_all (range_test (low n)) (map key_of xs)) same ∙ list_all-map (range_test (low n)) key_of (entries_at m' n)
-      ∙ all_passes (λ entry. range_test (low n) entry.0) (InRange (low n) (bound_at m' n)) (λ entry is. range_passes (low n) (bound_of words n) entry.0 is)
+      ∙ all_passes (λ entry. range_test (low n) entry.0) (InRange (low n) (bound_at m' n))
+      (λ entry is. range_passes (low n) (bound_of words n) entry.0 is)
       (entries_at m' n) es.in_range)
     where
       range_test : ℕ → ℕ → Bool
@@ -517,15 +557,18 @@ module _ (size : ℕ) (words : List ℕ) (low : ℕ → ℕ) (t : IsTree size (s
       leaf_so : (level : ℕ) (a b : Bool) → level ≡ 0 → a ≡ true → ((level == 0 && a) || b) ≡ true
       leaf_so level a b none e = ap (λ level. (level == 0 && a) || b) none ∙ ap (λ a. a || b) e
 
-      inner_so : (level : ℕ) (a b c d : Bool) → level ≢ 0 → b ≡ true → c ≡ true → d ≡ true → ((level == 0 && a) || (nat_lt 0 level && b && c && d)) ≡ true
+      inner_so : (level : ℕ) (a b c d : Bool) → level ≢ 0 → b ≡ true → c ≡ true → d ≡ true
+          → ((level == 0 && a) || (nat_lt 0 level && b && c && d)) ≡ true
       inner_so level a b c d some e f g =
           ap (λ t. (t && a) || (nat_lt 0 level && b && c && d)) (isnt_same level 0 some)
-          ∙ both_true (nat_lt 0 level && b && c) d (both_true (nat_lt 0 level && b) c (both_true (nat_lt 0 level) b (is_below 0 level (omega arith)) e) f) g
+          ∙ both_true (nat_lt 0 level && b && c) d
+          (both_true (nat_lt 0 level && b) c (both_true (nat_lt 0 level) b (is_below 0 level (omega arith)) e) f) g
 
       child_passes : (level : ℕ) (entry : ℕ × ℕ) → IsChild last' (level_at m') low level entry → is_child_entry last' words level entry ≡ true
       child_passes level (key, child) is =
           both_true (nat_le child last' && level_of words child + 1 == level) (low_of last' words child == key)
-          (both_true (nat_le child last') (level_of words child + 1 == level) (is_at_most child last' is.in_use) (is_same (level_of words child + 1) level is.lower))
+          (both_true (nat_le child last') (level_of words child + 1 == level) (is_at_most child last' is.in_use)
+          (is_same (level_of words child + 1) level is.lower))
           (is_same (low_of last' words child) key (low_is child is.in_use ∙ is.key_is))
 
       by_level : (level_of words n ≡ 0) ⊎ (level_of words n ≢ 0) → has_sound_entries last' words n ≡ true
@@ -536,13 +579,15 @@ module _ (size : ℕ) (words : List ℕ) (low : ℕ → ℕ) (t : IsTree size (s
           (ap (list_all is_leaf_entry) same ∙ all_passes is_leaf_entry IsLeafEntry leaf_passes (entries_at m' n) (es.leaf none))
       by_level (inr some) =
           let in_ = es.inner some in
-          inner_so (level_of words n) (list_all is_leaf_entry (entries_of words n)) (nat_le 2 (count_of words n)) (begins_with (low_of last' words n) (keys_at words n))
+          inner_so (level_of words n) (list_all is_leaf_entry (entries_of words n)) (nat_le 2 (count_of words n))
+          (begins_with (low_of last' words n) (keys_at words n))
           (list_all (is_child_entry last' words (level_of words n)) (entries_of words n)) some
           (is_at_most 2 (count_of words n) (subst (λ c. 2 ≤ c) (length-entries m' n 0 (count_at m' n)) in_.two))
           (ap (λ k. begins_with k (keys_at words n)) (low_is n used) ∙ ap (λ xs. begins_with (low n) (map key_of xs)) same
           ∙ begins_passes (low n) (entries_at m' n) in_.first)
           (ap (list_all (is_child_entry last' words (level_of words n))) same
-          ∙ all_passes (is_child_entry last' words (level_of words n)) (IsChild last' (level_at m') low (level_at m' n)) (child_passes (level_of words n))
+          ∙ all_passes (is_child_entry last' words (level_of words n)) (IsChild last' (level_at m') low (level_at m' n))
+          (child_passes (level_of words n))
           (entries_at m' n) in_.child)
 
   -- each level has a first node, and only one
@@ -550,7 +595,8 @@ module _ (size : ℕ) (words : List ℕ) (low : ℕ → ℕ) (t : IsTree size (s
   first_on_level zero n more used = absurd (omega (arith, more))
   first_on_level (suc fuel) n more used = by_low (zero_or (low n)) (first_on_level fuel)
     where
-      by_low : (low n ≡ 0) ⊎ (low n ≢ 0) → ((n : ℕ) → low n < fuel → n ≤ last' → (f : ℕ) × (f ≤ last') × (level_of words f ≡ level_of words n) × (low f ≡ 0))
+      by_low : (low n ≡ 0) ⊎ (low n ≢ 0)
+          → ((n : ℕ) → low n < fuel → n ≤ last' → (f : ℕ) × (f ≤ last') × (level_of words f ≡ level_of words n) × (low f ≡ 0))
           → (f : ℕ) × (f ≤ last') × (level_of words f ≡ level_of words n) × (low f ≡ 0)
       by_low (inl none) earlier = (n, used, refl, none)
       by_low (inr some) earlier =
@@ -565,7 +611,8 @@ module _ (size : ℕ) (words : List ℕ) (low : ℕ → ℕ) (t : IsTree size (s
       let found = first_on_level (suc (low n)) n (omega arith) used in
       let used_f : found.0 ≤ last' = found.1 in
       let some : 1 ≤ passing test (numbers_from 0 (last' + 1)) = passing_some test 0 (last' + 1) found.0 (omega arith) (omega arith)
-      (both_true (level_of words found.0 == level_of words n) (is_first last' words found.0) (is_same (level_of words found.0) (level_of words n) found.2)
+      (both_true (level_of words found.0 == level_of words n) (is_first last' words found.0)
+      (is_same (level_of words found.0) (level_of words n) found.2)
       (first_is found.0 found.1 ∙ is_same (low found.0) 0 found.3)) in
       let one : passing test (numbers_from 0 (last' + 1)) ≤ 1 = passing_one test 0 (last' + 1)
       (λ i j from_i to_i from_j to_j e f. same i j (omega arith) (omega arith) e f) in
@@ -588,7 +635,8 @@ module _ (size : ℕ) (words : List ℕ) (low : ℕ → ℕ) (t : IsTree size (s
       both_true (nat_lt last' size && nat_le root' last' && level_of words 0 == 0 && is_first last' words root') (list_all each (nodes last'))
       (both_true (nat_lt last' size && nat_le root' last' && level_of words 0 == 0) (is_first last' words root')
       (both_true (nat_lt last' size && nat_le root' last') (level_of words 0 == 0)
-      (both_true (nat_lt last' size) (nat_le root' last') (is_below last' size t.last_low) (is_at_most root' last' t.root_in_use)) (is_same (level_of words 0) 0 t.zero_leaf))
+      (both_true (nat_lt last' size) (nat_le root' last') (is_below last' size t.last_low) (is_at_most root' last' t.root_in_use))
+      (is_same (level_of words 0) 0 t.zero_leaf))
       (first_is root' t.root_in_use ∙ is_same (low root') 0 t.root_first))
       (pass_all each 0 (last' + 1) (λ n from to. node_passes n (omega arith)))
     where
@@ -597,10 +645,12 @@ module _ (size : ℕ) (words : List ℕ) (low : ℕ → ℕ) (t : IsTree size (s
 
       node_passes : (n : ℕ) → n ≤ last' → each n ≡ true
       node_passes n used =
-          both_true (nat_le (level_of words n) (level_of words root')) (is_sound_node last' words n) (is_at_most (level_of words n) (level_of words root') (t.highest n used))
+          both_true (nat_le (level_of words n) (level_of words root')) (is_sound_node last' words n)
+          (is_at_most (level_of words n) (level_of words root') (t.highest n used))
           (both_true (is_linked last' words n && is_bounded last' words n && has_sound_keys last' words n && has_sound_entries last' words n)
           (is_only_first last' words n)
           (both_true (is_linked last' words n && is_bounded last' words n && has_sound_keys last' words n) (has_sound_entries last' words n)
           (both_true (is_linked last' words n && is_bounded last' words n) (has_sound_keys last' words n)
-          (both_true (is_linked last' words n) (is_bounded last' words n) (linked_passes n used) (bounded_passes n used)) (keys_pass n used)) (entries_pass n used))
+          (both_true (is_linked last' words n) (is_bounded last' words n) (linked_passes n used) (bounded_passes n used))
+          (keys_pass n used)) (entries_pass n used))
           (only_passes n used))

@@ -30,7 +30,8 @@ out_of_range size m low t q n used leaf out =
     let es = t.entries n used in
     gives_none q (entries_at m n) (es.leaf leaf)
     (each_more (InRange (low n) (bound_at m n)) (λ entry. entry.0 ≢ q)
-    (λ entry is e. out (record { from = (let from = is.0 in omega arith); to = λ some. (let to = is.1 some in omega arith) })) (entries_at m n) es.in_range)
+    (λ entry is e. out (record { from = (let from = is.0 in omega arith); to = λ some. (let to = is.1 some in omega arith) }))
+    (entries_at m n) es.in_range)
 
 -- a node where the chain has come, and what it has seen: no node that begins as high
 pub record OnChain (size : ℕ) (m : Memory) (low : ℕ → ℕ) (left : ℕ) (seen : List ℕ) (n : ℕ) : Type 0 where
@@ -44,7 +45,8 @@ next_on_chain : (size : ℕ) (m : Memory) (low : ℕ → ℕ) (left : ℕ) (seen
 next_on_chain size m low left seen n here on = record {
   in_use = on.in_use;
   leaf = on.same_level ∙ here.leaf;
-  more = (let falls = after_falls (last_in size m) m low n (right_at m n) on.in_use (inr (on.same_level, rises)) in let more = here.more in omega arith);
+  more = (let falls = after_falls (last_in size m) m low n (right_at m n) on.in_use (inr (on.same_level, rises)) in
+      let more = here.more in omega arith);
   unseen = λ x used le. ap (λ b. b || list_any (λ y. y == x) seen) (isnt_same n x (λ e. (let same = ap low e in omega (arith, rises))))
       ∙ here.unseen x used (omega (arith, rises));
 }
@@ -77,7 +79,8 @@ step_ends size words left seen q n ends =
 
 step_on : (size : ℕ) (words : List ℕ) (left : ℕ) (seen : List ℕ) (q n : ℕ) → right_of words n ≢ 0
     → (nat_le size (right_of words n) || list_any (λ y. y == right_of words n) (n ∷ seen)) ≡ false
-    → given q (chain_parts_from size words (suc left) seen n) ≡ given q (node_parts words n) + given q (chain_parts_from size words left (n ∷ seen) (right_of words n))
+    → given q (chain_parts_from size words (suc left) seen n)
+    ≡ given q (node_parts words n) + given q (chain_parts_from size words left (n ∷ seen) (right_of words n))
 step_on size words left seen q n on fresh =
     given-append q (node_parts words n) (chain_on size words left seen n (right_of words n == 0)
     (nat_le size (right_of words n) || list_any (λ y. y == right_of words n) (n ∷ seen)))
@@ -90,20 +93,23 @@ fresh_link : (size : ℕ) (words : List ℕ) (low : ℕ → ℕ) (left : ℕ) (s
     → OnChain size (slice_index words) low left (n ∷ seen) (right_of words n)
     → (nat_le size (right_of words n) || list_any (λ y. y == right_of words n) (n ∷ seen)) ≡ false
 fresh_link size words low left seen n t next =
-    ap (λ b. b || list_any (λ y. y == right_of words n) (n ∷ seen)) (isnt_at_most size (right_of words n) (let used = next.in_use in let fits = t.last_low in omega arith))
+    ap (λ b. b || list_any (λ y. y == right_of words n) (n ∷ seen))
+    (isnt_at_most size (right_of words n) (let used = next.in_use in let fits = t.last_low in omega arith))
     ∙ next.unseen (right_of words n) next.in_use (omega arith)
 
 -- the chain from a node on gives nothing to a key below the node's low
 chain_none : (size : ℕ) (words : List ℕ) (low : ℕ → ℕ) → IsTree size (slice_index words) low → (left : ℕ) (seen : List ℕ) (q n : ℕ)
     → OnChain size (slice_index words) low left seen n → q < low n → given q (chain_parts_from size words left seen n) ≡ 0
 chain_none size words low t zero seen q n here lt = refl
-chain_none size words low t (suc left) seen q n here lt = by_right (zero_or (right_of words n)) (chain_none size words low t left (n ∷ seen) q (right_of words n))
+chain_none size words low t (suc left) seen q n here lt =
+    by_right (zero_or (right_of words n)) (chain_none size words low t left (n ∷ seen) q (right_of words n))
   where
     m : Memory
     m = slice_index words
 
     this : given q (node_parts words n) ≡ 0
-    this = parts_at size words low t q n here.in_use ∙ out_of_range size m low t q n here.in_use here.leaf (λ over. (let from = over.from in omega (arith, lt, from)))
+    this = parts_at size words low t q n here.in_use
+        ∙ out_of_range size m low t q n here.in_use here.leaf (λ over. (let from = over.from in omega (arith, lt, from)))
 
     by_right : (right_of words n ≡ 0) ⊎ (right_of words n ≢ 0)
         → (OnChain size m low left (n ∷ seen) (right_of words n) → q < low (right_of words n)
@@ -165,12 +171,14 @@ chain_gives size words low t (suc left) seen q n x here from used leaf over =
         → given q (chain_parts_from size words (suc left) seen n) ≡ gives q (entries_at m x)
     by_right (inl ends) later =
         let none = t.ends n here.in_use ends in
-        step_ends size words left seen q n ends ∙ parts_at size words low t q n here.in_use ∙ at_x (record { from = from; to = λ some. absurd (some none) })
+        step_ends size words left seen q n ends ∙ parts_at size words low t q n here.in_use
+        ∙ at_x (record { from = from; to = λ some. absurd (some none) })
     by_right (inr on) later = by_bound on (t.link n here.in_use on) later (le_or (bound_at m n) q)
 
 -- the whole chain gives a key what the leaf of its range gives
 pub leaf_gives : (size : ℕ) (words : List ℕ) (low : ℕ → ℕ) → IsTree size (slice_index words) low → (q n : ℕ) → n ≤ last_in size (slice_index words)
-    → level_at (slice_index words) n ≡ 0 → Covers (slice_index words) low n q → given q (chain_parts size words) ≡ gives q (entries_at (slice_index words) n)
+    → level_at (slice_index words) n ≡ 0 → Covers (slice_index words) low n q
+    → given q (chain_parts size words) ≡ gives q (entries_at (slice_index words) n)
 leaf_gives size words low t q n used leaf over =
     let m : Memory = slice_index words in
     let none = zero_low size m low t in

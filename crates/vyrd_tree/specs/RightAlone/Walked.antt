@@ -79,7 +79,8 @@ child_of size m low n key t used some from =
     let at : 0 + place ≡ place = omega arith in
     let it : IsChild (last_in size m) (level_at m) low (level_at m n) (key_at m n place, value_at m n place) =
     subst (λ j. IsChild (last_in size m) (level_at m) low (level_at m n) (key_at m n j, value_at m n j)) at
-    (each_number (IsChild (last_in size m) (level_at m) low (level_at m n)) (λ j. (key_at m n j, value_at m n j)) 0 (count_at m n) place i.child found.0) in
+    (each_number (IsChild (last_in size m) (level_at m) low (level_at m n)) (λ j. (key_at m n j, value_at m n j)) 0
+    (count_at m n) place i.child found.0) in
     record {
       in_use = it.in_use;
       lower = it.lower;
@@ -107,7 +108,8 @@ descend_played h c key m low n lost visit Q t used some from goes_on =
     onward = step (Load (value_cell n (child_place key (map (key_at m n) (numbers_from 0 (count_at m n)))))) (λ child. unlock_node h n (visit child))
 
     after : List ℕ → Script
-    after keys = cond (count_at m n == 0) (unlock_node h n lost) (step (Load (value_cell n (child_place key keys))) (λ child. unlock_node h n (visit child)))
+    after keys = cond (count_at m n == 0) (unlock_node h n lost)
+        (step (Load (value_cell n (child_place key keys))) (λ child. unlock_node h n (visit child)))
 
 arrive_played : (c : ℕ) (m : Memory) (n : ℕ) (arrived : Arrived → Script)
     → alone c (arrive n (level_at m n) (count_at m n) (bound_at m n) (right_at m n) arrived) m ≡ alone c (arrived (loaded_at m n)) m
@@ -148,7 +150,8 @@ visit_played h c key toward m low n lost visit arrived Q t used from high goes_o
         subst (Goal false) (sym (isnt_below toward (level_at m n) le))
         (subst Q (sym (arrive_played c m n arrived)) (there (omega (arith, high, le)) (record { from = from; to = below })))
     by_level below (inr above) =
-        subst (Goal false) (sym (is_below toward (level_at m n) above)) (descend_played h c key m low n lost visit Q t used (omega (arith, above)) from (down above))
+        subst (Goal false) (sym (is_below toward (level_at m n) above))
+        (descend_played h c key m low n lost visit Q t used (omega (arith, above)) from (down above))
 
     right : bound_at m n ≢ 0 → bound_at m n ≤ key → Q (alone c (visit (right_at m n)) (with_cell m (lock_of h n) 0))
     right some le =
@@ -159,9 +162,11 @@ visit_played h c key toward m low n lost visit arrived Q t used from high goes_o
         goes_on (right_at m n) on.in_use (omega arith) (omega arith) (inr (same, omega arith))
 
     inside : Below key (bound_at m n) → Goal (is_past (bound_at m n) key) (nat_lt toward (level_at m n))
-    inside below = subst (λ a. Goal a (nat_lt toward (level_at m n))) (sym (not_past (bound_at m n) key below)) (by_level below (le_or (level_at m n) toward))
+    inside below = subst (λ a. Goal a (nat_lt toward (level_at m n))) (sym (not_past (bound_at m n) key below))
+        (by_level below (le_or (level_at m n) toward))
 
-    by_bound : (bound_at m n ≡ 0) ⊎ (bound_at m n ≢ 0) → (bound_at m n ≤ key) ⊎ (key < bound_at m n) → Goal (is_past (bound_at m n) key) (nat_lt toward (level_at m n))
+    by_bound : (bound_at m n ≡ 0) ⊎ (bound_at m n ≢ 0) → (bound_at m n ≤ key) ⊎ (key < bound_at m n)
+        → Goal (is_past (bound_at m n) key) (nat_lt toward (level_at m n))
     by_bound (inl none) place = inside (λ some. absurd (some none))
     by_bound (inr some) (inr lt) = inside (λ some. lt)
     by_bound (inr some) (inl le) = subst (λ a. Goal a (nat_lt toward (level_at m n))) (sym (past (bound_at m n) key some le)) (right some le)
@@ -169,11 +174,13 @@ visit_played h c key toward m low n lost visit arrived Q t used from high goes_o
 -- what is done at a node once its lock is held
 abbrev under_lock : Header → ℕ → ℕ → ℕ → Script → (ℕ → Script) → (Arrived → Script) → Script
 under_lock h key toward node lost visit arrived =
-    step (Load (level_cell node)) (λ level. step (Load (count_cell node)) (λ count. step (Load (bound_cell node)) (λ bound. step (Load (right_cell node)) (λ right.
+    step (Load (level_cell node)) (λ level. step (Load (count_cell node))
+    (λ count. step (Load (bound_cell node)) (λ bound. step (Load (right_cell node)) (λ right.
     pass_on h Correct key toward node level count bound right lost visit arrived))))
 
 -- A walk from a node that begins at the key or below it, with more visits left than there are nodes after that node.
-pub walk_arrives : (h : Header) (c key toward : ℕ) (m : Memory) (low : ℕ → ℕ) (lost : Script) (arrived : Arrived → Script) (Q : Option Outcome → Type 0)
+pub walk_arrives : (h : Header) (c key toward : ℕ) (m : Memory) (low : ℕ → ℕ) (lost : Script) (arrived : Arrived
+    → Script) (Q : Option Outcome → Type 0)
     → IsTree h.size m low → FreeNodes h m → ArrivesAt h c m low key toward arrived Q
     → (left n : ℕ) → n ≤ last_in h.size m → low n ≤ key → toward ≤ level_at m n → after_of (last_in h.size m) m low n < left
     → Q (alone c (walk_from h Correct key toward left n lost arrived) m)
@@ -226,7 +233,8 @@ walk_arrives h c key toward m low lost arrived Q t free there (suc left) n used 
 
     visited : ((next : ℕ) → next ≤ last_in h.size m → low next ≤ key → toward ≤ level_at m next → after_of (last_in h.size m) m low next < left
         → Q (alone c (visit next) m)) → Q (alone c (walk_from h Correct key toward (suc left) n lost arrived) m)
-    visited later = subst (λ b. Q (alone c (cond b (visit_node h Correct key toward n lost visit arrived) lost) m)) (sym (is_below n h.size fits)) (goes_on later)
+    visited later = subst (λ b. Q (alone c (cond b (visit_node h Correct key toward n lost visit arrived) lost) m))
+        (sym (is_below n h.size fits)) (goes_on later)
 
 -- a walk of an operation, from the root
 pub walk_down_arrives : (h : Header) (c key : ℕ) (m : Memory) (low : ℕ → ℕ) (lost : Script) (arrived : Arrived → Script) (Q : Option Outcome → Type 0)

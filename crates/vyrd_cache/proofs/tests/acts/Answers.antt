@@ -12,8 +12,10 @@ use Rattle.vyrd_cache.proofs.tests.acts.Goals as goal
 pub loop-init : goal.loop-init
 loop-init c =
     subst (IsSoundSomewhere c.args.header.now) (sym c.begin-progress.ensures)
-    ∣ (just_called c.args.op.method,
-      cache_is_sound c.args.header.now c.args.variant c.args.op c.requires.subject c.requires.method c.requires.args c.requires.small) ∣₁
+    ∣ (
+      just_called c.args.op.method,
+      cache_is_sound c.args.header.now c.args.variant c.args.op c.requires.subject c.requires.method c.requires.args c.requires.small,
+    ) ∣₁
 
 pub loop-preserved : goal.loop-preserved
 loop-preserved c =

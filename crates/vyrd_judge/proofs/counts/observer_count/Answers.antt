@@ -19,8 +19,13 @@ loop-at-preserved c =
       all = c.observer_returns.ensures.all ∙ c.loop-at.invariant.all;
       observing = observing_step c.args.header es c.loop-at.at r c.loop-at.observing.items c.observer_returns.new.observing.items c.loop-at-test.true
           (c.entry_at-entry.ensures.entry r) low so c.observer_returns.ensures.after;
-      few = elim c.if-observer_returns.branch [ then-observer_returns w ↦ omega (arith,
-        w.count-is) | else-observer_returns w ↦ omega (arith, w.count-is) ];
+      few = elim c.if-observer_returns.branch [
+        | then-observer_returns w ↦ omega (
+          arith,
+          w.count-is,
+        )
+        | else-observer_returns w ↦ omega (arith, w.count-is)
+      ];
       counted = elim c.if-observer_returns.branch [
         | then-observer_returns w ↦ counted_true c.observer_returns.result c.loop-at.count _ rest _ w.if-observer_returns.true w.count-is total
         | else-observer_returns w ↦ counted_false c.observer_returns.result c.loop-at.count _ rest _ w.if-observer_returns.false w.count-is total

@@ -11,8 +11,12 @@ seeing-requires-clause-allowed g c = λ x is.
     let here : get_or old i None ≡ Some x =
     sym (unchanged_at (seeing (g.S.Spec.state c.args.spec.now)) i old None) ∙ sym (ap (λ xs. get_or xs i None) c.loop-execution.invariant) ∙ is in
     let kept : slice_get old i ≡ Some (Some x) = slice_get-get_or old i None c.loop-execution-test.true ∙ ap Some here in
-    let within : i < (g.S.Spec.header_of c.args.spec.now).callers = omega (arith, c.loop-execution-test.true,
-      c.deref_mut-execution-items.ensures.len, c.requires.all) in
+    let within : i < (g.S.Spec.header_of c.args.spec.now).callers = omega (
+      arith,
+      c.loop-execution-test.true,
+      c.deref_mut-execution-items.ensures.len,
+      c.requires.all,
+    ) in
     c.requires.allowed i x within (rw c.deref_mut-execution-items.ensures.value at kept)
 
 pub loop-execution-preserved : goal.loop-execution-preserved
@@ -23,7 +27,7 @@ loop-execution-preserved g c =
 pub returns-clause-seen : goal.returns-clause-seen
 returns-clause-seen g c =
     written_back c.args.executions.now.len c.loop-execution.execution-items
-      (drop (length c.loop-execution.execution-items) c.args.executions.now.items)
+    (drop (length c.loop-execution.execution-items) c.args.executions.now.items)
     (c.loop-execution.auto.execution-items ∙ c.deref_mut-execution-items.ensures.len)
     ∙ c.loop-execution.invariant
     ∙ changed_all (seeing (g.S.Spec.state c.args.spec.now)) c.loop-execution.execution-index c.deref_mut-execution-items.result.now c.loop-execution-test.false

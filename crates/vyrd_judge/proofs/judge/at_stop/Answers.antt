@@ -22,12 +22,12 @@ pub returns-in-End-2 : goal.returns-in-End-2
 returns-in-End-2 c =
     rw c.in-End.is (if_ok (λ v. v ≡ accepted c.args.entries.now) (λ v. v ≡ verdict_at c.args.header c.args.entries.now End) c.accepted.result
     (λ v e. e ∙ at_end_accepted c.args.header c.args.entries.now c.requires.faultless (sym c.requires.is_open
-      ∙ c.if-is_open.false)) c.accepted.ensures)
+    ∙ c.if-is_open.false)) c.accepted.ensures)
 
 pub returns-in-Text : goal.returns-in-Text
 returns-in-Text c =
     rw c.in-Text.is (at_text_open c.args.header c.args.entries.now c.in-Text.line c.in-Text.rule c.requires.faultless
-      (sym c.requires.is_open ∙ c.if-is_open-2.true)
+    (sym c.requires.is_open ∙ c.if-is_open-2.true)
     (same_line c.in-Text.line (length c.args.entries.now) c.if-line-after.true))
 
 pub returns-in-Text-2 : goal.returns-in-Text-2
@@ -37,5 +37,5 @@ returns-in-Text-2 c = rw c.in-Text-2.is (elim c.if-is_open-2.branch [
       at_text_before c.args.header c.args.entries.now c.in-Text-2.line c.in-Text-2.rule c.requires.faultless
       (other_line c.in-Text-2.line (length c.args.entries.now) (λ e. w.if-line-after.false (same ∙ e)))
   | else-is_open-2 w ↦ at_text_closed c.args.header c.args.entries.now c.in-Text-2.line c.in-Text-2.rule c.requires.faultless
-    (sym c.requires.is_open ∙ w.if-is_open-2.false)
+      (sym c.requires.is_open ∙ w.if-is_open-2.false)
 ])

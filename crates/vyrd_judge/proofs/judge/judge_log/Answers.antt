@@ -7,7 +7,7 @@ pub returns-in-Some : goal.returns-in-Some
 returns-in-Some g c =
     verdict_standing c.args.header c.args.entries.now c.args.stop c.in-Some.violation
     (so_far_fault c.args.header c.args.entries.now c.split_at.result.0.now c.in-Some.violation (c.split_at.ensures.front
-      ∙ c.in_ok-front.ensures.front)
+    ∙ c.in_ok-front.ensures.front)
     (sym c.in_ok-violation.ensures ∙ c.in-Some.is))
 
 pub returns-in-Some-broken : goal.returns-in-Some-broken

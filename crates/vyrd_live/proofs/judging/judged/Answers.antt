@@ -14,4 +14,4 @@ at_end h entries = refl
 pub returns-clause-verdict : goal.returns-clause-verdict
 returns-clause-verdict c =
     c.in_ok-verdict.ensures ∙ at_end c.args.header c.in_ok-log.log.items
-      ∙ ap (verdict c.args.header) (c.in_ok-log.ensures ∙ ap log_of c.deref.ensures.value)
+    ∙ ap (verdict c.args.header) (c.in_ok-log.ensures ∙ ap log_of c.deref.ensures.value)

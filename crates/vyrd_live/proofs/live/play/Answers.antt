@@ -51,4 +51,4 @@ returns-clause-long g c =
     (bound_at g.M.Machine.header_of g.M.Machine.script g.M.Machine.ahead c.in_ok-traced.traced w workers hands c.in_ok-traced.ensures.hands
     c.in_ok-workers.ensures.hands c.in_ok-workers.ensures.made count
     c.in_ok-traced.traced.plan.limit played.spent long
-      (in_range w.header c.in_ok-traced.traced.plan.limit _ played.history.items played.spent (all w.header made))))
+    (in_range w.header c.in_ok-traced.traced.plan.limit _ played.history.items played.spent (all w.header made))))

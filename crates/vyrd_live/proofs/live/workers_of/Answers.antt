@@ -19,10 +19,10 @@ loop-hand-preserved g c =
     let items = c.in_ok-push.ensures.items in
     let is = λ (x : Worker g.row.M.Denot). IsWorkerOf g.M.Machine.header_of g.M.Machine.script g.M.Machine.ahead w x.machine x.hand in record {
       left = All-rest (λ (h : HandView). h.caller
-        < c.args.work.now.header.callers) c.in-Some.hand c.next.new.self.rest.items c.loop-hand.hand-iterator.rest.items
+          < c.args.work.now.header.callers) c.in-Some.hand c.next.new.self.rest.items c.loop-hand.hand-iterator.rest.items
           c.in-Some.ensures.steps.0 inv.left;
       hands = ap (map (λ (x : Worker g.row.M.Denot). x.hand)) items
-        ∙ map-append (λ (x : Worker g.row.M.Denot). x.hand) c.loop-hand.workers.items (one ∷ []) ∙ ap
+          ∙ map-append (λ (x : Worker g.row.M.Denot). x.hand) c.loop-hand.workers.items (one ∷ []) ∙ ap
           (λ (xs : List HandView). xs ++ c.in-Some.hand ∷ []) inv.hands;
       made = subst (All is) (sym items) (All-push is c.loop-hand.workers.items one inv.made (record {
         header = c.in_ok-machine.ensures.header;

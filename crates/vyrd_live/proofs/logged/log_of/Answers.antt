@@ -20,7 +20,7 @@ loop-event-preserved c =
     let more = filter_map_more (λ e. logged e.caller e.did) c.args.history.now c.loop-event.event-index past c.loop-event-test.true in
     elim c.match-entry_of.branch [
       | in-Some+in_ok-push w ↦ ap (λ log. log.items) w.log-is ∙ w.in_ok-push.ensures.items
-        ∙ ap (λ xs. xs ++ w.in-Some.entry ∷ []) c.loop-event.invariant
+          ∙ ap (λ xs. xs ++ w.in-Some.entry ∷ []) c.loop-event.invariant
           ∙ ap (λ o. before ++ cons_option o []) (sym w.in-Some.is ∙ c.entry_of.ensures) ∙ sym more
       | in_default w ↦ ap (λ log. log.items) w.log-is ∙ c.loop-event.invariant ∙ sym (append-nil before)
           ∙ ap (λ o. before ++ cons_option o []) (sym w.in_default.is ∙ c.entry_of.ensures) ∙ sym more

@@ -31,6 +31,6 @@ loop-caller-preserved c =
           w.in-Finished.is) c.loop-caller.invariant)
       | in-Spent w ↦ subst (IsFirstSpent all (n + 1)) (sym (w.first-is ∙ w.or-first.ensures))
           (first_spent all n c.loop-caller.first
-            (ending_here c.args.stopped.now n one Spent c.loop-caller-test.true c.index-stopped-caller.is w.in-Spent.is)
+          (ending_here c.args.stopped.now n one Spent c.loop-caller-test.true c.index-stopped-caller.is w.in-Spent.is)
           c.loop-caller.invariant)
     ]

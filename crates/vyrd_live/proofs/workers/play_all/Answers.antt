@@ -19,9 +19,9 @@ pub returns-clause-played : goal.returns-clause-played
 returns-clause-played g c = λ h made.
     let count : length c.in_ok-stopped.stopped.items ≡ length c.args.workers.items = search rules in
     let parts = subst (All (λ (hand : HandView). part hand.caller c.in-Ok.closed.history.items
-      ≡ hand.lane)) c.in_ok-hands.ensures c.in-Ok.ensures.parts in
+    ≡ hand.lane)) c.in_ok-hands.ensures c.in-Ok.ensures.parts in
     let first = subst (λ (stopped : List Stopped). IsFirstSpent (endings stopped)
-      (length stopped) c.in_ok-spent.spent) c.deref.ensures.value c.in_ok-spent.ensures in
+    (length stopped) c.in_ok-spent.spent) c.deref.ensures.value c.in_ok-spent.ensures in
     all_played g.M.Machine.header_of g.M.Machine.script g.M.Machine.ahead c.args.traced h c.args.workers.items c.in_ok-stopped.stopped.items
     c.in-Ok.closed.history.items c.in_ok-spent.spent
     (λ i w s low. c.in_ok-stopped.ensures.each i w s (search rules)) count c.requires.hands c.in-Ok.ensures.legal parts made first
@@ -30,6 +30,6 @@ pub returns-clause-long : goal.returns-clause-long
 returns-clause-long g c =
     let count : length c.in_ok-stopped.stopped.items ≡ length c.args.workers.items = search rules in
     let first = subst (λ (stopped : List Stopped). IsFirstSpent (endings stopped)
-      (length stopped) c.in_ok-spent.spent) c.deref.ensures.value c.in_ok-spent.ensures in
+    (length stopped) c.in_ok-spent.spent) c.deref.ensures.value c.in_ok-spent.ensures in
     first_is_long g.M.Machine.header_of g.M.Machine.script g.M.Machine.ahead c.args.traced c.args.workers.items c.in_ok-stopped.stopped.items c.in_ok-spent.spent
     (λ i w s low. c.in_ok-stopped.ensures.each i w s (search rules)) count first

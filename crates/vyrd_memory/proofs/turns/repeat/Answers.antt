@@ -7,7 +7,7 @@ pub loop-time-preserved : goal.loop-time-preserved
 loop-time-preserved g c =
     let caller = c.args.turns.now.caller in
     played_more c.args.header.now g.M.Machine.header_of g.M.Machine.script (replicate c.loop-time._time caller) (caller ∷ [])
-      (replicate (c.loop-time._time + 1) caller)
+    (replicate (c.loop-time._time + 1) caller)
     (scene c.args.machines.now c.args.words.now.items c.args.history.now.items)
     (scene c.loop-time.machines c.loop-time.words.items c.loop-time.history.items)
     (scene c.turn.new.machines c.turn.new.words.items c.turn.new.history.items)

@@ -12,7 +12,7 @@ pub perform-requires : goal.perform-requires
 perform-requires g c =
     let m = c.index-machines-caller.result in
     let here : slice_get c.args.machines.now c.args.caller
-      ≡ Some m = element_here c.args.machines.now c.args.caller m c.requires.caller c.index-machines-caller.is in
+    ≡ Some m = element_here c.args.machines.now c.args.caller m c.requires.caller c.index-machines-caller.is in
     let room : length c.args.words.now.items ≡ vec_len c.args.words.now = search rules in
     subst (λ n. IsWithin n c.wants.result) room
     (machine_within c.args.header.now g.M.Machine.header_of g.M.Machine.script c.args.machines.now c.args.caller m c.args.words.now.items c.wants.result c.requires.ready here (g.met.M.Machine.is_sound m)
@@ -22,12 +22,12 @@ pub returns-in_default-clause-played : goal.returns-in_default-clause-played
 returns-in_default-clause-played g c =
     let m = c.index-machines-caller.result in
     let here : slice_get c.args.machines.now c.args.caller
-      ≡ Some m = element_here c.args.machines.now c.args.caller m c.requires.caller c.index-machines-caller.is in
+    ≡ Some m = element_here c.args.machines.now c.args.caller m c.requires.caller c.index-machines-caller.is in
     let act = c.wants.ensures ∙ ap (λ m. next_act (g.M.Machine.script m)) (sym c.index-machines-caller.is) in
     let none = ap (event_in c.args.words.now.items) (sym act) ∙ sym c.perform.ensures.event ∙ c.in_default.is in
     let words = c.perform.ensures.words ∙ ap (words_after_event c.args.words.now.items c.args.caller) c.in_default.is in
     subst (λ machines. HasPlayed c.args.header.now g.M.Machine.header_of g.M.Machine.script (c.args.caller ∷ [])
-      (scene c.args.machines.now c.args.words.now.items c.args.history.now.items)
+    (scene c.args.machines.now c.args.words.now.items c.args.history.now.items)
     (scene machines c.perform.new.words.items c.args.history.now.items)) (sym (set-get_or c.args.machines.now c.args.caller m))
     (no_turn_played c.args.header.now g.M.Machine.header_of g.M.Machine.script c.args.machines.now c.args.caller m c.args.words.now.items c.perform.new.words.items c.args.history.now.items
     c.requires.ready here (g.met.M.Machine.is_sound m) none words)
@@ -55,11 +55,14 @@ items_of : (v : Vec Stamped Global) → vec_len v ≡ length v.items
 items_of v = search rules
 
 history_is : (g : given.Over) (c : goal.After-took g)
-    → c.push.new.self.items ≡ c.args.history.now.items ++ record { number = length c.args.history.now.items;
-      caller = c.args.caller; did = c.in-Some.did } ∷ []
+    → c.push.new.self.items ≡ c.args.history.now.items ++ record {
+      number = length c.args.history.now.items;
+      caller = c.args.caller;
+      did = c.in-Some.did;
+    } ∷ []
 history_is g c = c.in_ok-push.ensures.items
     ∙ ap (λ k. c.args.history.now.items ++ record { number = k; caller = c.args.caller; did = c.in-Some.did } ∷ []) (c.len.ensures
-      ∙ items_of c.args.history.now)
+    ∙ items_of c.args.history.now)
 
 pub returns-clause-played : goal.returns-clause-played
 returns-clause-played g c =

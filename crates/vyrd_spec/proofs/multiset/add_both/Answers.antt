@@ -11,7 +11,7 @@ add-requires-2 c =
 pub take_one-requires : goal.take_one-requires
 take_one-requires c = λ none.
     let at = ap (λ s. amount_of s c.args.first) (c.in-Err.ensures.err ∙ c.in_ok-add.ensures.ok)
-      ∙ amount_given c.args.counts.now c.args.first (amount_of c.args.counts.now c.args.first + 1) in
+    ∙ amount_given c.args.counts.now c.args.first (amount_of c.args.counts.now c.args.first + 1) in
     omega (arith, at, none)
 
 pub returns-in-Err-clause-err : goal.returns-in-Err-clause-err

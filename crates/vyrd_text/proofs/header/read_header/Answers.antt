@@ -11,8 +11,8 @@ pub returns-in_default-new : goal.returns-in_default-new
 returns-in_default-new c =
     sym (header_known c.args.line.now c.in-Some.version c.in-Some.subject c.in-Some.size c.in-Some.callers c.in-Some.ensures
     ∙ ap (λ o. ok_or o UnknownVersion)
-      (not_made c.in-Some.version c.in-Some.subject c.in-Some.size c.in-Some.callers (λ h. let x : false
-      ≡ true = c.in_default-new.ensures.within.1 h in cc)))
+    (not_made c.in-Some.version c.in-Some.subject c.in-Some.size c.in-Some.callers (λ h. let x : false
+    ≡ true = c.in_default-new.ensures.within.1 h in cc)))
 
 pub returns : goal.returns
 returns c =

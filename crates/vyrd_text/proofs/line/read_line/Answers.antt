@@ -8,7 +8,7 @@ returns-in_err-caller c = rw c.from_residual.ensures (no_caller c.args.subject c
 pub returns-in_err-kind : goal.returns-in_err-kind
 returns-in_err-kind c = rw c.from_residual-in_err-kind.ensures
     (no_kind c.args.subject c.args.line.now c.in_ok-caller.caller c.in_ok-caller.rest.now
-      (omega (arith, c.in_ok-caller.ensures.0)) c.in_ok-caller.ensures.1 c.in_err-kind.ensures)
+    (omega (arith, c.in_ok-caller.ensures.0)) c.in_ok-caller.ensures.1 c.in_err-kind.ensures)
 
 pub returns : goal.returns
 returns c = entry_read c.args.subject c.args.line.now c.in_ok-caller.caller c.in_ok-kind.kind c.in_ok-caller.rest.now

@@ -9,4 +9,4 @@ returns-in_err-b c = rw c.from_residual-in_err-b.ensures
 pub returns-in_err-c : goal.returns-in_err-c
 returns-in_err-c c = rw c.from_residual-in_err-c.ensures
     (no_third c.args.text.now c.in_ok-a.a c.in_ok-b.b c.in_ok-a.rest.now c.in_ok-b.rest.now (omega (arith, c.in_ok-a.ensures.0))
-      (omega (arith, c.in_ok-b.ensures.0)) c.in_ok-a.ensures.1 c.in_ok-b.ensures.1 c.in_err-c.ensures)
+    (omega (arith, c.in_ok-b.ensures.0)) c.in_ok-a.ensures.1 c.in_ok-b.ensures.1 c.in_err-c.ensures)

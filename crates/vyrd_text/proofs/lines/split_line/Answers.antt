@@ -7,6 +7,7 @@ returns-in_err-at c = rw c.from_residual.ensures (whole_one_line c.args.text.now
 
 pub returns : goal.returns
 returns c =
-    let found = c.in_ok-at.ensures in
-    (front_one_line c.in_ok-at.at c.args.text.now (omega (arith, found.0.high)) (λ i l. found.0.before i (omega arith) l),
-      parts_at c.args.text.now c.in_ok-at.at found.0.high found.1)
+    let found = c.in_ok-at.ensures in (
+      front_one_line c.in_ok-at.at c.args.text.now (omega (arith, found.0.high)) (λ i l. found.0.before i (omega arith) l),
+      parts_at c.args.text.now c.in_ok-at.at found.0.high found.1,
+    )

@@ -24,6 +24,13 @@ pub loop-at-preserved : goal.loop-at-preserved
 loop-at-preserved c =
     let digit = digit_is (get_or c.args.text.now c.loop-at.at 0) c.if-not-is_ascii_digit.ensures.bound in (
       digits_more 10 c.args.text.now c.loop-at.at c.loop-at-test.true c.loop-at.invariant.0 c.if-not-is_ascii_digit.ensures.bound,
-      omega (arith, c.in_ok-value.ensures, c.in_ok-checked_mul.ensures, c.from.ensures, c.loop-at.invariant.1, digit,
-        digits_value_more 10 c.args.text.now c.loop-at.at c.loop-at-test.true),
+      omega (
+        arith,
+        c.in_ok-value.ensures,
+        c.in_ok-checked_mul.ensures,
+        c.from.ensures,
+        c.loop-at.invariant.1,
+        digit,
+        digits_value_more 10 c.args.text.now c.loop-at.at c.loop-at-test.true,
+      ),
     )

@@ -9,5 +9,5 @@ returns-in_err-number c = rw c.from_residual.ensures (λ n small e. c.in_err-num
 pub returns-then-end-text : goal.returns-then-end-text
 returns-then-end-text c = λ n small e.
     let is = one_number c.args.text.now c.in_ok-number.number c.in_ok-number.end n None c.in_ok-number.ensures (omega arith) small
-      (e ∙ sym (append-nil (decimal n))) in
+    (e ∙ sym (append-nil (decimal n))) in
     c.if-end-text.true (is.0 ∙ sym (ap length e))

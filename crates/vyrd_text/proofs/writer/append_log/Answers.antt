@@ -8,7 +8,7 @@ pub returns-in_err-append_entries-clause-err : goal.returns-in_err-append_entrie
 returns-in_err-append_entries-clause-err c =
     let p = err_from_is_err_and c.from_residual-in_err-append_entries.result c.from_residual-in_err-append_entries.ensures.1 in
     rw p.1 (front_of_front c.args.out.now.items
-      (ended_line (header_line c.args.header.version c.args.header.subject c.args.header.size c.args.header.callers))
+    (ended_line (header_line c.args.header.version c.args.header.subject c.args.header.size c.args.header.callers))
     c.append_header.new.out.items c.append_entries.new.out.items c.in_ok-append_header.ensures.ok c.in_err-append_entries.ensures.err)
 
 pub returns-clause-ok : goal.returns-clause-ok

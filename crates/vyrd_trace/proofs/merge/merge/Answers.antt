@@ -27,7 +27,7 @@ loop-lane-preserved c = λ h m long.
     let stands = lane_stands h (map items ls) m c.loop-lane.lane-index c.as_slice.result.now inside is in
     let same = c.place.auto.history in
     merge_step h (map items ls) m c.loop-lane.lane-index c.as_slice.result.now c.loop-lane.history c.place.new.history inside is
-      (λ i was. c.place.ensures.kept h i stands was) (c.place.ensures.placed h stands)
+    (λ i was. c.place.ensures.kept h i stands was) (c.place.ensures.placed h stands)
     (c.loop-lane.invariant h m (long ∙ same))
 
 pub returns : goal.returns
@@ -37,4 +37,4 @@ returns c = λ h m long.
     let b = c.loop-lane.auto.history in
     let long' : length h ≡ length c.loop-lane.history = omega arith in
     merged h (map items ls) m c.loop-lane.lane-index c.loop-lane.history (let t = c.loop-lane-test.false in
-      omega arith) long' (c.loop-lane.invariant h m long')
+    omega arith) long' (c.loop-lane.invariant h m long')

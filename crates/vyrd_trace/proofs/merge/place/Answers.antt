@@ -11,9 +11,9 @@ loop-event-preserved c =
     let q = c.requires c.loop-event.event-index d c.loop-event-test.true in
     let long = c.loop-event.auto.history in record {
       kept = λ h i all was. write_keeps h c.loop-event.history _ i (omega arith)
-        (all c.loop-event.event-index d c.loop-event-test.true) (inv.kept h i all was);
+          (all c.loop-event.event-index d c.loop-event-test.true) (inv.kept h i all was);
       placed = λ h all. write_places h c.loop-event.history c.args.lane.now c.loop-event.event-index d c.loop-event-test.true all
-        (omega arith) (inv.placed h all);
+          (omega arith) (inv.placed h all);
     }
 
 pub returns-clause-placed : goal.returns-clause-placed

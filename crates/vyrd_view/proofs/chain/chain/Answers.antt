@@ -25,7 +25,7 @@ returns-then-right-eq0 c =
     let node = c.loop-turn.node in
     let walk = walk_left c.args.size c.args.words.now c.loop-turn.sums c.loop-turn.seen.items turn node (omega arith) c.loop-turn.invariant.walk in
     walk_ends c.args.size c.args.words.now c.loop-turn.sums c.add_node.new.sums c.loop-turn.seen.items
-      (c.args.size - (turn + 1)) node walk (omega arith)
+    (c.args.size - (turn + 1)) node walk (omega arith)
     c.in_ok-add_node.ensures c.if-right-eq0.true
 
 pub add-requires : goal.add-requires
@@ -43,9 +43,9 @@ returns-then-is_seen c =
     let walk = walk_left c.args.size c.args.words.now c.loop-turn.sums c.loop-turn.seen.items turn node (omega arith) c.loop-turn.invariant.walk in
     c.in_ok-add.ensures.ok
     ∙ walk_breaks c.args.size c.args.words.now c.loop-turn.sums c.add_node.new.sums c.loop-turn.seen.items
-      (c.args.size - (turn + 1)) node walk (omega arith)
+    (c.args.size - (turn + 1)) node walk (omega arith)
     c.in_ok-add_node.ensures c.if-right-eq0.false
-      (seen_is (right_of c.args.words.now node) true c.deref.ensures.value c.is_seen.ensures c.if-is_seen.true)
+    (seen_is (right_of c.args.words.now node) true c.deref.ensures.value c.is_seen.ensures c.if-is_seen.true)
 
 pub loop-turn-preserved : goal.loop-turn-preserved
 loop-turn-preserved c = record {
@@ -54,9 +54,9 @@ loop-turn-preserved c = record {
       let node = c.loop-turn.node in
       let walk = walk_left c.args.size c.args.words.now c.loop-turn.sums c.loop-turn.seen.items turn node (omega arith) c.loop-turn.invariant.walk in
       walk_goes_on c.args.size c.args.words.now c.loop-turn.sums c.add_node.new.sums c.loop-turn.seen.items
-        (c.args.size - (turn + 1)) node walk (omega arith)
+      (c.args.size - (turn + 1)) node walk (omega arith)
       c.in_ok-add_node.ensures c.if-right-eq0.false
-        (seen_is (right_of c.args.words.now node) false c.deref.ensures.value c.is_seen.ensures c.if-is_seen.false);
+      (seen_is (right_of c.args.words.now node) false c.deref.ensures.value c.is_seen.ensures c.if-is_seen.false);
   few = λ key. node_grows c.args.words.now c.loop-turn.node c.loop-turn._turn key c.loop-turn.sums c.add_node.new.sums c.in_ok-add_node.ensures (c.loop-turn.invariant.few key);
   flags = length-set c.loop-turn.seen.items c.loop-turn.node true ∙ c.loop-turn.invariant.flags;
   within =

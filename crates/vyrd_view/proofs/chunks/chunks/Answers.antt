@@ -13,7 +13,7 @@ add_chunk-requires-clause-key c =
 pub add_chunk-requires-clause-past : goal.add_chunk-requires-clause-past
 add_chunk-requires-clause-past c =
     ap (λ s. amount_of s (c.args.size + c.loop-number.number)) c.loop-number.invariant
-      ∙ past_is_new c.args.size c.loop-number.number c.args.words.now (omega arith)
+    ∙ past_is_new c.args.size c.loop-number.number c.args.words.now (omega arith)
 
 pub loop-number-preserved : goal.loop-number-preserved
 loop-number-preserved c =

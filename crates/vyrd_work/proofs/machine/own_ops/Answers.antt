@@ -2,7 +2,6 @@ use Rattle.std.proofs.Common.{◌++◌, [], ◌∷◌, take, ap, ◌∙◌, sym,
 use Rattle.std.specs.Prelude.{get_or}
 use Rattle.std.specs.List.{cons_option}
 use Rattle.vyrd_base.specs.declared.subject.Method.TheVariants.{MsInsert}
-use Rattle.vyrd_memory.specs.declared.op.Op.{Op}
 use Rattle.vyrd_work.specs.declared.work.WorkOp.{WorkOp}
 use Rattle.vyrd_work.specs.WorkScripts.{ops_of}
 use Rattle.vyrd_work.proofs.ScriptLaws.{ops_more, own_op, other_op}
@@ -20,9 +19,9 @@ loop-op-preserved c =
     elim c.if-op-caller.branch [
       | then-op-caller+in_ok-push w ↦ ap (λ own. own.items) w.own-is ∙ w.in_ok-push.ensures.items ∙ ap (λ xs. xs ++ here.op ∷ []) c.loop-op.invariant
           ∙ ap (λ o. ops_of c.args.caller (take c.loop-op.op-index c.args.ops.now) ++ cons_option o [])
-            (sym (own_op c.args.caller here w.if-op-caller.true)) ∙ sym more
+          (sym (own_op c.args.caller here w.if-op-caller.true)) ∙ sym more
       | else-op-caller w ↦ ap (λ own. own.items) w.own-is ∙ c.loop-op.invariant
-        ∙ sym (append-nil (ops_of c.args.caller (take c.loop-op.op-index c.args.ops.now)))
+          ∙ sym (append-nil (ops_of c.args.caller (take c.loop-op.op-index c.args.ops.now)))
           ∙ ap (λ o. ops_of c.args.caller (take c.loop-op.op-index c.args.ops.now) ++ cons_option o [])
-            (sym (other_op c.args.caller here w.if-op-caller.false)) ∙ sym more
+          (sym (other_op c.args.caller here w.if-op-caller.false)) ∙ sym more
     ]

@@ -30,7 +30,7 @@ returns-in_err-turns-clause-err c =
     let next = c.in-Some.next.now in
     let on = c.loop-line.invariant.0 ∙ ap (λ t. lines_read w c.loop-line.number (cut t)) c.in-Some.ensures.1
     ∙ line_found w c.loop-line.number line next c.in-Some.ensures.0 (λ e. let x : false ≡ true = sym c.if-is_word.false
-      ∙ c.is_word.ensures.1 e in cc) in
+    ∙ c.is_word.ensures.1 e in cc) in
     let p = err_from_is_err_and c.from_residual.result c.from_residual.ensures.1 in
     rw p.1 (rw p.2 (refusal_at c.loop-line.number c.in_err-turns.field-0.0 _ (cut next) _ on c.in_err-turns.ensures.err))
 
@@ -41,7 +41,7 @@ loop-line-preserved c =
     let next = c.in-Some.next.now in
     let on = c.loop-line.invariant.0 ∙ ap (λ t. lines_read w c.loop-line.number (cut t)) c.in-Some.ensures.1
     ∙ line_found w c.loop-line.number line next c.in-Some.ensures.0 (λ e. let x : false ≡ true = sym c.if-is_word.false
-      ∙ c.is_word.ensures.1 e in cc) in (
+    ∙ c.is_word.ensures.1 e in cc) in (
       on ∙ ap (then_lines c.loop-line.number (cut next)) c.in_ok-turns.ensures.ok,
       c.in_ok-turns.ensures.sum,
       omega (arith, c.loop-line.invariant.2, ap length c.in-Some.ensures.1, length-append line (10 ∷ next)),

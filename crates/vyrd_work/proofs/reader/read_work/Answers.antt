@@ -14,7 +14,7 @@ pub returns-in_err-work-clause-refused : goal.returns-in_err-work-clause-refused
 returns-in_err-work-clause-refused c =
     let p = err_from_is_err_and c.from_residual.result c.from_residual.ensures.1 in
     rw p.1 (rw p.2 (rw c.in-Some.ensures.1
-      (refusal_first c.in_err-work.field-0.0 c.in-Some.line.now c.in-Some.rest.now c.in-Some.ensures.0 c.in_err-work.ensures.err)))
+    (refusal_first c.in_err-work.field-0.0 c.in-Some.line.now c.in-Some.rest.now c.in-Some.ensures.0 c.in_err-work.ensures.err)))
 
 pub returns-in_err-read_lines-clause-refused : goal.returns-in_err-read_lines-clause-refused
 returns-in_err-read_lines-clause-refused c =

@@ -29,4 +29,4 @@ returns-clause-ok c =
     appended c.extend_from_slice.result c.append_turns.new.out.items (codes "end\n") c.extend_from_slice.new.self.items _ c.extend_from_slice.ensures.items
     (whole_work w c.args.out.now.items c.append_header.new.out.items c.append_ops.new.out.items c.append_turns.new.out.items
     c.in_ok-append_header.ensures.ok (rw c.deref.ensures.value at c.in_ok-append_ops.ensures.ok)
-      (rw c.deref-2.ensures.value at c.in_ok-append_turns.ensures.ok))
+    (rw c.deref-2.ensures.value at c.in_ok-append_turns.ensures.ok))

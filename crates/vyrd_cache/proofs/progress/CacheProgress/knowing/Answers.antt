@@ -27,7 +27,7 @@ returns-in-0 c = λ h. evicted_absent h c.args.self c.at-in-0.result c.args.stat
 pub returns-in_default-state : goal.returns-in_default-state
 returns-in_default-state c =
     λ h. evicted_other h c.args.self c.doing-in_default-state.result c.args.state c.in-Evict.is (omega arith)
-      (omega arith) c.doing-in_default-state.ensures
+    (omega arith) c.doing-in_default-state.ensures
 
 pub returns-then-state-eq-ABSENT : goal.returns-then-state-eq-ABSENT
 returns-then-state-eq-ABSENT c =

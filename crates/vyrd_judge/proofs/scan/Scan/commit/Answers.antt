@@ -36,11 +36,11 @@ returns-in-Some-first_difference-clause-gives g c = λ earlier x followed is.
     let next = c.in_ok-step.ensures.allowed (ap Ok c.if-not-branch.false) in
     let shown : c.in_ok-shown.shown ≡ view_of_words h (words_after h earlier) =
     c.in_ok-shown.ensures ∙ ap (view_of_words h) (c.words.ensures.words ∙ followed.words
-      ∙ ap (λ k. words_after k earlier) c.args.self.now.shadow_header) in
+    ∙ ap (λ k. words_after k earlier) c.args.self.now.shadow_header) in
     let first : first_difference (view_of_words h (words_after h earlier)) after ≡ Some c.in-Some-first_difference.key =
     (λ i. first_difference (sym shown i) (sym c.in_ok-after.ensures i)) ∙ sym c.in-Some-first_difference.ensures in
     for_execution (λ y. CommitFaults (view_of_words h (words_after h earlier)) y before (View c.in-Some-first_difference.key))
-      (slice_get c.args.self.now.executions.items c.args.caller)
+    (slice_get c.args.self.now.executions.items c.args.caller)
     c.in-Some.execution x c.in-Some.ensures is
     (differs (view_of_words h (words_after h earlier)) c.in-Some.execution c.in-Some-reply.reply before after c.in-Some-first_difference.key c.in-Some-reply.is next first)
 
@@ -53,10 +53,10 @@ returns-clause-gives g c = λ earlier x followed is.
     let next = c.in_ok-step.ensures.allowed (ap Ok c.if-not-branch.false) in
     let shown : c.in_ok-shown.shown ≡ view_of_words h (words_after h earlier) =
     c.in_ok-shown.ensures ∙ ap (view_of_words h) (c.words.ensures.words ∙ followed.words
-      ∙ ap (λ k. words_after k earlier) c.args.self.now.shadow_header) in
+    ∙ ap (λ k. words_after k earlier) c.args.self.now.shadow_header) in
     let none = is_none c.first_difference.result c.in_default-first_difference.not-Some in
     for_execution (λ y. CommitGoes (view_of_words h (words_after h earlier)) y before after old c.see.new.executions.items)
-      (slice_get old c.args.caller)
+    (slice_get old c.args.caller)
     c.in-Some.execution x c.in-Some.ensures is
     (record {
       reply = c.in-Some-reply.reply;

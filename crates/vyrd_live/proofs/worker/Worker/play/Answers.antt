@@ -59,7 +59,7 @@ loop-self-preserved g c =
     let made = subst (λ m. (answer : ℕ) × (g.M.Machine.script c.make_event.new.self.machine ≡ after_answer (g.M.Machine.script m) answer)
     × HasActed (next_act (g.M.Machine.script m)) answer c.make_room.new.self.hand c.make_event.new.self.hand) machine c.make_event.ensures.made in
     let room = subst (λ h. HasRoomAhead h
-      (g.M.Machine.script c.loop-self.self.machine) c.make_room.new.self.hand) c.loop-self.invariant.header c.in-Ok.ensures.room in
+    (g.M.Machine.script c.loop-self.self.machine) c.make_room.new.self.hand) c.loop-self.invariant.header c.in-Ok.ensures.room in
     let same = same_hand (next_act (g.M.Machine.script c.loop-self.self.machine)) made.0 c.loop-self.self.hand c.make_room.new.self.hand c.make_event.new.self.hand
     c.in-Ok.ensures.hand made.2 in record {
       header = c.make_event.ensures.header ∙ ap g.M.Machine.header_of machine ∙ c.loop-self.invariant.header;

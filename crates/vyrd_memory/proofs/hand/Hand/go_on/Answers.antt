@@ -36,7 +36,7 @@ invariant_of-self-else-ends-clause-goes_on g c =
     let s = c.args.self.now in
     let goes = sym (c.is_return-ends.ensures ∙ ap is_return c.wants.ensures) ∙ c.if-ends.false in
     let answer = is_of_some (λ p. IsAnswer
-      (next_act (g.P.Progress.rest s.header p)) c.args.answer) s.progress c.in-Some.progress c.in-Some.is c.requires.answer in
+    (next_act (g.P.Progress.rest s.header p)) c.args.answer) s.progress c.in-Some.progress c.in-Some.is c.requires.answer in
     let hand = of_some (λ p. IsInHand s.header s.left (g.P.Progress.rest s.header p)) s.progress c.in-Some.progress c.in-Some.is s.goes_on in
     subst (InHand s.header (s.left - 1)) (sym c.took-next.ensures)
     (in_hand_next s.header s.left (g.P.Progress.rest s.header c.in-Some.progress) c.args.answer hand goes answer)
@@ -46,7 +46,7 @@ returns-then-ends-clause-script g c =
     let s = c.args.self.now in
     let ends = sym (c.is_return-ends.ensures ∙ ap is_return c.wants.ensures) ∙ c.if-ends.true in
     let answer = is_of_some (λ p. IsAnswer
-      (next_act (g.P.Progress.rest s.header p)) c.args.answer) s.progress c.in-Some.progress c.in-Some.is c.requires.answer in
+    (next_act (g.P.Progress.rest s.header p)) c.args.answer) s.progress c.in-Some.progress c.in-Some.is c.requires.answer in
     let hand = of_some (λ p. IsInHand s.header s.left (g.P.Progress.rest s.header p)) s.progress c.in-Some.progress c.in-Some.is s.goes_on in
     sym (ap (λ o. after_answer (option_map_or (g.P.Progress.rest s.header) o stop) c.args.answer) c.in-Some.is
     ∙ in_hand_over s.header s.left (g.P.Progress.rest s.header c.in-Some.progress) c.args.answer hand ends answer)

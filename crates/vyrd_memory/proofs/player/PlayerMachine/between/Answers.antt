@@ -12,4 +12,4 @@ returns g c =
     let m = c.args.self.now in
     flipped c.is_none.result (is_some m.hand.progress) (sym c.is_none.ensures)
     ∙ sym (player_between m.hand.header m.hand.left (g.P.Progress.rest m.hand.header) m.hand.progress
-      (g.P.Progress.procedure m.hand.header m.variant) (drop m.begun m.ops.items) m.hand.goes_on)
+    (g.P.Progress.procedure m.hand.header m.variant) (drop m.begun m.ops.items) m.hand.goes_on)

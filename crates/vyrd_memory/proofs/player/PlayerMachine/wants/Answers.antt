@@ -16,5 +16,5 @@ returns-in-Some g c =
     let m = c.args.self.now in
     c.wants.ensures
     ∙ sym (player_wants m.hand.header m.hand.left (g.P.Progress.rest m.hand.header) m.hand.progress c.in-Some.progress
-      (g.P.Progress.procedure m.hand.header m.variant) (drop m.begun m.ops.items)
+    (g.P.Progress.procedure m.hand.header m.variant) (drop m.begun m.ops.items)
     m.hand.goes_on c.in-Some.is)

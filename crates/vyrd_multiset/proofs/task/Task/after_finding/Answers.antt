@@ -5,5 +5,5 @@ use Rattle.vyrd_multiset.proofs.task.Task.after_finding.Goals as goal
 pub returns-else-look-eq0 : goal.returns-else-look-eq0
 returns-else-look-eq0 c =
     find_next c.args.header.now c.args.self.variant (wanted c.args.self c.args.want)
-      (found_for c.args.header.now c.args.self c.args.want) c.args.place c.in-Load.look
+    (found_for c.args.header.now c.args.self c.args.want) c.args.place c.in-Load.look
     c.next.result.after c.next.result.slot c.args.answer c.in-Load.is c.if-answer-eq-FREE.false c.if-look-eq0.false c.next.ensures.after c.next.ensures.slot

@@ -12,15 +12,15 @@ invariant_of-self c = let s = c.self.inside in
     let low : c.args.caller < s.header.callers = rw (← c.self.view_is) at c.requires.caller in
     let block = get_or s.blocks.items c.args.caller None in
     let read = get_or_read s.blocks.items c.args.caller c.index_mut-block.result.now
-      (omega (arith, low, c.self.invariant.all_blocks)) c.index_mut-block.ensures.value None in
+    (omega (arith, low, c.self.invariant.all_blocks)) c.index_mut-block.ensures.value None in
     let effect = effect_is s.words.len c.end.new.words c.deref_mut.result.now s.words.items c.index_mut-block.result.now block
-      (omega arith) c.deref_mut.ensures.value read c.end.ensures.words in
+    (omega arith) c.deref_mut.ensures.value read c.end.ensures.words in
     let changed = c.end.ensures.changed ∙ ap (λ b. s.changed.items ++ keys_of (unwrap_or b [])) read in
     let counts : s.count - c.len.result ≡ s.count - length (unwrap_or block []) = ap (λ n. s.count - n) (c.len.ensures
-      ∙ ap (λ b. length (unwrap_or b [])) read) in
+    ∙ ap (λ b. length (unwrap_or b [])) read) in
     rw (effect, c.end.ensures.closed, changed)
     (sound_closed s.header s.words.items s.blocks.items s.changed.items s.count _ c.self.invariant c.args.caller low
-      (s.count - c.len.result) _ counts c.end.ensures.capacity)
+    (s.count - c.len.result) _ counts c.end.ensures.capacity)
 
 pub returns-clause-closed : goal.returns-clause-closed
 returns-clause-closed c = λ earlier followed. let s = c.self.inside in
@@ -32,9 +32,9 @@ returns-clause-closed c = λ earlier followed. let s = c.self.inside in
     let block = get_or s.blocks.items c.args.caller None in
     let read = get_or_read s.blocks.items c.args.caller c.index_mut-block.result.now low_here c.index_mut-block.ensures.value None in
     let effect = effect_is s.words.len c.end.new.words c.deref_mut.result.now s.words.items c.index_mut-block.result.now block
-      (omega arith) c.deref_mut.ensures.value read c.end.ensures.words in
+    (omega arith) c.deref_mut.ensures.value read c.end.ensures.words in
     rw (effect, c.end.ensures.closed)
-      (followed_close kept earlier c.args.caller c.end.new.changed.items low low_here c.self.invariant.all_words opened inside)
+    (followed_close kept earlier c.args.caller c.end.new.changed.items low low_here c.self.invariant.all_words opened inside)
 
 pub returns-clause-committed : goal.returns-clause-committed
 returns-clause-committed c = λ earlier followed. let s = c.self.inside in
@@ -46,6 +46,6 @@ returns-clause-committed c = λ earlier followed. let s = c.self.inside in
     let block = get_or s.blocks.items c.args.caller None in
     let read = get_or_read s.blocks.items c.args.caller c.index_mut-block.result.now low_here c.index_mut-block.ensures.value None in
     let effect = effect_is s.words.len c.end.new.words c.deref_mut.result.now s.words.items c.index_mut-block.result.now block
-      (omega arith) c.deref_mut.ensures.value read c.end.ensures.words in
+    (omega arith) c.deref_mut.ensures.value read c.end.ensures.words in
     rw (effect, c.end.ensures.closed)
-      (followed_commit kept earlier c.args.caller c.end.new.changed.items low low_here c.self.invariant.all_words opened inside)
+    (followed_commit kept earlier c.args.caller c.end.new.changed.items low low_here c.self.invariant.all_words opened inside)

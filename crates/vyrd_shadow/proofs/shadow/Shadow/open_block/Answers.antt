@@ -6,7 +6,15 @@ use Rattle.vyrd_shadow.proofs.shadow.Shadow.open_block.Goals as goal
 pub returns-clause-followed : goal.returns-clause-followed
 returns-clause-followed c = λ earlier followed. let s = c.self.inside in
     let low : c.args.caller < s.header.callers = rw (← c.self.view_is) at c.requires.caller in
-    let inside : HasFollowed (record { header = s.header; words = s.words.items; blocks = s.blocks.items;
-      changed = s.changed.items }) earlier = rw c.self.view_is followed in
-    rw c.open.ensures (followed_open (record { header = s.header; words = s.words.items; blocks = s.blocks.items;
-      changed = s.changed.items }) earlier c.args.caller (omega (arith, low, c.self.invariant.all_blocks)) inside)
+    let inside : HasFollowed (record {
+      header = s.header;
+      words = s.words.items;
+      blocks = s.blocks.items;
+      changed = s.changed.items;
+    }) earlier = rw c.self.view_is followed in
+    rw c.open.ensures (followed_open (record {
+      header = s.header;
+      words = s.words.items;
+      blocks = s.blocks.items;
+      changed = s.changed.items;
+    }) earlier c.args.caller (omega (arith, low, c.self.invariant.all_blocks)) inside)

@@ -27,4 +27,4 @@ returns-else-is_open-clause-followed c = λ earlier followed. let s = c.self.ins
     on_ok c.write_through.result c.write_through.ensures.ok
     (λ is. subst (λ kept. HasFollowed kept (entry c.args.caller (Write c.args.word c.args.value) ∷ earlier)) (sym is)
     (followed_through now earlier c.args.caller c.args.word c.args.value
-      (now.changed ++ c.args.word ∷ []) c.requires.caller c.requires.word closed followed))
+    (now.changed ++ c.args.word ∷ []) c.requires.caller c.requires.word closed followed))

@@ -13,7 +13,7 @@ returns-clause-rule c = λ earlier followed. let s = c.self.inside in let who = 
     let low : who < s.header.callers = omega arith in
     let within : nat_le s.header.callers who ≡ false = grind (arith, nat_tests) in
     let inside : HasFollowed (record { header = s.header; phases = s.phases.items; holders = s.holders.by_word }) earlier =
-      rw c.self.view_is followed in
+    rw c.self.view_is followed in
     let is = phase_is s.phases.items who c.index-phase.result.now (phase_of who earlier) c.index-phase.ensures (inside.phases who low) in
     let now : nat_le c.args.self.now.header.callers who ≡ false = rw (← c.self.view_is) within in
     c.broken_in.ensures.rule earlier followed is

@@ -12,10 +12,13 @@ returns-then-is_held_by_another-clause-rule c = λ earlier followed is. let s = 
     let none : is_none c.write_rule-rule.result ≡ true = ap not c.if-is_none.ensures in
     let low : c.args.word < plain_words s.header = if_none c.write_rule-rule.result none c.write_rule-rule.ensures.word in
     let inside : HasFollowed (record { header = s.header; phases = s.phases.items; holders = s.holders.by_word }) earlier =
-      rw c.self.view_is followed in
+    rw c.self.view_is followed in
     let raced : is_held_by_other s.header c.args.caller c.args.word earlier ≡ true
-    = raced_is (record { header = s.header; phases = s.phases.items;
-      holders = s.holders.by_word }) earlier s.holders c.args.caller c.args.word c.self.invariant.enough_callers (λ i. s.holders.by_word) low inside
+    = raced_is (record {
+      header = s.header;
+      phases = s.phases.items;
+      holders = s.holders.by_word;
+    }) earlier s.holders c.args.caller c.args.word c.self.invariant.enough_callers (λ i. s.holders.by_word) low inside
     ∙ sym c.is_held_by_another.ensures ∙ c.if-is_held_by_another.true in
     rw (← c.self.view_is) (raced_rule c.write_rule-rule.result _ _ none raced (c.write_rule-rule.ensures.rule c.args.caller earlier is))
 
@@ -26,14 +29,17 @@ returns-else-is_none-clause-rule c = λ earlier followed is. let s = c.self.insi
           let none : is_none c.write_rule-rule.result ≡ true = ap not w.if-is_none.ensures in
           let low : c.args.word < plain_words s.header = if_none c.write_rule-rule.result none c.write_rule-rule.ensures.word in
           let inside : HasFollowed (record { header = s.header; phases = s.phases.items; holders = s.holders.by_word }) earlier =
-            rw c.self.view_is followed in
+          rw c.self.view_is followed in
           let clear : is_held_by_other s.header c.args.caller c.args.word earlier ≡ false
-          = raced_is (record { header = s.header; phases = s.phases.items;
-            holders = s.holders.by_word }) earlier s.holders c.args.caller c.args.word c.self.invariant.enough_callers
-            (λ i. s.holders.by_word) low inside
+          = raced_is (record {
+            header = s.header;
+            phases = s.phases.items;
+            holders = s.holders.by_word;
+          }) earlier s.holders c.args.caller c.args.word c.self.invariant.enough_callers
+          (λ i. s.holders.by_word) low inside
           ∙ sym w.is_held_by_another.ensures ∙ w.if-is_held_by_another.false in
           rw (← c.self.view_is) (clear_rule c.write_rule-rule.result _ _ clear (c.write_rule-rule.ensures.rule c.args.caller earlier is))
       | else-is_none-via-else-is_none w ↦
           rw (← c.self.view_is) (first_rule c.write_rule-rule.result _ _ (ap not w.if-is_none.ensures)
-            (c.write_rule-rule.ensures.rule c.args.caller earlier is))
+          (c.write_rule-rule.ensures.rule c.args.caller earlier is))
     ]

@@ -13,7 +13,7 @@ returns-clause-read c = λ bytes has. unless c.answer-2.result
 pub returns-clause-entries : goal.returns-clause-entries
 returns-clause-entries c = λ bytes has. unless c.answer-2.result
     (subst (λ (t : List Entry). IsGrownBy t (entries_of c.args.self.now bytes) c.take_piece.new.out.items
-      (reading (so_far c.args.self.now) (bytes ++ c.args.piece.now)).entries) c.reserve.ensures.items
+    (reading (so_far c.args.self.now) (bytes ++ c.args.piece.now)).entries) c.reserve.ensures.items
     (fed_entries c.args.self.now c.take_piece.new.self bytes c.args.piece.now c.reserve.new.self.items c.take_piece.new.out.items has c.take_piece.ensures))
 
 pub returns-clause-answer : goal.returns-clause-answer

@@ -29,10 +29,10 @@ returns-then-self-clause-ended c =
 pub returns-clause-answer : goal.returns-clause-answer
 returns-clause-answer c =
     subst (λ (s : ReaderState). (bytes : List ℕ) → HasRead s bytes
-      → (reading (whole s) bytes).fault ≡ Some (record { line = c.self.inside.line; rule = c.if-is_empty.rule })) c.self.view_is
+    → (reading (whole s) bytes).fault ≡ Some (record { line = c.self.inside.line; rule = c.if-is_empty.rule })) c.self.view_is
     (λ bytes has.
     unfinished_at_end (state_of c.self.inside) bytes has
-      (fault_none c.self.inside.fault (sym c.if-is_some.ensures)) c.self.invariant.one_line c.if-self.false (λ none. (c.self.invariant.first none).0)
+    (fault_none c.self.inside.fault (sym c.if-is_some.ensures)) c.self.invariant.one_line c.if-self.false (λ none. (c.self.invariant.first none).0)
     ∙ ap (λ r. Some (record { line = c.self.inside.line; rule = r }))
     (elim c.if-is_empty.branch [
       | then-is_empty w ↦ rule_none c.self.inside.unfinished (w.if-is_empty.ensures.0 refl) ∙ sym w.rule-is

@@ -17,4 +17,4 @@ returns c =
     line_then c.args.self.now (state_of c.self-2.inside) c.end_line-2.new.self c.args.line.now (option_to_list c.end_line-2.result)
     (subst (λ (s : ReaderState). IsTaken c.args.self.now c.args.line.now [] s) (sym c.self-2.view_is) c.take_unfinished.ensures)
     (subst (λ t. IsLineTaken (with_line (state_of c.self-2.inside) t)
-      (option_to_list c.end_line-2.result) c.end_line-2.new.self) same c.end_line-2.ensures)
+    (option_to_list c.end_line-2.result) c.end_line-2.new.self) same c.end_line-2.ensures)

@@ -15,12 +15,18 @@ loop-line-preserved c =
     let parts = c.in-Some.ensures.1 in (
       read ++ (line ++ 10 ∷ []),
       c.loop-line.invariant.1 ∙ ap (λ t. read ++ t) (parts ∙ sym (append_assoc line (10 ∷ []) after))
-        ∙ sym (append_assoc read (line ++ 10 ∷ []) after),
+          ∙ sym (append_assoc read (line ++ 10 ∷ []) after),
       fed_then c.args.self.now c.loop-line.self c.take_line-entry.new.self read
-        (line ++ 10 ∷ []) c.args.out.now.items c.loop-line.out.items c.put.new.out.items (option_to_list c.take_line-entry.result)
+          (line ++ 10 ∷ []) c.args.out.now.items c.loop-line.out.items c.put.new.out.items (option_to_list c.take_line-entry.result)
           c.loop-line.invariant.2 c.take_line-entry.ensures c.put.ensures.items,
-      omega (arith, count_line line after, c.loop-line.invariant.3, c.put.ensures.len, c.put.ensures.capacity,
-        ap (λ t. count_by (λ b. b == 10) t) parts),
+      omega (
+        arith,
+        count_line line after,
+        c.loop-line.invariant.3,
+        c.put.ensures.len,
+        c.put.ensures.capacity,
+        ap (λ t. count_by (λ b. b == 10) t) parts,
+      ),
     )
 
 pub returns : goal.returns

@@ -8,4 +8,4 @@ returns-in-Some c =
     let low : 1 ≤ c.args.self.now.max_lines = omega (arith, same, c.self.invariant.low) in
     rw c.break_rule.ensures
     (fault_taken c.args.self.now (record { line = c.args.self.now.line; rule = c.in-Some.rule }) c.args.bytes.now low
-      (c.in-Some.ensures.rule c.args.bytes.now refl c.requires))
+    (c.in-Some.ensures.rule c.args.bytes.now refl c.requires))

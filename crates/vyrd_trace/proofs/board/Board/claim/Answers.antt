@@ -10,5 +10,5 @@ compare_exchange-requires c =
       q.table,
       omega arith,
       claims_cell c.args.self.now.table.shared.key look_again _ _ _ c.args.cell c.args.old _ q.live (omega arith) q.rest q.even
-        (λ l. absurd (omega arith)) refl,
+          (λ l. absurd (omega arith)) refl,
     )

@@ -10,5 +10,5 @@ fetch_add-requires g c =
       q.table,
       omega arith,
       draws c.args.self.now.table.shared.key z.3 z.4 _ _ _ g.J.Intent.did q.live q.room
-        (subst (MayDraw c.args.self.now.table.shared.key c.args.seat.now.me.0) q.picked q.may),
+          (subst (MayDraw c.args.self.now.table.shared.key c.args.seat.now.me.0) q.picked q.may),
     )

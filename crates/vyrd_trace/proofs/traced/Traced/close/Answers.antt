@@ -28,7 +28,7 @@ merge-requires c =
 module _ (c : goal.After-drop-lanes) where
   facts : (h : List Stamped) × (is_legal (cells_in c.self.inside.board.table.shared.key) h ≡ true) × AreParts h c.args.hands.items
       × AreTwice c.self.inside.board.table.shared.key h (slots_items c.close_with-closed.result.words) × (c.merge.new.history ≡ h)
-        × (length h ≡ length c.in-Ok.room.history.items)
+      × (length h ≡ length c.in-Ok.room.history.items)
   facts =
       let seat = c.gather_all-seat.ensures.seat in
       let f = closed_facts c.self.inside.board.table.shared.key _ _ _ _ c.args.hands.items c.close_with-closed.ensures.values.2 seat.1 seat.2 seat.3 (c.requires.0 ∙ sym (ap (λ (v : TracedView). v.plan.callers) c.self.view_is)) (λ i d l. (c.requires.1 i d l).1) in
@@ -40,7 +40,7 @@ module _ (c : goal.After-drop-lanes) where
         f.3,
         f.4,
         c.merge.ensures f.0 (subst (IsMerge f.0) (sym c.gather_all-seat.ensures.lanes
-          ∙ ap (map items) (sym c.as_slice-2.ensures.value)) f.1) (long ∙ sym (ap (λ (l : List Stamped). length l) c.as_mut_slice.ensures.value)),
+            ∙ ap (map items) (sym c.as_slice-2.ensures.value)) f.1) (long ∙ sym (ap (λ (l : List Stamped). length l) c.as_mut_slice.ensures.value)),
         long,
       )
 
@@ -51,7 +51,7 @@ module _ (c : goal.After-drop-lanes) where
 pub returns-clause-legal : goal.returns-clause-legal
 returns-clause-legal c =
     subst (λ (x : Plan × List Stamped). is_legal (cells_in x.0) x.1
-      ≡ true) (λ i. (ap (λ (v : TracedView). v.plan) c.self.view_is i, sym (written c) i)) (facts c).1
+    ≡ true) (λ i. (ap (λ (v : TracedView). v.plan) c.self.view_is i, sym (written c) i)) (facts c).1
 
 pub returns-clause-parts : goal.returns-clause-parts
 returns-clause-parts c = subst (λ (h : List Stamped). AreParts h c.args.hands.items) (sym (written c)) (facts c).2
@@ -66,5 +66,5 @@ returns-clause-words c =
     let cells : c.word_count-cells.result - 1 ≡ p.plain + p.locks = omega arith in
     let long = sym c.halve_words.new.words.ok.0 ∙ w.0 ∙ cells in
     subst (λ (x : Plan × List Stamped). c.halve_words.new.words.items ≡ last_values x.0 x.1)
-      (λ i. (ap (λ (v : TracedView). v.plan) c.self.view_is i, sym (written c) i))
+    (λ i. (ap (λ (v : TracedView). v.plan) c.self.view_is i, sym (written c) i))
     (halved p f.0 (slots_items c.close_with-closed.result.words) c.halve_words.new.words.items f.3 long (λ k l. w.1 k (omega arith)))
