@@ -1,7 +1,7 @@
 //! The numbered calls of a device in memory, some of which are made to fail.
 
 ghost use Rattle.std.specs.Prelude.{◌≡◌, ◌-◌, ◌<◌, ◌≤◌, ◌^◌, [], false, IfOk, vec_len};
-ghost use Rattle.vyrd_base.specs.Devices.{HasRisen};
+ghost use Rattle.vyrd_base.specs.Devices.{HasRisen, next_count, fails_next};
 
 use crate::device::Failed;
 use std::alloc::{AllocError, Global};
@@ -11,7 +11,7 @@ use std::alloc::{AllocError, Global};
 pub(crate) struct Calls {
     pub(crate) failing: Vec<u64>,
     pub(crate) faults: u64,
-    made: u64,
+    pub(crate) made: u64,
 }
 
 impl Calls {
@@ -19,6 +19,7 @@ impl Calls {
     pub(crate) fn new(alloc: Global, failing: &[u64]) -> Result<Calls, AllocError>
         ensures failing { IfOk result (λ c. c.failing.items ≡ failing.now) }
         ensures faults { IfOk result (λ c. c.faults ≡ 0) }
+        ensures made { IfOk result (λ c. c.made ≡ 0) }
     {
         Ok(Calls {
             failing: Vec::from_slice(alloc, failing)?,
@@ -29,7 +30,8 @@ impl Calls {
 
     /// Begins the next call, and says whether it fails.
     pub(crate) fn next_fails(&mut self) -> bool
-        ensures named { self.old.failing.items ≡ [] → result ≡ false }
+        ensures answer { result ≡ fails_next self.old.made self.old.failing.items }
+        ensures made { self.new.made ≡ next_count self.old.made }
         ensures failing { self.new.failing.items ≡ self.old.failing.items }
         ensures faults { self.new.faults ≡ self.old.faults }
     {
@@ -40,6 +42,8 @@ impl Calls {
     /// Counts a fault.
     pub(crate) fn fault(&mut self) -> Failed
         ensures failing { self.new.failing.items ≡ self.old.failing.items }
+        ensures made { self.new.made ≡ self.old.made }
+        ensures counted { self.new.faults ≡ next_count self.old.faults }
         ensures later { self.old.faults ≤ self.new.faults }
         ensures risen { HasRisen self.old.faults self.new.faults }
     {

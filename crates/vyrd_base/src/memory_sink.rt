@@ -1,7 +1,7 @@
 //! A sink in memory.
 
-ghost use Rattle.std.specs.Prelude.{◌≡◌, ◌==◌, ◌<◌, ◌≤◌, true, [], length, Some, IfOk, vec_len};
-ghost use Rattle.vyrd_base.specs.Devices.{sure_room_of};
+ghost use Rattle.std.specs.Prelude.{◌≡◌, ◌-◌, ◌<◌, ◌≤◌, min, true, [], length, Some, IfOk, OnErr, is_err, vec_len};
+ghost use Rattle.vyrd_base.specs.Devices.{HasRisen, Takes, sure_room_of, next_count, write_fails};
 
 use crate::calls::Calls;
 use crate::device::{Failed, Sink};
@@ -26,8 +26,10 @@ impl Model for MemorySink {
     ghost view = { λ s. record {
       taken = s.taken.items;
       room = s.room;
+      cut = s.cut;
+      made = s.calls.made;
+      failing = s.calls.failing.items;
       faults = s.calls.faults;
-      is_sure = length s.calls.failing.items == 0;
     } };
 
     ghost invariant = { λ s. (length s.taken.items ≤ s.room) × (s.room ≤ vec_capacity s.taken) × (0 < s.cut) };
@@ -47,8 +49,10 @@ impl MemorySink {
         requires { 0 < cut }
         ensures taken { IfOk result (λ s. s.taken ≡ []) }
         ensures room { IfOk result (λ s. s.room ≡ room) }
+        ensures cut { IfOk result (λ s. s.cut ≡ cut) }
+        ensures made { IfOk result (λ s. s.made ≡ 0) }
+        ensures failing { IfOk result (λ s. s.failing ≡ failing.now) }
         ensures faults { IfOk result (λ s. s.faults ≡ 0) }
-        ensures sure { IfOk result (λ s. s.is_sure ≡ (length failing.now == 0)) }
     {
         Ok(MemorySink {
             taken: Vec::with_capacity(alloc, room)?,
@@ -73,7 +77,23 @@ impl Sink for MemorySink {
 
     ghost sure_room = { sure_room_of };
 
-    fn write(&mut self, piece: &[u8]) -> Result<usize, Failed> {
+    fn write(&mut self, piece: &[u8]) -> Result<usize, Failed>
+        requires { 0 < length piece.now }
+        ensures taken { IfOk result (λ n. Takes (Some self.old.taken) n piece.now (Some self.new.taken)) }
+        ensures size { IfOk result (λ n. n ≡ min (min (length piece.now) self.old.cut) (self.old.room - length self.old.taken)) }
+        ensures kept { OnErr result (self.new.taken ≡ self.old.taken) }
+
+        // It fails just where it finds no room, or where the number of this write is one of those that were given.
+        ensures fails { is_err result ≡ write_fails self.old }
+        ensures made { self.new.made ≡ next_count self.old.made }
+        ensures failing { self.new.failing ≡ self.old.failing }
+        ensures room { self.new.room ≡ self.old.room }
+        ensures cut { self.new.cut ≡ self.old.cut }
+        ensures risen { OnErr result (self.new.faults ≡ next_count self.old.faults) }
+        ensures counted { self.old.faults ≤ self.new.faults }
+        ensures cause { OnErr result (HasRisen self.old.faults self.new.faults) }
+        ensures failures_alone { IfOk result (λ _. self.new.faults ≡ self.old.faults) }
+    {
         let left = self.room - self.taken.len();
         if self.calls.next_fails() || left == 0 {
             return Err(self.calls.fault());

@@ -1,6 +1,7 @@
 //! A source in memory.
 
-ghost use Rattle.std.specs.Prelude.{◌≡◌, ◌==◌, ◌<◌, ◌≤◌, true, [], length, drop, Some, IfOk, vec_len};
+ghost use Rattle.std.specs.Prelude.{◌≡◌, ◌==◌, ◌<◌, ◌≤◌, min, true, [], length, drop, Some, Ok, IfOk, OnErr, is_err, vec_len};
+ghost use Rattle.vyrd_base.specs.Devices.{HasRisen, Gives, IsAtEnd, next_count, fails_next};
 
 use crate::calls::Calls;
 use crate::device::{Failed, Source};
@@ -24,8 +25,10 @@ impl Model for MemorySource {
 
     ghost view = { λ s. record {
       rest = drop s.given s.bytes.items;
+      cut = s.cut;
+      made = s.calls.made;
+      failing = s.calls.failing.items;
       faults = s.calls.faults;
-      is_sure = length s.calls.failing.items == 0;
     } };
 
     ghost invariant = { λ s. (s.given ≤ length s.bytes.items) × (0 < s.cut) };
@@ -43,8 +46,10 @@ impl MemorySource {
     ) -> Result<MemorySource, AllocError>
         requires { 0 < cut }
         ensures rest { IfOk result (λ s. s.rest ≡ bytes.now) }
+        ensures cut { IfOk result (λ s. s.cut ≡ cut) }
+        ensures made { IfOk result (λ s. s.made ≡ 0) }
+        ensures failing { IfOk result (λ s. s.failing ≡ failing.now) }
         ensures faults { IfOk result (λ s. s.faults ≡ 0) }
-        ensures sure { IfOk result (λ s. s.is_sure ≡ (length failing.now == 0)) }
     {
         Ok(MemorySource {
             bytes: Vec::from_slice(alloc, bytes)?,
@@ -60,9 +65,25 @@ impl Source for MemorySource {
 
     ghost faults = { λ s. s.faults };
 
-    ghost is_sure = { λ s. s.is_sure };
+    ghost is_sure = { λ s. length s.failing == 0 };
 
-    fn read(&mut self, buf: &mut [u8]) -> Result<usize, Failed> {
+    fn read(&mut self, buf: &mut [u8]) -> Result<usize, Failed>
+        requires { 0 < length buf.old }
+        ensures given { IfOk result (λ n. Gives (Some self.old.rest) n buf.new (Some self.new.rest)) }
+        ensures size { IfOk result (λ n. n ≡ min (min (length self.old.rest) self.old.cut) (length buf.old)) }
+        ensures at_end { result ≡ Ok 0 → IsAtEnd (Some self.new.rest) }
+        ensures kept { OnErr result (self.new.rest ≡ self.old.rest) }
+
+        // It fails just where the number of this read is one of those that were given.
+        ensures fails { is_err result ≡ fails_next self.old.made self.old.failing }
+        ensures made { self.new.made ≡ next_count self.old.made }
+        ensures failing { self.new.failing ≡ self.old.failing }
+        ensures cut { self.new.cut ≡ self.old.cut }
+        ensures risen { OnErr result (self.new.faults ≡ next_count self.old.faults) }
+        ensures counted { self.old.faults ≤ self.new.faults }
+        ensures cause { OnErr result (HasRisen self.old.faults self.new.faults) }
+        ensures failures_alone { IfOk result (λ _. self.new.faults ≡ self.old.faults) }
+    {
         if self.calls.next_fails() {
             return Err(self.calls.fault());
         }
