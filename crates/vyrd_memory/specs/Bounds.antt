@@ -5,7 +5,7 @@ use Rattle.vyrd_base.specs.declared.subject.Subject.{Subject}
 use Rattle.vyrd_base.specs.declared.subject.Subject.TheVariants.{Multiset, Cache, Tree}
 use Rattle.vyrd_base.specs.declared.subject.Method.{Method}
 use Rattle.vyrd_base.specs.declared.subject.Method.TheVariants.{TrInsert}
-use Rattle.vyrd_base.specs.declared.log.Kind.TheVariants.{Return}
+use Rattle.vyrd_base.specs.declared.log.Kind.TheVariants.{Call, Return}
 use Rattle.vyrd_memory.specs.declared.act.Act.{Act}
 use Rattle.vyrd_memory.specs.declared.act.Act.TheVariants.{Mark}
 use Rattle.vyrd_memory.specs.declared.op.Op.{Op}
@@ -47,3 +47,13 @@ EndsByReturn n (step act rest) = (1 ≤ n) × (is_return act ≡ true → is_sto
 abbrev pub EndsWithin : ℕ → Script → Type 0
 EndsWithin n stop = ⊤
 EndsWithin n (step act rest) = (1 ≤ n) × (is_return act ≡ false → (answer : ℕ) → IsAnswer act answer → EndsWithin (n - 1) (rest answer))
+
+-- what an act takes of the bounds that are ahead: a call takes the bound of its operation
+abbrev pub bound_taken : Header → Act → ℕ
+bound_taken h (Mark (Call method args)) = bound_of h method
+bound_taken h _ = 0
+
+-- Whatever is loaded, n is the sum of the bounds of the operations that the script calls.
+abbrev pub SumsUp : Header → ℕ → Script → Type 0
+SumsUp h n stop = n ≡ 0
+SumsUp h n (step act rest) = (bound_taken h act ≤ n) × ((answer : ℕ) → IsAnswer act answer → SumsUp h (n - bound_taken h act) (rest answer))

@@ -85,7 +85,7 @@ no_call h s (Mark BlockClose) called may = refl
 no_call h s (Mark BlockCommit) called may = refl
 
 -- the execution stays open until its return
-still_called : (s : Standing) (act : Act) → is_some s.called ≡ true → is_return act ≡ false → is_some (after_act s act).called ≡ true
+pub still_called : (s : Standing) (act : Act) → is_some s.called ≡ true → is_return act ≡ false → is_some (after_act s act).called ≡ true
 still_called s (Load cell) called goes = called
 still_called s (Store cell value) called goes = called
 still_called s (Take lock) called goes = called

@@ -1,5 +1,5 @@
 -- What a player's script is: the operation in hand, followed by the operations to come.
-use Rattle.std.proofs.Common.{◌≡◌, ℕ, ◌+◌, ◌-◌, ◌≤◌, true, false, not, ◌&&◌, List, [], ◌∷◌, Option, Some, None, refl, ap, ◌∙◌, sym, subst, arith}
+use Rattle.std.proofs.Common.{◌≡◌, ℕ, ◌+◌, ◌-◌, ◌≤◌, Bool, true, false, not, ◌&&◌, List, [], ◌∷◌, Option, Some, None, refl, ap, ◌∙◌, sym, subst, arith}
 use Rattle.std.specs.Prelude.{◌≢◌, IfSome, is_some, is_none, if◌then◌else◌}
 use Rattle.std.specs.Option.{option_map_or}
 use Rattle.std.proofs.Math.Logic.{∥∥₁_map}
@@ -10,7 +10,7 @@ use Rattle.vyrd_base.specs.declared.subject.Method.{Method}
 use Rattle.vyrd_base.specs.declared.subject.Method.TheVariants.{MsInsert, MsInsertPair, MsDelete, MsLookup, CaWrite, CaFlush, CaEvict, CaRead, TrInsert, TrDelete}
 use Rattle.vyrd_base.specs.declared.subject.Method.TheVariants.{TrLookup}
 use Rattle.vyrd_base.specs.declared.subject.Args.{Args}
-use Rattle.vyrd_base.specs.declared.log.Kind.TheVariants.{Call}
+use Rattle.vyrd_base.specs.declared.log.Kind.TheVariants.{Call, Return, Write, Commit, BlockOpen, BlockClose, BlockCommit}
 use Rattle.vyrd_base.specs.Subjects.{same_subject, subject_of, are_args}
 use Rattle.vyrd_base.proofs.TestLaws.{both_true, first_true, second_true}
 use Rattle.vyrd_base.proofs.SubjectLaws.{same_subjects}
@@ -19,9 +19,9 @@ use Rattle.vyrd_memory.specs.declared.act.Act.TheVariants.{Load, Store, Take, Gi
 use Rattle.vyrd_memory.specs.declared.op.Op.{Op}
 use Rattle.vyrd_memory.specs.Scripts.{Script, stop, step, next_act, after_answer, followed_by, operations, is_between, is_call_or_done, IsAnswer}
 use Rattle.vyrd_memory.specs.Soundness.{Standing, IsSound, IsSoundSomewhere, at_rest, just_called, after_act}
-use Rattle.vyrd_memory.specs.Bounds.{EndsByReturn, EndsWithin, is_return, bound_of, bound_in, bounds_of}
+use Rattle.vyrd_memory.specs.Bounds.{EndsByReturn, EndsWithin, SumsUp, bound_taken, is_return, bound_of, bound_in, bounds_of}
 use Rattle.vyrd_memory.specs.InHand.{IsInHand}
-use Rattle.vyrd_memory.specs.HandLaws.{in_hand_goes_on, in_hand_isnt_between, in_hand_over}
+use Rattle.vyrd_memory.specs.HandLaws.{no_call, still_called, stop_of, in_hand_goes_on, in_hand_isnt_between, in_hand_over}
 use Rattle.vyrd_memory.specs.Arguments.{are_small}
 use Rattle.vyrd_memory.specs.Players.{is_callable, are_callable, first_bound}
 
@@ -100,6 +100,64 @@ operations-in_time h body (op ∷ ops) each callable = (
       (each op (first_true (is_callable h op) (are_callable h ops) callable)),
 )
 
+-- an act that is no call takes no bound
+no_bound : (h : Header) (act : Act) → is_call_or_done act ≡ false → bound_taken h act ≡ 0
+no_bound h (Load cell) e = refl
+no_bound h (Store cell value) e = refl
+no_bound h (Take lock) e = refl
+no_bound h (Give lock) e = refl
+no_bound h Done e = refl
+no_bound h (Mark (Call method args)) e = cc
+no_bound h (Mark (Return reply)) e = refl
+no_bound h (Mark (Write word value)) e = refl
+no_bound h (Mark Commit) e = refl
+no_bound h (Mark BlockOpen) e = refl
+no_bound h (Mark BlockClose) e = refl
+no_bound h (Mark BlockCommit) e = refl
+
+-- a return is answered by 0
+return_zero : (act : Act) (answer : ℕ) → is_return act ≡ true → IsAnswer act answer → answer ≡ 0
+return_zero (Load cell) answer ends is = cc
+return_zero (Store cell value) answer ends is = is
+return_zero (Take lock) answer ends is = is
+return_zero (Give lock) answer ends is = is
+return_zero Done answer ends is = is
+return_zero (Mark kind) answer ends is = is
+
+-- a procedure calls nothing, so what follows it sums up as before
+followed-sums : (h : Header) (s : Standing) (k n : ℕ) (a b : Script) → is_some s.called ≡ true → IsSound h s a → EndsByReturn k a
+    → SumsUp h n b → SumsUp h n (followed_by a b)
+followed-sums h s k n stop b called sound ends sums = absurd ends
+followed-sums h s k n (step act rest) b called sound ends sums =
+    let none : bound_taken h act ≡ 0 = no_bound h act (no_call h s act called sound.0) in
+    let same : n ≡ n - bound_taken h act = omega (arith, none) in (
+      omega (arith, none),
+      λ answer is. subst (λ m. SumsUp h m (followed_by (rest answer) b)) same
+          (by_return (is_return act) refl answer is
+          (λ goes. followed-sums h (after_act s act) (k - 1) n (rest answer) b (still_called s act called goes) (sound.1 answer is)
+          (ends.2 goes answer is) sums)),
+    )
+  where
+    by_return : (r : Bool) → is_return act ≡ r → (answer : ℕ) → IsAnswer act answer → (r ≡ false → SumsUp h n (followed_by (rest answer) b))
+        → SumsUp h n (followed_by (rest answer) b)
+    by_return false e answer is on = on refl
+    by_return true e answer is on =
+        let over : rest answer ≡ stop = ap rest (return_zero act answer e is) ∙ stop_of (rest 0) (ends.1 e) in
+        subst (λ left. SumsUp h n (followed_by left b)) (sym over) sums
+
+pub operations-sums : (h : Header) (body : Op → Script) (ops : List Op) → AreSound h body → AreBounded h body → are_callable h ops ≡ true
+    → SumsUp h (bounds_of h ops) (operations body ops)
+operations-sums h body [] sound bounded callable = refl
+operations-sums h body (op ∷ ops) sound bounded callable =
+    let this = first_true (is_callable h op) (are_callable h ops) callable in
+    let those = second_true (is_callable h op) (are_callable h ops) callable in
+    let same : bounds_of h ops ≡ bound_of h op.method + bounds_of h ops - bound_of h op.method = omega arith in (
+      omega arith,
+      λ answer is. subst (λ n. SumsUp h n (followed_by (body op) (operations body ops))) same
+          (followed-sums h (just_called op.method) (bound_of h op.method - 1) (bounds_of h ops) (body op) (operations body ops) refl
+          (sound op this) (bounded op this) (operations-sums h body ops sound bounded those)),
+    )
+
 -- what comes next of the operation in hand comes next of all
 pub followed-next : (a b : Script) → next_act a ≢ Done → next_act (followed_by a b) ≡ next_act a
 followed-next stop b goes = absurd (goes refl)
@@ -169,6 +227,20 @@ pub player_bound : {P : Type 0} (h : Header) (n : ℕ) (rest : P → Script) (pr
 player_bound h n rest None body ops method args hand e = operations-bound h body ops method args e
 player_bound h n rest (Some p) body ops method args hand e =
     let no : true ≡ false = sym (ap is_call_or_done e) ∙ hand_isnt_between h n rest p body ops hand in cc
+
+-- between operations what is ahead is the sum of the bounds of those to come
+pub player_sums : {P : Type 0} (h : Header) (n later : ℕ) (rest : P → Script) (progress : Option P) (body : Op → Script) (ops : List Op)
+    → AreSound h body → AreBounded h body → are_callable h ops ≡ true → HandIs h n rest progress → later ≡ bounds_of h ops
+    → (is_none progress ≡ true → n ≡ 0) → is_between (player_script rest progress body ops) ≡ true
+    → SumsUp h (n + later) (player_script rest progress body ops)
+player_sums h n later rest None body ops sound bounded callable hand sum idle between =
+    let same : bounds_of h ops ≡ n + later = omega (arith, sum, idle refl) in
+    subst (λ m. SumsUp h m (operations body ops)) same (operations-sums h body ops sound bounded callable)
+player_sums h n later rest (Some p) body ops sound bounded callable hand sum idle between =
+    absurd (differ (sym between ∙ hand_isnt_between h n rest p body ops hand))
+  where
+    differ : true ≡ false → ⊥
+    differ e = cc
 
 pub player_within : {P : Type 0} (h : Header) (n later : ℕ) (progress : Option P) (ops : List Op) → later ≡ bounds_of h ops
     → (if is_some progress then n else first_bound h ops) ≤ n + later

@@ -1,16 +1,17 @@
 -- What the machine of a visit owes: the script is sound, it ends in time, its call has the bound, and its return is its end.
-use Rattle.std.proofs.Common.{◌≡◌, ℕ, zero, suc, ◌+◌, ◌-◌, ◌≤◌, Bool, true, false, not, ◌&&◌, List, [], ◌∷◌, length, drop, refl, ap, ◌∙◌, sym, arith}
+use Rattle.std.proofs.Common.{◌≡◌, ℕ, zero, suc, ◌+◌, ◌-◌, ◌≤◌, Bool, true, false, not, ◌&&◌, List, [], ◌∷◌, length, drop, refl, ap, ◌∙◌, sym, subst, arith}
 use Rattle.std.specs.Prelude.{◌||◌}
+use Rattle.std.proofs.lemmas.Bool.{not-true}
 use Rattle.vyrd_base.specs.declared.header.Header.{Header}
 use Rattle.vyrd_base.specs.declared.subject.Method.{Method}
 use Rattle.vyrd_base.specs.declared.subject.Args.{Args}
-use Rattle.vyrd_base.specs.declared.log.Kind.TheVariants.{Call}
+use Rattle.vyrd_base.specs.declared.log.Kind.TheVariants.{Call, Return, Write, Commit, BlockOpen, BlockClose, BlockCommit}
 use Rattle.vyrd_base.proofs.TestLaws.{first_true, second_true}
 use Rattle.vyrd_memory.specs.declared.act.Act.{Act}
 use Rattle.vyrd_memory.specs.declared.act.Act.TheVariants.{Load, Store, Take, Give, Mark, Done}
-use Rattle.vyrd_memory.specs.Scripts.{stop, next_act, after_answer, is_between, IsAnswer}
+use Rattle.vyrd_memory.specs.Scripts.{stop, next_act, after_answer, is_call_or_done, is_between, IsAnswer}
 use Rattle.vyrd_memory.specs.Soundness.{Standing, IsSound, IsSoundSomewhere, at_rest, after_act, is_nil}
-use Rattle.vyrd_memory.specs.Bounds.{bound_of, EndsWithin, is_return}
+use Rattle.vyrd_memory.specs.Bounds.{bound_of, EndsWithin, SumsUp, bound_taken, is_return}
 use Rattle.vyrd_memory.specs.Visits.{visited, listed, rest_of_visit, visit, ahead_after}
 
 zero_is_answer : (act : Act) → IsAnswer act 0
@@ -124,6 +125,54 @@ visit_done crosses (suc n) e =
     let eight : length (rest_of_visit crosses) ≡ 8 = rest_has_8 crosses in
     let low : length (rest_of_visit crosses) ≤ n = over_later (rest_of_visit crosses) n e in
     omega arith
+
+-- acts of which none is a call take no bounds
+no_taken : (act : Act) → is_call act ≡ false → bound_taken visited act ≡ 0
+no_taken (Mark (Call method args)) e = cc
+no_taken (Mark (Return reply)) e = refl
+no_taken (Mark (Write word value)) e = refl
+no_taken (Mark Commit) e = refl
+no_taken (Mark BlockOpen) e = refl
+no_taken (Mark BlockClose) e = refl
+no_taken (Mark BlockCommit) e = refl
+no_taken (Load cell) e = refl
+no_taken (Store cell value) e = refl
+no_taken (Take lock) e = refl
+no_taken (Give lock) e = refl
+no_taken Done e = refl
+
+listed_sums : (acts : List Act) → have_no_call acts ≡ true → SumsUp visited 0 (listed acts)
+listed_sums [] none = refl
+listed_sums (act ∷ acts) none =
+    let taken : bound_taken visited act ≡ 0 = no_taken act (not-true (is_call act) (first_true (not (is_call act)) (have_no_call acts) none)) in
+    let same : 0 ≡ 0 - bound_taken visited act = omega (arith, taken) in
+    (omega (arith, taken), λ answer is. subst (λ n. SumsUp visited n (listed acts)) same (listed_sums acts (second_true (not (is_call act)) (have_no_call acts) none)))
+
+-- between its operations a visitor has made its visit, or none of it
+abbrev pub goes_on : List Act → Bool
+goes_on [] = true
+goes_on (act ∷ acts) = not (is_call_or_done act) && goes_on acts
+
+between_is_over : (acts : List Act) (n : ℕ) → goes_on acts ≡ true → is_between (listed (drop n acts)) ≡ true → listed (drop n acts) ≡ stop
+between_is_over [] zero goes between = refl
+between_is_over [] (suc n) goes between = refl
+between_is_over (act ∷ acts) zero goes between = absurd (not_both (is_call_or_done act) between (first_true (not (is_call_or_done act)) (goes_on acts) goes))
+  where
+    not_both : (b : Bool) → b ≡ true → not b ≡ true → ⊥
+    not_both true e f = cc
+    not_both false e f = cc
+between_is_over (act ∷ acts) (suc n) goes between = between_is_over acts n (second_true (not (is_call_or_done act)) (goes_on acts) goes) between
+
+visit_goes : (crosses : Bool) → goes_on (rest_of_visit crosses) ≡ true
+visit_goes false = refl
+visit_goes true = refl
+
+pub visit_sums : (crosses : Bool) (n : ℕ) → is_between (listed (drop n (visit crosses))) ≡ true
+    → SumsUp visited (ahead_after n) (listed (drop n (visit crosses)))
+visit_sums crosses zero between = (omega arith, λ answer is. listed_sums (rest_of_visit crosses) (rest_has_no_call crosses))
+visit_sums crosses (suc n) between =
+    let over = between_is_over (rest_of_visit crosses) n (visit_goes crosses) between in
+    subst (λ left. SumsUp visited (ahead_after (suc n)) left) (sym over) (visit_done crosses (suc n) over)
 
 listed_later : (acts : List Act) (n answer : ℕ) → listed (drop (suc n) acts) ≡ after_answer (listed (drop n acts)) answer
 listed_later [] zero answer = refl

@@ -9,7 +9,7 @@ ghost use Rattle.vyrd_memory.specs.declared.act.Act.TheVariants.{Mark, Done};
 ghost use Rattle.vyrd_memory.specs.declared.op.Op.{Op};
 ghost use Rattle.vyrd_memory.specs.Scripts.{Script, stop, next_act, after_answer, is_between, IsAnswer};
 ghost use Rattle.vyrd_memory.specs.Soundness.{IsSoundSomewhere};
-ghost use Rattle.vyrd_memory.specs.Bounds.{bound_of, EndsWithin, is_return};
+ghost use Rattle.vyrd_memory.specs.Bounds.{bound_of, EndsWithin, SumsUp, is_return};
 
 use crate::act::Act;
 
@@ -66,6 +66,9 @@ pub trait Machine: Drop {
 
     // Between operations the bound is that of the next one.
     ghost next_bound: { (m : Self) (method : Method) (args : Args) → next_act (script m) ≡ Mark (Call method args) → op_ahead m ≡ bound_of (header_of m) method };
+
+    // Between operations what is ahead is the sum of the bounds of those to come.
+    ghost sums: { (m : Self) → is_between (script m) ≡ true → SumsUp (header_of m) (ahead m) (script m) };
 
     // What is ahead of the operation in hand is ahead.
     ghost op_is_ahead: { (m : Self) → op_ahead m ≤ ahead m };

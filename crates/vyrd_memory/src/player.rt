@@ -99,7 +99,7 @@ impl<P: Progress> Player<P> {
 
 impl<P: Progress> Machine for Player<P> {
     ghost use Rattle.std.proofs.Common.{◌∙◌};
-    ghost use Rattle.vyrd_memory.specs.PlayerLaws.{callable_method, callable_args, callable_small, player_sound, player_in_time, player_bound, player_within, player_rests, player_done};
+    ghost use Rattle.vyrd_memory.specs.PlayerLaws.{callable_method, callable_args, callable_small, player_sound, player_in_time, player_bound, player_sums, player_within, player_rests, player_done};
 
     ghost header_of = { λ m. m.hand.header };
 
@@ -125,6 +125,12 @@ impl<P: Progress> Machine for Player<P> {
 
     ghost next_bound = { λ m method args. player_bound m.hand.header m.hand.left (P.rest m.hand.header) m.hand.progress
         (P.procedure m.hand.header m.variant) (drop m.begun m.ops.items) method args m.hand.goes_on };
+
+    ghost sums = { λ m. player_sums m.hand.header m.hand.left m.later (P.rest m.hand.header) m.hand.progress
+        (P.procedure m.hand.header m.variant) (drop m.begun m.ops.items)
+        (λ op callable. P.is_sound m.hand.header m.variant op m.hand.subject (callable_method m.hand.header op callable ∙ m.hand.subject) (callable_args m.hand.header op callable) (callable_small m.hand.header op callable))
+        (λ op callable. P.ends_in_time m.hand.header m.variant op m.hand.subject (callable_method m.hand.header op callable ∙ m.hand.subject) (callable_args m.hand.header op callable) (callable_small m.hand.header op callable))
+        m.callable m.hand.goes_on m.bounded m.hand.idle };
 
     ghost op_is_ahead = { λ m. player_within m.hand.header m.hand.left m.later m.hand.progress (drop m.begun m.ops.items) m.bounded };
 

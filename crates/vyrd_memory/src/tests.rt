@@ -2,7 +2,7 @@
 
 ghost use Rattle.std.specs.Prelude.{◌≡◌, ◌<◌, ◌≤◌, All, IfSome, drop};
 ghost use Rattle.vyrd_memory.specs.Visits.{visited, visit, listed, ahead_after};
-ghost use Rattle.vyrd_memory.specs.VisitLaws.{visit_is_sound, visit_ends, visit_bound, visit_is_ahead, visit_rests, visit_done};
+ghost use Rattle.vyrd_memory.specs.VisitLaws.{visit_is_sound, visit_ends, visit_bound, visit_sums, visit_is_ahead, visit_rests, visit_done};
 
 use crate::{Act, Machine, Ran, StepFault, Turn, run_turns};
 use std::alloc::Global;
@@ -80,6 +80,8 @@ impl Machine for Visitor {
     ghost ends_in_time = { λ m. visit_ends m.crosses m.done };
 
     ghost next_bound = { λ m. visit_bound m.crosses m.done };
+
+    ghost sums = { λ m. visit_sums m.crosses m.done };
 
     ghost op_is_ahead = { λ m. visit_is_ahead m.done };
 

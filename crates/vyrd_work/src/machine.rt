@@ -88,6 +88,8 @@ impl<M: Machine, C: Machine, T: Machine> Machine for MachineOf<M, C, T> {
 
     ghost next_bound = { elim [ of.Multiset m ↦ M.next_bound m | of.Cache m ↦ C.next_bound m | of.Tree m ↦ T.next_bound m ] };
 
+    ghost sums = { elim [ of.Multiset m ↦ M.sums m | of.Cache m ↦ C.sums m | of.Tree m ↦ T.sums m ] };
+
     ghost op_is_ahead = { elim [ of.Multiset m ↦ M.op_is_ahead m | of.Cache m ↦ C.op_is_ahead m | of.Tree m ↦ T.op_is_ahead m ] };
 
     ghost rests = { elim [ of.Multiset m ↦ M.rests m | of.Cache m ↦ C.rests m | of.Tree m ↦ T.rests m ] };
