@@ -116,9 +116,9 @@ pub fn vyrd<R: Threads + Wait + Sync, S: Source, K: Sink, G: Gate>(
     ensures memory { result.status ≡ 6 → K.taken sink.new ≡ K.taken sink.old }
 
     // There is no run without a workload that was played.
-    ensures no_run { (result.status ≡ 3) ⊎ (result.status ≡ 4) → result.run ≡ None }
+    ensures no_run { (result.status ≡ 3) ⊎ (result.status ≡ 4) ⊎ (result.status ≡ 6) → result.run ≡ None }
     ensures no_run_checked { form_said words.now ≡ Some Check → result.run ≡ None }
-    ensures no_overrun { (result.status ≡ 3) ⊎ (result.status ≡ 4) → result.spent ≡ None }
+    ensures no_overrun { (result.status ≡ 3) ⊎ (result.status ≡ 4) ⊎ (result.status ≡ 6) → result.spent ≡ None }
     ensures no_overrun_checked { form_said words.now ≡ Some Check → result.spent ≡ None }
     ensures no_overrun_stepped { (log : Bool) → form_said words.now ≡ Some (Step log) → result.spent ≡ None }
     ensures no_overrun_generated { (n : ℕ) → form_said words.now ≡ Some (Gen n) → result.spent ≡ None }
