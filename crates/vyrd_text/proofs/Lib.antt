@@ -3,8 +3,10 @@ pub mod PartLaws
 pub mod HeaderLaws
 pub mod ReaderLaws
 pub mod LineSteps
+pub mod EntrySteps
 pub mod RestSteps
 pub mod PieceLaws
+pub mod QuickLaws
 pub mod ReadLaws
 pub mod ViewLaws
 pub mod WrittenLaws

@@ -1,5 +1,6 @@
 pub mod Fields
 pub mod Spelled
+pub mod Quick
 pub mod Readers
 pub mod Steps
 pub mod ReaderView

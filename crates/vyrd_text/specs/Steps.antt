@@ -50,3 +50,9 @@ pub record IsFed (old : ReaderState) (bytes : List ℕ) (before after : List Ent
   pub found : List Entry
   pub grown : after ≡ before ++ found
   pub taken : IsTaken old bytes found new
+
+-- The same for the bytes at the front of a piece, and what is left of the piece.
+pub record IsFedFront (old : ReaderState) (piece : List ℕ) (before after : List Entry) (new : ReaderState) (rest : List ℕ) : Type 0 where
+  pub read : List ℕ
+  pub parted : piece ≡ read ++ rest
+  pub fed : IsFed old read before after new

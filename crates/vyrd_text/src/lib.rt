@@ -16,6 +16,7 @@ mod line;
 mod line_buffer;
 mod lines;
 mod number;
+mod quick;
 mod reader;
 #[cfg(test)]
 mod tests;
@@ -27,7 +28,7 @@ pub use header::read_subject;
 pub use line::{after, is_word, read_call, read_line};
 pub use line_buffer::LineBuffer;
 pub use lines::split_line;
-pub use number::{read_u32, read_u32_and_space};
+pub use number::{read_u32, read_u32_and_space, read_u64};
 pub use reader::LogReader;
 pub use verdict::write_verdict;
 pub use writer::{name_of_subject, push_call, write_line, write_log};

@@ -5,7 +5,7 @@ ghost use Rattle.std.specs.Option.{option_to_list};
 ghost use Rattle.vyrd_base.specs.declared.log.Entry.{Entry};
 ghost use Rattle.vyrd_base.specs.Reading.{reading};
 ghost use Rattle.vyrd_text.specs.Readers.{HasRead, so_far, whole};
-ghost use Rattle.vyrd_text.specs.Steps.{IsFed, IsTaken, IsLineTaken, with_line, is_one_line, IsRuleOfRest};
+ghost use Rattle.vyrd_text.specs.Steps.{IsFed, IsFedFront, IsTaken, IsLineTaken, with_line, is_one_line, IsRuleOfRest};
 ghost use Rattle.vyrd_text.specs.Answered.{IsAnswer, UnlessMemory, IsGrownBy};
 
 use crate::fault::{LineFault, TextFault};
@@ -13,6 +13,7 @@ use crate::header::read_header;
 use crate::line::{is_word, read_line};
 use crate::line_buffer::LineBuffer;
 use crate::lines::{count_line_feeds, split_line};
+use crate::quick::take_entries;
 use std::marker::Model;
 use std::mem;
 use vyrd_base::{Entry, Header, Rule, Subject};
@@ -151,9 +152,28 @@ impl LogReader {
         while let Some((line, after)) = split_line(rest) {
             let entry = self.take_line(line);
             put(entry, out);
-            rest = after;
+            rest = self.take_whole_entries(after, out);
         }
         self.take_unfinished(rest);
+    }
+
+    /// Takes in the entries that lie whole at the front of the text, each with its line feed, and answers what stands after
+    /// them. There is room for them. Any other line is left to `take_line`, which knows the rules.
+    fn take_whole_entries<'a>(&mut self, text: &'a [u8], out: &mut Vec<Entry>) -> &'a [u8]
+        requires { vec_len out.old + count_by (λ b. b == 10) text.now ≤ vec_capacity out.old }
+        ensures fed { IsFedFront self.old text.now out.old.items out.new.items self.new result.now }
+        ensures room { vec_len out.new + count_by (λ b. b == 10) result.now ≤ vec_capacity out.new }
+    {
+        if !self.unfinished.is_empty() || self.ended || self.fault.is_some() {
+            return text;
+        }
+        let Some(header) = self.header else {
+            return text;
+        };
+        let most = self.max_lines + 1 - self.line;
+        let (rest, count) = take_entries(header.subject(), most, text, out);
+        self.line += count;
+        rest
     }
 
     /// Takes in the bytes before a line feed and that line feed, and answers the line's entry.

@@ -1,0 +1,106 @@
+-- Digits at the front of a text are a number's spelling.
+use Rattle.std.proofs.Common.{◌≡◌, ℕ, ◌+◌, ◌-◌, ◌*◌, ◌%◌, ◌<◌, ◌≤◌, ◌≢◌, ◌^◌, true, List, [], ◌∷◌, ◌++◌, take, drop, length, get_or, refl, ap, sym, ◌∙◌, arith, subst, append_assoc, length-append}
+use Rattle.std.specs.Str.Parse.{AllDigits, digits_value}
+use Rattle.std.specs.Prelude.{slice_range, decimal}
+use Rattle.std.specs.Char.{digit_value}
+use Rattle.std.proofs.lemmas.Fmt.{decimal_digit}
+use Rattle.std.proofs.lemmas.Str.Parse.{digit_from_value}
+use Rattle.std.specs.Float.Numeral.{digits_len}
+use Rattle.std.specs.List.{list_all}
+use Rattle.std.proofs.Math.Nat.{pow-le-pow_right, mod-eq_of_lt}
+use Rattle.std.proofs.lemmas.Int.Digits.{digits_value-lt}
+use Rattle.core.proofs.dec2flt.Rows.{AllDigits-digits_len}
+use Rattle.std.proofs.lemmas.List.{length-take, length-take-le, get_or-take, take_all, append-nil}
+use Rattle.vyrd_base.specs.declared.subject.Subject.{Subject}
+use Rattle.vyrd_base.specs.declared.log.Entry.{Entry}
+use Rattle.vyrd_base.specs.Spelling.{entry_line, is_entry_of}
+use Rattle.vyrd_base.proofs.TestLaws.{both_true, first_true, second_true}
+use Rattle.vyrd_text.specs.Fields.{IsDigitField}
+use Rattle.vyrd_text.specs.Quick.{IsFrontNumber, IsEntryAtFront, AreEntriesAtFront, entries_text}
+use Rattle.vyrd_text.proofs.NumberLaws.{one_digit, more_digits}
+
+module _ (text : List ℕ) (value end : ℕ) (within : end ≤ length text) (digits : AllDigits 10 (take end text))
+    (is : value ≡ digits_value 10 (take end text)) (small : value < 2 ^ 64) where
+  many : length (take end text) ≡ end
+  many = length-take-le end text within
+
+  same : take end (take end text) ≡ take end text
+  same = take_all end (take end text) (omega (arith, many))
+
+  field : IsDigitField (take end text) value end
+  field = record {
+    within = omega (arith, many);
+    digits = subst (AllDigits 10) (sym same) digits;
+    value_is = is ∙ ap (digits_value 10) (sym same);
+    ended = λ l. absurd (omega (arith, many, l));
+  }
+
+  -- one digit
+  pub front_digit : end ≡ 1 → IsFrontNumber text value end
+  front_digit one = record { within = within; spelled = sym same ∙ (one_digit (take end text) value end field small one).spelled }
+
+  -- more digits that don't begin with 0
+  pub front_digits : 1 < end → get_or text 0 0 ≢ 48 → IsFrontNumber text value end
+  front_digits some first = record {
+    within = within;
+    spelled = sym same ∙ (more_digits (take end text) value end field small (omega arith)
+        (λ e. first (sym (get_or-take end text 0 0 (omega arith)) ∙ e))).spelled;
+  }
+
+-- one more entry at the front of what stands after entries
+entries_more : (es : List Entry) (e : Entry) (rest : List ℕ) → entries_text (es ++ e ∷ []) ++ rest ≡ entries_text es ++ (entry_line e ++ 10 ∷ rest)
+entries_more [] e rest = append_assoc (entry_line e) (10 ∷ []) rest
+entries_more (x ∷ es) e rest =
+    append_assoc (entry_line x) (10 ∷ entries_text (es ++ e ∷ [])) rest ∙ ap (λ t. entry_line x ++ 10 ∷ t) (entries_more es e rest)
+    ∙ sym (append_assoc (entry_line x) (10 ∷ entries_text es) (entry_line e ++ 10 ∷ rest))
+
+all_more : (subject : Subject) (es : List Entry) (e : Entry) → list_all (is_entry_of subject) es ≡ true → is_entry_of subject e ≡ true
+    → list_all (is_entry_of subject) (es ++ e ∷ []) ≡ true
+all_more subject [] e all is = both_true _ _ is refl
+all_more subject (x ∷ es) e all is =
+    both_true _ _ (first_true _ _ all) (all_more subject es e (second_true (is_entry_of subject x) _ all) is)
+
+pub one_more : (subject : Subject) (text : List ℕ) (before middle after : List Entry) (rest more : List ℕ) (count : ℕ) (e : Entry)
+    → AreEntriesAtFront subject text before middle rest count → IsEntryAtFront subject rest e more → after ≡ middle ++ e ∷ []
+    → AreEntriesAtFront subject text before after more (count + 1)
+one_more subject text before middle after rest more count e are is grown = record {
+  found = are.found ++ e ∷ [];
+  grown = grown ∙ ap (λ t. t ++ e ∷ []) are.grown ∙ append_assoc before are.found (e ∷ []);
+  counted = length-append are.found (e ∷ []) ∙ ap (λ n. n + 1) are.counted;
+  spelled = are.spelled ∙ ap (λ t. entries_text are.found ++ t) is.1 ∙ sym (entries_more are.found e more);
+  of_subject = all_more subject are.found e are.of_subject is.0;
+}
+
+-- no entry yet
+pub none_yet : (subject : Subject) (text : List ℕ) (before : List Entry) → AreEntriesAtFront subject text before before text 0
+none_yet subject text before = record { found = []; grown = sym (append-nil before); counted = refl; spelled = refl; of_subject = refl }
+
+-- digits that were read by words, so few that their value didn't wrap
+module _ (text : List ℕ) (value end : ℕ) (counted : end ≡ 0 + digits_len (drop 0 text)) (few : end ≤ 19)
+    (is : value ≡ (0 * 10 ^ (end - 0) + digits_value 10 (slice_range text 0 end)) % 2 ^ 64) where
+  pub read_all : AllDigits 10 (take end text)
+  read_all = AllDigits-digits_len text end (omega (arith, counted))
+
+  pub read_value : value ≡ digits_value 10 (take end text)
+  read_value =
+      let front : slice_range text 0 end ≡ take end text = ap (λ n. take n text) (let e : end - 0 ≡ end = omega arith in e) in
+      let below : digits_value 10 (take end text) < 10 ^ length (take end text) = digits_value-lt 10 (take end text) read_all in
+      let short : length (take end text) ≤ 19 = omega (arith, length-take end text, few) in
+      let bound : 10 ^ length (take end text) ≤ 10 ^ 19 = pow-le-pow_right (let p : 0 < 10 = omega arith in p) short in
+      let small : digits_value 10 (take end text) < 2 ^ 64 = omega (arith, below, bound) in
+      let plain : 0 * 10 ^ (end - 0) + digits_value 10 (slice_range text 0 end) ≡ digits_value 10 (take end text) =
+      omega (arith, ap (digits_value 10) front) in
+      is ∙ ap (λ n. n % 2 ^ 64) plain ∙ mod-eq_of_lt small
+
+-- one digit before a byte
+pub digit_front : (text : List ℕ) (n byte : ℕ) → 2 ≤ length text → digit_value (get_or text 0 0) < 10 → n ≡ get_or text 0 0 - 48
+    → get_or text 1 0 ≡ byte → text ≡ decimal n ++ byte ∷ take (length text - 2) (drop 2 text)
+digit_front [] n byte long digit is next = absurd (omega arith)
+digit_front (d ∷ []) n byte long digit is next = absurd (omega arith)
+digit_front (d ∷ b ∷ rest) n byte long digit is next =
+    let range = digit_from_value d digit in
+    let small : n < 10 = omega (arith, range, is) in
+    let same : 48 + n ≡ d = omega (arith, range, is) in
+    let spelled : decimal n ≡ d ∷ [] = decimal_digit n small ∙ ap (λ x. x ∷ []) same in
+    let tail : take (length (d ∷ b ∷ rest) - 2) rest ≡ rest = take_all (length (d ∷ b ∷ rest) - 2) rest (omega arith) in
+    λ i. sym spelled i ++ next i ∷ sym tail i
