@@ -19,6 +19,7 @@ pub mod LongLines
 pub mod ReadingGrows
 pub mod ReadingSound
 pub mod AmountMaps
+pub mod TableLaws
 pub mod KeyLaws
 pub mod DifferenceLaws
 pub mod StopLaws

@@ -9,6 +9,7 @@ pub mod Front
 pub mod Words
 pub mod Amounts
 pub mod Formed
+pub mod Tables
 pub mod TreeView
 pub mod Views
 pub mod Specification
@@ -23,5 +24,6 @@ pub mod Reading
 pub mod VerdictText
 pub mod TextVerdicts
 pub mod Histories
+pub mod Parts
 pub mod Trees
 pub mod Standing

@@ -10,14 +10,15 @@
 //! - `Header`, `Subject`, `Method`, `Args`: what is watched, and what may be called;
 //! - `Entry`, `Kind`: the lines of a log; `Stamped`, `Did`: the events of a run, of which a log shows a part;
 //! - `Verdict`, `Rule`, `Why`, `Stop`: the answer, and how a text stops;
-//! - `View`, `AmountMap`: what a state or the words show, as amounts by key, to be read or to be changed;
+//! - `View`: what a state or the words show, as amounts by key, to be read; `AmountMap` and `AmountTable`: such amounts, to be
+//!   looked up and changed, in an ordered map or in a flat table;
 //! - `Source`, `Sink`, `Gate`: where bytes come from and go to, and what a live run asks. Each has a device in memory
 //!   whose calls can be made to fail, or one over std's readers and writers.
 //!
 //! What stands in `specs/`, one file a notion: the limits of a header (`Limits`, `Subjects`, `Layout`), the places of a
 //! list (`Places`), what a caller is in the middle of (`Callers`), the rules of shape and the well-formed front (`Shape`,
-//! `Front`), the words (`Words`), what they show (`Views`, `TreeView`, `Amounts`), the specification (`Specification`),
-//! commit order and its states (`Commits`), the faults (`Faults`), the verdict (`Verdicts`), the text of a log and what
+//! `Front`), the words (`Words`), what they show (`Views`, `TreeView`, `Amounts`), amounts in a table (`Tables`), the
+//! specification (`Specification`), commit order and its states (`Commits`), the faults (`Faults`), the verdict (`Verdicts`), the text of a log and what
 //! its bytes say (`Spelling`, `Lines`, `Reading`), the verdict about bytes and its line (`TextVerdicts`, `VerdictText`),
 //! histories (`Histories`), words that represent a state (`Standing`, `Trees`), and devices (`Devices`).
 //!
@@ -27,6 +28,7 @@
 #![tactic(auto)]
 
 mod amount_map;
+mod amount_table;
 mod calls;
 mod device;
 mod header;
@@ -45,6 +47,7 @@ pub mod worked;
 pub mod worked_text;
 
 pub use amount_map::AmountMap;
+pub use amount_table::AmountTable;
 pub use device::{Failed, Gate, OpenGate, Sink, Source};
 pub use header::Header;
 pub use history::{Did, Stamped};

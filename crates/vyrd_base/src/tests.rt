@@ -1,8 +1,8 @@
 //! Values from outside: the limits of a header, its words and methods at one header a subject, and devices call by call.
 
 use crate::{
-    AmountMap, Args, Failed, Gate, Header, MemorySink, MemorySource, Method, OpenGate, Sink,
-    Source, StdSink, StdSource, Subject, View,
+    AmountMap, AmountTable, Args, Failed, Gate, Header, MemorySink, MemorySource, Method, OpenGate,
+    Sink, Source, StdSink, StdSource, Subject, View,
 };
 use std::io::Cursor;
 use std::test::Fail;
@@ -42,6 +42,34 @@ fn numbers_of_the_header(rt: HostRuntime) -> Result<(), Fail> {
         );
         assert_eq!(rt; header.subject(), subject);
     }
+    Ok(())
+}
+
+#[test]
+fn keys_of_a_small_table(rt: HostRuntime) -> Result<(), Fail> {
+    let mut table = AmountTable::new(rt.alloc(), 1)?;
+    for key in 0..40 {
+        table.set(key, key + 1)?;
+    }
+    if table.amount(7) == 8 {
+        table.add(7, 100)?;
+    }
+    if table.amount(0) == 1 {
+        table.take_one(0);
+    }
+    for key in 2..40 {
+        if key != 7 {
+            table.remove(key);
+        }
+    }
+    assert_eq!(rt;
+        (table.amount(0), table.amount(7), table.amount(39)),
+        (0, 108, 0)
+    );
+    assert_eq!(rt;
+        table.view(rt.alloc())?.pairs(),
+        [(1, 2), (7, 108)].as_slice()
+    );
     Ok(())
 }
 

@@ -21,14 +21,14 @@ holds_at Q None t h e = cc
 holds_at Q (Some s) t h e = subst Q (some_is s t e) h
 
 -- what holds of each state that a reply may lead to holds of the one that it leads to
-by_replies : (Q : Amounts → Type 0) (reply : ℕ) (at_0 at_1 at_2 : Option Amounts) (t : Amounts)
+pub by_replies : (Q : Amounts → Type 0) (reply : ℕ) (at_0 at_1 at_2 : Option Amounts) (t : Amounts)
     → IfSome at_0 Q → IfSome at_1 Q → IfSome at_2 Q → by_reply reply at_0 at_1 at_2 ≡ Some t → Q t
 by_replies Q zero at_0 at_1 at_2 t h0 h1 h2 e = holds_at Q at_0 t h0 e
 by_replies Q (suc zero) at_0 at_1 at_2 t h0 h1 h2 e = holds_at Q at_1 t h1 e
 by_replies Q (suc (suc zero)) at_0 at_1 at_2 t h0 h1 h2 e = holds_at Q at_2 t h2 e
 by_replies Q (suc (suc (suc n))) at_0 at_1 at_2 t h0 h1 h2 e = cc
 
-where_allowed : (Q : Amounts → Type 0) (b : Bool) (s : Amounts) → Q s → IfSome (then_some b s) Q
+pub where_allowed : (Q : Amounts → Type 0) (b : Bool) (s : Amounts) → Q s → IfSome (then_some b s) Q
 where_allowed Q true s h = h
 where_allowed Q false s h = tt
 

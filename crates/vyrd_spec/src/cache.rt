@@ -1,38 +1,40 @@
 //! The specification of the cache: the pair of each chunk.
 
-ghost use Rattle.std.specs.Prelude.{◌≡◌, ◌≢◌, ◌+◌, ◌*◌, ◌<◌, ◌≤◌, ◌^◌, true, false, Some, None, Ok};
+ghost use Rattle.std.specs.Prelude.{◌≡◌, ◌≢◌, ◌+◌, ◌*◌, ◌<◌, ◌≤◌, ◌^◌, true, false, length, Some, None};
 ghost use Rattle.vyrd_base.specs.declared.subject.Subject.TheVariants.{Cache};
-ghost use Rattle.vyrd_base.specs.Amounts.{IsAmounts};
 ghost use Rattle.vyrd_base.specs.Specification.{next_state};
 ghost use Rattle.vyrd_base.specs.Subjects.{subject_of, is_observer};
 ghost use Rattle.vyrd_spec.specs.Bounds.{AllAmounts};
-ghost use Rattle.vyrd_base.specs.Formed.{IsAmounts-prop};
+ghost use Rattle.vyrd_spec.specs.Chunks.{chunk_amounts, chunks_formed};
 
+use crate::chunks::{chunks_shown, no_pairs, pair_of, write_pair};
 use crate::spec::Spec;
+use crate::touched::{Touched, touched_by};
 use std::alloc::{AllocError, Global};
-use vyrd_base::{AmountMap, Args, Header, Method, View};
+use vyrd_base::{Args, Header, Method, View};
 
 /// The specification of the cache. The amount of a chunk is hi * 2^32 + lo of the pair that was written last.
+/// The pairs stand in a list by chunk, so that a step costs constant time and no memory.
 #[derive(Drop)]
 pub struct CacheSpec {
     header: Header,
     made: u64,
-    amounts: AmountMap,
+    pairs: Vec<u64>,
     ghost few: { made ≤ 2 ^ 62 },
-    ghost formed: { IsAmounts amounts } by { IsAmounts-prop amounts },
-    ghost small: { AllAmounts (λ chunk pair. (chunk < 2 ^ 32) × (pair < 2 ^ 64)) amounts },
+    ghost count: { length pairs.items ≡ header.size },
+    ghost small: { AllAmounts (λ chunk pair. (chunk < 2 ^ 32) × (pair < 2 ^ 64)) (chunk_amounts pairs.items) },
 }
 
 impl Spec for CacheSpec {
     ghost subject = { Cache };
 
-    ghost state = { λ s. s.amounts };
+    ghost state = { λ s. chunk_amounts s.pairs.items };
 
     ghost header_of = { λ s. s.header };
 
     ghost made = { λ s. s.made };
 
-    ghost is_formed = { λ s. s.formed };
+    ghost is_formed = { λ s. chunks_formed s.pairs.items };
 
     ghost is_small = { λ s. s.small };
 
@@ -40,12 +42,12 @@ impl Spec for CacheSpec {
         Ok(CacheSpec {
             header,
             made: 0,
-            amounts: AmountMap::new(alloc),
+            pairs: no_pairs(alloc, header.size() as usize)?,
         })
     }
 
     fn step(&mut self, method: Method, args: Args, reply: u64) -> Result<bool, AllocError> {
-        let allowed = next(&mut self.amounts, method, args, reply)?;
+        let allowed = next(&mut self.pairs, method, args, reply);
         if allowed {
             self.made += 1;
         }
@@ -53,37 +55,44 @@ impl Spec for CacheSpec {
     }
 
     fn answer(&self, _method: Method, args: Args) -> u64 {
-        self.amounts.amount(u64::from(args.a))
+        pair_of(&self.pairs, u64::from(args.a))
     }
 
     fn amount(&self, key: u64) -> u64 {
-        self.amounts.amount(key)
+        pair_of(&self.pairs, key)
+    }
+
+    fn touched(&self, method: Method, args: Args) -> Touched {
+        touched_by(method, args)
     }
 
     fn view(&self, alloc: Global) -> Result<View, AllocError> {
-        self.amounts.view(alloc)
+        chunks_shown(alloc, &self.pairs)
     }
 }
 
 /// Changes the pairs by a mutator's call with its reply, and says whether the reply is allowed, which 1 alone is.
-fn next(pairs: &mut AmountMap, method: Method, args: Args, reply: u64) -> Result<bool, AllocError>
+fn next(pairs: &mut Vec<u64>, method: Method, args: Args, reply: u64) -> bool
     requires subject { subject_of method ≡ Cache }
     requires mutator { is_observer method ≡ false }
-    ensures allowed { result ≡ Ok true → next_state method args reply pairs.old ≡ Some pairs.new }
-    ensures refused { result ≡ Ok false → next_state method args reply pairs.old ≡ None }
-    ensures unchanged { result ≢ Ok true → pairs.new ≡ pairs.old }
+    requires chunk { args.a < length pairs.old.items }
+    ensures allowed { result ≡ true → next_state method args reply (chunk_amounts pairs.old.items) ≡ Some (chunk_amounts pairs.new.items) }
+    ensures refused { result ≡ false → next_state method args reply (chunk_amounts pairs.old.items) ≡ None }
+    ensures count { length pairs.new.items ≡ length pairs.old.items }
+    ensures unchanged { result ≡ false → pairs.new ≡ pairs.old }
 
     // Arguments have 32 bits.
     ensures numbers { (args.a < 2 ^ 32) × (args.b < 2 ^ 32) × (args.c < 2 ^ 32) }
 {
     if reply != 1 {
-        return Ok(false);
+        return false;
     }
     if method == Method::CaWrite {
-        pairs.set(
-            u64::from(args.a),
+        write_pair(
+            pairs,
+            args.a as usize,
             u64::from(args.c) * (1 << 32) + u64::from(args.b),
-        )?;
+        );
     }
-    Ok(true)
+    true
 }

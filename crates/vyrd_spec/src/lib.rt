@@ -5,13 +5,17 @@
 #![tactic(auto)]
 
 mod cache;
+mod chunks;
+pub mod laws;
 mod multiset;
 mod spec;
 #[cfg(test)]
 mod tests;
+mod touched;
 mod tree;
 
 pub use cache::CacheSpec;
 pub use multiset::MultisetSpec;
 pub use spec::Spec;
+pub use touched::Touched;
 pub use tree::TreeSpec;

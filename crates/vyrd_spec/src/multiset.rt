@@ -10,15 +10,16 @@ ghost use Rattle.vyrd_spec.specs.Bounds.{AllAmounts, small_counts};
 ghost use Rattle.vyrd_base.specs.Formed.{IsAmounts-prop};
 
 use crate::spec::Spec;
+use crate::touched::{Touched, touched_by};
 use std::alloc::{AllocError, Global};
-use vyrd_base::{AmountMap, Args, Header, Method, View};
+use vyrd_base::{AmountTable, Args, Header, Method, View};
 
 /// The specification of the multiset. The amount of a value is its multiplicity, which is at most twice the steps made.
 #[derive(Drop)]
 pub struct MultisetSpec {
     header: Header,
     made: u64,
-    amounts: AmountMap,
+    amounts: AmountTable,
     ghost few: { made ≤ 2 ^ 62 },
     ghost formed: { IsAmounts amounts } by { IsAmounts-prop amounts },
     ghost small: { AllAmounts (λ value count. (value < 2 ^ 32) × (count ≤ 2 * made)) amounts },
@@ -41,7 +42,7 @@ impl Spec for MultisetSpec {
         Ok(MultisetSpec {
             header,
             made: 0,
-            amounts: AmountMap::new(alloc),
+            amounts: AmountTable::new(alloc, 4 * header.size() as usize)?,
         })
     }
 
@@ -61,13 +62,22 @@ impl Spec for MultisetSpec {
         self.amounts.amount(key)
     }
 
+    fn touched(&self, method: Method, args: Args) -> Touched {
+        touched_by(method, args)
+    }
+
     fn view(&self, alloc: Global) -> Result<View, AllocError> {
         self.amounts.view(alloc)
     }
 }
 
 /// Changes the multiplicities by a mutator's call with its reply, and says whether the reply is allowed.
-fn next(counts: &mut AmountMap, method: Method, args: Args, reply: u64) -> Result<bool, AllocError>
+fn next(
+    counts: &mut AmountTable,
+    method: Method,
+    args: Args,
+    reply: u64,
+) -> Result<bool, AllocError>
     requires subject { subject_of method ≡ Multiset }
     requires mutator { is_observer method ≡ false }
     requires few { (value : ℕ) → amount_of counts.old value ≤ 2 ^ 63 }
@@ -88,7 +98,7 @@ fn next(counts: &mut AmountMap, method: Method, args: Args, reply: u64) -> Resul
 }
 
 /// An insert: reply 1 adds the value, and reply 0 changes nothing.
-fn insert(counts: &mut AmountMap, value: u64, reply: u64) -> Result<bool, AllocError>
+fn insert(counts: &mut AmountTable, value: u64, reply: u64) -> Result<bool, AllocError>
     requires few { amount_of counts.old value + 1 < 2 ^ 64 }
     ensures allowed { result ≡ Ok true → by_reply reply (Some counts.old) (Some (plus_amount counts.old value 1)) None ≡ Some counts.new }
     ensures refused { result ≡ Ok false → by_reply reply (Some counts.old) (Some (plus_amount counts.old value 1)) None ≡ None }
@@ -106,7 +116,7 @@ fn insert(counts: &mut AmountMap, value: u64, reply: u64) -> Result<bool, AllocE
 
 /// An insert of two values, which may be equal: reply 1 adds both, and reply 0 changes nothing.
 fn insert_pair(
-    counts: &mut AmountMap,
+    counts: &mut AmountTable,
     first: u64,
     second: u64,
     reply: u64,
@@ -129,7 +139,7 @@ fn insert_pair(
 }
 
 /// One more of each of two values. Where there is memory for the first alone, it is taken out again.
-fn add_both(counts: &mut AmountMap, first: u64, second: u64) -> Result<(), AllocError>
+fn add_both(counts: &mut AmountTable, first: u64, second: u64) -> Result<(), AllocError>
     requires few { (value : ℕ) → amount_of counts.old value + 2 < 2 ^ 64 }
     ensures ok { OnOk result (counts.new ≡ plus_amount (plus_amount counts.old first 1) second 1) }
     ensures err { OnErr result (counts.new ≡ counts.old) }
@@ -145,7 +155,7 @@ fn add_both(counts: &mut AmountMap, first: u64, second: u64) -> Result<(), Alloc
 }
 
 /// A delete: reply 1 takes one of a value that is there, and reply 0 says that it isn't there.
-fn delete(counts: &mut AmountMap, value: u64, reply: u64) -> bool
+fn delete(counts: &mut AmountTable, value: u64, reply: u64) -> bool
     ensures allowed { result ≡ true → by_reply reply
         (then_some (not (is_present counts.old value)) counts.old)
         (then_some (is_present counts.old value) (with_amount counts.old value (amount_of counts.old value - 1))) None ≡ Some counts.new }

@@ -7,7 +7,9 @@ ghost use Rattle.vyrd_base.specs.Amounts.{Amounts, IsAmounts, amount_of};
 ghost use Rattle.vyrd_base.specs.Specification.{next_state, answer_in};
 ghost use Rattle.vyrd_base.specs.Subjects.{subject_of, is_observer, are_args};
 ghost use Rattle.vyrd_spec.specs.Bounds.{AllAmounts};
+ghost use Rattle.vyrd_spec.specs.Touching.{touched_by};
 
+use crate::touched::Touched;
 use std::alloc::{AllocError, Global};
 use vyrd_base::{Args, Header, Method, View};
 
@@ -27,7 +29,7 @@ pub trait Spec: Sized + Drop {
     // How many steps were allowed since the start.
     ghost made: { Self → ℕ };
 
-    /// The empty state. The header names the subject of the type.
+    /// The empty state. The header names the subject of the type. It takes memory in proportion to the header's words.
     fn start(alloc: Global, header: Header) -> Result<Self, AllocError>
         requires subject { header.subject ≡ subject }
         ensures state { IfOk result (λ s. state s ≡ []) }
@@ -35,7 +37,8 @@ pub trait Spec: Sized + Drop {
         ensures made { IfOk result (λ s. made s ≡ 0) };
 
     /// Makes a step with a mutator's call and its reply. `false` says that the reply isn't allowed in this state.
-    /// After `false`, and after want of memory, all is as it was. The cost is that of a look-up among the keys.
+    /// After `false`, and after want of memory, all is as it was. It costs constant time, and the logarithm of the
+    /// number of keys where these share their places in a table.
     fn step(&mut self, method: Method, args: Args, reply: u64) -> Result<bool, AllocError>
         requires subject { subject_of method ≡ subject }
         requires args { are_args (header_of self.old).size method args ≡ true }
@@ -59,7 +62,15 @@ pub trait Spec: Sized + Drop {
     fn amount(&self, key: u64) -> u64
         ensures { result ≡ amount_of (state self.now) key };
 
-    /// The keys whose amount isn't 0, with their amounts. The cost is that of a push for each.
+    /// The keys whose amount a step with this call can change, and no others: the laws `other_keys_keep_their_amount` and
+    /// `touched_keys_can_change` say so.
+    fn touched(&self, method: Method, args: Args) -> Touched
+        requires subject { subject_of method ≡ subject }
+        requires args { are_args (header_of self.now).size method args ≡ true }
+        ensures { result ≡ touched_by method args };
+
+    /// The keys whose amount isn't 0, with their amounts. The cost is in proportion to the header's words, and the logarithm of
+    /// the number of keys for each of these.
     fn view(&self, alloc: Global) -> Result<View, AllocError>
         ensures { IfOk result (λ v. v ≡ state self.now) };
 

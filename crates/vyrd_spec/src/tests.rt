@@ -46,6 +46,9 @@ fn steps_of_the_multiset(rt: HostRuntime) -> Result<(), Fail> {
     assert_eq!(rt; spec.answer(Method::MsLookup, args(5, 0, 0)), 1);
     assert_eq!(rt; spec.step(Method::MsInsertPair, args(5, 5, 0), 1)?, true);
     assert_eq!(rt; spec.amount(5), 3);
+    let touched = spec.touched(Method::MsInsertPair, args(5, 7, 0));
+    assert_eq!(rt; (touched.first, touched.second), (Some(5), Some(7)));
+    assert_eq!(rt; (touched.has(7), touched.has(6)), (true, false));
     assert_eq!(rt; spec.view(rt.alloc())?.pairs(), [(5, 3)].as_slice());
     Ok(())
 }

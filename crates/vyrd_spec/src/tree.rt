@@ -10,8 +10,9 @@ ghost use Rattle.vyrd_spec.specs.Bounds.{AllAmounts, small_values};
 ghost use Rattle.vyrd_base.specs.Formed.{IsAmounts-prop};
 
 use crate::spec::Spec;
+use crate::touched::{Touched, touched_by};
 use std::alloc::{AllocError, Global};
-use vyrd_base::{AmountMap, Args, Header, Method, View};
+use vyrd_base::{AmountTable, Args, Header, Method, View};
 
 /// What is added to a value, so that the amount of a key that is there is never 0.
 const PRESENT: u64 = 1 << 32;
@@ -21,7 +22,7 @@ const PRESENT: u64 = 1 << 32;
 pub struct TreeSpec {
     header: Header,
     made: u64,
-    amounts: AmountMap,
+    amounts: AmountTable,
     ghost few: { made ≤ 2 ^ 62 },
     ghost formed: { IsAmounts amounts } by { IsAmounts-prop amounts },
     ghost small: { AllAmounts (λ key amount. (key < 2 ^ 32) × (2 ^ 32 ≤ amount) × (amount < 2 ^ 33)) amounts },
@@ -44,7 +45,7 @@ impl Spec for TreeSpec {
         Ok(TreeSpec {
             header,
             made: 0,
-            amounts: AmountMap::new(alloc),
+            amounts: AmountTable::new(alloc, 4 * header.size() as usize)?,
         })
     }
 
@@ -65,13 +66,22 @@ impl Spec for TreeSpec {
         self.amounts.amount(key)
     }
 
+    fn touched(&self, method: Method, args: Args) -> Touched {
+        touched_by(method, args)
+    }
+
     fn view(&self, alloc: Global) -> Result<View, AllocError> {
         self.amounts.view(alloc)
     }
 }
 
 /// Changes the values by a mutator's call with its reply, and says whether the reply is allowed.
-fn next(values: &mut AmountMap, method: Method, args: Args, reply: u64) -> Result<bool, AllocError>
+fn next(
+    values: &mut AmountTable,
+    method: Method,
+    args: Args,
+    reply: u64,
+) -> Result<bool, AllocError>
     requires subject { subject_of method ≡ Tree }
     requires mutator { is_observer method ≡ false }
     ensures allowed { result ≡ Ok true → next_state method args reply values.old ≡ Some values.new }
@@ -90,7 +100,7 @@ fn next(values: &mut AmountMap, method: Method, args: Args, reply: u64) -> Resul
 }
 
 /// An insert: reply 1 is for a key that was absent, reply 2 for one that was present, and both set its value. Reply 0 changes nothing.
-fn insert(values: &mut AmountMap, key: u64, value: u64, reply: u64) -> Result<bool, AllocError>
+fn insert(values: &mut AmountTable, key: u64, value: u64, reply: u64) -> Result<bool, AllocError>
     requires small { value < 2 ^ 32 }
     ensures allowed { result ≡ Ok true → by_reply reply (Some values.old)
         (then_some (not (is_present values.old key)) (with_amount values.old key (2 ^ 32 + value)))
@@ -116,7 +126,7 @@ fn insert(values: &mut AmountMap, key: u64, value: u64, reply: u64) -> Result<bo
 }
 
 /// A delete: reply 1 takes out a key that is there, and reply 0 says that it isn't there.
-fn delete(values: &mut AmountMap, key: u64, reply: u64) -> bool
+fn delete(values: &mut AmountTable, key: u64, reply: u64) -> bool
     ensures allowed { result ≡ true → by_reply reply
         (then_some (not (is_present values.old key)) values.old)
         (then_some (is_present values.old key) (with_amount values.old key 0)) None ≡ Some values.new }

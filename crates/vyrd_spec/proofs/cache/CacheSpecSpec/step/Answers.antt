@@ -1,17 +1,13 @@
-use Rattle.std.proofs.Common.{Ok, ap, arith}
-use Rattle.vyrd_spec.proofs.StepLaws.{next_state-formed, next_state-pairs}
+use Rattle.std.proofs.Common.{arith}
+use Rattle.vyrd_spec.specs.Chunks.{chunk_amounts}
+use Rattle.vyrd_spec.proofs.StepLaws.{next_state-pairs}
 use Rattle.vyrd_spec.proofs.cache.CacheSpecSpec.step.Goals as goal
 
-pub invariant_of-self-then-allowed-clause-few : goal.invariant_of-self-then-allowed-clause-few
-invariant_of-self-then-allowed-clause-few c = omega (arith, c.requires.few)
+pub invariant_of-self-clause-few : goal.invariant_of-self-clause-few
+invariant_of-self-clause-few c = omega (arith, c.requires.few)
 
-pub invariant_of-self-then-allowed-clause-formed : goal.invariant_of-self-then-allowed-clause-formed
-invariant_of-self-then-allowed-clause-formed c =
-    next_state-formed c.args.method c.args.args c.args.reply c.args.self.now.amounts c.next.new.pairs c.args.self.now.formed
-    (c.in_ok-allowed.ensures.allowed (ap Ok c.if-allowed.true))
-
-pub invariant_of-self-then-allowed-clause-small : goal.invariant_of-self-then-allowed-clause-small
-invariant_of-self-then-allowed-clause-small c =
-    let numbers = c.in_ok-allowed.ensures.numbers in
-    next_state-pairs c.args.method c.args.args c.args.reply c.args.self.now.amounts c.next.new.pairs c.requires.subject numbers.0 numbers.1 numbers.2 c.args.self.now.small
-    (c.in_ok-allowed.ensures.allowed (ap Ok c.if-allowed.true))
+pub invariant_of-self-clause-small : goal.invariant_of-self-clause-small
+invariant_of-self-clause-small c =
+    let numbers = c.next-allowed.ensures.numbers in
+    next_state-pairs c.args.method c.args.args c.args.reply (chunk_amounts c.args.self.now.pairs.items) (chunk_amounts c.next-allowed.new.pairs.items)
+    c.requires.subject numbers.0 numbers.1 numbers.2 c.args.self.now.small (c.next-allowed.ensures.allowed c.if-allowed.true)

@@ -1,0 +1,231 @@
+//! Amounts by key in a flat table, where each can be looked up and changed.
+
+ghost use Rattle.std.specs.Prelude.{◌≡◌, ◌≢◌, ◌+◌, ◌-◌, ◌<◌, ◌≤◌, ◌^◌, ◌==◌, ℕ, true, false, length, replicate, [], OnOk, OnErr, IfOk, IfSome, None};
+ghost use Rattle.vyrd_base.specs.Amounts.{IsAmounts, amount_of, with_amount, plus_amount};
+ghost use Rattle.vyrd_base.specs.Tables.{pair_at, is_taken, first_place, IsFoundAt, IsTable, HasAll, amounts_in};
+
+use crate::amount_map::AmountMap;
+use crate::view::View;
+use std::alloc::{AllocError, Global};
+use std::marker::Model;
+
+/// How many places in a row a key may stand in.
+const REACH: usize = 4;
+
+/// 2^64 times the fraction of the golden ratio, an odd number. Its multiples modulo 2^64 lie far apart.
+const SPREAD: u64 = 0x9E37_79B9_7F4A_7C15;
+
+/// A table has 2^3 places at least.
+const LEAST_BITS: u32 = 3;
+
+/// A table has 2^20 places at most.
+const MOST_BITS: u32 = 20;
+
+/// Amounts by key, to be looked up and changed. A key that isn't there has the amount 0.
+///
+/// A key with an amount stands in one of four places of a table, and where these are taken by others it is in an ordered map. So
+/// the time that a key costs doesn't grow with the keys as long as these aren't many more than the table was made for, and it is
+/// the logarithm of their number in any case, also for keys that were chosen to share a place.
+#[derive(Drop)]
+pub struct AmountTable {
+    places: Vec<(u64, u64)>,
+    shift: u32,
+    rest: AmountMap,
+}
+
+impl Model for AmountTable {
+    ghost use Rattle.vyrd_base.specs.Amounts.{Amounts};
+    ghost use Rattle.vyrd_base.specs.Tables.{IsTable, amounts_in};
+
+    ghost Value = { Amounts };
+
+    ghost view = { λ t. amounts_in t.places.items t.rest };
+
+    ghost invariant = { λ t. IsTable t.shift t.places.items t.rest };
+}
+
+impl AmountTable {
+    /// The table with no key, with two to four places for each of so many keys. It takes 16 bytes a place, and no further memory for
+    /// the keys that find a place there.
+    pub fn new(alloc: Global, keys: usize) -> Result<AmountTable, AllocError>
+        ensures { IfOk result (λ t. t ≡ []) }
+    {
+        let bits = table_bits(keys);
+        Ok(AmountTable {
+            places: free_places(alloc, bits)?,
+            shift: u64::BITS - bits,
+            rest: AmountMap::new(alloc),
+        })
+    }
+
+    /// The amount of the key, and 0 where it isn't there.
+    #[inline(always)]
+    pub fn amount(&self, key: u64) -> u64
+        ensures amount { result ≡ amount_of self.now key }
+        ensures formed { IsAmounts self.now }
+    {
+        match find(&self.places, self.shift, key) {
+            Some(place) => self.places[place].1,
+            None => self.rest.amount(key),
+        }
+    }
+
+    /// Gives the key this amount, where 0 takes the key out. Only a key that isn't there yet wants memory, and where there
+    /// is none the table is as it was.
+    #[inline(always)]
+    pub fn set(&mut self, key: u64, amount: u64) -> Result<(), AllocError>
+        ensures ok { OnOk result (self.new ≡ with_amount self.old key amount) }
+        ensures err { OnErr result (self.new ≡ self.old) }
+        ensures absent { OnErr result (amount_of self.old key ≡ 0) }
+    {
+        match find(&self.places, self.shift, key) {
+            Some(place) => {
+                self.places[place] = (key, amount);
+                Ok(())
+            }
+            None => set_anew(&mut self.places, self.shift, &mut self.rest, key, amount),
+        }
+    }
+
+    /// Takes the key out, where it is there.
+    #[inline(always)]
+    pub fn remove(&mut self, key: u64)
+        ensures { self.new ≡ with_amount self.old key 0 }
+    {
+        match find(&self.places, self.shift, key) {
+            Some(place) => self.places[place] = (key, 0),
+            None => self.rest.remove(key),
+        }
+    }
+
+    /// So much more for the key, where the sum fits 64 bits. After want of memory the table is as it was.
+    pub fn add(&mut self, key: u64, more: u64) -> Result<(), AllocError>
+        requires { amount_of self.old key + more < 2 ^ 64 }
+        ensures ok { OnOk result (self.new ≡ plus_amount self.old key more) }
+        ensures err { OnErr result (self.new ≡ self.old) }
+        ensures formed { IsAmounts self.old }
+    {
+        let before = self.amount(key);
+        self.set(key, before + more)
+    }
+
+    /// One less for a key that is there. It takes no memory.
+    pub fn take_one(&mut self, key: u64)
+        requires { amount_of self.old key ≢ 0 }
+        ensures { self.new ≡ with_amount self.old key (amount_of self.old key - 1) }
+    {
+        let before = self.amount(key);
+        match self.set(key, before - 1) {
+            Ok(()) => {}
+            Err(_) => unreachable!(),
+        }
+    }
+
+    /// The keys with their amounts, as a view. It goes through the whole table, and costs memory for each key.
+    pub fn view(&self, alloc: Global) -> Result<View, AllocError>
+        ensures { IfOk result (λ v. v ≡ self.now) }
+    {
+        let mut sums = AmountMap::new(alloc);
+        put_all(&mut sums, self.rest.view(alloc)?.pairs())?;
+        put_all(&mut sums, &self.places)?;
+        sums.view(alloc)
+    }
+}
+
+/// Free places, 2^bits and a few more.
+fn free_places(alloc: Global, bits: u32) -> Result<Vec<(u64, u64)>, AllocError>
+    requires { (1 ≤ bits) × (bits ≤ 20) }
+    ensures { IfOk result (λ places. places.items ≡ replicate (2 ^ bits + 3) (0, 0)) }
+{
+    vec![in alloc; (0, 0); (1 << bits) + (REACH - 1)]
+}
+
+/// The first of the places of a key.
+#[inline(always)]
+fn first_of(shift: u32, key: u64) -> usize
+    requires { shift < 64 }
+    ensures { result ≡ first_place shift key }
+{
+    (key.wrapping_mul(SPREAD) >> shift) as usize
+}
+
+/// The first place of the key that has its name, if there is one.
+#[inline(always)]
+fn find(places: &[(u64, u64)], shift: u32, key: u64) -> Option<usize>
+    requires shift { shift < 64 }
+    requires room { first_place shift key + 4 ≤ length places.now }
+    ensures { IsFoundAt shift places.now key result }
+{
+    let first = first_of(shift, key);
+    for i in first..first + REACH {
+        if places[i].0 == key {
+            return Some(i);
+        }
+    }
+    None
+}
+
+/// A free place for the key, if there is one.
+fn free_place(places: &[(u64, u64)], shift: u32, key: u64) -> Option<usize>
+    requires shift { shift < 64 }
+    requires room { first_place shift key + 4 ≤ length places.now }
+    ensures from { IfSome result (λ i. first_place shift key ≤ i) }
+    ensures to { IfSome result (λ i. i < first_place shift key + 4) }
+    ensures free { IfSome result (λ i. is_taken (pair_at places.now i) ≡ false) }
+{
+    let first = first_of(shift, key);
+    for i in first..first + REACH {
+        if places[i].1 == 0 {
+            return Some(i);
+        }
+    }
+    None
+}
+
+/// Gives an amount to a key that no place has the name of: in a free place, if there is one and it isn't among the rest.
+#[inline(never)]
+fn set_anew(
+    places: &mut [(u64, u64)],
+    shift: u32,
+    rest: &mut AmountMap,
+    key: u64,
+    amount: u64,
+) -> Result<(), AllocError>
+    requires table { IsTable shift places.old rest.old }
+    requires missing { IsFoundAt shift places.old key None }
+    ensures table { IsTable shift places.new rest.new }
+    ensures ok { OnOk result (amounts_in places.new rest.new ≡ with_amount (amounts_in places.old rest.old) key amount) }
+    ensures err { OnErr result (amounts_in places.new rest.new ≡ amounts_in places.old rest.old) }
+    ensures absent { OnErr result (amount_of (amounts_in places.old rest.old) key ≡ 0) }
+{
+    if amount != 0 && rest.amount(key) == 0 {
+        if let Some(place) = free_place(places, shift, key) {
+            places[place] = (key, amount);
+            return Ok(());
+        }
+    }
+    rest.set(key, amount)
+}
+
+/// Sets the amount of each pair's key, where it isn't 0.
+fn put_all(sums: &mut AmountMap, pairs: &[(u64, u64)]) -> Result<(), AllocError>
+    requires formed { IsAmounts sums.old }
+    requires all { HasAll sums.old pairs.now }
+    ensures { OnOk result (sums.new ≡ amounts_in pairs.now sums.old) }
+{
+    for (key, amount) in pairs {
+        if *amount != 0 {
+            sums.set(*key, *amount)?;
+        }
+    }
+    Ok(())
+}
+
+/// The table for so many keys has 2^bits places: two to four for each key.
+fn table_bits(keys: usize) -> u32
+    ensures { (1 ≤ result) × (result ≤ 20) }
+{
+    (usize::BITS + 1 - keys.leading_zeros())
+        .max(LEAST_BITS)
+        .min(MOST_BITS)
+}
