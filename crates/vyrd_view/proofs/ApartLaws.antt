@@ -10,6 +10,7 @@ use Rattle.vyrd_base.specs.Amounts.{Amounts, IsAmounts, amount_of, first_differe
 use Rattle.vyrd_base.proofs.DifferenceLaws.{first_difference_none, first_difference_some}
 use Rattle.vyrd_base.proofs.TestLaws.{same_number, same_of, apart_of, lower_isnt}
 use Rattle.vyrd_base.proofs.AmountLaws.{first_of_and, second_of_and}
+use Rattle.vyrd_view.specs.Apart.{IsLeastApart}
 
 -- the lesser key at the first place where the lists differ
 abbrev pub first_apart : Amounts → Amounts → Option ℕ
@@ -20,8 +21,7 @@ first_apart (x ∷ xs) (y ∷ ys) = cond (x.0 == y.0 && x.1 == y.1) (first_apart
 
 -- whether this is the least key whose amounts differ, or there is none
 abbrev pub LeastApart : Amounts → Amounts → Option ℕ → Type 0
-LeastApart a b None = (q : ℕ) → amount_of a q ≡ amount_of b q
-LeastApart a b (Some k) = (amount_of a k ≢ amount_of b k) × ((q : ℕ) → q < k → amount_of a q ≡ amount_of b q)
+LeastApart a b o = IsLeastApart (amount_of a) (amount_of b) o
 
 one_least : (a b : Amounts) (o p : Option ℕ) → LeastApart a b o → LeastApart a b p → o ≡ p
 one_least a b None None f g = refl
@@ -177,3 +177,11 @@ amounts_apart x y apart = grind (arith, nat_tests)
 -- the same of lists that are those of two views
 pub first_apart_of : (a b s t : Amounts) → IsAmounts a → IsAmounts b → s ≡ a → t ≡ b → first_apart s t ≡ first_difference a b
 first_apart_of a b s t is it ours theirs = ap (λ r. first_apart r t) ours ∙ ap (first_apart a) theirs ∙ sym (first_difference-first_apart a b is it)
+
+-- the least key at which two sides differ, of sides that are seen as functions
+pub least_is_first : (f g : ℕ → ℕ) (a b : Amounts) (o : Option ℕ) → ((q : ℕ) → f q ≡ amount_of a q) → ((q : ℕ) → g q ≡ amount_of b q)
+    → IsLeastApart f g o → o ≡ first_difference a b
+least_is_first f g a b None left right least =
+    one_least a b None (first_difference a b) (λ q. sym (left q) ∙ least q ∙ right q) (difference_is_least a b)
+least_is_first f g a b (Some k) left right least = one_least a b (Some k) (first_difference a b)
+    (λ equal. least.0 (left k ∙ equal ∙ sym (right k)), λ q low. sym (left q) ∙ least.1 q low ∙ right q) (difference_is_least a b)

@@ -20,7 +20,7 @@ pub record Walk (size : ℕ) (words : List ℕ) (sums : Amounts) (flags : List B
   pub marks : Marks size flags seen
   pub rest : added sums (chain_parts_from size words left seen node) ≡ collected (chain_parts size words)
 
-none_marked : (n q : ℕ) → get_or (replicate n false) q true ≡ (nat_le n q || false)
+pub none_marked : (n q : ℕ) → get_or (replicate n false) q true ≡ (nat_le n q || false)
 none_marked zero q = grind (arith, nat_tests)
 none_marked (suc n) zero = grind (arith, nat_tests)
 none_marked (suc n) (suc q) = none_marked n q ∙ ap (λ b. b || false) (one_less n q)
@@ -45,7 +45,7 @@ pub walk_left : (size : ℕ) (words : List ℕ) (sums : Amounts) (flags : List B
 walk_left size words sums flags turn n more walk =
     let one : size - turn ≡ suc (size - (turn + 1)) = omega arith in subst (λ left. Walk size words sums flags left n) one walk
 
-marked : (size n : ℕ) (flags : List Bool) (seen : List ℕ) → n < length flags → Marks size flags seen → Marks size (set flags n true) (n ∷ seen)
+pub marked : (size n : ℕ) (flags : List Bool) (seen : List ℕ) → n < length flags → Marks size flags seen → Marks size (set flags n true) (n ∷ seen)
 marked size n flags seen within marks q = by_test (n == q) refl
   where
     same_of : (n == q) ≡ true → n ≡ q

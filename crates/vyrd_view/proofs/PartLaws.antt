@@ -10,7 +10,7 @@ use Rattle.vyrd_view.specs.Added.{added}
 use Rattle.vyrd_base.proofs.SumLaws.{given, part_given, given_at_most, given_nothing, amount_of-collected, amount_of-plus}
 use Rattle.vyrd_view.proofs.AddedLaws.{amount_of-added}
 
-part_at_most : (q k a : ℕ) → part_given q (k, a) ≤ a
+pub part_at_most : (q k a : ℕ) → part_given q (k, a) ≤ a
 part_at_most q k a = by_key (q == k)
   where
     by_key : (b : Bool) → cond b a 0 ≤ a
@@ -34,7 +34,7 @@ slot_at_most words q i = by_state (slice_index words (2 * i) == 2)
     by_state true = one_at_most q (slice_index words (2 * i + 1)) 1
     by_state false = omega arith
 
--- so many slots give a value at most as much
+-- n slots give a value n at most
 pub slots_at_most : (words : List ℕ) (n q : ℕ) → amount_of (collected (flat_map (slot_parts words) (numbers_below n))) q ≤ n
 slots_at_most words n q =
     omega (

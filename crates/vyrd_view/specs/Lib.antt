@@ -1,1 +1,10 @@
 pub mod Added
+pub mod Apart
+pub mod Rests
+pub mod Sided
+pub mod Kept
+pub mod Pairs
+pub mod Chains
+pub mod Comparing
+pub mod Firsts
+pub mod Homes

@@ -61,7 +61,7 @@ pub(crate) fn chain(alloc: Global, size: usize, words: &[u64]) -> Result<AmountM
 }
 
 /// Whether the node was seen. One past the nodes counts as seen.
-fn is_seen(seen: &[bool], node: u64) -> bool
+pub(crate) fn is_seen(seen: &[bool], node: u64) -> bool
     ensures { result ≡ slice_index_or seen.now node true }
 {
     seen.get(node as usize).copied().unwrap_or(true)

@@ -1,17 +1,35 @@
-//! What the words of a log show, and where two views differ.
+//! What the words of a log show, and where that differs from what a specification has.
 //!
-//! The central call is `view_of`: it takes the plain words of a header and answers the view that the layout of the header's
-//! subject gives them.
+//! The central type is `Compared`. It keeps the words and the specification's amounts, is told what changes on either side,
+//! and names the least key at which the two differ. Its contract: `first_difference` answers exactly the first difference of
+//! `view_of_words` and those amounts, and what a change costs depends on the words that changed alone, not on the words that
+//! there are. `Steps` counts that cost: one step is one part decoded (a slot, a chunk or a node) or one key compared.
+//!
+//! `view_of` shows words from scratch, as a whole view, and `first_difference` compares two whole views.
 #![tactic(auto)]
 
+mod cache;
 mod chain;
 mod chunk;
 mod chunks;
+mod compared;
+mod current;
 mod difference;
+mod first;
+mod homes;
+mod multiset;
+mod parts;
+mod rest;
 mod shown;
+mod sides;
 mod slots;
+mod steps;
 #[cfg(test)]
 mod tests;
+mod tree;
+mod words;
 
+pub use compared::Compared;
 pub use difference::first_difference;
 pub use shown::view_of;
+pub use steps::Steps;

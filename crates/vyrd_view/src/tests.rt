@@ -1,6 +1,12 @@
 //! What words of each subject show.
 
-use crate::{first_difference, view_of};
+ghost use Rattle.std.specs.Prelude.{◌≡◌, ◌<◌, false, length, OnOk};
+ghost use Rattle.vyrd_base.specs.Layout.{plain_words};
+
+use crate::{Compared, Steps, first_difference, view_of};
+use std::alloc::{AllocError, Global};
+use std::marker::Brand;
+use std::sync::ledger::{Blank, Ledger};
 use std::test::Fail;
 use vyrd_base::{Header, Subject};
 
@@ -49,4 +55,114 @@ fn leaves_show_their_entries(rt: HostRuntime) -> Result<(), Fail> {
         [(5, 4294967305), (7, 4294967296), (8589934592, 1)].as_slice()
     );
     Ok(())
+}
+
+#[test]
+fn one_slot_changed(rt: HostRuntime) -> Result<(), Fail> {
+    let header = Header::new(1, Subject::Multiset, 1, 1).ok_or("a header")?;
+    let view = view_of(rt.alloc(), header, &[2, 5, 0, 0, 0, 0, 0, 0])?;
+    assert_eq!(rt; view.pairs(), [(5, 1)].as_slice());
+    let found = one_slot::<Brand>(rt.alloc(), Blank::new(1))?;
+    assert_eq!(rt; found, (Some(5), None));
+    Ok(())
+}
+
+/// The first difference after a slot got the value 5, first its value and then its state, and after the specification has it too.
+fn one_slot<L: Ledger>(alloc: Global, blank: Blank) -> Result<(Option<u64>, Option<u64>), Fail>
+    requires name { blank.name ≡ L.name }
+    requires parts { blank.parts ≡ L.parts }
+    requires some { 0 < blank.parts }
+{
+    let header = Header::new(1, Subject::Multiset, 1, 1).ok_or("a header")?;
+    let mut steps = Steps::<L>::new(blank);
+    let mut compared = Compared::new(alloc, header)?;
+    let mut words = vec![in alloc; 0; header.plain_words() as usize]?;
+    words[1] = 5;
+    words[0] = 2;
+    compared.words_changed(&words, &[1, 0], &mut steps)?;
+    let first = compared.first_difference();
+    compared.spec_changed(5, 1, &mut steps)?;
+    Ok((first, compared.first_difference()))
+}
+
+#[test]
+fn damaged_chunk_differs_past_the_chunks(rt: HostRuntime) -> Result<(), Fail> {
+    let found = differences::<Brand>(
+        rt.alloc(),
+        Blank::new(1),
+        Subject::Cache,
+        &[(6, 1), (7, 2), (5, 2), (0, 3)],
+        &[(1, 8589934593)],
+    )?;
+    assert_eq!(rt; found, (Some(1), Some(2)));
+    Ok(())
+}
+
+#[test]
+fn linked_leaf_is_shown(rt: HostRuntime) -> Result<(), Fail> {
+    let found = differences::<Brand>(
+        rt.alloc(),
+        Blank::new(1),
+        Subject::Tree,
+        &[(4, 5), (8, 9), (1, 1), (13, 1), (16, 7), (3, 1)],
+        &[(5, 4294967305), (7, 4294967296)],
+    )?;
+    assert_eq!(rt; found, (Some(5), None));
+    let back = differences::<Brand>(
+        rt.alloc(),
+        Blank::new(1),
+        Subject::Tree,
+        &[(4, 5), (8, 9), (1, 1), (13, 1), (16, 7), (3, 1), (15, 1)],
+        &[(5, 4294967305), (7, 4294967296)],
+    )?;
+    assert_eq!(rt; back, (Some(5), Some(8589934592)));
+    Ok(())
+}
+
+/// The first difference after these writes to a subject of size 2, and after these amounts of the specification too.
+fn differences<L: Ledger>(
+    alloc: Global,
+    blank: Blank,
+    subject: Subject,
+    writes: &[(u32, u64)],
+    amounts: &[(u64, u64)],
+) -> Result<(Option<u64>, Option<u64>), Fail>
+    requires name { blank.name ≡ L.name }
+    requires parts { blank.parts ≡ L.parts }
+    requires some { 0 < blank.parts }
+{
+    let header = Header::new(1, subject, 2, 1).ok_or("a header")?;
+    let mut steps = Steps::<L>::new(blank);
+    let mut compared = Compared::new(alloc, header)?;
+    let mut words = vec![in alloc; 0; header.plain_words() as usize]?;
+    for (word, value) in writes {
+        write(&mut compared, &mut words, *word, *value, &mut steps)?;
+    }
+    let first = compared.first_difference();
+    for (key, amount) in amounts {
+        compared.spec_changed(*key, *amount, &mut steps)?;
+    }
+    Ok((first, compared.first_difference()))
+}
+
+/// Writes a word, where there is one with this number.
+fn write<L: Ledger>(
+    compared: &mut Compared,
+    words: &mut [u64],
+    word: u32,
+    value: u64,
+    steps: &mut Steps<L>,
+) -> Result<(), AllocError>
+    requires sound { compared.old.refused ≡ false }
+    requires same { compared.old.words ≡ words.old }
+    requires count { length words.old ≡ plain_words compared.old.header }
+    ensures sound { OnOk result (compared.new.refused ≡ false) }
+    ensures same { OnOk result (compared.new.words ≡ words.new) }
+    ensures header { compared.new.header ≡ compared.old.header }
+{
+    if word as usize >= words.len() {
+        return Ok(());
+    }
+    words[word as usize] = value;
+    compared.words_changed(words, &[word], steps)
 }

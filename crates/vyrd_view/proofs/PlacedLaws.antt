@@ -1,0 +1,125 @@
+-- Pairs in places, as a loop over changed words brings them up to date.
+use Rattle.std.proofs.Common.{◌≡◌, ℕ, zero, suc, ◌+◌, ◌*◌, ◌/◌, ◌<◌, ◌≤◌, Bool, true, false, ◌||◌, List, [], ◌∷◌, length, map, get_or, set, drop, refl, ap, ◌∙◌, sym, arith, get_or-set_same, get_or-set_other}
+use Rattle.std.specs.Prelude.{◌==◌, ◌≢◌}
+use Rattle.std.proofs.lemmas.List.{drop_more, drop_all}
+use Rattle.vyrd_base.specs.Places.{numbers_from, numbers_below}
+use Rattle.vyrd_base.proofs.SumLaws.{given}
+use Rattle.vyrd_base.proofs.TestLaws.{same_of, apart_of}
+use Rattle.vyrd_view.specs.Pairs.{is_touched, EachAtMost}
+use Rattle.vyrd_view.proofs.PartLaws.{part_at_most}
+
+-- pairs that give so much at most
+pub each_bounds : (most q : ℕ) (pairs : List (ℕ × ℕ)) → EachAtMost most pairs → given q pairs ≤ length pairs * most
+each_bounds most q [] each = omega arith
+each_bounds most q (p ∷ pairs) each = omega (arith, each 0, part_at_most q p.0 p.1, each_bounds most q pairs (λ i. each (suc i)))
+
+pub each-set : (most : ℕ) (pairs : List (ℕ × ℕ)) (place : ℕ) (pair : ℕ × ℕ) → place < length pairs → pair.1 ≤ most → EachAtMost most pairs
+    → EachAtMost most (set pairs place pair)
+each-set most pairs place pair low small each i = by_test (i == place) refl
+  where
+    by_test : (b : Bool) → (i == place) ≡ b → (get_or (set pairs place pair) i (0, 0)).1 ≤ most
+    by_test true e =
+        let here : (get_or (set pairs place pair) i (0, 0)).1 ≡ pair.1 =
+        ap (λ k. (get_or (set pairs place pair) k (0, 0)).1) (same_of i place e)
+        ∙ ap (λ p. p.1) (get_or-set_same pairs place pair (0, 0) low) in
+        omega (arith, here, small)
+    by_test false e =
+        let there : (get_or (set pairs place pair) i (0, 0)).1 ≡ (get_or pairs i (0, 0)).1 =
+        ap (λ p. p.1) (get_or-set_other pairs place i pair (0, 0) (apart_of i place e)) in
+        omega (arith, there, each i)
+
+-- one word more that is looked at
+pub touched_more : (size i : ℕ) (changed : List ℕ) (index : ℕ) → index < length changed
+    → is_touched size i (drop index changed) ≡ ((get_or changed index 0 / size == i) || is_touched size i (drop (index + 1) changed))
+touched_more size i changed index low = ap (is_touched size i) (drop_more changed index 0 low)
+
+pub untouched_rest : (size i : ℕ) (changed : List ℕ) (index : ℕ) → index < length changed → (get_or changed index 0 / size == i) ≡ false
+    → is_touched size i (drop (index + 1) changed) ≡ false → is_touched size i (drop index changed) ≡ false
+untouched_rest size i changed index low apart rest =
+    touched_more size i changed index low ∙ ap (λ b. b || is_touched size i (drop (index + 1) changed)) apart ∙ rest
+
+pub untouched_end : (size i : ℕ) (changed : List ℕ) (index : ℕ) → length changed ≤ index → is_touched size i (drop index changed) ≡ false
+untouched_end size i changed index high = ap (is_touched size i) (drop_all index changed high)
+
+-- the parts with one pair each that none of the words left is in are up to date
+abbrev pub AreFresh : ℕ → (ℕ → ℕ × ℕ) → List (ℕ × ℕ) → List ℕ → Type 0
+AreFresh size f pairs left = (i : ℕ) → i < length pairs → is_touched size i left ≡ false → get_or pairs i (0, 0) ≡ f i
+
+pub fresh_more : (size : ℕ) (f : ℕ → ℕ × ℕ) (pairs : List (ℕ × ℕ)) (changed : List ℕ) (index : ℕ) → index < length changed
+    → get_or changed index 0 / size < length pairs
+    → AreFresh size f pairs (drop index changed)
+    → (i : ℕ) → i < length pairs → is_touched size i (drop (index + 1) changed) ≡ false
+    → get_or (set pairs (get_or changed index 0 / size) (f (get_or changed index 0 / size))) i (0, 0) ≡ f i
+fresh_more size f pairs changed index low within fresh i inside rest = by_test (get_or changed index 0 / size == i) refl
+  where
+    part : ℕ
+    part = get_or changed index 0 / size
+
+    other : (part == i) ≡ false → i ≢ part
+    other e = λ same. apart_of part i e (sym same)
+
+    by_test : (b : Bool) → (get_or changed index 0 / size == i) ≡ b
+        → get_or (set pairs (get_or changed index 0 / size) (f (get_or changed index 0 / size))) i (0, 0) ≡ f i
+    by_test true e =
+        ap (λ k. get_or (set pairs (get_or changed index 0 / size) (f (get_or changed index 0 / size))) k (0, 0)) (sym (same_of (get_or changed index 0 / size) i e))
+        ∙ get_or-set_same pairs (get_or changed index 0 / size) (f (get_or changed index 0 / size)) (0, 0) within
+        ∙ ap f (same_of (get_or changed index 0 / size) i e)
+    by_test false e =
+        get_or-set_other pairs (get_or changed index 0 / size) i (f (get_or changed index 0 / size)) (0, 0) (other e)
+        ∙ fresh i inside (untouched_rest size i changed index low e rest)
+
+-- pairs that are each what a function of their place says
+mapped_from : (f : ℕ → ℕ × ℕ) (pairs : List (ℕ × ℕ)) (k : ℕ) → ((i : ℕ) → i < length pairs → get_or pairs i (0, 0) ≡ f (k + i))
+    → pairs ≡ map f (numbers_from k (length pairs))
+mapped_from f [] k each = refl
+mapped_from f (p ∷ pairs) k each =
+    let at : k + 0 ≡ k = omega arith in
+    ap (λ x. x ∷ pairs) (each 0 (omega arith) ∙ ap f at)
+    ∙ ap (λ xs. f k ∷ xs) (mapped_from f pairs (k + 1) (λ i low. let next : k + suc i ≡ k + 1 + i = omega arith in
+    each (suc i) (omega (arith, low)) ∙ ap f next))
+
+pub mapped : (f : ℕ → ℕ × ℕ) (pairs : List (ℕ × ℕ)) (n : ℕ) → length pairs ≡ n → ((i : ℕ) → i < n → get_or pairs i (0, 0) ≡ f i)
+    → pairs ≡ map f (numbers_below n)
+mapped f pairs n is each =
+    mapped_from f pairs 0 (λ i low. let at : 0 + i ≡ i = omega arith in each i (omega (arith, low)) ∙ ap f (sym at))
+    ∙ ap (λ m. map f (numbers_below m)) is
+
+length_mapped_from : (f : ℕ → ℕ × ℕ) (k n : ℕ) → length (map f (numbers_from k n)) ≡ n
+length_mapped_from f k zero = refl
+length_mapped_from f k (suc n) = ap suc (length_mapped_from f (k + 1) n)
+
+pub length_mapped : (f : ℕ → ℕ × ℕ) (n : ℕ) → length (map f (numbers_below n)) ≡ n
+length_mapped f n = length_mapped_from f 0 n
+
+at_mapped_from : (f : ℕ → ℕ × ℕ) (k n i : ℕ) → i < n → get_or (map f (numbers_from k n)) i (0, 0) ≡ f (k + i)
+at_mapped_from f k zero i low = absurd (omega arith)
+at_mapped_from f k (suc n) zero low = let at : k ≡ k + 0 = omega arith in ap f at
+at_mapped_from f k (suc n) (suc i) low =
+    let next : k + 1 + i ≡ k + suc i = omega arith in at_mapped_from f (k + 1) n i (omega arith) ∙ ap f next
+
+pub at_mapped : (f : ℕ → ℕ × ℕ) (n i : ℕ) → i < n → get_or (map f (numbers_below n)) i (0, 0) ≡ f i
+at_mapped f n i low = let at : 0 + i ≡ i = omega arith in at_mapped_from f 0 n i low ∙ ap f at
+
+-- the places of the parts that none of the words left is in are up to date, where each part has as many places as `places` says
+abbrev pub ArePartsFresh : ℕ → ℕ → (ℕ → ℕ × ℕ) → List (ℕ × ℕ) → List ℕ → Type 0
+ArePartsFresh size places f pairs left =
+    (m : ℕ) → m < length pairs → is_touched size (m / places) left ≡ false → get_or pairs m (0, 0) ≡ f m
+
+-- the places of one part are brought up to date, and the others stay
+pub parts_fresh_more : (size places : ℕ) (f : ℕ → ℕ × ℕ) (pairs now : List (ℕ × ℕ)) (changed : List ℕ) (index : ℕ) → index < length changed
+    → length now ≡ length pairs
+    → ((m : ℕ) → m < length pairs → m / places ≡ get_or changed index 0 / size → get_or now m (0, 0) ≡ f m)
+    → ((m : ℕ) → m / places ≢ get_or changed index 0 / size → get_or now m (0, 0) ≡ get_or pairs m (0, 0))
+    → ArePartsFresh size places f pairs (drop index changed)
+    → ArePartsFresh size places f now (drop (index + 1) changed)
+parts_fresh_more size places f pairs now changed index low count here there fresh m inside rest =
+    by_test (get_or changed index 0 / size == m / places) refl
+  where
+    within : m < length pairs
+    within = omega (arith, inside, count)
+
+    by_test : (b : Bool) → (get_or changed index 0 / size == m / places) ≡ b → get_or now m (0, 0) ≡ f m
+    by_test true e = here m within (sym (same_of (get_or changed index 0 / size) (m / places) e))
+    by_test false e =
+        there m (λ same. apart_of (get_or changed index 0 / size) (m / places) e (sym same))
+        ∙ fresh m within (untouched_rest size (m / places) changed index low e rest)

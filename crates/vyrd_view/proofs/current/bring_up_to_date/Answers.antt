@@ -1,0 +1,108 @@
+use Rattle.std.proofs.Common.{◌≡◌, ◌*◌, length, map, get_or, ap, ◌∙◌, sym, subst, arith}
+use Rattle.vyrd_base.specs.declared.subject.Subject.TheVariants.{Multiset, Cache, Tree}
+use Rattle.vyrd_base.specs.Places.{numbers_below}
+use Rattle.vyrd_view.specs.Kept.{Kept}
+use Rattle.vyrd_view.specs.Pairs.{slot_pair, chunk_pair, HaveChunkKeys}
+use Rattle.vyrd_view.specs.Chains.{is_on_chain, is_broken, end_pair}
+use Rattle.vyrd_view.specs.Comparing.{IsCurrent}
+use Rattle.vyrd_view.proofs.OutcomeLaws.{then_ok}
+use Rattle.vyrd_view.proofs.ReadyLaws.{sized, word_count, slots_count, slots_ones, slots_others, slots_current, chunks_count, chunks_keys, chunks_others, marks_count, tree_count, tree_most, tree_others, tree_marks, tree_end}
+use Rattle.vyrd_view.proofs.current.bring_up_to_date.Goals as goal
+
+pub slots_changed-requires-clause-count : goal.slots_changed-requires-clause-count
+slots_changed-requires-clause-count g c =
+    let h = c.args.header in
+    let is : h.subject ≡ Multiset = sym c.subject.ensures ∙ c.in-Multiset.is in
+    omega (
+      arith,
+      word_count h Multiset c.args.words.now is c.requires.count,
+      slots_count h c.args.kept.now c.args.words.now c.args.changed.now c.args.parts.now.pairs c.args.marks.now c.args.next.now c.requires.current c.requires.elsewhere is,
+    )
+
+pub slots_changed-requires-clause-few : goal.slots_changed-requires-clause-few
+slots_changed-requires-clause-few g c =
+    let h = c.args.header in
+    let is : h.subject ≡ Multiset = sym c.subject.ensures ∙ c.in-Multiset.is in
+    let limits = sized h in
+    omega (
+      arith,
+      limits.1,
+      slots_count h c.args.kept.now c.args.words.now c.args.changed.now c.args.parts.now.pairs c.args.marks.now c.args.next.now c.requires.current c.requires.elsewhere is,
+    )
+
+pub slots_changed-requires-clause-ones : goal.slots_changed-requires-clause-ones
+slots_changed-requires-clause-ones g c =
+    let is : c.args.header.subject ≡ Multiset = sym c.subject.ensures ∙ c.in-Multiset.is in
+    slots_ones c.args.header c.args.kept.now c.args.words.now c.args.changed.now c.args.parts.now.pairs c.args.marks.now c.args.next.now c.requires.current c.requires.elsewhere is
+
+pub slots_changed-requires-clause-others : goal.slots_changed-requires-clause-others
+slots_changed-requires-clause-others g c =
+    let is : c.args.header.subject ≡ Multiset = sym c.subject.ensures ∙ c.in-Multiset.is in
+    slots_others c.args.header c.args.kept.now c.args.words.now c.args.changed.now c.args.parts.now.pairs c.args.marks.now c.args.next.now c.requires.current c.requires.elsewhere is
+
+pub chunks_changed-requires-clause-places : goal.chunks_changed-requires-clause-places
+chunks_changed-requires-clause-places g c =
+    let is : c.args.header.subject ≡ Cache = sym c.subject.ensures ∙ c.in-Cache.is in
+    chunks_count c.args.header c.args.kept.now c.args.words.now c.args.changed.now c.args.parts.now.pairs c.args.marks.now c.args.next.now c.requires.current c.requires.elsewhere is
+    ∙ ap (λ n. 2 * n) (sym c.size-size.ensures)
+
+pub chunks_changed-requires-clause-keys : goal.chunks_changed-requires-clause-keys
+chunks_changed-requires-clause-keys g c =
+    let is : c.args.header.subject ≡ Cache = sym c.subject.ensures ∙ c.in-Cache.is in
+    subst (λ n. HaveChunkKeys n c.args.parts.now.pairs) (sym c.size-size.ensures)
+    (chunks_keys c.args.header c.args.kept.now c.args.words.now c.args.changed.now c.args.parts.now.pairs c.args.marks.now c.args.next.now c.requires.current c.requires.elsewhere is)
+
+pub chunks_changed-requires-clause-others : goal.chunks_changed-requires-clause-others
+chunks_changed-requires-clause-others g c = λ m low untouched.
+    let is : c.args.header.subject ≡ Cache = sym c.subject.ensures ∙ c.in-Cache.is in
+    chunks_others c.args.header c.args.kept.now c.args.words.now c.args.changed.now c.args.parts.now.pairs c.args.marks.now c.args.next.now c.requires.current c.requires.elsewhere is m low untouched
+    ∙ ap (λ n. chunk_pair n c.args.words.now m) (sym c.size-size.ensures)
+
+pub leaves_changed-requires-clause-places : goal.leaves_changed-requires-clause-places
+leaves_changed-requires-clause-places g c =
+    let is : c.args.header.subject ≡ Tree = sym c.subject.ensures ∙ c.in-Tree.is in
+    omega (
+      arith,
+      tree_count c.args.header c.args.kept.now c.args.words.now c.args.changed.now c.args.parts.now.pairs c.args.marks.now c.args.next.now c.requires.current c.requires.elsewhere is,
+      marks_count c.args.header c.args.kept.now c.args.words.now c.args.changed.now c.args.parts.now.pairs c.args.marks.now c.args.next.now c.requires.current c.requires.elsewhere is,
+    )
+
+pub leaves_changed-requires-clause-most : goal.leaves_changed-requires-clause-most
+leaves_changed-requires-clause-most g c =
+    let is : c.args.header.subject ≡ Tree = sym c.subject.ensures ∙ c.in-Tree.is in
+    tree_most c.args.header c.args.kept.now c.args.words.now c.args.changed.now c.args.parts.now.pairs c.args.marks.now c.args.next.now c.requires.current c.requires.elsewhere is
+
+pub leaves_changed-requires-clause-others : goal.leaves_changed-requires-clause-others
+leaves_changed-requires-clause-others g c = λ m low fresh.
+    let is : c.args.header.subject ≡ Tree = sym c.subject.ensures ∙ c.in-Tree.is in
+    let same : length c.args.marks.now ≡ c.args.header.size =
+    marks_count c.args.header c.args.kept.now c.args.words.now c.args.changed.now c.args.parts.now.pairs c.args.marks.now c.args.next.now c.requires.current c.requires.elsewhere is in
+    tree_others c.args.header c.args.kept.now c.args.words.now c.args.changed.now c.args.parts.now.pairs c.args.marks.now c.args.next.now c.requires.current c.requires.elsewhere is m
+    (omega (arith, low, same)) fresh
+
+pub leaves_changed-requires-clause-marked : goal.leaves_changed-requires-clause-marked
+leaves_changed-requires-clause-marked g c = λ unlinked n low.
+    let is : c.args.header.subject ≡ Tree = sym c.subject.ensures ∙ c.in-Tree.is in
+    let same : length c.args.marks.now ≡ c.args.header.size =
+    marks_count c.args.header c.args.kept.now c.args.words.now c.args.changed.now c.args.parts.now.pairs c.args.marks.now c.args.next.now c.requires.current c.requires.elsewhere is in
+    tree_marks c.args.header c.args.kept.now c.args.words.now c.args.changed.now c.args.parts.now.pairs c.args.marks.now c.args.next.now c.requires.current c.requires.elsewhere is
+    unlinked n (omega (arith, low, same)) ∙ ap (λ k. is_on_chain k c.args.words.now n) (sym same)
+
+pub leaves_changed-requires-clause-end : goal.leaves_changed-requires-clause-end
+leaves_changed-requires-clause-end g c = λ unlinked.
+    let is : c.args.header.subject ≡ Tree = sym c.subject.ensures ∙ c.in-Tree.is in
+    let same : length c.args.marks.now ≡ c.args.header.size =
+    marks_count c.args.header c.args.kept.now c.args.words.now c.args.changed.now c.args.parts.now.pairs c.args.marks.now c.args.next.now c.requires.current c.requires.elsewhere is in
+    ap (λ k. get_or c.args.parts.now.pairs (4 * k) (0, 0)) same
+    ∙ tree_end c.args.header c.args.kept.now c.args.words.now c.args.changed.now c.args.parts.now.pairs c.args.marks.now c.args.next.now c.requires.current c.requires.elsewhere is unlinked
+    ∙ ap (λ k. end_pair (is_broken k c.args.words.now)) (sym same)
+
+pub returns-in-Multiset-clause-current : goal.returns-in-Multiset-clause-current
+returns-in-Multiset-clause-current g c =
+    let is : c.args.header.subject ≡ Multiset = sym c.subject.ensures ∙ c.in-Multiset.is in
+    then_ok c.slots_changed.result
+    (c.slots_changed.new.parts ≡ record c.args.parts.now { pairs = map (slot_pair c.args.words.now) (numbers_below (length c.args.parts.now.pairs)) })
+    (IsCurrent c.args.header c.args.words.now c.slots_changed.new.parts.pairs c.args.marks.now c.args.next.now)
+    (λ now. slots_current c.args.header c.args.kept.now c.args.words.now c.args.changed.now c.args.parts.now.pairs c.args.marks.now c.args.next.now c.requires.current c.requires.elsewhere is
+    c.slots_changed.new.parts.pairs (ap (λ (k : Kept). k.pairs) now))
+    c.slots_changed.ensures.ok

@@ -1,0 +1,44 @@
+use Rattle.std.proofs.Common.{◌≡◌, ◌<◌, false, ap, sym, ◌∙◌, arith, get_or, set, length}
+use Rattle.vyrd_base.proofs.SumLaws.{given, part_given}
+use Rattle.vyrd_view.proofs.PairLaws.{given-set, part-le-given, own_part}
+use Rattle.vyrd_view.proofs.parts.Parts.write.Goals as goal
+
+pub change-requires-clause-enough : goal.change-requires-clause-enough
+change-requires-clause-enough g c =
+    let pairs = c.self.inside.pairs.items in
+    let before = c.index-before.result.now in
+    let sound : c.self.inside.refused ≡ false = ap (λ k. k.refused) c.self.view_is ∙ c.requires.sound in
+    let low : c.args.place < length pairs = omega (arith, ap (λ k. length k.pairs) c.self.view_is, c.requires.place) in
+    let is : part_given before.0 (get_or pairs c.args.place before) ≡ before.1 =
+    ap (part_given before.0) (sym c.index-before.ensures) ∙ own_part before.0 before.1 in
+    omega (arith, (c.self.invariant sound).1 before.0, part-le-given before.0 pairs c.args.place before low, is)
+
+pub change-requires-clause-fits : goal.change-requires-clause-fits
+change-requires-clause-fits g c =
+    let pairs = c.self.inside.pairs.items in
+    let before = c.index-before.result.now in
+    let pair = c.args.pair in
+    let sound : c.self.inside.refused ≡ false = ap (λ k. k.refused) c.self.view_is ∙ c.requires.sound in
+    let low : c.args.place < length pairs = omega (arith, ap (λ k. length k.pairs) c.self.view_is, c.requires.place) in
+    let is : part_given pair.0 (get_or pairs c.args.place before) ≡ part_given pair.0 before = ap (part_given pair.0) (sym c.index-before.ensures) in
+    let fits : given pair.0 (set pairs c.args.place pair) < 18446744073709551616 =
+    omega (arith, ap (λ k. given pair.0 (set k.pairs c.args.place pair)) c.self.view_is, c.requires.fits) in
+    omega (
+      arith,
+      (c.self.invariant sound).1 pair.0,
+      given-set pair.0 pairs c.args.place pair before low,
+      is,
+      own_part pair.0 pair.1,
+      fits,
+    )
+
+pub invariant_of-self : goal.invariant_of-self
+invariant_of-self g c = λ sound. (
+  c.in-Ok.ensures.settled,
+  λ q.
+      let pairs = c.self.inside.pairs.items in
+      let before = c.index-before.result.now in
+      let low : c.args.place < length pairs = omega (arith, ap (λ k. length k.pairs) c.self.view_is, c.requires.place) in
+      let is : part_given q (get_or pairs c.args.place before) ≡ part_given q before = ap (part_given q) (sym c.index-before.ensures) in
+      omega (arith, c.in-Ok.ensures.shown q, (c.self.invariant sound).1 q, given-set q pairs c.args.place c.args.pair before low, is),
+)

@@ -1,0 +1,122 @@
+//! The words against the specification, change by change.
+
+ghost use Rattle.std.specs.Prelude.{◌≡◌, ℕ, ◌+◌, ◌*◌, ◌<◌, ◌≤◌, ◌^◌, [], true, false, length, replicate, All, IfOk, OnOk, OnErr, is_err};
+ghost use Rattle.vyrd_base.specs.Amounts.{with_amount, first_difference};
+ghost use Rattle.vyrd_base.specs.Layout.{plain_words};
+ghost use Rattle.vyrd_base.specs.Views.{view_of_words};
+ghost use Rattle.vyrd_view.specs.Comparing.{AgreeElsewhere, keys_of_part, parts_looked_at};
+
+use crate::current::bring_up_to_date;
+use crate::first::{first_marks, first_pairs, no_marks};
+use crate::parts::Parts;
+use crate::steps::Steps;
+use std::alloc::{AllocError, Global};
+use std::marker::Model;
+use std::sync::ledger::Ledger;
+use vyrd_base::Header;
+
+/// The words and the specification's amounts, and where they differ. It is told what changes on either side, and looks at
+/// nothing beyond that: a changed word costs its part, so at most nine steps, and a changed amount costs one step. Where a
+/// right link of a tree changes, the chain of leaves is walked again.
+#[derive(Drop)]
+pub struct Compared {
+    header: Header,
+    words: Vec<u64>,
+    parts: Parts,
+    /// Of a tree: the nodes on the chain of leaves.
+    marks: Vec<bool>,
+    /// Of a tree: room to walk the chain again.
+    next: Vec<bool>,
+}
+
+impl Model for Compared {
+    ghost use Rattle.std.specs.Prelude.{◌≡◌, false, length};
+    ghost use Rattle.vyrd_base.specs.Layout.{plain_words};
+    ghost use Rattle.vyrd_view.specs.Comparing.{Comparison, IsCurrent};
+
+    ghost Value = { Comparison };
+
+    ghost view = { λ c. record { header = c.header; words = c.words.items; specified = c.parts.specified; refused = c.parts.refused } };
+
+    ghost invariant = { λ c. (length c.words.items ≡ plain_words c.header)
+        × (c.parts.refused ≡ false → IsCurrent c.header c.words.items c.parts.pairs c.marks.items c.next.items) };
+}
+
+impl Compared {
+    /// Zeroed words against an empty specification. It takes memory in proportion to the words: 8 bytes for each, and 64 to 112
+    /// for each key that a part may give.
+    pub fn new(alloc: Global, header: Header) -> Result<Compared, AllocError>
+        ensures { IfOk result (λ c. c ≡ record { header = header; words = replicate (plain_words header) 0; specified = []; refused = false }) }
+    {
+        Ok(Compared {
+            header,
+            words: vec![in alloc; 0; header.plain_words() as usize]?,
+            parts: Parts::new(alloc, first_pairs(alloc, header)?)?,
+            marks: first_marks(alloc, header)?,
+            next: no_marks(alloc, header)?,
+        })
+    }
+
+    /// These are the words now. Outside `changed` they are those of the last call, or 0 where there was none; in `changed` a
+    /// word may stand more than once. Once memory was refused the value may only be dropped.
+    pub fn words_changed<L: Ledger>(
+        &mut self,
+        words: &[u64],
+        changed: &[u32],
+        steps: &mut Steps<L>,
+    ) -> Result<(), AllocError>
+        requires sound { self.old.refused ≡ false }
+        requires count { length words.now ≡ plain_words self.old.header }
+        requires within { All (λ w. w < plain_words self.old.header) changed.now }
+        requires elsewhere { AgreeElsewhere self.old.words words.now changed.now }
+        ensures ok { OnOk result (self.new ≡ record self.old { words = words.now }) }
+        ensures refused { self.new.refused ≡ is_err result }
+        ensures header { self.new.header ≡ self.old.header }
+        ensures steps { steps.new ≤ steps.old
+            + parts_looked_at self.old.header.subject self.old.header.size changed.now * (1 + 2 * keys_of_part self.old.header.subject) + 2 }
+    {
+        bring_up_to_date(
+            self.header,
+            &mut self.words,
+            &mut self.parts,
+            &mut self.marks,
+            &mut self.next,
+            words,
+            changed,
+            steps,
+        )
+    }
+
+    /// The specification has this amount of the key now, where 0 says that the key isn't there. Once memory was refused the
+    /// value may only be dropped.
+    pub fn spec_changed<L: Ledger>(
+        &mut self,
+        key: u64,
+        amount: u64,
+        steps: &mut Steps<L>,
+    ) -> Result<(), AllocError>
+        requires { self.old.refused ≡ false }
+        ensures ok { OnOk result (self.new ≡ record self.old { specified = with_amount self.old.specified key amount }) }
+        ensures refused { self.new.refused ≡ is_err result }
+        ensures header { self.new.header ≡ self.old.header }
+        ensures steps { steps.new ≤ steps.old + 1 }
+    {
+        self.parts.specify(key, amount, steps)
+    }
+
+    /// The least key at which the words and the specification differ, or none where they are equal. Where they are equal it
+    /// costs constant time. Otherwise it goes through all keys, and takes no memory.
+    pub fn first_difference(&self) -> Option<u64>
+        requires { self.now.refused ≡ false }
+        ensures { result ≡ first_difference (view_of_words self.now.header self.now.words) self.now.specified }
+    {
+        self.parts.first_difference()
+    }
+
+    /// Whether memory was refused. Then the value may only be dropped.
+    pub fn refused(&self) -> bool
+        ensures { result ≡ self.now.refused }
+    {
+        self.parts.refused()
+    }
+}

@@ -1,0 +1,160 @@
+//! A table in which a key stands in one of a few places in a row.
+
+ghost use Rattle.std.specs.Prelude.{◌≡◌, ℕ, ◌+◌, ◌-◌, ◌*◌, ◌<◌, ◌≤◌, ◌^◌, ◌==◌, true, false, length, slice_set, replicate, count_by, Some, None, IfOk, IfSome, ◌≢◌};
+
+use std::alloc::{AllocError, Global};
+
+/// How many places in a row a key may stand in.
+const REACH: usize = 4;
+
+/// 2^64 times the fraction of the golden ratio, an odd number. Its multiples modulo 2^64 lie far apart.
+const SPREAD: u64 = 0x9E37_79B9_7F4A_7C15;
+
+/// A key with what the words and the specification show of it. Where both are 0 the place is free.
+#[derive(Clone, Copy)]
+pub(crate) struct Home {
+    pub(crate) key: u64,
+    pub(crate) shown: u64,
+    pub(crate) specified: u64,
+}
+
+impl Home {
+    ghost use Rattle.vyrd_view.specs.Homes.{is_taken, is_apart};
+
+    /// Whether a key stands here.
+    #[inline(always)]
+    pub(crate) fn is_taken(&self) -> bool
+        ensures { result ≡ is_taken self.now }
+    {
+        self.shown != 0 || self.specified != 0
+    }
+
+    /// Whether the amounts differ.
+    #[inline(always)]
+    pub(crate) fn is_apart(&self) -> bool
+        ensures { result ≡ is_apart self.now }
+    {
+        self.shown != self.specified
+    }
+}
+
+/// The places, and how many of them have amounts that differ.
+#[derive(Drop)]
+pub(crate) struct Homes {
+    pub(crate) places: Vec<Home>,
+    pub(crate) shift: u32,
+    pub(crate) apart: usize,
+}
+
+impl Homes {
+    ghost use Rattle.vyrd_view.specs.Homes.{no_home, home_at, is_taken, is_apart, first_place, AreHomes, IsFoundAt, IsLeastHome};
+
+    /// Free places, 2^bits and a few more.
+    pub(crate) fn new(alloc: Global, bits: u32) -> Result<Homes, AllocError>
+        requires { (1 ≤ bits) × (bits ≤ 20) }
+        ensures free { IfOk result (λ homes. homes.places.items ≡ replicate (2 ^ bits + 3) no_home) }
+        ensures shift { IfOk result (λ homes. homes.shift + bits ≡ 64) }
+        ensures apart { IfOk result (λ homes. homes.apart ≡ 0) }
+    {
+        let free = Home {
+            key: 0,
+            shown: 0,
+            specified: 0,
+        };
+        Ok(Homes {
+            places: vec![in alloc; free; (1 << bits) + (REACH - 1)]?,
+            shift: 64 - bits,
+            apart: 0,
+        })
+    }
+
+    /// The first of the places in which the key may stand.
+    #[inline(always)]
+    fn first_of(&self, key: u64) -> usize
+        requires { self.now.shift < 64 }
+        ensures { result ≡ first_place self.now.shift key }
+    {
+        (key.wrapping_mul(SPREAD) >> self.shift) as usize
+    }
+
+    /// The first place of the key that has its name, if there is one.
+    #[inline(always)]
+    pub(crate) fn find(&self, key: u64) -> Option<usize>
+        requires shift { self.now.shift < 64 }
+        requires homes { AreHomes self.now.shift self.now.places.items }
+        ensures { IsFoundAt self.now.shift self.now.places.items key result }
+    {
+        let first = self.first_of(key);
+        for i in first..first + REACH {
+            if self.places[i].key == key {
+                return Some(i);
+            }
+        }
+        None
+    }
+
+    /// A free place for the key, if there is one.
+    pub(crate) fn free_place(&self, key: u64) -> Option<usize>
+        requires shift { self.now.shift < 64 }
+        requires homes { AreHomes self.now.shift self.now.places.items }
+        ensures from { IfSome result (λ i. first_place self.now.shift key ≤ i) }
+        ensures to { IfSome result (λ i. i < first_place self.now.shift key + 4) }
+        ensures free { IfSome result (λ i. is_taken (home_at self.now.places.items i) ≡ false) }
+    {
+        let first = self.first_of(key);
+        for i in first..first + REACH {
+            if !self.places[i].is_taken() {
+                return Some(i);
+            }
+        }
+        None
+    }
+
+    /// Writes a place.
+    #[inline(always)]
+    pub(crate) fn put(&mut self, place: usize, home: Home)
+        requires place { place < length self.old.places.items }
+        requires counted { self.old.apart ≡ count_by is_apart self.old.places.items }
+        ensures places { self.new.places.items ≡ slice_set self.old.places.items place home }
+        ensures counted { self.new.apart ≡ count_by is_apart self.new.places.items }
+        ensures shift { self.new.shift ≡ self.old.shift }
+    {
+        if self.places[place].is_apart() {
+            self.apart -= 1;
+        }
+        if home.is_apart() {
+            self.apart += 1;
+        }
+        self.places[place] = home;
+    }
+
+    /// The least key that stands in a place whose amounts differ. Where there is none it costs constant time. Otherwise the table
+    /// is gone through.
+    pub(crate) fn first_apart(&self) -> Option<u64>
+        requires { self.now.apart ≡ count_by is_apart self.now.places.items }
+        ensures { IsLeastHome self.now.places.items result }
+    {
+        if self.apart == 0 {
+            return None;
+        }
+        let mut least = None;
+        for home in &self.places {
+            if home.is_apart() {
+                least = Some(lesser(least, home.key));
+            }
+        }
+        least
+    }
+}
+
+/// The lesser of a key that was found, if there is one, and another.
+fn lesser(found: Option<u64>, key: u64) -> u64
+    ensures none { found ≡ None → result ≡ key }
+    ensures some { (k : ℕ) → found ≡ Some k → (result ≤ k) × (result ≤ key) }
+    ensures one { (k : ℕ) → found ≡ Some k → result ≢ k → result ≡ key }
+{
+    match found {
+        None => key,
+        Some(least) => least.min(key),
+    }
+}

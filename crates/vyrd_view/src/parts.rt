@@ -1,0 +1,149 @@
+//! What the parts give, pair by pair.
+
+ghost use Rattle.std.specs.Prelude.{◌≡◌, ℕ, ◌+◌, ◌<◌, ◌≤◌, ◌^◌, [], true, false, length, slice_set, OnOk, OnErr, IfOk};
+ghost use Rattle.vyrd_base.specs.Amounts.{amount_of, with_amount, collected, first_difference};
+ghost use Rattle.vyrd_base.proofs.SumLaws.{given, part_given};
+
+use crate::sides::Sides;
+use crate::steps::Steps;
+use std::alloc::{AllocError, Global};
+use std::marker::Model;
+use std::sync::ledger::Ledger;
+
+/// A table has 2^3 places at least.
+const LEAST_BITS: u32 = 3;
+
+/// A table has 2^20 places at most. There are 4,097 pairs at most, so it has 2^14.
+const MOST_BITS: u32 = 20;
+
+/// The pairs of a key and an amount that the parts of the words give, each in a place of its own, beside the specification's
+/// amounts. A pair whose amount is 0 gives nothing.
+#[derive(Drop)]
+pub(crate) struct Parts {
+    pairs: Vec<(u64, u64)>,
+    sides: Sides,
+    refused: bool,
+}
+
+impl Model for Parts {
+    ghost use Rattle.std.specs.Prelude.{◌≡◌, ℕ, false};
+    ghost use Rattle.vyrd_base.proofs.SumLaws.{given};
+    ghost use Rattle.vyrd_view.specs.Kept.{Kept};
+    ghost use Rattle.vyrd_view.specs.Sided.{IsSettled, shown_at, specified_of};
+
+    ghost Value = { Kept };
+
+    ghost view = { λ p. record { pairs = p.pairs.items; specified = specified_of p.sides; refused = p.refused } };
+
+    ghost invariant = { λ p. p.refused ≡ false → (IsSettled p.sides × ((q : ℕ) → shown_at p.sides q ≡ given q p.pairs.items)) };
+}
+
+impl Parts {
+    /// These pairs, which give nothing, and an empty specification.
+    pub(crate) fn new(alloc: Global, pairs: Vec<(u64, u64)>) -> Result<Parts, AllocError>
+        requires { (q : ℕ) → given q pairs.items ≡ 0 }
+        ensures { IfOk result (λ p. p ≡ record { pairs = pairs.items; specified = []; refused = false }) }
+    {
+        let bits = table_bits(pairs.len());
+        Ok(Parts {
+            pairs,
+            sides: Sides::new(alloc, bits)?,
+            refused: false,
+        })
+    }
+
+    /// The pair in this place gives way to another. Where it is the same pair nothing is compared. Once memory was refused the value
+    /// may only be dropped.
+    #[inline(always)]
+    pub(crate) fn replace<L: Ledger>(
+        &mut self,
+        place: usize,
+        pair: (u64, u64),
+        steps: &mut Steps<L>,
+    ) -> Result<(), AllocError>
+        requires sound { self.old.refused ≡ false }
+        requires place { place < length self.old.pairs }
+        requires fits { given pair.0 (slice_set self.old.pairs place pair) < 2 ^ 64 }
+        ensures ok { OnOk result (self.new ≡ record self.old { pairs = slice_set self.old.pairs place pair }) }
+        ensures refused { OnErr result (self.new.refused ≡ true) }
+        ensures steps { steps.new ≤ steps.old + 2 }
+    {
+        let before = self.pairs[place];
+        if before.0 == pair.0 && before.1 == pair.1 {
+            return Ok(());
+        }
+        self.write(place, pair, steps)
+    }
+
+    /// Another pair comes to this place.
+    #[inline(never)]
+    fn write<L: Ledger>(
+        &mut self,
+        place: usize,
+        pair: (u64, u64),
+        steps: &mut Steps<L>,
+    ) -> Result<(), AllocError>
+        requires sound { self.old.refused ≡ false }
+        requires place { place < length self.old.pairs }
+        requires fits { given pair.0 (slice_set self.old.pairs place pair) < 2 ^ 64 }
+        ensures ok { OnOk result (self.new ≡ record self.old { pairs = slice_set self.old.pairs place pair }) }
+        ensures refused { OnErr result (self.new.refused ≡ true) }
+        ensures steps { steps.new ≤ steps.old + 2 }
+    {
+        let before = self.pairs[place];
+        self.pairs[place] = pair;
+        match self.sides.change(before, pair, steps) {
+            Ok(()) => Ok(()),
+            Err(refusal) => {
+                self.refused = true;
+                Err(refusal)
+            }
+        }
+    }
+
+    /// The specification has this amount of the key. Once memory was refused the value may only be dropped.
+    #[inline(always)]
+    pub(crate) fn specify<L: Ledger>(
+        &mut self,
+        key: u64,
+        amount: u64,
+        steps: &mut Steps<L>,
+    ) -> Result<(), AllocError>
+        requires { self.old.refused ≡ false }
+        ensures ok { OnOk result (self.new ≡ record self.old { specified = with_amount self.old.specified key amount }) }
+        ensures refused { OnErr result (self.new.refused ≡ true) }
+        ensures steps { steps.new ≤ steps.old + 1 }
+    {
+        match self.sides.specify(key, amount, steps) {
+            Ok(()) => Ok(()),
+            Err(refusal) => {
+                self.refused = true;
+                Err(refusal)
+            }
+        }
+    }
+
+    /// The least key at which the sum of the pairs isn't the specification's amount, or none where there is none.
+    pub(crate) fn first_difference(&self) -> Option<u64>
+        requires { self.now.refused ≡ false }
+        ensures { result ≡ first_difference (collected self.now.pairs) self.now.specified }
+    {
+        self.sides.first_difference()
+    }
+
+    /// Whether memory was refused.
+    pub(crate) fn refused(&self) -> bool
+        ensures { result ≡ self.now.refused }
+    {
+        self.refused
+    }
+}
+
+/// The table for this many pairs has 2^bits places: two to four for each pair.
+fn table_bits(pairs: usize) -> u32
+    ensures { (1 ≤ result) × (result ≤ 20) }
+{
+    (usize::BITS + 1 - pairs.leading_zeros())
+        .max(LEAST_BITS)
+        .min(MOST_BITS)
+}

@@ -1,0 +1,270 @@
+//! The leaves of a tree, as their words change.
+
+ghost use Rattle.std.specs.Prelude.{◌≡◌, ℕ, ◌+◌, ◌-◌, ◌*◌, ◌/◌, ◌%◌, ◌<◌, ◌≤◌, ◌^◌, true, false, Bool, [], ◌∷◌, length, map, All, slice_index_or, OnOk, OnErr, if◌then◌else◌};
+ghost use Rattle.vyrd_base.specs.TreeView.{count_of};
+ghost use Rattle.vyrd_view.specs.Pairs.{EachAtMost};
+ghost use Rattle.vyrd_view.specs.Chains.{entry_pair, node_pair, tree_pair, end_pair, is_stale, has_link, is_on_chain, is_broken};
+ghost use Rattle.vyrd_base.specs.Places.{numbers_below};
+
+use crate::chain::is_seen;
+use crate::parts::Parts;
+use crate::steps::Steps;
+use std::alloc::AllocError;
+use std::sync::ledger::Ledger;
+
+/// How many words a node has: level, count, bound and right, then four keys, then four values.
+const NODE_WORDS: usize = 12;
+
+/// Where a node has the count of its entries.
+const COUNT: usize = 1;
+
+/// Where a node has the node on its right.
+const RIGHT: usize = 3;
+
+/// Where a node has its keys.
+const KEYS: usize = 4;
+
+/// Where a node has its values.
+const VALUES: usize = 8;
+
+/// How many entries a node has room for.
+const MOST_ENTRIES: usize = 4;
+
+/// What is added to a value, so that the amount of a key that is there is never 0. Keys and values are below it.
+const PRESENT: u64 = 1 << 32;
+
+/// The key that stands for damage. It is above all others.
+const DAMAGE: u64 = 1 << 33;
+
+/// The places of a tree are brought up to date: those of each leaf that a changed word is in, and, where a right link has changed,
+/// those of the leaves that came to the chain or left it. Once memory was refused the parts may only be dropped.
+pub(crate) fn leaves_changed<L: Ledger>(
+    parts: &mut Parts,
+    marks: &mut [bool],
+    next: &mut [bool],
+    words: &[u64],
+    changed: &[u32],
+    steps: &mut Steps<L>,
+) -> Result<(), AllocError>
+    requires sound { parts.old.refused ≡ false }
+    requires some { 0 < length marks.old }
+    requires small { length marks.old ≤ 1024 }
+    requires same { length next.old ≡ length marks.old }
+    requires count { length words.now ≡ 12 * length marks.old + 2 }
+    requires places { length parts.old.pairs ≡ 4 * length marks.old + 1 }
+    requires most { EachAtMost (2 ^ 33) parts.old.pairs }
+    requires others { (m : ℕ) → m < 4 * length marks.old → is_stale marks.old (m / 4) changed.now ≡ false →
+        slice_index_or parts.old.pairs m (0, 0) ≡ node_pair words.now marks.old m }
+    requires marked { has_link changed.now ≡ false → (n : ℕ) → n < length marks.old →
+        slice_index_or marks.old n false ≡ is_on_chain (length marks.old) words.now n }
+    requires end { has_link changed.now ≡ false →
+        slice_index_or parts.old.pairs (4 * length marks.old) (0, 0) ≡ end_pair (is_broken (length marks.old) words.now) }
+    ensures ok { OnOk result (parts.new ≡ record parts.old { pairs = map (tree_pair (length marks.old) words.now) (numbers_below (4 * length marks.old + 1)) }) }
+    ensures marked { OnOk result ((n : ℕ) → n < length marks.old → slice_index_or marks.new n false ≡ is_on_chain (length marks.old) words.now n) }
+    ensures refused { OnErr result (parts.new.refused ≡ true) }
+    ensures steps { steps.new ≤ steps.old + 9 * (length changed.now + (if has_link changed.now then length marks.old else 0)) + 2 }
+{
+    entries_changed(parts, marks, words, changed, steps)?;
+    if !has_link(changed) {
+        return Ok(());
+    }
+    let broken = walk(next, words);
+    remark(parts, marks, next, words, steps)?;
+    parts.replace(MOST_ENTRIES * marks.len(), end_pair(broken), steps)
+}
+
+/// Whether a changed word is a right link.
+fn has_link(changed: &[u32]) -> bool
+    ensures { result ≡ has_link changed.now }
+{
+    changed
+        .iter()
+        .any(|word| *word as usize % NODE_WORDS == RIGHT)
+}
+
+/// What the end of the chain gives.
+fn end_pair(broken: bool) -> (u64, u64)
+    ensures { result ≡ end_pair broken }
+{
+    if broken { (DAMAGE, 1) } else { (0, 0) }
+}
+
+/// Each marked node that a changed word is in gives what its words show now. Once memory was refused the parts may only be dropped.
+fn entries_changed<L: Ledger>(
+    parts: &mut Parts,
+    marks: &[bool],
+    words: &[u64],
+    changed: &[u32],
+    steps: &mut Steps<L>,
+) -> Result<(), AllocError>
+    requires sound { parts.old.refused ≡ false }
+    requires small { length marks.now ≤ 1024 }
+    requires count { length words.now ≡ 12 * length marks.now + 2 }
+    requires places { length parts.old.pairs ≡ 4 * length marks.now + 1 }
+    requires most { EachAtMost (2 ^ 33) parts.old.pairs }
+    requires others { (m : ℕ) → m < 4 * length marks.now → is_stale marks.now (m / 4) changed.now ≡ false →
+        slice_index_or parts.old.pairs m (0, 0) ≡ node_pair words.now marks.now m }
+    ensures sound { OnOk result (parts.new.refused ≡ false) }
+    ensures specified { OnOk result (parts.new.specified ≡ parts.old.specified) }
+    ensures places { OnOk result (length parts.new.pairs ≡ length parts.old.pairs) }
+    ensures most { OnOk result (EachAtMost (2 ^ 33) parts.new.pairs) }
+    ensures nodes { OnOk result ((m : ℕ) → m < 4 * length marks.now → slice_index_or parts.new.pairs m (0, 0) ≡ node_pair words.now marks.now m) }
+    ensures end { OnOk result (slice_index_or parts.new.pairs (4 * length marks.now) (0, 0) ≡ slice_index_or parts.old.pairs (4 * length marks.now) (0, 0)) }
+    ensures refused { OnErr result (parts.new.refused ≡ true) }
+    ensures steps { steps.new ≤ steps.old + 9 * length changed.now }
+{
+    for word in changed {
+        let node = *word as usize / NODE_WORDS;
+        if is_marked(marks, node) {
+            let entries = decoded_node(words, node, steps);
+            put_node(parts, node, &entries, steps)?;
+        }
+    }
+    Ok(())
+}
+
+/// Marks the nodes on the chain of leaves, and no others. The answer is whether the chain is damaged.
+fn walk(marks: &mut [bool], words: &[u64]) -> bool
+    requires some { 0 < length marks.old }
+    requires count { length words.now ≡ 12 * length marks.old + 2 }
+    ensures marks { (n : ℕ) → n < length marks.old → slice_index_or marks.new n false ≡ is_on_chain (length marks.old) words.now n }
+    ensures broken { result ≡ is_broken (length marks.old) words.now }
+{
+    marks.fill(false);
+    let mut node = 0;
+    for _turn in 0..marks.len() {
+        marks[node] = true;
+        let right = words[NODE_WORDS * node + RIGHT];
+        if right == 0 {
+            return false;
+        }
+        if is_seen(marks, right) {
+            return true;
+        }
+        node = right as usize;
+    }
+    false
+}
+
+/// The marks become the next ones, and each node that gets a mark or loses one gives what it shows now. Once memory was refused the
+/// parts may only be dropped.
+fn remark<L: Ledger>(
+    parts: &mut Parts,
+    marks: &mut [bool],
+    next: &[bool],
+    words: &[u64],
+    steps: &mut Steps<L>,
+) -> Result<(), AllocError>
+    requires sound { parts.old.refused ≡ false }
+    requires small { length marks.old ≤ 1024 }
+    requires same { length next.now ≡ length marks.old }
+    requires count { length words.now ≡ 12 * length marks.old + 2 }
+    requires places { length parts.old.pairs ≡ 4 * length marks.old + 1 }
+    requires most { EachAtMost (2 ^ 33) parts.old.pairs }
+    requires nodes { (m : ℕ) → m < 4 * length marks.old → slice_index_or parts.old.pairs m (0, 0) ≡ node_pair words.now marks.old m }
+    ensures sound { OnOk result (parts.new.refused ≡ false) }
+    ensures specified { OnOk result (parts.new.specified ≡ parts.old.specified) }
+    ensures places { OnOk result (length parts.new.pairs ≡ length parts.old.pairs) }
+    ensures most { OnOk result (EachAtMost (2 ^ 33) parts.new.pairs) }
+    ensures marks { OnOk result ((n : ℕ) → n < length marks.old → slice_index_or marks.new n false ≡ slice_index_or next.now n false) }
+    ensures nodes { OnOk result ((m : ℕ) → m < 4 * length marks.old → slice_index_or parts.new.pairs m (0, 0) ≡ node_pair words.now marks.new m) }
+    ensures refused { OnErr result (parts.new.refused ≡ true) }
+    ensures steps { steps.new ≤ steps.old + 9 * length marks.old }
+{
+    for node in 0..marks.len() {
+        let is_next = next[node];
+        if marks[node] != is_next {
+            let entries = shown_node(words, node, is_next, steps);
+            put_node(parts, node, &entries, steps)?;
+            marks[node] = is_next;
+        }
+    }
+    Ok(())
+}
+
+/// What the four places of a node give: its entries where it is marked, and nothing otherwise.
+fn shown_node<L: Ledger>(
+    words: &[u64],
+    node: usize,
+    marked: bool,
+    steps: &mut Steps<L>,
+) -> [(u64, u64); 4]
+    requires { 12 * node + 11 < length words.now }
+    ensures entries { (j : ℕ) → j < 4 → slice_index_or result j (0, 0) ≡ (if marked then entry_pair words.now node j else (0, 0)) }
+    ensures steps { steps.new ≤ steps.old + 1 }
+{
+    if marked {
+        decoded_node(words, node, steps)
+    } else {
+        [(0, 0), (0, 0), (0, 0), (0, 0)]
+    }
+}
+
+/// Whether the node is marked. One past the nodes isn't.
+fn is_marked(marks: &[bool], node: usize) -> bool
+    ensures { result ≡ slice_index_or marks.now node false }
+{
+    marks.get(node).copied().unwrap_or(false)
+}
+
+/// What the four entries of a node give.
+fn decoded_node<L: Ledger>(words: &[u64], node: usize, steps: &mut Steps<L>) -> [(u64, u64); 4]
+    requires { 12 * node + 11 < length words.now }
+    ensures entries { (j : ℕ) → j < 4 → slice_index_or result j (0, 0) ≡ entry_pair words.now node j }
+    ensures steps { steps.new ≡ steps.old + 1 }
+{
+    steps.tick();
+    [
+        entry(words, node, 0),
+        entry(words, node, 1),
+        entry(words, node, 2),
+        entry(words, node, 3),
+    ]
+}
+
+/// What an entry of a node gives.
+fn entry(words: &[u64], node: usize, j: usize) -> (u64, u64)
+    requires within { 12 * node + 11 < length words.now }
+    requires place { j < 4 }
+    ensures { result ≡ entry_pair words.now node j }
+{
+    let first = NODE_WORDS * node;
+    if j as u64 >= words[first + COUNT] {
+        return (0, 0);
+    }
+    let key = words[first + KEYS + j];
+    let value = words[first + VALUES + j];
+    if key < PRESENT && value < PRESENT {
+        (key, PRESENT + value)
+    } else {
+        (DAMAGE, 1)
+    }
+}
+
+/// The four places of a node give these pairs now. Once memory was refused the parts may only be dropped.
+fn put_node<L: Ledger>(
+    parts: &mut Parts,
+    node: usize,
+    entries: &[(u64, u64); 4],
+    steps: &mut Steps<L>,
+) -> Result<(), AllocError>
+    requires sound { parts.old.refused ≡ false }
+    requires places { 4 * node + 4 ≤ length parts.old.pairs }
+    requires few { length parts.old.pairs ≤ 4097 }
+    requires most { EachAtMost (2 ^ 33) parts.old.pairs }
+    requires entries { (j : ℕ) → j < 4 → (slice_index_or entries.now j (0, 0)).1 ≤ 2 ^ 33 }
+    ensures sound { OnOk result (parts.new.refused ≡ false) }
+    ensures specified { OnOk result (parts.new.specified ≡ parts.old.specified) }
+    ensures places { OnOk result (length parts.new.pairs ≡ length parts.old.pairs) }
+    ensures most { OnOk result (EachAtMost (2 ^ 33) parts.new.pairs) }
+    ensures below { OnOk result ((m : ℕ) → m < 4 * node → slice_index_or parts.new.pairs m (0, 0) ≡ slice_index_or parts.old.pairs m (0, 0)) }
+    ensures inside { OnOk result ((j : ℕ) → j < 4 → slice_index_or parts.new.pairs (4 * node + j) (0, 0) ≡ slice_index_or entries.now j (0, 0)) }
+    ensures above { OnOk result ((m : ℕ) → 4 * node + 4 ≤ m → slice_index_or parts.new.pairs m (0, 0) ≡ slice_index_or parts.old.pairs m (0, 0)) }
+    ensures refused { OnErr result (parts.new.refused ≡ true) }
+    ensures steps { steps.new ≤ steps.old + 8 }
+{
+    for j in 0..MOST_ENTRIES {
+        parts.replace(MOST_ENTRIES * node + j, entries[j], steps)?;
+    }
+    Ok(())
+}
