@@ -6,7 +6,7 @@ use Rattle.vyrd_base.specs.declared.history.Stamped.{Stamped}
 use Rattle.vyrd_base.specs.Places.{newest_first, newest_first_onto}
 use Rattle.vyrd_base.specs.Histories.{Cells, is_legal}
 use Rattle.vyrd_memory.specs.Turns.{part_of}
-use Rattle.vyrd_trace.specs.Lanes.{part}
+use Rattle.vyrd_base.specs.Parts.{part}
 use Rattle.vyrd_trace.proofs.HistoryGrows.{numbered}
 use Rattle.vyrd_live.specs.Working.{dids_of}
 use Rattle.vyrd_live.specs.LiveRuns.{done_by}

@@ -9,7 +9,8 @@ use Rattle.vyrd_base.specs.declared.history.Stamped.{Stamped}
 use Rattle.vyrd_base.specs.Histories.{is_legal}
 use Rattle.vyrd_memory.specs.Scripts.{Script, stop}
 use Rattle.vyrd_memory.specs.Turns.{script_of}
-use Rattle.vyrd_trace.specs.Lanes.{part, cells_in}
+use Rattle.vyrd_base.specs.Parts.{part}
+use Rattle.vyrd_trace.specs.Lanes.{cells_in}
 use Rattle.vyrd_trace.specs.Hands.{TracedView, HandView, IsOf, AreAll}
 use Rattle.vyrd_live.specs.declared.worker.Ending.{Ending}
 use Rattle.vyrd_live.specs.declared.worker.Ending.TheVariants.{Finished}

@@ -10,7 +10,8 @@ use Rattle.vyrd_trace.specs.declared.plan.Plan.{Plan}
 use Rattle.vyrd_trace.specs.declared.record.Record.{Record}
 use Rattle.vyrd_trace.specs.declared.record.Stage.{Stage}
 use Rattle.vyrd_trace.specs.declared.record.Stage.TheVariants.{Rest, Claimed, Drawn, Giving}
-use Rattle.vyrd_trace.specs.Lanes.{part, last_value}
+use Rattle.vyrd_base.specs.Parts.{part}
+use Rattle.vyrd_trace.specs.Lanes.{last_value}
 use Rattle.vyrd_trace.specs.Rule.{Ghost, IsAt, InHand, FitsCell, Knows, Kept}
 use Rattle.vyrd_trace.proofs.Stays.{St, Same, refit}
 

@@ -12,7 +12,8 @@ use Rattle.atomic_table.specs.Table.{State, Final, Seen}
 use Rattle.vyrd_base.specs.declared.history.Stamped.{Stamped}
 use Rattle.vyrd_base.specs.Places.{numbers_from}
 use Rattle.vyrd_base.specs.Histories.{is_legal}
-use Rattle.vyrd_trace.specs.Lanes.{part, last_value, last_values, cells_in}
+use Rattle.vyrd_base.specs.Parts.{part}
+use Rattle.vyrd_trace.specs.Lanes.{last_value, last_values, cells_in}
 use Rattle.vyrd_trace.specs.declared.record.Record.{Record}
 use Rattle.vyrd_trace.specs.declared.plan.Plan.{Plan}
 use Rattle.vyrd_trace.specs.declared.record.Lane.{Lane}

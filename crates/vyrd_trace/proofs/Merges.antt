@@ -8,7 +8,7 @@ use Rattle.std.proofs.lemmas.Option.{slice_get_within}
 use mathlib.Core.Logic.{dite}
 use native.Mathlib.Decide.{ℕ_discrete}
 use Rattle.vyrd_base.specs.declared.history.Stamped.{Stamped}
-use Rattle.vyrd_trace.specs.Lanes.{part}
+use Rattle.vyrd_base.specs.Parts.{part}
 use Rattle.vyrd_trace.specs.Closing.{IsMerge}
 use Rattle.vyrd_trace.proofs.Parts.{part_in, in_part}
 

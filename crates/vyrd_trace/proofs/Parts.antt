@@ -12,7 +12,8 @@ use Rattle.vyrd_base.specs.declared.history.Stamped.{Stamped}
 use Rattle.vyrd_base.specs.Places.{newest_first}
 use Rattle.vyrd_base.specs.Histories.{Cells, is_lock, may_do, is_legal}
 use Rattle.vyrd_base.proofs.TestLaws.{first_true, second_true, below_of, same_of}
-use Rattle.vyrd_trace.specs.Lanes.{part, last_value, HoldsBy}
+use Rattle.vyrd_base.specs.Parts.{part}
+use Rattle.vyrd_trace.specs.Lanes.{last_value, HoldsBy}
 use Rattle.vyrd_trace.proofs.HistoryGrows.{value_after, value_in-snoc, numbered, legal_induction}
 
 pub value-snoc : (h : List Stamped) (e : Stamped) (cell : ℕ) → last_value (h ++ e ∷ []) cell ≡ value_after cell (last_value h cell) e.caller e.did

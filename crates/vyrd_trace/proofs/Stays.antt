@@ -14,7 +14,8 @@ use Rattle.vyrd_trace.specs.declared.look.Look.{Look}
 use Rattle.vyrd_trace.specs.declared.record.Record.{Record}
 use Rattle.vyrd_trace.specs.declared.record.Lane.{Lane}
 use Rattle.vyrd_trace.specs.declared.record.Stage.{Stage}
-use Rattle.vyrd_trace.specs.Lanes.{part, AreBelow, last_value, cells_in}
+use Rattle.vyrd_base.specs.Parts.{part}
+use Rattle.vyrd_trace.specs.Lanes.{AreBelow, last_value, cells_in}
 use Rattle.vyrd_trace.specs.Rule.{Ghost, IsAt, FitsCell, HasLane, Knows, Kept}
 use Rattle.vyrd_trace.proofs.Parts.{part_below}
 

@@ -1,6 +1,6 @@
--- What a history has of one caller, and what it leaves in the cells.
-use Rattle.std.specs.Prelude.{◌≡◌, ℕ, ◌+◌, ◌<◌, ◌==◌, List, map}
-use Rattle.std.specs.List.{All, filter}
+-- Events of a caller, and what a history leaves in the cells.
+use Rattle.std.specs.Prelude.{◌≡◌, ℕ, ◌+◌, ◌<◌, List, map}
+use Rattle.std.specs.List.{All}
 use Rattle.vyrd_base.specs.declared.history.Did.{Did}
 use Rattle.vyrd_base.specs.declared.history.Stamped.{Stamped}
 use Rattle.vyrd_base.specs.Places.{newest_first, numbers_below}
@@ -10,10 +10,6 @@ use Rattle.vyrd_trace.specs.declared.plan.Plan.{Plan}
 -- an event with its number and its caller
 abbrev pub stamp : ℕ → ℕ → Did → Stamped
 stamp number caller did = record { number = number; caller = caller; did = did }
-
--- the part of a history that is one caller's
-abbrev pub part : ℕ → List Stamped → List Stamped
-part caller history = filter (λ e. e.caller == caller) history
 
 -- the events have numbers below this one
 abbrev pub AreBelow : ℕ → List Stamped → Type 0

@@ -10,7 +10,8 @@ use Rattle.vyrd_trace.specs.declared.record.Record.{Record}
 use Rattle.vyrd_trace.specs.declared.record.Lane.{Lane}
 use Rattle.vyrd_trace.specs.declared.record.Stage.{Stage}
 use Rattle.vyrd_trace.specs.declared.record.Stage.TheVariants.{Rest, Claimed, Drawn, Giving}
-use Rattle.vyrd_trace.specs.Lanes.{part, last_value, cells_in}
+use Rattle.vyrd_base.specs.Parts.{part}
+use Rattle.vyrd_trace.specs.Lanes.{last_value, cells_in}
 
 -- What exists in the proofs alone: the history, and for each caller the seat that has its lane and its action in hand;
 -- for each cell the caller that has it in hand.

@@ -4,7 +4,8 @@ ghost use Rattle.std.specs.Prelude.{◌≡◌, ℕ, ◌+◌, ◌/◌, ◌<◌, �
 ghost use Rattle.std.specs.List.{All, sum_by};
 ghost use Rattle.std.specs.Slots.{slots_items, slots_len, IsFull};
 ghost use Rattle.vyrd_base.specs.Histories.{is_legal};
-ghost use Rattle.vyrd_trace.specs.Lanes.{part, cells_in, last_values};
+ghost use Rattle.vyrd_base.specs.Parts.{part};
+ghost use Rattle.vyrd_trace.specs.Lanes.{cells_in, last_values};
 ghost use Rattle.vyrd_trace.specs.Hands.{AreAll};
 
 use crate::board::Board;

@@ -1,7 +1,7 @@
 //! Each public call with ample memory, the worked case of two hands, and two threads at one cell.
 
 ghost use Rattle.std.specs.Prelude.{◌≡◌, ◌+◌, ◌<◌, ◌≤◌, [], IfOk, IfSome};
-ghost use Rattle.vyrd_trace.specs.Lanes.{part};
+ghost use Rattle.vyrd_base.specs.Parts.{part};
 ghost use Rattle.vyrd_trace.specs.Hands.{IsOf};
 
 mod example;

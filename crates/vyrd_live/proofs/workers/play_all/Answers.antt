@@ -1,7 +1,7 @@
 -- The hands that come back are all hands, and what they leave is what their workers did.
 use Rattle.std.proofs.Common.{◌≡◌, length, sym, subst, List, rules}
 use Rattle.std.specs.List.{All}
-use Rattle.vyrd_trace.specs.Lanes.{part}
+use Rattle.vyrd_base.specs.Parts.{part}
 use Rattle.vyrd_trace.specs.Hands.{HandView, AreAll}
 use Rattle.vyrd_live.specs.declared.worker.Stopped.{Stopped}
 use Rattle.vyrd_live.specs.Endings.{IsFirstSpent}

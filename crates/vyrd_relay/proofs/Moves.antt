@@ -1,0 +1,322 @@
+-- Each move keeps the rule of the relay.
+use Rattle.std.proofs.Common.{◌≡◌, ◌≢◌, ◌⊎◌, ℕ, zero, suc, ◌<◌, ◌≤◌, List, [], ◌∷◌, ◌++◌, length, set, Bool, true, false, cond, eqb, Option, Some, None, refl, sym, ap, ◌∙◌, subst, ⊎_elim, inl, inr, arith, append-nil, append_assoc, eq-eqb, ne_eqb}
+use Rattle.std.specs.List.{All}
+use Rattle.std.proofs.lemmas.List.Elements.{All-push}
+use mathlib.Core.Logic.{dite}
+use native.Mathlib.Decide.{dec_lt}
+use mathlib.Core.Option.{some, some-injective, some-ne-none}
+use lib.ListN.{get_elem?}
+use Rattle.crossbeam_queue.specs.Fifo.{Pushes, Pops, Forks, Merges, Learns}
+use Rattle.crossbeam_queue.proofs.Lists.{at_set}
+use Rattle.vyrd_base.specs.declared.history.Stamped.{Stamped}
+use Rattle.vyrd_relay.specs.declared.known.Known.{Known}
+use Rattle.vyrd_relay.specs.declared.known.Known.TheVariants.{Receives, Sends, Spent}
+use Rattle.vyrd_relay.specs.declared.known.Lane.{Lane}
+use Rattle.vyrd_relay.specs.declared.known.Received.{Received}
+use Rattle.vyrd_relay.specs.declared.known.Sent.{Sent}
+use Rattle.vyrd_base.specs.Parts.{part}
+use Rattle.vyrd_relay.specs.Knowledge.{with_sent, new_received, with_had, lane_of, HasBeginning, IsHadAndQueued, Learned, Pushed, Popped, dealer, dealt, taking_in}
+use Rattle.vyrd_relay.specs.Rule.{Ghost, IsSettled, Knows, Relayed}
+use Rattle.vyrd_relay.proofs.LaneLaws.{part_both, part_mine, part_other, nothing_before, none_from}
+
+-- a function that is changed at one place
+abbrev pub upd : {A : Type 0} → (ℕ → A) → ℕ → A → ℕ → A
+upd f at a c = cond (eqb c at) a (f c)
+
+upd_here : {A : Type 0} (f : ℕ → A) (at : ℕ) (a : A) (c : ℕ) → c ≡ at → upd f at a c ≡ a
+upd_here f at a c is = ap (λ (b : Bool). cond b a (f c)) (eq-eqb c at is)
+
+upd_else : {A : Type 0} (f : ℕ → A) (at : ℕ) (a : A) (c : ℕ) → c ≢ at → upd f at a c ≡ f c
+upd_else f at a c apart = ap (λ (b : Bool). cond b a (f c)) (ne_eqb c at apart)
+
+-- the passes after one of them has changed
+each_set : (g : Ghost) (passes : List Known) (pass : ℕ) (w : Known) → Knows g pass w
+    → ((j : ℕ) (u : Known) → j ≢ pass → get_elem? passes j ≡ some u → Knows g j u)
+    → (j : ℕ) (u : Known) → get_elem? (set passes pass w) j ≡ some u → Knows g j u
+each_set g passes pass w mine others j u e = ⊎_elim
+    (λ (x : (j ≡ pass) × (w ≡ u)). subst (λ (y : ℕ × Known). Knows g y.0 y.1) (λ i. (sym x.0 i, x.1 i)) mine)
+    (λ (x : (j ≢ pass) × (get_elem? passes j ≡ some u)). others j u x.0 x.1) (at_set passes pass j w u e)
+
+-- the first pass of an empty queue
+pub begins : Relayed [] (Receives (new_received 0 0) ∷ [])
+begins = record {
+  ghost_state = record { senders = 0; reader = 0; seat = λ _. None; sent = λ _. []; had = [] };
+  order = λ c. refl;
+  outside = λ c le. refl;
+  each = one;
+}
+  where
+    one : (j : ℕ) (v : Known) → get_elem? (Receives (new_received 0 0) ∷ []) j ≡ some v
+        → Knows (record { senders = 0; reader = 0; seat = λ _. None; sent = λ _. []; had = [] }) j v
+    one zero v e = subst (Knows (record { senders = 0; reader = 0; seat = λ _. None; sent = λ _. []; had = [] }) 0)
+        (some-injective (Receives (new_received 0 0)) v e) record {
+          reader = refl;
+          had = refl;
+          senders = λ l. absurd (omega arith);
+          unmade = λ c le. (refl, refl);
+          settled = λ k d l. absurd (omega arith);
+        }
+    one (suc j) v e = absurd (some-ne-none v (sym e))
+
+module _ (g : Ghost) (e : Stamped) where
+  -- what was sent when e has been sent too
+  abbrev sending : Ghost
+  sending = record { senders = g.senders; reader = g.reader; seat = g.seat; sent = λ c. g.sent c ++ part c (e ∷ []); had = g.had }
+
+  same_sent : (c : ℕ) → e.caller ≢ c → sending.sent c ≡ g.sent c
+  same_sent c apart = ap (λ (l : List Stamped). g.sent c ++ l) (part_other c e apart) ∙ append-nil (g.sent c)
+
+  kept_sending : (j : ℕ) (u : Known) → (seat : ℕ) → j ≢ seat → g.seat e.caller ≡ Some seat → Knows g j u → Knows sending j u
+  kept_sending j (Receives r) seat apart is k = record {
+    reader = k.reader;
+    had = k.had;
+    senders = k.senders;
+    unmade = λ c le. let u = k.unmade c le in
+        (u.0, same_sent c (λ q. let s : g.seat e.caller ≡ g.seat c = ap g.seat q in let z = u.0 in absurd (cc)) ∙ u.1);
+    settled = λ i d l. let s = k.settled i d l in
+        record {
+          unseated = s.unseated;
+          whole = same_sent _ (λ q. let f = ap g.seat q in let z = s.unseated in absurd (cc)) ∙ s.whole;
+          old = s.old;
+        };
+  }
+  kept_sending j (Sends s) seat apart is k = record {
+    seated = k.seated;
+    whole = same_sent s.caller (λ q. let f : g.seat e.caller ≡ g.seat s.caller = ap g.seat q in let z = k.seated in
+        let both : Some j ≡ Some seat = sym z ∙ sym f ∙ is in absurd (apart (cc))) ∙ k.whole;
+    senders = k.senders;
+    in_range = k.in_range;
+  }
+  kept_sending j Spent seat apart is k = tt
+
+-- a sender's pass adds an item at the back
+pub sends : (n pass : ℕ) (s : Sent) (e : Stamped) → e.caller ≡ s.caller → Pushes Relayed n pass (Sends s) e (Pushed (Sends s) e)
+sends n pass s e mine queued passes room r at =
+    let g = r.ghost_state in
+    let me = r.each pass (Sends s) at in
+    let w : Known = Sends (with_sent s e) in
+    let seat : g.seat e.caller ≡ Some pass = ap g.seat mine ∙ me.seated in (
+      w,
+      record {
+        ghost_state = sending g e;
+        order = λ c. ap (part c) (sym (append_assoc g.had queued (e ∷ []))) ∙ part_both c (g.had ++ queued) (e ∷ [])
+            ∙ ap (λ (l : List Stamped). l ++ part c (e ∷ [])) (r.order c);
+        outside = λ c le. same_sent g e c (λ q. let a = me.in_range in let b = me.senders in absurd (omega (arith, sym q ∙ mine)))
+            ∙ r.outside c le;
+        each = each_set (sending g e) passes pass w record {
+          seated = me.seated;
+          whole = ap (λ (l : List Stamped). l ++ part s.caller (e ∷ [])) me.whole
+              ∙ ap (λ (l : List Stamped). s.items ++ l) (part_mine s.caller e mine);
+          senders = me.senders;
+          in_range = me.in_range;
+        } (λ j u apart q. kept_sending g e j u pass apart seat (r.each j u q));
+      },
+      refl,
+    )
+
+module _ (g : Ghost) (e : Stamped) where
+  -- what was had when e has been had too
+  abbrev having : Ghost
+  having = record { senders = g.senders; reader = g.reader; seat = g.seat; sent = g.sent; had = g.had ++ e ∷ [] }
+
+  kept_having : (j : ℕ) (u : Known) → j ≢ g.reader → Knows g j u → Knows having j u
+  kept_having j (Receives r) apart k = absurd (apart (sym k.reader))
+  kept_having j (Sends s) apart k = record { seated = k.seated; whole = k.whole; senders = k.senders; in_range = k.in_range }
+  kept_having j Spent apart k = tt
+
+-- of a lane that was taken in, what was had and what is queued
+lane_split : (g : Ghost) (made : ℕ) (had queued : List Stamped) (lane : Lane) → g.had ≡ had
+    → ((c : ℕ) → part c (g.had ++ queued) ≡ g.sent c) → IsSettled g made lane → IsHadAndQueued had queued lane
+lane_split g made had queued lane same order settled =
+    sym settled.whole ∙ sym (order lane.caller) ∙ ap (λ (l : List Stamped). part lane.caller (l ++ queued)) same
+    ∙ part_both lane.caller had queued
+
+-- an item of a caller that has sent something is of one of the senders
+in_range_of : (g : Ghost) (had queued : List Stamped) (e : Stamped) → ((c : ℕ) → part c (had ++ e ∷ queued) ≡ g.sent c)
+    → ((c : ℕ) → g.senders ≤ c → g.sent c ≡ []) → e.caller < g.senders
+in_range_of g had queued e order outside =
+    let f = none_from g.senders (had ++ e ∷ queued) (λ c le. order c ∙ outside c le) in
+    at_place had f
+  where
+    at_place : (xs : List Stamped) → All (λ (x : Stamped). x.caller < g.senders) (xs ++ e ∷ queued) → e.caller < g.senders
+    at_place [] f = f 0 e (omega arith)
+    at_place (x ∷ xs) f = at_place xs (λ k d l. f (suc k) d (omega arith))
+
+-- the receiver's pass takes an item at the front
+pub gets : (pass : ℕ) (v : Received) → 0 < v.made → Pops Relayed pass (Receives v) (Popped (Receives v))
+gets pass v made e queued passes r at =
+    let g = r.ghost_state in
+    let me = r.each pass (Receives v) at in
+    let w : Known = Receives (with_had v e) in
+    let order : (c : ℕ) → part c ((g.had ++ e ∷ []) ++ queued) ≡ g.sent c
+    = λ c. ap (part c) (append_assoc g.had (e ∷ []) queued) ∙ r.order c in
+    let had : g.had ++ e ∷ [] ≡ v.had ++ e ∷ [] = ap (λ (l : List Stamped). l ++ e ∷ []) me.had in (
+      w,
+      record {
+        ghost_state = having g e;
+        order = order;
+        outside = r.outside;
+        each = each_set (having g e) passes pass w record {
+          reader = me.reader;
+          had = had;
+          senders = me.senders;
+          unmade = me.unmade;
+          settled = λ i d l. let s = me.settled i d l in record { unseated = s.unseated; whole = s.whole; old = s.old };
+        } (λ j u apart q. kept_having g e j u (λ z. apart (z ∙ me.reader)) (r.each j u q));
+      },
+      record {
+        had = refl;
+        senders = subst (λ (n : ℕ). e.caller < n) (me.senders made) (in_range_of g g.had queued e r.order r.outside);
+        beginnings = λ i d l. let s = me.settled i d l in (
+          part _ queued,
+          lane_split (having g e) v.made (v.had ++ e ∷ []) queued _ had order
+              record { unseated = s.unseated; whole = s.whole; old = s.old },
+        );
+      },
+    )
+
+-- what the receiver's pass learns of the queued items
+pub receiver_learns : (pass : ℕ) (v : Received) → 0 < v.made → Learns Relayed pass (Receives v) (Learned (Receives v))
+receiver_learns pass v made queued passes r at =
+    let g = r.ghost_state in
+    let me = r.each pass (Receives v) at in
+    let of_senders = none_from g.senders g.had (λ c le. (nothing_before (part c g.had) (part c queued)
+    (sym (part_both c g.had queued) ∙ r.order c ∙ r.outside c le)).0) in record {
+      settled = λ i d l. lane_split g v.made v.had queued _ me.had r.order (me.settled i d l);
+      senders = subst (λ (x : ℕ × List Stamped). All (λ (e : Stamped). e.caller < x.0) x.1) (λ i. (me.senders made i, me.had i)) of_senders;
+    }
+
+-- what a sender's pass learns of them
+pub sender_learns : (pass : ℕ) (s : Sent) → Learns Relayed pass (Sends s) (Learned (Sends s))
+sender_learns pass s queued passes r at =
+    let g = r.ghost_state in
+    let me = r.each pass (Sends s) at in record {
+      own = (part s.caller g.had, sym me.whole ∙ sym (r.order s.caller) ∙ part_both s.caller g.had queued);
+      senders = subst (λ (n : ℕ). All (λ (e : Stamped). e.caller < n) queued) me.senders
+          (none_from g.senders queued (λ c le. (nothing_before (part c g.had) (part c queued)
+          (sym (part_both c g.had queued) ∙ r.order c ∙ r.outside c le)).1));
+    }
+
+at_end : (l : List Known) (a b : Known) (j : ℕ) → get_elem? (l ++ a ∷ []) j ≡ some b → (get_elem? l j ≡ some b) ⊎ ((j ≡ length l) × (a ≡ b))
+at_end [] a b zero e = inr (refl, some-injective a b e)
+at_end [] a b (suc j) e = absurd (some-ne-none b (sym e))
+at_end (x ∷ xs) a b zero e = inl e
+at_end (x ∷ xs) a b (suc j) e = ⊎_elim (λ t. inl t) (λ t. inr (ap suc t.0, t.1)) (at_end xs a b j e)
+
+some_none : (n : ℕ) → Some n ≢ None
+some_none n e = cc
+
+-- A new sender of the caller `at`, whose pass is `new`. Each other pass knows what it knew.
+module _ (g : Ghost) (senders at new : ℕ) where
+  abbrev seating : Ghost
+  seating = record { senders = senders; reader = g.reader; seat = upd g.seat at (Some new); sent = g.sent; had = g.had }
+
+  kept_seating : (j : ℕ) (u : Known) → j ≢ g.reader → g.seat at ≡ None → ((s : Sent) → g.seat s.caller ≡ Some j → g.senders ≡ senders)
+      → Knows g j u → Knows seating j u
+  kept_seating j (Receives r) apart free same k = absurd (apart (sym k.reader))
+  kept_seating j (Sends s) apart free same k = record {
+    seated = upd_else g.seat at (Some new) s.caller (λ q. some_none j (sym k.seated ∙ ap g.seat q ∙ free)) ∙ k.seated;
+    whole = k.whole;
+    senders = sym (same s k.seated) ∙ k.senders;
+    in_range = k.in_range;
+  }
+  kept_seating j Spent apart free same k = tt
+
+-- the receiver's pass makes the next sender
+pub deals : (senders pass : ℕ) (v : Received) → v.made < senders → (0 < v.made → v.senders ≡ senders)
+    → Forks Relayed pass (Receives v) (dealer senders (Receives v)) (dealt senders (Receives v))
+deals senders pass v room fixed queued passes r at =
+    let g = r.ghost_state in
+    let me = r.each pass (Receives v) at in
+    let left : Known = dealer senders (Receives v) in
+    let right : Known = dealt senders (Receives v) in
+    let new : ℕ = length (set passes pass left) in
+    let h : Ghost = seating g senders v.made new in
+    let free = me.unmade v.made (omega arith) in
+    let same : (j : ℕ) (s : Sent) → g.seat s.caller ≡ Some j → g.senders ≡ senders
+    = λ j s q. dite (dec_lt 0 v.made) (λ l. me.senders l ∙ fixed l)
+    (λ none. absurd (some_none j (sym q ∙ (me.unmade s.caller (omega arith)).0))) in record {
+      ghost_state = h;
+      order = r.order;
+      outside = λ c le. (me.unmade c (omega arith)).1;
+      each = λ j u e. ⊎_elim
+          (λ (x : get_elem? (set passes pass left) j ≡ some u). each_set h passes pass left record {
+            reader = me.reader;
+            had = me.had;
+            senders = λ _. refl;
+            unmade = λ c le. let m = me.unmade c (omega arith) in (upd_else g.seat v.made (Some new) c (λ q. omega arith) ∙ m.0, m.1);
+            settled = λ i d l. let s = me.settled i d l in let old = s.old in record {
+              unseated = upd_else g.seat v.made (Some new) _ (λ q. omega arith) ∙ s.unseated;
+              whole = s.whole;
+              old = omega arith;
+            };
+          } (λ k w apart q. kept_seating g senders v.made new k w (λ z. apart (z ∙ me.reader)) free.0 (same k) (r.each k w q)) j u x)
+          (λ (x : (j ≡ new) × (right ≡ u)). subst (λ (z : ℕ × Known). Knows h z.0 z.1) (λ q. (sym x.0 q, x.1 q)) record {
+            seated = upd_here g.seat v.made (Some new) v.made refl;
+            whole = free.1;
+            senders = refl;
+            in_range = room;
+          })
+          (at_end (set passes pass left) right u j e);
+    }
+
+none_stays : (f : ℕ → Option ℕ) (at c : ℕ) → f c ≡ None → upd f at None c ≡ None
+none_stays f at c e = split (eqb c at)
+  where
+    split : (b : Bool) → cond b None (f c) ≡ None
+    split true = refl
+    split false = e
+
+-- The caller `at` has no pass any more that sends for it. Each other pass knows what it knew.
+module _ (g : Ghost) (at : ℕ) where
+  abbrev unseating : Ghost
+  unseating = record { senders = g.senders; reader = g.reader; seat = upd g.seat at None; sent = g.sent; had = g.had }
+
+  kept_unseating : (j other : ℕ) (u : Known) → j ≢ g.reader → j ≢ other → g.seat at ≡ Some other → Knows g j u → Knows unseating j u
+  kept_unseating j other (Receives r) apart differ is k = absurd (apart (sym k.reader))
+  kept_unseating j other (Sends s) apart differ is k = record {
+    seated = upd_else g.seat at None s.caller (λ q. let both : Some j ≡ Some other = sym k.seated ∙ ap g.seat q ∙ is in differ (cc))
+        ∙ k.seated;
+    whole = k.whole;
+    senders = k.senders;
+    in_range = k.in_range;
+  }
+  kept_unseating j other Spent apart differ is k = tt
+
+-- the receiver's pass takes in a sender's
+pub takes_in : (pass : ℕ) (v : Received) (other : ℕ) (s : Sent)
+    → Merges Relayed pass (Receives v) other (Sends s) (taking_in (Receives v) (Sends s)) Spent
+takes_in pass v other s queued passes r at differ there =
+    let g = r.ghost_state in
+    let me = r.each pass (Receives v) at in
+    let both : Known = taking_in (Receives v) (Sends s) in
+    let was : get_elem? passes other ≡ some (Sends s) = ⊎_elim (λ (x : (other ≡ pass) × (both ≡ Sends s)). absurd (differ x.0))
+    (λ (x : (other ≢ pass) × (get_elem? passes other ≡ some (Sends s))). x.1) (at_set passes pass other both (Sends s) there) in
+    let theirs = r.each other (Sends s) was in
+    let h : Ghost = unseating g s.caller in
+    let old : s.caller < v.made = dite (dec_lt s.caller v.made) (λ l. l)
+    (λ late. absurd (some_none other (sym theirs.seated ∙ (me.unmade s.caller (omega arith)).0))) in
+    let mine : Knows h pass both = record {
+      reader = me.reader;
+      had = me.had;
+      senders = me.senders;
+      unmade = λ c le. let m = me.unmade c le in (none_stays g.seat s.caller c m.0, m.1);
+      settled = All-push (IsSettled h v.made) v.settled (lane_of s)
+          (λ i d l. let z = me.settled i d l in record { unseated = none_stays g.seat s.caller _ z.unseated; whole = z.whole; old = z.old })
+          record { unseated = upd_here g.seat s.caller None s.caller refl; whole = theirs.whole; old = old };
+    } in record {
+      ghost_state = h;
+      order = r.order;
+      outside = r.outside;
+      each = λ j u e. ⊎_elim
+          (λ (x : (j ≡ other) × (Spent ≡ u)). subst (Knows h j) x.1 tt)
+          (λ (x : (j ≢ other) × (get_elem? (set passes pass both) j ≡ some u)). ⊎_elim
+          (λ (y : (j ≡ pass) × (both ≡ u)). subst (λ (z : ℕ × Known). Knows h z.0 z.1) (λ q. (sym y.0 q, y.1 q)) mine)
+          (λ (y : (j ≢ pass) × (get_elem? passes j ≡ some u)). kept_unseating g s.caller j other u (λ z. y.0 (z ∙ me.reader)) x.0 theirs.seated (r.each j u y.1))
+          (at_set passes pass j both u x.1))
+          (at_set (set passes pass both) other j Spent u e);
+    }
+
+-- what was had of a lane that was taken in is a beginning of it, since what is queued is the rest
+pub beginnings : (v : Received) (queued : List Stamped) → Learned (Receives v) queued → All (HasBeginning v.had) v.settled
+beginnings v queued learned = λ i d l. (part _ queued, learned.settled i d l)
