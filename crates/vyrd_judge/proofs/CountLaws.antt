@@ -1,5 +1,5 @@
 -- How the numbers of commits and of observers grow, entry by entry.
-use Rattle.std.proofs.Common.{◌≡◌, ℕ, suc, ◌+◌, ◌<◌, Bool, true, false, cond, ◌&&◌, List, [], ◌∷◌, length, take, drop, get_or, set, Option, Some, None, slice_get, refl, ap, subst, ◌∙◌, sym, arith, drop-cons}
+use Rattle.std.proofs.Common.{◌≡◌, ℕ, suc, ◌+◌, ◌<◌, Bool, true, false, cond, ◌&&◌, List, ◌∷◌, length, take, drop, get_or, set, Option, Some, None, slice_get, refl, ap, subst, ◌∙◌, sym, arith, drop-cons}
 use Rattle.std.specs.Prelude.{◌==◌, count_by}
 use Rattle.std.specs.Option.{option_or, option_flatten, option_map_or}
 use Rattle.std.proofs.lemmas.List.Sums.{sum_by-cons}

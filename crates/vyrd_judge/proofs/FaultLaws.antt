@@ -63,23 +63,23 @@ pub data Commits : Kind → Type 0 where
   alone : Commits Commit
   with_block : Commits BlockCommit
 
-commits_is : (kind : Kind) → Commits kind → is_commit kind ≡ true
+pub commits_is : (kind : Kind) → Commits kind → is_commit kind ≡ true
 commits_is _ alone = refl
 commits_is _ with_block = refl
 
-commits_inside : (kind : Kind) → Commits kind → call_or_return kind ≡ None
+pub commits_inside : (kind : Kind) → Commits kind → call_or_return kind ≡ None
 commits_inside _ alone = refl
 commits_inside _ with_block = refl
 
-commits_unreturned : (kind : Kind) → Commits kind → returned kind ≡ None
+pub commits_unreturned : (kind : Kind) → Commits kind → returned kind ≡ None
 commits_unreturned _ alone = refl
 commits_unreturned _ with_block = refl
 
-commits_uncalled : (kind : Kind) → Commits kind → is_call kind ≡ false
+pub commits_uncalled : (kind : Kind) → Commits kind → is_call kind ≡ false
 commits_uncalled _ alone = refl
 commits_uncalled _ with_block = refl
 
-fault_of_commit_kind : (h : Header) (states : List Amounts) (c : ℕ) (kind : Kind) (earlier later : List Entry) → Commits kind
+pub fault_of_commit_kind : (h : Header) (states : List Amounts) (c : ℕ) (kind : Kind) (earlier later : List Entry) → Commits kind
     → fault_at h states (place_of (entry c kind) earlier later)
     ≡ fault_of_commit h states (place_of (entry c kind) earlier later)
 unfolding fault_at

@@ -1,3 +1,17 @@
+pub mod AnyLaws
+pub mod HistoryLaws
+pub mod OnlineLaws
+pub mod FollowerLaws
+pub mod QueueLaws
+pub mod JudgingLaws
+pub mod SeeingLaws
+pub mod WordsLaws
+pub mod CutLaws
+pub mod HeadLaws
+pub mod JudgedLaws
+pub mod WaitingLaws
+pub mod ReachedFaults
+pub mod Reaching
 pub mod FrontLaws
 pub mod ExecutionLaws
 pub mod StandingLaws

@@ -2,3 +2,12 @@ pub mod Executions
 pub mod Standing
 pub mod Outcomes
 pub mod Observing
+pub mod Watching
+pub mod Waiting
+pub mod Reached
+pub mod Judged
+pub mod Cuts
+pub mod HasWords
+pub mod Queued
+pub mod Following
+pub mod AnyJudges

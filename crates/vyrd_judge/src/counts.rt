@@ -28,7 +28,8 @@ pub(crate) fn accepted(
     })
 }
 
-fn is_commit(kind: Kind) -> bool
+/// Whether an entry of this kind commits.
+pub(crate) fn is_commit(kind: Kind) -> bool
     ensures { result ≡ is_commit kind }
 {
     matches!(kind, Kind::Commit | Kind::BlockCommit)

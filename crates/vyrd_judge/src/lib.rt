@@ -1,23 +1,39 @@
-//! The verdict about a whole log: whether what concurrent callers logged refines the specification of their data structure.
+//! The verdict about a log: whether what concurrent callers logged refines the specification of their data structure.
 //!
-//! The central call is [`judge_log`]. It takes the entries of a log and how its text stops, and answers the verdict that
-//! `verdict_at` of `vyrd_base` defines: the first fault of a commit or of an observer in the well-formed front, or else the
-//! first break of a rule of shape, an open call at `end`, a rule of text, or acceptance with its three numbers.
+//! The central type is [`Judge`]. It takes the entries of a log one by one and never looks back, and answers after each the
+//! verdict so far that `verdict_so_far` of `vyrd_base` defines: the first fault of a commit or of an observer, or the first
+//! break of a rule of shape where no fault stands before it. [`AnyJudge`] is the judge of a structure that is known only as the
+//! program runs, and [`judge_history`] gives the verdict about the log of a history without making that log.
 //!
-//! How the pieces go: `front` finds the longest beginning that keeps the rules of shape. `scan` goes over it entry by entry,
-//! with the state of the specification, the words, and the open `execution` of each caller, and says by an `outcome` what
-//! each entry leads to. `violation` stops at the first fault. `counts` has the numbers of an accepted log, and `judge` puts
-//! the verdict together.
+//! How the pieces go: a `follower` takes in each entry. In front, the shape, the `words` with their `views` and the `queue`
+//! follow it at once. Behind, the `replay` judges what is `waiting` in the queue, with a `watch` for each open observer.
+//!
+//! [`judge_log`] is the plain judge, which has all entries before it begins: `front`, `scan`, `execution`, `violation`,
+//! `counts` and `judge`. It is what the other is compared with.
 #![tactic(auto)]
 
+mod any;
+mod caller;
 mod counts;
 mod execution;
+mod follower;
 mod front;
 mod judge;
+mod logged;
+mod online;
 mod outcome;
+mod queue;
+mod replay;
 mod scan;
 #[cfg(test)]
 mod tests;
+mod views;
 mod violation;
+mod waiting;
+mod watch;
+mod words;
 
+pub use any::{AnyJudge, judge_history};
 pub use judge::judge_log;
+pub use logged::{entry_of, log_of};
+pub use online::Judge;

@@ -1,6 +1,6 @@
 //! What an entry of a front leads to.
 
-use vyrd_base::Why;
+use vyrd_base::{Verdict, Why};
 
 /// What an entry of a front leads to.
 #[derive(Clone, Copy)]
@@ -12,4 +12,13 @@ pub(crate) enum Outcome {
     /// It is the commit of an execution that hasn't returned. It is no fault, and neither is anything after it, since no
     /// later state is known.
     Ends,
+}
+
+/// How the judging of entries that wait goes on.
+#[derive(Clone, Copy)]
+pub(crate) enum Advance {
+    /// One was judged, and the next is to be looked at.
+    Goes,
+    /// No more can be judged: this is the first fault so far, if there is one.
+    Stops(Option<Verdict>),
 }

@@ -1,24 +1,27 @@
-//! Small logs whose verdicts are worked out by hand, subject by subject.
+//! Logs whose verdicts are worked out by hand.
 
-use crate::judge_log;
+ghost use Rattle.std.specs.Prelude.{◌≡◌, ◌≤◌, ◌<◌, ◌+◌, ◌^◌, length, IfOk, OnOk};
+
+use crate::{Judge, judge_log};
+use std::alloc::{AllocError, Global};
 use std::test::Fail;
+use vyrd_base::Kind::{BlockCommit, BlockOpen, Call, Commit, Return, Write};
 use vyrd_base::{Args, Entry, Header, Kind, Method, Rule, Stop, Subject, Verdict, Why};
-use vyrd_spec::{CacheSpec, MultisetSpec, TreeSpec};
+use vyrd_spec::{CacheSpec, MultisetSpec, Spec, TreeSpec};
 
-const FIVE: Args = Args { a: 5, b: 0, c: 0 };
+const INSERT: Kind = Call(Method::MsInsert, Args { a: 5, b: 0, c: 0 });
 
-const SIX: Args = Args { a: 6, b: 0, c: 0 };
+const INSERT_SIX: Kind = Call(Method::MsInsert, Args { a: 6, b: 0, c: 0 });
 
-const INSERT: Kind = Kind::Call(Method::MsInsert, FIVE);
+const DELETE: Kind = Call(Method::MsDelete, Args { a: 5, b: 0, c: 0 });
 
-const INSERT_SIX: Kind = Kind::Call(Method::MsInsert, SIX);
+const LOOKUP: Kind = Call(Method::MsLookup, Args { a: 5, b: 0, c: 0 });
 
-const DELETE: Kind = Kind::Call(Method::MsDelete, FIVE);
-
-const LOOKUP: Kind = Kind::Call(Method::MsLookup, FIVE);
-
-fn by(caller: u32, kind: Kind) -> Entry {
-    Entry { caller, kind }
+/// The entries of a log: each a caller and what it does.
+macro_rules! logged {
+    ($($caller:literal $kind:expr),*) => {
+        [$(Entry { caller: $caller, kind: $kind }),*]
+    };
 }
 
 fn accepted(entries: u64, commits: u64, observers: u64) -> Verdict {
@@ -37,215 +40,174 @@ fn malformed(line: u64, rule: Rule) -> Verdict {
     Verdict::Malformed { line, rule }
 }
 
-/// Logs of a multiset of size 1 with two callers.
+/// Whole logs of a multiset of size 1 with two callers, each by both judges, and by the online judge entry by entry.
 #[test]
 fn verdicts_on_a_multiset(rt: HostRuntime) -> Result<(), Fail> {
+    assert!(rt; both_say(rt.alloc(), &insert_with_its_writes(), accepted(7, 1, 0))?);
+    assert!(rt;
+        both_say(
+            rt.alloc(),
+            &insert_without_its_writes(),
+            violation(3, Why::View(5))
+        )?
+    );
+    assert!(rt; both_say(rt.alloc(), &absent_delete(1), violation(3, Why::Reply(1)))?);
+    assert!(rt; both_say(rt.alloc(), &absent_delete(0), accepted(3, 1, 0))?);
+    assert!(rt; both_say(rt.alloc(), &lookup_across_a_commit(0), accepted(9, 1, 1))?);
+    assert!(rt; both_say(rt.alloc(), &lookup_across_a_commit(1), accepted(9, 1, 1))?);
+    Ok(())
+}
+
+/// The same of logs in which something waits, or is wrong before something else.
+#[test]
+fn verdicts_on_what_waits(rt: HostRuntime) -> Result<(), Fail> {
+    let too_early = violation(6, Why::Observer(1));
+    assert!(rt; both_say(rt.alloc(), &lookup_before_the_commit(), too_early)?);
+    assert!(rt; both_say(rt.alloc(), &open_block_is_left_out(), accepted(10, 2, 0))?);
+    let counted = violation(7, Why::View(5));
+    assert!(rt; both_say(rt.alloc(), &write_outside_a_block_counts(), counted)?);
+    let raced = malformed(6, Rule::BlockRaced);
+    assert!(rt; both_say(rt.alloc(), &block_raced(), raced)?);
+    assert!(rt;
+        both_say(
+            rt.alloc(),
+            &delete_behind_a_lookup(1),
+            violation(3, Why::Reply(1))
+        )?
+    );
+    assert!(rt;
+        both_say(
+            rt.alloc(),
+            &delete_behind_a_lookup(0),
+            violation(5, Why::Observer(7))
+        )?
+    );
+    let open = malformed(6, Rule::CallOpen);
+    assert!(rt; both_say(rt.alloc(), &cut_before_end(), open)?);
+    Ok(())
+}
+
+fn insert_with_its_writes() -> [Entry; 7] {
+    logged![0 INSERT, 0 Write(1, 5), 0 Write(0, 1), 0 BlockOpen, 0 Write(0, 2), 0 BlockCommit, 0 Return(1)]
+}
+
+fn insert_without_its_writes() -> [Entry; 3] {
+    logged![0 INSERT, 0 Commit, 0 Return(1)]
+}
+
+fn absent_delete(reply: u64) -> [Entry; 3] {
+    logged![0 DELETE, 0 Commit, 0 Return(reply)]
+}
+
+fn lookup_across_a_commit(reply: u64) -> [Entry; 9] {
+    logged![
+        0 INSERT, 0 Write(1, 5), 0 Write(0, 1), 1 LOOKUP,
+        0 BlockOpen, 0 Write(0, 2), 0 BlockCommit, 0 Return(1), 1 Return(reply)
+    ]
+}
+
+fn lookup_before_the_commit() -> [Entry; 9] {
+    logged![
+        0 INSERT, 0 Write(1, 5), 0 Write(0, 1), 1 LOOKUP, 1 Return(1),
+        0 BlockOpen, 0 Write(0, 2), 0 BlockCommit, 0 Return(1)
+    ]
+}
+
+fn open_block_is_left_out() -> [Entry; 10] {
+    logged![
+        0 INSERT, 0 Write(1, 5), 0 Write(0, 1), 0 BlockOpen, 0 Write(0, 2),
+        1 INSERT_SIX, 1 Commit, 1 Return(0), 0 BlockCommit, 0 Return(1)
+    ]
+}
+
+fn write_outside_a_block_counts() -> [Entry; 9] {
+    logged![
+        0 INSERT, 0 Write(1, 5), 0 Write(0, 1), 0 Write(0, 2),
+        1 INSERT_SIX, 1 Commit, 1 Return(0), 0 Commit, 0 Return(1)
+    ]
+}
+
+fn block_raced() -> [Entry; 5] {
+    logged![0 INSERT, 0 BlockOpen, 0 Write(0, 2), 1 INSERT_SIX, 1 Write(0, 1)]
+}
+
+fn delete_behind_a_lookup(reply: u64) -> [Entry; 5] {
+    logged![0 DELETE, 0 Commit, 1 LOOKUP, 1 Return(7), 0 Return(reply)]
+}
+
+fn cut_before_end() -> [Entry; 4] {
+    logged![0 DELETE, 0 Commit, 1 LOOKUP, 1 Return(7)]
+}
+
+// Whether both judges give the log of a multiset this verdict, and agree at each of its entries.
+fn both_say(alloc: Global, entries: &[Entry], verdict: Verdict) -> Result<bool, AllocError>
+    requires few { length entries.now ≤ 20 }
+{
+    let Some(header) = Header::new(1, Subject::Multiset, 1, 2) else {
+        return Ok(false);
+    };
+    let plain = judge_log::<MultisetSpec>(alloc, header, entries, Stop::End)?;
+    let online = followed::<MultisetSpec>(alloc, header, entries)?.finish()?;
+    let agree = answers_agree::<MultisetSpec>(alloc, header, entries)?;
+    Ok(agree && plain == verdict && online == verdict)
+}
+
+// Whether the online judge answers at each entry what the plain judge knows of the entries up to it.
+fn answers_agree<S: Spec>(
+    alloc: Global,
+    header: Header,
+    entries: &[Entry],
+) -> Result<bool, AllocError>
+    requires subject { header.subject ≡ S.subject }
+    requires few { length entries.now ≤ 20 }
+{
+    let (line, rule) = (1, Rule::BadHeader);
+    let mut judge = Judge::<S>::new(alloc, header)?;
+    for i in 0..entries.len() {
+        let plain = judge_log::<S>(alloc, header, &entries[..i + 1], Stop::Text { line, rule })?;
+        let so_far = judge.feed(entries[i])?;
+        let answers = so_far.unwrap_or(Verdict::Malformed { line, rule });
+        if answers != plain || judge.so_far() != so_far || judge.stop(line, rule)? != plain {
+            return Ok(false);
+        }
+    }
+    Ok(true)
+}
+
+// An online judge that has followed the entries.
+fn followed<S: Spec>(
+    alloc: Global,
+    header: Header,
+    entries: &[Entry],
+) -> Result<Judge<S>, AllocError>
+    requires subject { header.subject ≡ S.subject }
+    requires few { length entries.now ≤ 20 }
+{
+    let mut judge = Judge::<S>::new(alloc, header)?;
+    judge.follow(entries)?;
+    Ok(judge)
+}
+
+/// A fault of text comes behind what is wrong with the entries, and behind an open call only where `end` was read.
+#[test]
+fn stops_of_the_text(rt: HostRuntime) -> Result<(), Fail> {
     let header = Header::new(1, Subject::Multiset, 1, 2).ok_or("no header")?;
-    let table: [(&str, &[Entry], Stop, Verdict); 18] = [
-        ("empty_log", &[], Stop::End, accepted(0, 0, 0)),
-        (
-            "insert_with_its_writes",
-            &[
-                by(0, INSERT),
-                by(0, Kind::Write(1, 5)),
-                by(0, Kind::Write(0, 1)),
-                by(0, Kind::BlockOpen),
-                by(0, Kind::Write(0, 2)),
-                by(0, Kind::BlockCommit),
-                by(0, Kind::Return(1)),
-            ],
-            Stop::End,
-            accepted(7, 1, 0),
-        ),
-        (
-            "insert_without_its_writes",
-            &[by(0, INSERT), by(0, Kind::Commit), by(0, Kind::Return(1))],
-            Stop::End,
-            violation(3, Why::View(5)),
-        ),
-        (
-            "absent_delete_replies_1",
-            &[by(0, DELETE), by(0, Kind::Commit), by(0, Kind::Return(1))],
-            Stop::End,
-            violation(3, Why::Reply(1)),
-        ),
-        (
-            "absent_delete_replies_0",
-            &[by(0, DELETE), by(0, Kind::Commit), by(0, Kind::Return(0))],
-            Stop::End,
-            accepted(3, 1, 0),
-        ),
-        (
-            "lookup_across_a_commit, by the state before it",
-            &[
-                by(0, INSERT),
-                by(0, Kind::Write(1, 5)),
-                by(0, Kind::Write(0, 1)),
-                by(1, LOOKUP),
-                by(0, Kind::BlockOpen),
-                by(0, Kind::Write(0, 2)),
-                by(0, Kind::BlockCommit),
-                by(0, Kind::Return(1)),
-                by(1, Kind::Return(0)),
-            ],
-            Stop::End,
-            accepted(9, 1, 1),
-        ),
-        (
-            "lookup_across_a_commit, by the state after it",
-            &[
-                by(0, INSERT),
-                by(0, Kind::Write(1, 5)),
-                by(0, Kind::Write(0, 1)),
-                by(1, LOOKUP),
-                by(0, Kind::BlockOpen),
-                by(0, Kind::Write(0, 2)),
-                by(0, Kind::BlockCommit),
-                by(0, Kind::Return(1)),
-                by(1, Kind::Return(1)),
-            ],
-            Stop::End,
-            accepted(9, 1, 1),
-        ),
-        (
-            "lookup_before_the_commit",
-            &[
-                by(0, INSERT),
-                by(0, Kind::Write(1, 5)),
-                by(0, Kind::Write(0, 1)),
-                by(1, LOOKUP),
-                by(1, Kind::Return(1)),
-                by(0, Kind::BlockOpen),
-                by(0, Kind::Write(0, 2)),
-                by(0, Kind::BlockCommit),
-                by(0, Kind::Return(1)),
-            ],
-            Stop::End,
-            violation(6, Why::Observer(1)),
-        ),
-        (
-            "open_block_is_left_out",
-            &[
-                by(0, INSERT),
-                by(0, Kind::Write(1, 5)),
-                by(0, Kind::Write(0, 1)),
-                by(0, Kind::BlockOpen),
-                by(0, Kind::Write(0, 2)),
-                by(1, INSERT_SIX),
-                by(1, Kind::Commit),
-                by(1, Kind::Return(0)),
-                by(0, Kind::BlockCommit),
-                by(0, Kind::Return(1)),
-            ],
-            Stop::End,
-            accepted(10, 2, 0),
-        ),
-        (
-            "write_outside_a_block_counts",
-            &[
-                by(0, INSERT),
-                by(0, Kind::Write(1, 5)),
-                by(0, Kind::Write(0, 1)),
-                by(0, Kind::Write(0, 2)),
-                by(1, INSERT_SIX),
-                by(1, Kind::Commit),
-                by(1, Kind::Return(0)),
-                by(0, Kind::Commit),
-                by(0, Kind::Return(1)),
-            ],
-            Stop::End,
-            violation(7, Why::View(5)),
-        ),
-        (
-            "block_raced",
-            &[
-                by(0, INSERT),
-                by(0, Kind::BlockOpen),
-                by(0, Kind::Write(0, 2)),
-                by(1, INSERT_SIX),
-                by(1, Kind::Write(0, 1)),
-            ],
-            Stop::End,
-            malformed(6, Rule::BlockRaced),
-        ),
-        (
-            "fault_behind_a_waiting_commit",
-            &[
-                by(0, DELETE),
-                by(0, Kind::Commit),
-                by(1, LOOKUP),
-                by(1, Kind::Return(7)),
-                by(0, Kind::Return(1)),
-            ],
-            Stop::End,
-            violation(3, Why::Reply(1)),
-        ),
-        (
-            "observer_in_no_state",
-            &[
-                by(0, DELETE),
-                by(0, Kind::Commit),
-                by(1, LOOKUP),
-                by(1, Kind::Return(7)),
-                by(0, Kind::Return(0)),
-            ],
-            Stop::End,
-            violation(5, Why::Observer(7)),
-        ),
-        (
-            "cut_before_end",
-            &[
-                by(0, DELETE),
-                by(0, Kind::Commit),
-                by(1, LOOKUP),
-                by(1, Kind::Return(7)),
-            ],
-            Stop::Text {
-                line: 6,
-                rule: Rule::NoEnd,
-            },
-            malformed(6, Rule::NoEnd),
-        ),
-        (
-            "text_after_end",
-            &[],
-            Stop::Text {
-                line: 3,
-                rule: Rule::AfterEnd,
-            },
-            malformed(3, Rule::AfterEnd),
-        ),
-        (
-            "call_open_at_end",
-            &[by(0, LOOKUP)],
-            Stop::End,
-            malformed(3, Rule::CallOpen),
-        ),
-        (
-            "text_after_end, behind an open call",
-            &[by(0, LOOKUP)],
-            Stop::Text {
-                line: 4,
-                rule: Rule::AfterEnd,
-            },
-            malformed(3, Rule::CallOpen),
-        ),
-        (
-            "fault before a break of shape",
-            &[
-                by(0, DELETE),
-                by(0, Kind::Commit),
-                by(0, Kind::Return(1)),
-                by(2, LOOKUP),
-            ],
-            Stop::End,
-            violation(3, Why::Reply(1)),
-        ),
+    let open: &[Entry] = &cut_before_end();
+    let (no_end, after_end) = (Rule::NoEnd, Rule::AfterEnd);
+    let table: [(&[Entry], u64, Rule, Verdict); 3] = [
+        (open, 6, no_end, malformed(6, no_end)),
+        (open, 7, after_end, malformed(6, Rule::CallOpen)),
+        (&[], 3, after_end, malformed(3, after_end)),
     ];
-    for (name, entries, stop, want) in table {
-        assert!(rt; entries.len() <= 10);
-        let found = judge_log::<MultisetSpec>(rt.alloc(), header, entries, stop)?;
-        assert_eq!(rt; found, want, "{name}");
+    for (entries, line, rule, want) in table {
+        assert!(rt; entries.len() <= 20);
+        let found = judge_log::<MultisetSpec>(
+            rt.alloc(),
+            header,
+            entries,
+            Stop::Text { line, rule },
+        )?;
+        assert_eq!(rt; found, want);
     }
     Ok(())
 }
@@ -254,29 +216,19 @@ fn verdicts_on_a_multiset(rt: HostRuntime) -> Result<(), Fail> {
 #[test]
 fn write_behind_a_flush(rt: HostRuntime) -> Result<(), Fail> {
     let header = Header::new(1, Subject::Cache, 1, 2).ok_or("no header")?;
-    let entries = [
-        by(0, Kind::Call(Method::CaWrite, Args { a: 0, b: 1, c: 2 })),
-        by(0, Kind::BlockOpen),
-        by(0, Kind::Write(1, 1)),
-        by(0, Kind::Write(2, 2)),
-        by(0, Kind::Write(0, 2)),
-        by(0, Kind::BlockCommit),
-        by(0, Kind::Return(1)),
-        by(0, Kind::Call(Method::CaWrite, Args { a: 0, b: 3, c: 4 })),
-        by(0, Kind::Write(1, 3)),
-        by(1, Kind::Call(Method::CaFlush, Args { a: 0, b: 0, c: 0 })),
-        by(1, Kind::BlockOpen),
-        by(1, Kind::Write(3, 3)),
-        by(1, Kind::Write(4, 2)),
-        by(1, Kind::Write(0, 1)),
-        by(1, Kind::BlockCommit),
-        by(1, Kind::Return(1)),
-        by(0, Kind::Write(2, 4)),
-        by(0, Kind::Commit),
-        by(0, Kind::Return(1)),
+    let early = Call(Method::CaWrite, Args { a: 0, b: 1, c: 2 });
+    let late = Call(Method::CaWrite, Args { a: 0, b: 3, c: 4 });
+    let flush = Call(Method::CaFlush, Args { a: 0, b: 0, c: 0 });
+    let entries: &[Entry] = &logged![
+        0 early, 0 BlockOpen, 0 Write(1, 1), 0 Write(2, 2), 0 Write(0, 2), 0 BlockCommit, 0 Return(1),
+        0 late, 0 Write(1, 3),
+        1 flush, 1 BlockOpen, 1 Write(3, 3), 1 Write(4, 2), 1 Write(0, 1), 1 BlockCommit, 1 Return(1),
+        0 Write(2, 4), 0 Commit, 0 Return(1)
     ];
-    let found = judge_log::<CacheSpec>(rt.alloc(), header, &entries, Stop::End)?;
-    assert_eq!(rt; found, violation(16, Why::View(0)));
+    assert!(rt; entries.len() <= 20);
+    assert!(rt; answers_agree::<CacheSpec>(rt.alloc(), header, entries)?);
+    let judge = followed::<CacheSpec>(rt.alloc(), header, entries)?;
+    assert_eq!(rt; judge.so_far(), Some(violation(16, Why::View(0))));
     Ok(())
 }
 
@@ -284,12 +236,60 @@ fn write_behind_a_flush(rt: HostRuntime) -> Result<(), Fail> {
 #[test]
 fn absent_insert_replies_2(rt: HostRuntime) -> Result<(), Fail> {
     let header = Header::new(1, Subject::Tree, 1, 1).ok_or("no header")?;
-    let entries = [
-        by(0, Kind::Call(Method::TrInsert, Args { a: 5, b: 9, c: 0 })),
-        by(0, Kind::Commit),
-        by(0, Kind::Return(2)),
-    ];
-    let found = judge_log::<TreeSpec>(rt.alloc(), header, &entries, Stop::End)?;
-    assert_eq!(rt; found, violation(3, Why::Reply(2)));
+    let insert = Call(Method::TrInsert, Args { a: 5, b: 9, c: 0 });
+    let entries: &[Entry] = &logged![0 insert, 0 Commit, 0 Return(2)];
+    assert!(rt; entries.len() <= 20);
+    assert!(rt; answers_agree::<TreeSpec>(rt.alloc(), header, entries)?);
+    let judge = followed::<TreeSpec>(rt.alloc(), header, entries)?;
+    assert_eq!(rt; judge.so_far(), Some(violation(3, Why::Reply(2))));
+    Ok(())
+}
+
+/// 4,096 values in 1,024 buckets, and then 500,000 rounds that delete one of them and insert it again. A judge that takes both
+/// views whole at each commit looks at more than four thousand million slots here.
+#[test]
+fn a_commit_costs_what_it_changed(rt: HostRuntime) -> Result<(), Fail> {
+    let header = Header::new(1, Subject::Multiset, 1024, 1).ok_or("no header")?;
+    let mut judge = Judge::<MultisetSpec>::new(rt.alloc(), header)?;
+    for x in 0..4096_u32 {
+        insert(&mut judge, x)?;
+    }
+    for _ in 0..500_000_u32 {
+        delete_the_last(&mut judge)?;
+        insert(&mut judge, 4095)?;
+    }
+    assert_eq!(rt; judge.finish()?, accepted(6_028_672, 1_004_096, 0));
+    Ok(())
+}
+
+// An insert of a value with its writes, in slot x / 1024 of bucket x mod 1024.
+fn insert(judge: &mut Judge<MultisetSpec>, x: u32) -> Result<(), AllocError>
+    requires value { x < 4096 }
+    requires few { judge.old.kept.entries + 7 ≤ 2 ^ 62 }
+    ensures counted { judge.new.kept.entries ≤ judge.old.kept.entries + 7 }
+{
+    let insert = Call(Method::MsInsert, Args { a: x, b: 0, c: 0 });
+    let state = 2 * (4 * (x % 1024) + x / 1024);
+    judge.follow(&logged![
+        0 insert, 0 Write(state + 1, u64::from(x)), 0 Write(state, 1),
+        0 BlockOpen, 0 Write(state, 2), 0 BlockCommit, 0 Return(1)
+    ])?;
+    Ok(())
+}
+
+// A delete of 4095, which stands in slot 3 of bucket 1023.
+fn delete_the_last(judge: &mut Judge<MultisetSpec>) -> Result<(), AllocError>
+    requires few { judge.old.kept.entries + 5 ≤ 2 ^ 62 }
+    ensures counted { judge.new.kept.entries ≤ judge.old.kept.entries + 5 }
+{
+    let delete = Call(
+        Method::MsDelete,
+        Args {
+            a: 4095,
+            b: 0,
+            c: 0,
+        },
+    );
+    judge.follow(&logged![0 delete, 0 BlockOpen, 0 Write(8190, 0), 0 BlockCommit, 0 Return(1)])?;
     Ok(())
 }

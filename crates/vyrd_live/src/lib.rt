@@ -11,14 +11,12 @@
 mod acting;
 mod judging;
 mod live;
-mod logged;
 mod run;
 #[cfg(test)]
 mod tests;
 mod worker;
 mod workers;
 
-pub use judging::{judge, judged};
+pub use judging::judged;
 pub use live::run_live;
-pub use logged::log_of;
 pub use run::{LiveFault, Overrun, Run};

@@ -3,7 +3,7 @@ use Rattle.std.proofs.Common.{◌≡◌, ℕ, ◌+◌, List, ◌++◌, take, dro
 use Rattle.std.proofs.Math.Seq.{take-add}
 use Rattle.vyrd_base.specs.Devices.{Gives}
 use Rattle.vyrd_program.specs.Inputs.{IsTaken}
-use Rattle.vyrd_program.proofs.PieceLaws.{taken_more}
+use Rattle.vyrd_program.proofs.TakenLaws.{taken_more}
 
 pub taken_behind : (before between after : Option (List ℕ)) (count n : ℕ) (old new : List ℕ) → IsTaken before (take count old) between
     → take count new ≡ take count old → Gives between n (drop count new) after → IsTaken before (take (count + n) new) after

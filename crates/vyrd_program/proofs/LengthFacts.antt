@@ -17,7 +17,7 @@ use Rattle.vyrd_base.proofs.ReadingGrows.{so_far, some_parts}
 use Rattle.vyrd_base.proofs.LongLines.{long_entry, long_isnt_end, long_header}
 use Rattle.vyrd_base.proofs.TestLaws.{not_below_of}
 use Rattle.vyrd_text.proofs.ReadLaws.{no_fault}
-use Rattle.vyrd_program.specs.Inputs.{read_so_far}
+use Rattle.vyrd_check.specs.LogReadings.{read_so_far}
 
 -- the bytes of some parts, each with one byte after it
 size_of : List (List ℕ) → ℕ

@@ -1,8 +1,9 @@
-pub mod WholeFacts
 pub mod LengthFacts
+pub mod TakenLaws
 pub mod PieceLaws
+pub mod SoFarLaws
+pub mod CheckLaws
 pub mod BehindLaws
-pub mod InputLaws
 pub mod WriteLaws
 pub mod FormLaws
 pub mod StepLaws

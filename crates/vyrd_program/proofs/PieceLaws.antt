@@ -1,196 +1,173 @@
--- How the reading of a log goes on with a piece of it, and how it stops.
-use Rattle.std.proofs.Common.{◌≡◌, ℕ, ◌+◌, ◌-◌, ◌*◌, ◌<◌, ◌≤◌, Bool, true, false, List, [], ◌∷◌, ◌++◌, length, take, Option, Some, None, refl, ap, subst, ◌∙◌, sym, arith, append_assoc, length-append}
-use Rattle.std.specs.Prelude.{option_map, is_some, nat_le}
+-- How the checking of an input goes on with a piece of it, and how it stops.
+use Rattle.std.proofs.Common.{◌≡◌, ℕ, ◌+◌, ◌-◌, ◌*◌, ◌<◌, ◌≤◌, Bool, true, false, List, [], ◌++◌, length, take, Option, Some, None, refl, ap, subst, ◌∙◌, sym, arith, inl, inr, length-append}
+use Rattle.std.specs.Prelude.{option_map, is_some, nat_le, IfSome, IfNone}
 use Rattle.std.proofs.lemmas.Bool.Decides.{nat_tests}
-use Rattle.std.proofs.Common.{inl, inr}
-use Rattle.std.specs.Option.{option_map_or}
 use Rattle.std.proofs.lemmas.List.{length-take}
-use Rattle.std.proofs.Math.Seq.{take-append_seam, take-append-add}
-use Rattle.vyrd_base.specs.declared.log.Entry.{Entry}
-use Rattle.vyrd_base.specs.declared.verdict.Rule.{Rule}
-use Rattle.vyrd_base.specs.declared.verdict.Stop.{Stop}
-use Rattle.vyrd_base.specs.declared.verdict.Stop.TheVariants.{End, Text}
+use Rattle.vyrd_base.specs.declared.verdict.Verdict.{Verdict}
+use Rattle.vyrd_base.specs.declared.verdict.Verdict.TheVariants.{Malformed}
 use Rattle.vyrd_base.specs.Devices.{Gives, IsAtEnd}
 use Rattle.vyrd_base.specs.Reading.{TextFault, reading}
-use Rattle.vyrd_base.specs.TextVerdicts.{stop_of}
-use Rattle.vyrd_base.proofs.ReadingGrows.{reading_grows}
-use Rattle.vyrd_text.specs.Readers.{ReaderState, HasRead}
-use Rattle.vyrd_text.specs.Answered.{IsGrownBy}
-use Rattle.vyrd_program.specs.Inputs.{read_so_far, read_whole, has_fault, longest_read, IsTaken, IsLogRead}
-use Rattle.vyrd_program.specs.Progress.{IsReading}
-use Rattle.vyrd_program.proofs.WholeFacts.{whole_same}
+use Rattle.vyrd_base.specs.TextVerdicts.{text_verdict, text_verdict_so_far}
+use Rattle.vyrd_base.proofs.ReadingGrows.{text_verdict_lasts}
+use Rattle.vyrd_check.specs.LogReadings.{read_so_far}
+use Rattle.vyrd_check.specs.Checking.{CheckerState, HasChecked}
+use Rattle.vyrd_check.proofs.ReadingFacts.{second_none}
+use Rattle.vyrd_program.specs.Inputs.{longest_read, IsTaken}
+use Rattle.vyrd_program.specs.Checks.{has_verdict, IsReadNoFurther, IsUnsettled}
+use Rattle.vyrd_program.specs.Progress.{IsChecking, IsReached}
+use Rattle.vyrd_program.proofs.TakenLaws.{no_more_bytes, taken_more, taken_nothing, begins_with}
 use Rattle.vyrd_program.proofs.LengthFacts.{bytes_short}
 
-pub no_more_bytes : (xs : List ℕ) → xs ++ [] ≡ xs
-no_more_bytes [] = refl
-no_more_bytes (x ∷ xs) = ap (λ ys. x ∷ ys) (no_more_bytes xs)
+some_verdict : (o : Option Verdict) → is_some o ≡ true → (v : Verdict) × (o ≡ Some v)
+some_verdict None e = cc
+some_verdict (Some v) e = (v, refl)
 
--- bytes that were taken, and then a piece
-pub taken_more : (before between after : Option (List ℕ)) (taken piece : List ℕ) → IsTaken before taken between
-    → IsTaken between piece after → IsTaken before (taken ++ piece) after
-taken_more before between None taken piece first then =
-    first ∙ ap (option_map (λ left. taken ++ left)) then
-taken_more before between (Some left) taken piece first then =
-    first ∙ ap (option_map (λ left. taken ++ left)) then ∙ ap Some (sym (append_assoc taken piece left))
+-- a verdict lasts
+verdict_there : (max : ℕ) (bytes more : List ℕ) → 1 ≤ max → has_verdict max bytes ≡ true → has_verdict max (bytes ++ more) ≡ true
+verdict_there max bytes more low e =
+    let v = some_verdict (text_verdict_so_far max bytes) e in
+    ap is_some (text_verdict_lasts max bytes more v.0 low v.1)
 
-taken_nothing : (before : Option (List ℕ)) → IsTaken before [] before
-taken_nothing None = refl
-taken_nothing (Some bytes) = refl
-
-no_fault : (o : Option TextFault) → is_some o ≡ false → o ≡ None
-no_fault None e = refl
-no_fault (Some f) e = cc
-
-pub some_fault : (o : Option TextFault) → is_some o ≡ true → (f : TextFault) × (o ≡ Some f)
-some_fault None e = cc
-some_fault (Some f) e = (f, refl)
-
--- a fault of text lasts
-fault_lasts : (max : ℕ) (bytes more : List ℕ) → 1 ≤ max → has_fault max bytes ≡ true → has_fault max (bytes ++ more) ≡ true
-fault_lasts max bytes more low e =
-    let f = some_fault (read_so_far max bytes).fault e in
-    let grown = reading_grows max false bytes more low in
-    ap (λ r. is_some r.fault) (grown.grown.fault f.0 f.1) ∙ e
-
--- of two beginnings of the same bytes the longer one begins with the other
-pub begins_with : (taken piece first more : List ℕ) → length first ≤ length taken → taken ++ piece ≡ first ++ more
-    → taken ≡ first ++ take (length taken - length first) more
-begins_with taken piece first more within same =
-    let rest : length taken ≡ length first + (length taken - length first) = omega arith in
-    sym (take-append_seam taken piece) ∙ ap (take (length taken)) same ∙ ap (λ n. take n (first ++ more)) rest
-    ∙ take-append-add first more (length taken - length first)
-
--- Where bytes have no fault and a piece follows, a beginning of all with a fault is no shorter than they.
-pub begins_later : (max : ℕ) (taken piece first more : List ℕ) → 1 ≤ max → has_fault max taken ≡ false
-    → taken ++ piece ≡ first ++ more → has_fault max first ≡ true
-    → length taken ≤ length first
-begins_later max taken piece first more low fine same faulty = by_length (nat_le (length taken) (length first)) refl
+-- Where bytes have no verdict and a piece follows, a beginning of all that has one is no shorter than they.
+begins_later : (max : ℕ) (taken piece first more : List ℕ) → 1 ≤ max → text_verdict_so_far max taken ≡ None
+    → taken ++ piece ≡ first ++ more → has_verdict max first ≡ true → length taken ≤ length first
+begins_later max taken piece first more low nothing same there = by_length (nat_le (length taken) (length first)) refl
   where
     by_length : (b : Bool) → nat_le (length taken) (length first) ≡ b → length taken ≤ length first
     by_length true e = grind (arith, nat_tests)
     by_length false e =
         let shorter : length first < length taken = grind (arith, nat_tests) in
         let begins : taken ≡ first ++ take (length taken - length first) more = begins_with taken piece first more (omega arith) same in
-        let bad : has_fault max taken ≡ true = ap (has_fault max) begins
-        ∙ fault_lasts max first (take (length taken - length first) more) low faulty in
-        absurd (both (has_fault max taken) bad fine)
+        let here : has_verdict max taken ≡ true = ap (has_verdict max) begins
+        ∙ verdict_there max first (take (length taken - length first) more) low there in
+        absurd (both here (ap is_some nothing))
       where
-        both : (b : Bool) → b ≡ true → b ≡ false → ⊥
-        both true e f = cc
-        both false e f = cc
+        both : has_verdict max taken ≡ true → has_verdict max taken ≡ false → ⊥
+        both e f = cc
 
 -- before the first read
-pub reading_starts : (before : Option (List ℕ)) (reader : ReaderState) (entries : List Entry) → 1 ≤ reader.max_lines
-    → HasRead reader [] → entries ≡ []
-    → IsReading before before reader entries 0
-unfolding reading
-reading_starts before reader entries low read none = record {
+pub checking_starts : (max : ℕ) (before : Option (List ℕ)) (checker : CheckerState) → checker.kept.reader.max_lines ≡ max
+    → HasChecked checker [] → IsChecking max before before checker 0
+unfolding text_verdict_so_far reading
+checking_starts max before checker limit checked = record {
   taken = [];
   told = taken_nothing before;
-  read = read;
-  low = low;
-  kept = none;
-  fine = refl;
+  checked = checked;
+  limit = limit;
+  nothing = refl;
   rounds_taken = omega arith;
 }
 
--- a piece that the source gave, and what the reader made of it
-pub record Fed (old new : ReaderState) (piece : List ℕ) (before after : List Entry) : Type 0 where
-  pub limit : new.max_lines ≡ old.max_lines
-  pub read : (bytes : List ℕ) → HasRead old bytes → HasRead new (bytes ++ piece)
-  pub grown : (bytes : List ℕ) → HasRead old bytes
-      → IsGrownBy before (read_so_far old.max_lines bytes).entries after (read_so_far old.max_lines (bytes ++ piece)).entries
+-- nothing was read yet
+pub nothing_no_further : (max : ℕ) (before : Option (List ℕ)) → IsReadNoFurther max before before
+nothing_no_further max before = record {
+  taken = [];
+  told = taken_nothing before;
+  no_more = λ first more same there. omega arith;
+}
+
+pub same_no_further : (max : ℕ) (before now after : Option (List ℕ)) (checker : CheckerState) (rounds : ℕ) → 1 ≤ max
+    → IsChecking max before now checker rounds → after ≡ now → IsReadNoFurther max before after
+same_no_further max before now after checker rounds low r kept = record {
+  taken = r.taken;
+  told = subst (IsTaken before r.taken) (sym kept) r.told;
+  no_more = λ first more same there.
+      omega (arith, begins_later max r.taken [] first more low r.nothing (no_more_bytes r.taken ∙ same) there);
+}
+
+pub still_unsettled : (max : ℕ) (before now after : Option (List ℕ)) (checker : CheckerState) (rounds : ℕ)
+    → IsChecking max before now checker rounds → after ≡ now → IsUnsettled max before after
+still_unsettled max before now after checker rounds r kept = record {
+  taken = r.taken;
+  told = subst (IsTaken before r.taken) (sym kept) r.told;
+  nothing = r.nothing;
+}
 
 length_piece : (n : ℕ) (buffer : List ℕ) → n ≤ length buffer → length (take n buffer) ≡ n
 length_piece n buffer within = length-take n buffer ∙ omega arith
 
-kept_more : (before after e e' : List Entry) → before ≡ e → IsGrownBy before e after e' → after ≡ e'
-kept_more before after e e' same grown = grown.one ∙ ap (λ es. es ++ grown.more) same ∙ sym grown.other
-
--- without a fault the reading goes on
-pub reading_goes_on : (before old_rest new_rest : Option (List ℕ)) (old new : ReaderState) (old_entries new_entries : List Entry)
-    (buffer : List ℕ) (n rounds : ℕ)
-    → IsReading before old_rest old old_entries rounds → Gives old_rest n buffer new_rest → 0 < n
-    → Fed old new (take n buffer) old_entries new_entries
-    → ((bytes : List ℕ) → HasRead old bytes → (read_so_far old.max_lines (bytes ++ take n buffer)).fault ≡ None)
-    → IsReading before new_rest new new_entries (rounds + 1)
-reading_goes_on before old_rest new_rest old new old_entries new_entries buffer n rounds r gives some fed fine =
+-- one read after bytes without a verdict is no further than it may be
+pub read_no_further : (max : ℕ) (before now after : Option (List ℕ)) (checker : CheckerState) (buffer : List ℕ) (n rounds : ℕ) → 1 ≤ max
+    → IsChecking max before now checker rounds → Gives now n buffer after → length buffer ≤ longest_read → IsReadNoFurther max before after
+read_no_further max before now after checker buffer n rounds low r gives short =
     let piece = take n buffer in
     record {
       taken = r.taken ++ piece;
-      told = taken_more before old_rest new_rest r.taken piece r.told gives.bytes;
-      read = fed.read r.taken r.read;
-      low = subst (λ m. 1 ≤ m) (sym fed.limit) r.low;
-      kept = kept_more old_entries new_entries _ _ r.kept (fed.grown r.taken r.read)
-          ∙ ap (λ m. (read_so_far m (r.taken ++ piece)).entries) (sym fed.limit);
-      fine = ap (λ m. has_fault m (r.taken ++ piece)) fed.limit ∙ ap is_some (fine r.taken r.read);
-      rounds_taken = omega (arith, length-append r.taken piece, length_piece n buffer gives.within, r.rounds_taken);
-    }
-
--- at a fault it stops
-pub reading_breaks : (before old_rest new_rest : Option (List ℕ)) (old new : ReaderState) (old_entries new_entries : List Entry)
-    (buffer : List ℕ) (n rounds line : ℕ) (rule : Rule)
-    → IsReading before old_rest old old_entries rounds → Gives old_rest n buffer new_rest → length buffer ≤ longest_read
-    → Fed old new (take n buffer) old_entries new_entries
-    → ((bytes : List ℕ) → HasRead old bytes → (read_so_far old.max_lines (bytes ++ take n buffer)).fault ≡ Some (record { line = line; rule = rule }))
-    → IsLogRead old.max_lines before new_rest new.header new_entries (Text line rule)
-reading_breaks before old_rest new_rest old new old_entries new_entries buffer n rounds line rule r gives short fed broken =
-    let piece = take n buffer in
-    let fault = broken r.taken r.read in
-    record {
-      taken = r.taken ++ piece;
-      told = taken_more before old_rest new_rest r.taken piece r.told gives.bytes;
-      read = inr (
-        ap is_some fault,
-        record {
-          header_read = (fed.read r.taken r.read).header ∙ ap (λ m. (read_so_far m (r.taken ++ piece)).header) fed.limit;
-          entries_read = kept_more old_entries new_entries _ _ r.kept (fed.grown r.taken r.read);
-          stop_read = sym (ap (λ o. option_map_or (λ f. Text f.line f.rule) o End) fault);
-        },
-      );
-      no_more = λ first more same faulty.
+      told = taken_more before now after r.taken piece r.told gives.bytes;
+      no_more = λ first more same there.
           omega (
             arith,
-            begins_later old.max_lines r.taken piece first more r.low r.fine same faulty,
+            begins_later max r.taken piece first more low r.nothing same there,
             length-append r.taken piece,
             length_piece n buffer gives.within,
             gives.within,
           );
     }
 
--- at the source's end it stops too
-pub reading_ends : (before old_rest new_rest : Option (List ℕ)) (reader : ReaderState) (entries : List Entry) (buffer : List ℕ)
-    (rounds : ℕ) (stop : Stop)
-    → IsReading before old_rest reader entries rounds → Gives old_rest 0 buffer new_rest → IsAtEnd new_rest
-    → ((bytes : List ℕ) → HasRead reader bytes → stop ≡ stop_of (read_whole reader.max_lines bytes))
-    → IsLogRead reader.max_lines before new_rest reader.header entries stop
-reading_ends before old_rest new_rest reader entries buffer rounds stop r gives ended stops =
-    let same = whole_same reader.max_lines r.taken in
-    let told : IsTaken before r.taken new_rest =
-    subst (λ bytes. IsTaken before bytes new_rest) (no_more_bytes r.taken) (taken_more before old_rest new_rest r.taken [] r.told gives.bytes) in
+-- without a verdict the checking goes on
+pub checking_goes_on : (max : ℕ) (before now after : Option (List ℕ)) (old new : CheckerState) (buffer : List ℕ) (n rounds : ℕ)
+    → (r : IsChecking max before now old rounds) → Gives now n buffer after → 0 < n → new.kept.reader.max_lines ≡ old.kept.reader.max_lines
+    → HasChecked new (r.taken ++ take n buffer) → None ≡ text_verdict_so_far old.kept.reader.max_lines (r.taken ++ take n buffer)
+    → IsChecking max before after new (rounds + 1)
+checking_goes_on max before now after old new buffer n rounds r gives some limit checked nothing =
+    let piece = take n buffer in
     record {
-      taken = r.taken;
-      told = told;
-      read = inl (
-        ended,
-        record {
-          header_read = r.read.header ∙ same.header;
-          entries_read = r.kept ∙ same.entries;
-          stop_read = stops r.taken r.read;
-        },
-      );
-      no_more = λ first more whole faulty.
-          let bad : has_fault reader.max_lines r.taken ≡ true = ap (has_fault reader.max_lines) whole
-          ∙ fault_lasts reader.max_lines first more r.low faulty in
-          absurd (both (has_fault reader.max_lines r.taken) bad r.fine);
+      taken = r.taken ++ piece;
+      told = taken_more before now after r.taken piece r.told gives.bytes;
+      checked = checked;
+      limit = limit ∙ r.limit;
+      nothing = ap (λ m. text_verdict_so_far m (r.taken ++ piece)) (sym r.limit) ∙ sym nothing;
+      rounds_taken = omega (arith, length-append r.taken piece, length_piece n buffer gives.within, r.rounds_taken, some);
     }
-  where
-    both : (b : Bool) → b ≡ true → b ≡ false → ⊥
-    both true e f = cc
-    both false e f = cc
 
--- so many rounds never come
-pub rounds_end : (before now : Option (List ℕ)) (reader : ReaderState) (entries : List Entry) (rounds : ℕ) → reader.max_lines ≤ 268435456
-    → IsReading before now reader entries rounds → rounds ≤ 65 * 268435456
-rounds_end before now reader entries rounds high r =
-    omega (arith, bytes_short reader.max_lines r.taken r.low (no_fault _ r.fine), r.rounds_taken)
+-- with one it is reached
+pub verdict_reached : (max : ℕ) (before now after : Option (List ℕ)) (old : CheckerState) (buffer : List ℕ) (n rounds : ℕ) (v : Verdict)
+    → (r : IsChecking max before now old rounds) → Gives now n buffer after
+    → Some v ≡ text_verdict_so_far old.kept.reader.max_lines (r.taken ++ take n buffer) → IsReached max before after v
+verdict_reached max before now after old buffer n rounds v r gives there =
+    let piece = take n buffer in
+    record {
+      taken = r.taken ++ piece;
+      told = taken_more before now after r.taken piece r.told gives.bytes;
+      reached = inr (ap (λ m. text_verdict_so_far m (r.taken ++ piece)) (sym r.limit) ∙ sym there);
+    }
+
+-- at the source's end it is reached too
+pub end_reached : (max : ℕ) (before now after : Option (List ℕ)) (old : CheckerState) (buffer : List ℕ) (rounds : ℕ) (v : Verdict)
+    → (r : IsChecking max before now old rounds) → Gives now 0 buffer after → IsAtEnd after
+    → v ≡ text_verdict old.kept.reader.max_lines r.taken → IsReached max before after v
+end_reached max before now after old buffer rounds v r gives ended is = record {
+  taken = r.taken;
+  told = subst (λ bytes. IsTaken before bytes after) (no_more_bytes r.taken) (taken_more before now after r.taken [] r.told gives.bytes);
+  reached = inl (ended, is ∙ ap (λ m. text_verdict m r.taken) r.limit);
+}
+
+no_fault : (o : Option TextFault) → option_map (λ fault. Malformed fault.line fault.rule) o ≡ None → o ≡ None
+no_fault None e = refl
+no_fault (Some f) e = cc
+
+-- bytes without a verdict have no fault of text
+faultless : (max : ℕ) (bytes : List ℕ) → text_verdict_so_far max bytes ≡ None → (read_so_far max bytes).fault ≡ None
+unfolding text_verdict_so_far
+faultless max bytes nothing = no_fault (read_so_far max bytes).fault (second_none _ _ nothing)
+
+-- that many rounds never come
+pub rounds_end : (max : ℕ) (before now : Option (List ℕ)) (checker : CheckerState) (rounds : ℕ) → 1 ≤ max → max ≤ 268435456
+    → IsChecking max before now checker rounds → rounds ≤ 65 * 268435456
+rounds_end max before now checker rounds low high r =
+    omega (arith, high, bytes_short max r.taken low (faultless max r.taken r.nothing), r.rounds_taken)
+
+-- What a piece that was fed leads to.
+pub fed_goes_on : (max : ℕ) (before now after : Option (List ℕ)) (old new : CheckerState) (buffer : List ℕ) (n rounds : ℕ) (o : Option Verdict)
+    → (r : IsChecking max before now old rounds) → Gives now n buffer after → 0 < n → new.kept.reader.max_lines ≡ old.kept.reader.max_lines
+    → HasChecked new (r.taken ++ take n buffer) → o ≡ text_verdict_so_far old.kept.reader.max_lines (r.taken ++ take n buffer)
+    → IfNone o (IsChecking max before after new (rounds + 1))
+fed_goes_on max before now after old new buffer n rounds None r gives some limit checked is =
+    checking_goes_on max before now after old new buffer n rounds r gives some limit checked is
+fed_goes_on max before now after old new buffer n rounds (Some v) r gives some limit checked is = tt
+
+pub fed_reached : (max : ℕ) (before now after : Option (List ℕ)) (old : CheckerState) (buffer : List ℕ) (n rounds : ℕ) (o : Option Verdict)
+    → (r : IsChecking max before now old rounds) → Gives now n buffer after
+    → o ≡ text_verdict_so_far old.kept.reader.max_lines (r.taken ++ take n buffer) → IfSome o (IsReached max before after)
+fed_reached max before now after old buffer n rounds None r gives is = tt
+fed_reached max before now after old buffer n rounds (Some v) r gives is = verdict_reached max before now after old buffer n rounds v r gives is

@@ -1,9 +1,10 @@
 -- What `check` answers about an input, and what it takes of it.
-use Rattle.std.specs.Prelude.{◌≡◌, ◌≤◌, ℕ, List, length, Option, Some, None}
+use Rattle.std.specs.Prelude.{◌≡◌, ◌⊎◌, ◌≤◌, ◌+◌, ℕ, Bool, true, List, ◌++◌, length, Option, Some, None, is_some, IfSome}
 use Rattle.vyrd_base.specs.declared.verdict.Verdict.{Verdict}
+use Rattle.vyrd_base.specs.Devices.{IsAtEnd}
 use Rattle.vyrd_base.specs.VerdictText.{verdict_text}
-use Rattle.vyrd_program.specs.Inputs.{IsVerdictOf, IsReadSoFar}
-use Rattle.vyrd_base.specs.TextVerdicts.{text_verdict}
+use Rattle.vyrd_base.specs.TextVerdicts.{text_verdict, text_verdict_so_far}
+use Rattle.vyrd_program.specs.Inputs.{IsTaken, IsVerdictOf, longest_read}
 use Rattle.vyrd_program.specs.Outputs.{status_of, Appends, AppendsFront}
 
 -- the status and the text are those of the whole input's verdict
@@ -13,11 +14,27 @@ pub record IsJudged (max : ℕ) (input : Option (List ℕ)) (status : ℕ) (text
   pub status_is : status ≡ status_of verdict
   pub text_is : text ≡ verdict_text verdict
 
--- what was taken of an input, where its bytes are told
-abbrev pub IsConsumed : ℕ → Option (List ℕ) → Option (List ℕ) → Type 0
-IsConsumed max None after = after ≡ None
-IsConsumed max (Some input) None = ⊥
-IsConsumed max (Some input) (Some left) = IsReadSoFar max input left
+-- Enough was taken of an input: all, which the source has said, or so much that it has the whole input's verdict already.
+pub record IsSettled (max : ℕ) (before after : Option (List ℕ)) : Type 0 where
+  pub taken : List ℕ
+  pub told : IsTaken before taken after
+  pub enough : IsAtEnd after ⊎ IfSome before (λ input. text_verdict_so_far max taken ≡ Some (text_verdict max input))
+
+-- what was taken of an input has no verdict yet
+pub record IsUnsettled (max : ℕ) (before after : Option (List ℕ)) : Type 0 where
+  pub taken : List ℕ
+  pub told : IsTaken before taken after
+  pub nothing : text_verdict_so_far max taken ≡ None
+
+-- whether bytes have a verdict already, however they go on
+abbrev pub has_verdict : ℕ → List ℕ → Bool
+has_verdict max bytes = is_some (text_verdict_so_far max bytes)
+
+-- What was taken of an input is at most one read more than its shortest beginning that has a verdict.
+pub record IsReadNoFurther (max : ℕ) (before after : Option (List ℕ)) : Type 0 where
+  pub taken : List ℕ
+  pub told : IsTaken before taken after
+  pub no_more : (first more : List ℕ) → taken ≡ first ++ more → has_verdict max first ≡ true → length taken ≤ length first + longest_read
 
 -- the sink has taken the line of the whole input's verdict, whose status this is
 pub record IsAnswered (max : ℕ) (input : Option (List ℕ)) (status : ℕ) (before after : Option (List ℕ)) : Type 0 where

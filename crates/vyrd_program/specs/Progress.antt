@@ -1,15 +1,22 @@
--- How far the reading of a log has come.
-use Rattle.std.specs.Prelude.{◌≡◌, ℕ, ◌≤◌, false, List, length, Option}
-use Rattle.vyrd_base.specs.declared.log.Entry.{Entry}
-use Rattle.vyrd_text.specs.Readers.{ReaderState, HasRead}
-use Rattle.vyrd_program.specs.Inputs.{IsTaken, has_fault, read_so_far}
+-- How far the checking of an input has come.
+use Rattle.std.specs.Prelude.{◌≡◌, ◌⊎◌, ℕ, ◌≤◌, List, length, Option, Some, None}
+use Rattle.vyrd_base.specs.declared.verdict.Verdict.{Verdict}
+use Rattle.vyrd_base.specs.Devices.{IsAtEnd}
+use Rattle.vyrd_base.specs.TextVerdicts.{text_verdict, text_verdict_so_far}
+use Rattle.vyrd_check.specs.Checking.{CheckerState, HasChecked}
+use Rattle.vyrd_program.specs.Inputs.{IsTaken}
 
--- What the source gave has been fed to the reader, no fault of text is in it, its entries are kept, and each round took a byte.
-pub record IsReading (before now : Option (List ℕ)) (reader : ReaderState) (entries : List Entry) (rounds : ℕ) : Type 0 where
+-- What the source gave has been fed to the checker, it has no verdict yet, and each round took a byte.
+pub record IsChecking (max : ℕ) (before now : Option (List ℕ)) (checker : CheckerState) (rounds : ℕ) : Type 0 where
   pub taken : List ℕ
   pub told : IsTaken before taken now
-  pub read : HasRead reader taken
-  pub low : 1 ≤ reader.max_lines
-  pub kept : entries ≡ (read_so_far reader.max_lines taken).entries
-  pub fine : has_fault reader.max_lines taken ≡ false
+  pub checked : HasChecked checker taken
+  pub limit : checker.kept.reader.max_lines ≡ max
+  pub nothing : text_verdict_so_far max taken ≡ None
   pub rounds_taken : rounds ≤ length taken
+
+-- A verdict was reached: about all bytes, whose end the source has said, or already about those that were taken.
+pub record IsReached (max : ℕ) (before after : Option (List ℕ)) (verdict : Verdict) : Type 0 where
+  pub taken : List ℕ
+  pub told : IsTaken before taken after
+  pub reached : (IsAtEnd after × (verdict ≡ text_verdict max taken)) ⊎ (text_verdict_so_far max taken ≡ Some verdict)

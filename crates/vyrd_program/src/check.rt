@@ -1,26 +1,28 @@
 //! What `check` answers.
 
 ghost use Rattle.std.specs.Prelude.{◌≡◌, ◌≤◌, ◌<◌, ◌⊎◌, true, [], None, IfOk};
-ghost use Rattle.vyrd_base.specs.Devices.{HasRisen};
+ghost use Rattle.vyrd_base.specs.Devices.{HasRisen, IsAtEnd};
 ghost use Rattle.vyrd_base.specs.VerdictText.{verdict_text};
-ghost use Rattle.vyrd_program.specs.Inputs.{verdict_read};
 ghost use Rattle.vyrd_program.specs.Outputs.{status_of};
-ghost use Rattle.vyrd_program.specs.Checks.{IsJudged, IsConsumed};
+ghost use Rattle.vyrd_program.specs.Checks.{IsJudged, IsSettled, IsUnsettled, IsReadNoFurther};
 
 use crate::answer::{Answer, MEMORY, READ_FAULT, status_of};
-use crate::reading::{ReadFault, ReadLog, read_log};
+use crate::reading::{ReadFault, read_verdict};
 use std::alloc::{AllocError, Global};
-use vyrd_base::{Source, Stop, Verdict};
-use vyrd_live::judge;
+use vyrd_base::{Source, Verdict};
 use vyrd_text::write_verdict;
 
-/// The answer to a log of at most `max_lines` lines: the line of its verdict, or nothing after a failed read or want of memory.
+/// The answer to a log of at most `max_lines` lines: the line of its verdict, or nothing after a failed read or out of memory. It
+/// takes no more of the source once the verdict stands.
 pub fn check<S: Source>(alloc: Global, max_lines: u64, source: &mut S) -> Answer
     requires low { 1 ≤ max_lines }
     requires high { max_lines ≤ 268435456 }
     ensures statuses { (result.status ≤ 2) ⊎ (result.status ≡ 4) ⊎ (result.status ≡ 6) }
     ensures verdict { result.status ≤ 2 → IsJudged max_lines (S.rest source.old) result.status result.text.items }
-    ensures consumed { result.status ≤ 2 → IsConsumed max_lines (S.rest source.old) (S.rest source.new) }
+    ensures consumed { result.status ≤ 2 → IsSettled max_lines (S.rest source.old) (S.rest source.new) }
+    ensures accepted_at_end { result.status ≡ 0 → IsAtEnd (S.rest source.new) }
+    ensures no_further { IsReadNoFurther max_lines (S.rest source.old) (S.rest source.new) }
+    ensures unsettled { result.status ≡ 4 → IsUnsettled max_lines (S.rest source.old) (S.rest source.new) }
     ensures silent { 2 < result.status → result.text.items ≡ [] }
     ensures run { result.run ≡ None }
     ensures spent { result.spent ≡ None }
@@ -29,8 +31,8 @@ pub fn check<S: Source>(alloc: Global, max_lines: u64, source: &mut S) -> Answer
     ensures counted { S.faults source.old ≤ S.faults source.new }
     ensures sure { S.is_sure source.old ≡ true → S.faults source.new ≡ S.faults source.old }
 {
-    match read_log(alloc, max_lines, source) {
-        Ok(log) => match answer_to(alloc, &log) {
+    match read_verdict(alloc, max_lines, source) {
+        Ok(verdict) => match answer_with(alloc, verdict) {
             Ok(answer) => answer,
             Err(_) => Answer::silent(alloc, MEMORY),
         },
@@ -39,14 +41,13 @@ pub fn check<S: Source>(alloc: Global, max_lines: u64, source: &mut S) -> Answer
     }
 }
 
-// The line of a log's verdict, with its status.
-fn answer_to(alloc: Global, log: &ReadLog) -> Result<Answer, AllocError>
-    ensures status { IfOk result (λ answer. answer.status ≡ status_of (verdict_read log.now.header log.now.entries.items log.now.stop)) }
+// The line of a verdict, with its status.
+fn answer_with(alloc: Global, verdict: Verdict) -> Result<Answer, AllocError>
+    ensures status { IfOk result (λ answer. answer.status ≡ status_of verdict) }
     ensures run { IfOk result (λ answer. answer.run ≡ None) }
     ensures spent { IfOk result (λ answer. answer.spent ≡ None) }
-    ensures text { IfOk result (λ answer. answer.text.items ≡ verdict_text (verdict_read log.now.header log.now.entries.items log.now.stop)) }
+    ensures text { IfOk result (λ answer. answer.text.items ≡ verdict_text verdict) }
 {
-    let verdict = verdict_of(alloc, log)?;
     let mut text = Vec::new(alloc);
     write_verdict(&verdict, &mut text)?;
     let status = status_of(verdict);
@@ -56,19 +57,4 @@ fn answer_to(alloc: Global, log: &ReadLog) -> Result<Answer, AllocError>
         run: None,
         spent: None,
     })
-}
-
-// The verdict about a log that was read. Without a header it is the fault of the text.
-fn verdict_of(alloc: Global, log: &ReadLog) -> Result<Verdict, AllocError>
-    ensures { IfOk result (λ verdict. verdict ≡ verdict_read log.now.header log.now.entries.items log.now.stop) }
-{
-    match (log.header, log.stop) {
-        (Some(header), stop) => judge(alloc, header, &log.entries, stop),
-        (None, Stop::Text { line, rule }) => Ok(Verdict::Malformed { line, rule }),
-        (None, Stop::End) => Ok(Verdict::Accepted {
-            entries: 0,
-            commits: 0,
-            observers: 0,
-        }),
-    }
 }

@@ -1,8 +1,8 @@
 //! Reading an input whole.
 
-ghost use Rattle.std.specs.Prelude.{◌≡◌, ◌+◌, ◌≤◌, ◌<◌, true, take, drop, vec_len, IfOk, OnOk, Ok, Err};
+ghost use Rattle.std.specs.Prelude.{◌≡◌, ◌+◌, ◌≤◌, ◌<◌, true, take, drop, vec_len, IfOk, OnOk, OnErr, Ok, Err};
 ghost use Rattle.vyrd_base.specs.Devices.{HasRisen, Gives, IsAtEnd};
-ghost use Rattle.vyrd_program.specs.Inputs.{IsInputRead, longest_read, UnlessFailed};
+ghost use Rattle.vyrd_program.specs.Inputs.{IsInputRead, IsFewTaken, longest_read, UnlessFailed};
 ghost use Rattle.vyrd_work.specs.LongInputs.{longest_input};
 ghost use Rattle.vyrd_program.specs.declared.reading.ReadFault.TheVariants.{Failed};
 
@@ -18,6 +18,7 @@ const LONGEST_INPUT: usize = 33_554_433;
 /// Each read takes at most 65,536 bytes, straight into the vector. The time and the memory grow with the bytes.
 pub fn read_input<S: Source>(alloc: Global, source: &mut S) -> Result<Vec<u8>, ReadFault>
     ensures read { IfOk result (λ bytes. IsInputRead (S.rest source.old) (S.rest source.new) bytes.items) }
+    ensures few { IsFewTaken (S.rest source.old) (S.rest source.new) }
     ensures failed { result ≡ Err Failed → HasRisen (S.faults source.old) (S.faults source.new) }
     ensures failures_alone { UnlessFailed result (S.faults source.new ≡ S.faults source.old) }
     ensures counted { S.faults source.old ≤ S.faults source.new }
@@ -65,6 +66,7 @@ fn read_behind<S: Source>(
     requires short { vec_len bytes.old ≤ count + longest_read }
     ensures given { IfOk result (λ n. Gives (S.rest source.old) n (drop count bytes.new.items) (S.rest source.new)) }
     ensures at_end { result ≡ Ok 0 → IsAtEnd (S.rest source.new) }
+    ensures kept { OnErr result (S.rest source.new ≡ S.rest source.old) }
     ensures front { take count bytes.new.items ≡ take count bytes.old.items }
     ensures len { vec_len bytes.new ≡ vec_len bytes.old }
     ensures failed { result ≡ Err Failed → HasRisen (S.faults source.old) (S.faults source.new) }

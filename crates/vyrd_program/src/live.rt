@@ -5,7 +5,7 @@ ghost use Rattle.vyrd_base.specs.Devices.{HasRisen};
 ghost use Rattle.vyrd_work.specs.Workloads.{workload_of};
 ghost use Rattle.vyrd_work.specs.WorkLimits.{KeepsLimits};
 ghost use Rattle.vyrd_work.specs.WorkReading.{work_reading};
-ghost use Rattle.vyrd_program.specs.Inputs.{IsInputTaken};
+ghost use Rattle.vyrd_program.specs.Inputs.{IsInputTaken, IsFewTaken};
 ghost use Rattle.vyrd_program.specs.Steps.{NamesOnlyRaces};
 ghost use Rattle.vyrd_program.specs.Lives.{AnswersLive, IsLiveAnswer, IsRunAnswer, IsLiveStatus};
 
@@ -36,6 +36,7 @@ pub fn live<R: Threads + Wait + Sync, S: Source, G: Gate>(
     ensures answers { IsLiveStatus result.status → AnswersLive log (S.rest source.old) result.status result.text.items result.run result.spent }
     ensures races { IfSome result.run NamesOnlyRaces }
     ensures consumed { IsLiveStatus result.status → IsInputTaken (S.rest source.old) (S.rest source.new) }
+    ensures few { IsFewTaken (S.rest source.old) (S.rest source.new) }
     ensures silent { result.status ≡ 4 ⊎ result.status ≡ 6 → (result.text.items ≡ []) × (result.run ≡ None) × (result.spent ≡ None) }
     ensures cause { result.status ≡ 4 → HasRisen (S.faults source.old) (S.faults source.new) }
     ensures failures_alone { (S.faults source.new ≡ S.faults source.old) ⊎ (result.status ≡ 4) }

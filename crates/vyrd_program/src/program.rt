@@ -1,12 +1,12 @@
 //! The top call.
 
 ghost use Rattle.std.specs.Prelude.{◌≡◌, ◌≢◌, ◌≤◌, ◌⊎◌, true, ℕ, [], Some, None, Bool, IfSome, length};
-ghost use Rattle.vyrd_base.specs.Devices.{HasRisen};
+ghost use Rattle.vyrd_base.specs.Devices.{HasRisen, IsAtEnd};
 ghost use Rattle.vyrd_program.specs.declared.form.Form.TheVariants.{Check, Step, Live, Gen};
 ghost use Rattle.vyrd_program.specs.Forms.{form_said};
-ghost use Rattle.vyrd_program.specs.Inputs.{IsInputTaken};
+ghost use Rattle.vyrd_program.specs.Inputs.{IsInputTaken, IsFewTaken};
 ghost use Rattle.vyrd_program.specs.Outputs.{Appends, AppendsFront, usage_line};
-ghost use Rattle.vyrd_program.specs.Checks.{IsConsumed, IsAnswered, IsAnsweredInPart, HasRoomForAnswer};
+ghost use Rattle.vyrd_program.specs.Checks.{IsAnswered, IsAnsweredInPart, IsSettled, IsUnsettled, IsReadNoFurther, HasRoomForAnswer};
 ghost use Rattle.vyrd_program.specs.Steps.{IsStepped, IsSteppedInPart, IsStepStatus, HasRoomForStep, NamesOnlyRaces};
 ghost use Rattle.vyrd_program.specs.Lives.{IsLived, IsLivedInPart, IsLiveStatus, HasRoomForLive};
 ghost use Rattle.vyrd_program.specs.Generated.{IsGenerated, IsGeneratedInPart, IsGenStatus, HasRoomForGen};
@@ -25,7 +25,7 @@ use vyrd_base::{Gate, Sink, Source};
 use vyrd_live::{Overrun, Run};
 
 /// How many lines a log may have.
-const MAX_LINES: u64 = 1_048_576;
+const MAX_LINES: u64 = 268_435_456;
 
 /// The line that says which words there are.
 const USAGE_LINE: &[u8] = b"usage: vyrd check | step [--log] | run [--log] | gen N\n";
@@ -44,7 +44,7 @@ pub struct Ended {
 
 /// Carries out the words that stand after the program's name, over a source and a sink.
 ///
-/// `check` reads a log of at most 1,048,576 lines and writes its verdict's line. `step` reads a workload, plays it by turns over
+/// `check` reads a log of at most 268,435,456 lines and writes its verdict's line. `step` reads a workload, plays it by turns over
 /// plain memory and writes the verdict's line about the log of that run. `run` plays it by callers on threads of their own, who
 /// ask the gate before each event, and may wait forever where the workload's callers do. `step --log` and `run --log` write the
 /// log before the verdict's line. `gen N` generates a workload of N operations, from 1 to 200,000, plays it by turns, and writes
@@ -62,15 +62,21 @@ pub fn vyrd<R: Threads + Wait + Sync, S: Source, K: Sink, G: Gate>(
 
     // `check`, 0, 1 and 2: it has written the line of the verdict of all that the source held, and the status is that verdict's.
     ensures verdict { form_said words.now ≡ Some Check → result.status ≤ 2 →
-        IsAnswered 1048576 (S.rest source.old) result.status (K.taken sink.old) (K.taken sink.new) }
-    ensures consumed { form_said words.now ≡ Some Check → result.status ≤ 2 → IsConsumed 1048576 (S.rest source.old) (S.rest source.new) }
+        IsAnswered 268435456 (S.rest source.old) result.status (K.taken sink.old) (K.taken sink.new) }
     ensures check_statuses { form_said words.now ≡ Some Check → (result.status ≤ 6) × (result.status ≢ 3) }
+
+    // `check`: what it takes of the source. It accepts at the source's end alone, and a read that fails behind a verdict is never made.
+    ensures consumed { form_said words.now ≡ Some Check → result.status ≤ 2 → IsSettled 268435456 (S.rest source.old) (S.rest source.new) }
+    ensures accepted_at_end { form_said words.now ≡ Some Check → result.status ≡ 0 → IsAtEnd (S.rest source.new) }
+    ensures no_further { form_said words.now ≡ Some Check → IsReadNoFurther 268435456 (S.rest source.old) (S.rest source.new) }
+    ensures unsettled { form_said words.now ≡ Some Check → result.status ≡ 4 → IsUnsettled 268435456 (S.rest source.old) (S.rest source.new) }
 
     // `step`, 0, 1, 2, 7 and 8: it has written the answer to all that the source held, which has the status and the run.
     ensures stepped { (log : Bool) → form_said words.now ≡ Some (Step log) → IsStepStatus result.status →
         IsStepped log (S.rest source.old) result.status result.run (K.taken sink.old) (K.taken sink.new) }
     ensures step_consumed { (log : Bool) → form_said words.now ≡ Some (Step log) → IsStepStatus result.status →
         IsInputTaken (S.rest source.old) (S.rest source.new) }
+    ensures step_takes_few { (log : Bool) → form_said words.now ≡ Some (Step log) → IsFewTaken (S.rest source.old) (S.rest source.new) }
     ensures step_statuses { (log : Bool) → form_said words.now ≡ Some (Step log) → (result.status ≤ 8) × (result.status ≢ 3) }
 
     // `run`, 0, 1, 2, 7 and 9: it has written the answer to all that the source held, which has the status and the run.
@@ -78,6 +84,7 @@ pub fn vyrd<R: Threads + Wait + Sync, S: Source, K: Sink, G: Gate>(
         IsLived log (S.rest source.old) result.status result.run result.spent (K.taken sink.old) (K.taken sink.new) }
     ensures run_consumed { (log : Bool) → form_said words.now ≡ Some (Live log) → IsLiveStatus result.status →
         IsInputTaken (S.rest source.old) (S.rest source.new) }
+    ensures run_takes_few { (log : Bool) → form_said words.now ≡ Some (Live log) → IsFewTaken (S.rest source.old) (S.rest source.new) }
     ensures run_statuses { (log : Bool) → form_said words.now ≡ Some (Live log) → (result.status ≢ 3) × (result.status ≢ 8) }
 
     // `gen N`, 0, 1, 2 and 8: it has written the answer to N generated operations, which has the status and the run.
@@ -104,7 +111,7 @@ pub fn vyrd<R: Threads + Wait + Sync, S: Source, K: Sink, G: Gate>(
     ensures write_fault { result.status ≡ 5 → HasRisen (K.faults sink.old) (K.faults sink.new) }
     ensures write_failures_alone { (K.faults sink.new ≡ K.faults sink.old) ⊎ (result.status ≡ 5) }
     ensures write_fault_check { result.status ≡ 5 → form_said words.now ≡ Some Check →
-        IsAnsweredInPart 1048576 (S.rest source.old) (K.taken sink.old) (K.taken sink.new) }
+        IsAnsweredInPart 268435456 (S.rest source.old) (K.taken sink.old) (K.taken sink.new) }
     ensures write_fault_step { result.status ≡ 5 → (log : Bool) → form_said words.now ≡ Some (Step log) →
         IsSteppedInPart log (S.rest source.old) result.run (K.taken sink.old) (K.taken sink.new) }
     ensures write_fault_run { result.status ≡ 5 → (log : Bool) → form_said words.now ≡ Some (Live log) →
@@ -133,7 +140,7 @@ pub fn vyrd<R: Threads + Wait + Sync, S: Source, K: Sink, G: Gate>(
     ensures source_counted { S.faults source.old ≤ S.faults source.new }
     ensures sink_counted { K.faults sink.old ≤ K.faults sink.new }
     ensures source_sure { S.is_sure source.old ≡ true → S.faults source.new ≡ S.faults source.old }
-    ensures sink_sure { HasRoomForAnswer 1048576 (S.rest source.old) (K.sure_room sink.old) → form_said words.now ≡ Some Check → K.faults sink.new ≡ K.faults sink.old }
+    ensures sink_sure { HasRoomForAnswer 268435456 (S.rest source.old) (K.sure_room sink.old) → form_said words.now ≡ Some Check → K.faults sink.new ≡ K.faults sink.old }
     ensures sink_sure_step { (log : Bool) → HasRoomForStep log (S.rest source.old) (K.sure_room sink.old) → form_said words.now ≡ Some (Step log) → K.faults sink.new ≡ K.faults sink.old }
     ensures sink_sure_run { (log : Bool) → HasRoomForLive log (S.rest source.old) (K.sure_room sink.old) → form_said words.now ≡ Some (Live log) → K.faults sink.new ≡ K.faults sink.old }
     ensures sink_sure_gen { (n : ℕ) → HasRoomForGen n (K.sure_room sink.old) → form_said words.now ≡ Some (Gen n) → K.faults sink.new ≡ K.faults sink.old }

@@ -3,7 +3,7 @@
 ghost use Rattle.std.specs.Prelude.{◌≡◌, ◌≤◌, ◌⊎◌, true, [], None, IfOk, IfSome};
 ghost use Rattle.vyrd_base.specs.Devices.{HasRisen};
 ghost use Rattle.vyrd_work.specs.WorkReading.{work_reading};
-ghost use Rattle.vyrd_program.specs.Inputs.{IsInputTaken};
+ghost use Rattle.vyrd_program.specs.Inputs.{IsInputTaken, IsFewTaken};
 ghost use Rattle.vyrd_program.specs.Steps.{AnswersInput, IsStepAnswer, IsStepStatus, NamesOnlyRaces};
 
 use crate::answer::{Answer, MEMORY, READ_FAULT};
@@ -22,6 +22,7 @@ pub fn step<S: Source>(alloc: Global, log: bool, source: &mut S) -> Answer
     ensures answers { IsStepStatus result.status → AnswersInput log (S.rest source.old) result.status result.text.items result.run }
     ensures races { IfSome result.run NamesOnlyRaces }
     ensures consumed { IsStepStatus result.status → IsInputTaken (S.rest source.old) (S.rest source.new) }
+    ensures few { IsFewTaken (S.rest source.old) (S.rest source.new) }
     ensures silent { result.status ≡ 4 ⊎ result.status ≡ 6 → (result.text.items ≡ []) × (result.run ≡ None) }
     ensures spent { result.spent ≡ None }
     ensures cause { result.status ≡ 4 → HasRisen (S.faults source.old) (S.faults source.new) }

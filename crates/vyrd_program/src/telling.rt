@@ -14,7 +14,8 @@ ghost use Rattle.vyrd_program.specs.Generated.{generated_line};
 use crate::answer::{Answer, REFUSED, SPENT, STUCK, status_of};
 use std::alloc::{AllocError, Global};
 use vyrd_base::Header;
-use vyrd_live::{Overrun, Run, log_of};
+use vyrd_judge::log_of;
+use vyrd_live::{Overrun, Run};
 use vyrd_text::{LineBuffer, write_log, write_verdict};
 use vyrd_work::{WorkRule, write_refusal};
 

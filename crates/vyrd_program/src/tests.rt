@@ -94,14 +94,22 @@ fn read_that_fails(rt: HostRuntime) -> Result<(), Fail> {
         most: ROOM,
         failing: &[],
     };
-    let row = Row {
-        name: "third read",
+    let undecided = Row {
+        name: "third read, before a verdict",
         log: DELETED,
         status: 4,
         answer: b"",
     };
-    let mut source = MemorySource::new(alloc, row.log, 16, &[3])?;
-    assert_run(&rt, alloc, CHECK, &mut source, &writes, &row)
+    let mut source = MemorySource::new(alloc, undecided.log, 16, &[3])?;
+    assert_run(&rt, alloc, CHECK, &mut source, &writes, &undecided)?;
+    let decided = Row {
+        name: "third read, behind a verdict",
+        log: b"vyrd 1 multiset 1 1\n0 call insert 5\n0 commit\n0 return 1\nend\n",
+        status: 1,
+        answer: b"violation at line 3: view differs at key 5\n",
+    };
+    let mut source = MemorySource::new(alloc, decided.log, 28, &[3])?;
+    assert_run(&rt, alloc, CHECK, &mut source, &writes, &decided)
 }
 
 #[test]

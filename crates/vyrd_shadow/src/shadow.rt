@@ -57,6 +57,7 @@ impl Shadow {
     /// The caller writes the value to the word. In the caller's open block the write is kept back; otherwise it takes effect, and
     /// the word has changed. Either takes constant time on average, and the room that the end of the block will want among the
     /// changed words is made here. A write that is refused for want of memory leaves the shadow as it is.
+    #[inline(always)]
     pub fn write(&mut self, caller: u32, word: u32, value: u64) -> Result<(), AllocError>
         requires caller { caller < self.old.header.callers }
         requires word { word < plain_words self.old.header }
@@ -74,6 +75,7 @@ impl Shadow {
     }
 
     /// The caller opens a block.
+    #[inline(always)]
     pub fn open_block(&mut self, caller: u32)
         requires caller { caller < self.old.header.callers }
         requires closed { is_open self.old caller ≡ false }
@@ -86,6 +88,7 @@ impl Shadow {
 
     /// The caller's block ends, with a commit or without: the writes that it kept back take effect in their order, in time linear
     /// in the number of their words. No memory is taken.
+    #[inline(always)]
     pub fn close_block(&mut self, caller: u32)
         requires caller { caller < self.old.header.callers }
         requires opened { is_open self.old caller ≡ true }
@@ -100,6 +103,7 @@ impl Shadow {
     }
 
     /// The plain words.
+    #[inline(always)]
     pub fn words(&self) -> &[u64]
         ensures words { result.now ≡ self.now.words }
         ensures all { length result.now ≡ plain_words self.now.header }
@@ -110,6 +114,7 @@ impl Shadow {
 
     /// The words that effects have touched since the last `clear_changed`, in the order of the effects: a write outside a block
     /// adds its word, and a block's end the words written in it, once each in the order of their first writes.
+    #[inline(always)]
     pub fn changed(&self) -> &[u32]
         ensures changed { result.now ≡ self.now.changed }
         ensures words { All (λ w. w < plain_words self.now.header) result.now }
@@ -118,6 +123,7 @@ impl Shadow {
     }
 
     /// No word has changed from here on.
+    #[inline(always)]
     pub fn clear_changed(&mut self)
         ensures changed { self.new ≡ record self.old { changed = [] } }
         ensures followed { (earlier : List Entry) → HasFollowed self.old earlier → HasFollowed self.new earlier }
@@ -126,6 +132,7 @@ impl Shadow {
     }
 
     /// A write outside a block takes effect.
+    #[inline(always)]
     fn write_through(&mut self, word: u32, value: u64) -> Result<(), AllocError>
         requires word { word < plain_words self.old.header }
         requires value { value < 2 ^ 63 }

@@ -43,6 +43,7 @@ impl Holders {
     }
 
     /// Whether another caller holds the word.
+    #[inline(always)]
     pub fn is_held_by_another(&self, caller: u32, word: u32) -> bool
         requires { word < length self.now.by_word }
         ensures { result ≡ is_held_by_another self.now caller word }
@@ -53,6 +54,7 @@ impl Holders {
 
     /// Follows an entry of a caller that has an open block or hasn't. A write in a block holds its word, and a block's end lets
     /// go of the caller's words.
+    #[inline(always)]
     pub fn follow(&mut self, in_block: bool, entry: &Entry)
         requires caller { entry.now.caller < self.old.callers }
         requires word { IsWordBelow (length self.old.by_word) entry.now.kind }
@@ -71,6 +73,7 @@ impl Holders {
     }
 
     /// The caller holds the word, if nobody did.
+    #[inline(always)]
     pub fn hold(&mut self, caller: u32, word: u32)
         requires caller { caller < self.old.callers }
         requires word { word < length self.old.by_word }

@@ -36,6 +36,7 @@ impl Phase {
     }
 
     /// The phase after an entry of the caller.
+    #[inline(always)]
     pub fn after(self, kind: Kind) -> Phase
         ensures { (c : ℕ) (earlier : List Entry) → self ≡ phase_of c earlier → result ≡ phase_of c (record { caller = c; kind = kind } ∷ earlier) }
     {
@@ -62,6 +63,7 @@ impl Phase {
     }
 
     /// The first rule that a call breaks.
+    #[inline(always)]
     pub fn call_rule(self, header: Header, method: Method, args: Args) -> Option<Rule>
         ensures { (c : ℕ) (earlier : List Entry) → self ≡ phase_of c earlier → result ≡ first_broken (checks_of header earlier c (Kind.Call method args)) }
     {
@@ -77,6 +79,7 @@ impl Phase {
     }
 
     /// The first rule that a return breaks.
+    #[inline(always)]
     pub fn return_rule(self) -> Option<Rule>
         ensures { (h : Header) (c reply : ℕ) (earlier : List Entry) → self ≡ phase_of c earlier → result ≡ first_broken (checks_of h earlier c (Kind.Return reply)) }
     {
@@ -89,6 +92,7 @@ impl Phase {
     }
 
     /// The first rule that a write breaks, apart from a word that another caller holds.
+    #[inline(always)]
     pub fn write_rule(self, header: Header, word: u32, value: u64) -> Option<Rule>
         ensures rule { (c : ℕ) (earlier : List Entry) → self ≡ phase_of c earlier →
             option_or result (then_some (is_held_by_other header c word earlier) Rule.BlockRaced)
@@ -108,6 +112,7 @@ impl Phase {
     }
 
     /// The first rule that a lone commit breaks.
+    #[inline(always)]
     pub fn commit_rule(self) -> Option<Rule>
         ensures { (h : Header) (c : ℕ) (earlier : List Entry) → self ≡ phase_of c earlier → result ≡ first_broken (checks_of h earlier c Kind.Commit) }
     {
@@ -121,6 +126,7 @@ impl Phase {
     }
 
     /// The first rule that the opening of a block breaks.
+    #[inline(always)]
     pub fn open_rule(self) -> Option<Rule>
         ensures { (h : Header) (c : ℕ) (earlier : List Entry) → self ≡ phase_of c earlier → result ≡ first_broken (checks_of h earlier c Kind.BlockOpen) }
     {
@@ -134,6 +140,7 @@ impl Phase {
     }
 
     /// The first rule that the end of a block without a commit breaks.
+    #[inline(always)]
     pub fn close_rule(self) -> Option<Rule>
         ensures { (h : Header) (c : ℕ) (earlier : List Entry) → self ≡ phase_of c earlier → result ≡ first_broken (checks_of h earlier c Kind.BlockClose) }
     {
@@ -147,6 +154,7 @@ impl Phase {
     }
 
     /// The first rule that the end of a block with a commit breaks.
+    #[inline(always)]
     pub fn block_commit_rule(self) -> Option<Rule>
         ensures { (h : Header) (c : ℕ) (earlier : List Entry) → self ≡ phase_of c earlier → result ≡ first_broken (checks_of h earlier c Kind.BlockCommit) }
     {

@@ -58,6 +58,7 @@ impl Shape {
 
     /// Follows one more entry, or says which rule it breaks first, and then the entry isn't followed. A block's end takes time
     /// linear in the number of words that the block has written, and any other entry takes constant time. No memory is taken.
+    #[inline(always)]
     pub fn step(&mut self, entry: &Entry) -> Result<(), ShapeFault>
         ensures ok { (earlier : List Entry) → HasFollowed self.old earlier → OnOk result ((broken_rule self.old.header earlier entry.now ≡ None) × HasFollowed self.new (entry.now ∷ earlier)) }
         ensures fault { (earlier : List Entry) → HasFollowed self.old earlier → IfErr result (λ f. broken_rule self.old.header earlier entry.now ≡ Some f.rule) }
@@ -89,6 +90,7 @@ impl Shape {
     }
 
     /// The first rule that the entry breaks.
+    #[inline(always)]
     fn broken_by(&self, entry: &Entry) -> Option<Rule>
         ensures rule { (earlier : List Entry) → HasFollowed self.now earlier → result ≡ broken_rule self.now.header earlier entry.now }
         ensures in_range { IfNone result (IsInRange self.now.header entry.now) }
@@ -101,6 +103,7 @@ impl Shape {
     }
 
     /// The first rule after that of the callers that the entry of a caller in this phase breaks.
+    #[inline(always)]
     fn broken_in(&self, phase: Phase, entry: &Entry) -> Option<Rule>
         ensures rule { (earlier : List Entry) → HasFollowed self.now earlier → phase ≡ phase_of entry.now.caller earlier →
             result ≡ first_broken (checks_of self.now.header earlier entry.now.caller entry.now.kind) }
@@ -118,6 +121,7 @@ impl Shape {
     }
 
     /// The first rule that a write breaks, of a caller in this phase.
+    #[inline(always)]
     fn broken_by_write(&self, phase: Phase, caller: u32, word: u32, value: u64) -> Option<Rule>
         ensures rule { (earlier : List Entry) → HasFollowed self.now earlier → phase ≡ phase_of caller earlier →
             result ≡ first_broken (checks_of self.now.header earlier caller (Kind.Write word value)) }
@@ -132,6 +136,7 @@ impl Shape {
     }
 
     /// Follows an entry that breaks no rule.
+    #[inline(always)]
     fn follow(&mut self, entry: &Entry)
         requires { IsInRange self.old.header entry.now }
         ensures followed { (earlier : List Entry) → HasFollowed self.old earlier → broken_rule self.old.header earlier entry.now ≡ None → HasFollowed self.new (entry.now ∷ earlier) }

@@ -1,0 +1,6 @@
+pub mod WholeFacts
+pub mod ReadingFacts
+pub mod EndFacts
+pub mod PieceLaws
+pub mod FedLaws
+pub mod CheckedLaws

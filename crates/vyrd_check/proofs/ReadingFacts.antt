@@ -1,0 +1,162 @@
+-- How many entries a reading has, and what is wrong with them.
+use Rattle.std.proofs.Common.{◌≡◌, ℕ, ◌+◌, ◌-◌, ◌≤◌, Bool, true, false, cond, List, [], ◌∷◌, length, Option, Some, None, Result, Ok, Err, refl, ap, ◌∙◌, sym, arith}
+use Rattle.std.specs.Prelude.{◌==◌, nat_lt, unwrap_or, option_map, option_and_then}
+use Rattle.std.specs.Option.{option_or}
+use Rattle.std.specs.List.{slice_split}
+use Rattle.std.specs.Str.{bytes_eq}
+use Rattle.vyrd_base.specs.declared.header.Header.{Header}
+use Rattle.vyrd_base.specs.declared.subject.Subject.{Subject}
+use Rattle.vyrd_base.specs.declared.log.Entry.{Entry}
+use Rattle.vyrd_base.specs.declared.verdict.Rule.{Rule}
+use Rattle.vyrd_base.specs.declared.verdict.Rule.TheVariants.{TooManyLines, BadEntry}
+use Rattle.vyrd_base.specs.declared.verdict.Verdict.{Verdict}
+use Rattle.vyrd_base.specs.declared.verdict.Verdict.TheVariants.{Malformed}
+use Rattle.vyrd_base.specs.Spelling.{end_line}
+use Rattle.vyrd_base.specs.Lines.{entry_in, header_in}
+use Rattle.vyrd_base.specs.Reading.{Reading, TextFault, stopped, ended, after_end_rule, entry_before, lines_read, header_before, text_read, reading}
+use Rattle.vyrd_base.specs.TextVerdicts.{entries_verdict, known_verdict, text_verdict, text_verdict_so_far}
+use Rattle.vyrd_base.specs.Verdicts.{verdict_so_far, end_verdict, accepted, verdict}
+use Rattle.vyrd_base.proofs.ReadingGrows.{so_far}
+use Rattle.vyrd_base.proofs.StopLaws.{headless_has_fault}
+use Rattle.vyrd_base.proofs.TestLaws.{not_below_of}
+use Rattle.vyrd_check.specs.LogReadings.{read_so_far, read_whole}
+use Rattle.vyrd_check.specs.Checking.{wrong_entries}
+use Rattle.vyrd_check.proofs.WholeFacts.{whole_same}
+
+-- a line of entries from line n on gives no more entries than there may be lines
+lines_few : (max : ℕ) (subject : Subject) (n : ℕ) (lines : List (List ℕ)) → n ≤ max + 1
+    → length (lines_read (so_far max) subject n lines).entries + n ≤ max + 1
+lines_few max subject n [] within = omega (arith, within)
+lines_few max subject n (rest ∷ []) within = omega (arith, within)
+lines_few max subject n (line ∷ next ∷ lines) within =
+    by_tests (λ low. lines_few max subject (n + 1) (next ∷ lines) low) (nat_lt max n) (bytes_eq line end_line) refl
+  where
+    after : Reading
+    after = lines_read (so_far max) subject (n + 1) (next ∷ lines)
+
+    by_entry : (n + 1 ≤ max + 1 → length after.entries + (n + 1) ≤ max + 1) → n ≤ max → (o : Option Entry)
+        → length (entry_before n o after).entries + n ≤ max + 1
+    by_entry onward low None = omega (arith, low)
+    by_entry onward low (Some e) = omega (arith, onward (omega (arith, low)))
+
+    by_tests : (n + 1 ≤ max + 1 → length after.entries + (n + 1) ≤ max + 1) → (past is_end : Bool) → nat_lt max n ≡ past
+        → length (cond past (stopped n (Some TooManyLines))
+        (cond is_end (ended (n + 1) (after_end_rule (so_far max) (n + 1) next lines)) (entry_before n (entry_in subject line) after))).entries + n ≤ max + 1
+    by_tests onward true is_end p = omega (arith, within)
+    by_tests onward false true p = omega (arith, within)
+    by_tests onward false false p = by_entry onward (not_below_of max n p) (entry_in subject line)
+
+parts_few : (max : ℕ) (parts : List (List ℕ)) → 1 ≤ max → length (text_read (so_far max) parts).entries ≤ max
+parts_few max [] low = omega arith
+parts_few max (rest ∷ []) low = omega arith
+parts_few max (line ∷ next ∷ lines) low = by_header (header_in line)
+  where
+    by_header : (r : Result Header Rule)
+        → length (elim r as (λ _. Reading) [
+          | Ok h ↦ header_before h
+              (lines_read (so_far max) h.subject 2 (next ∷ lines))
+          | Err rule ↦ stopped 1 (Some rule)
+        ]).entries ≤ max
+    by_header (Ok h) = omega (arith, lines_few max h.subject 2 (next ∷ lines) (omega (arith, low)))
+    by_header (Err rule) = omega arith
+
+pub entries_few : (max : ℕ) (bytes : List ℕ) → 1 ≤ max → length (read_so_far max bytes).entries ≤ max
+unfolding reading
+entries_few max bytes low = parts_few max (slice_split (λ b. b == 10) bytes) low
+
+headless_parts : (max : ℕ) (parts : List (List ℕ)) → (text_read (so_far max) parts).header ≡ None → (text_read (so_far max) parts).entries ≡ []
+headless_parts max [] none = refl
+headless_parts max (rest ∷ []) none = refl
+headless_parts max (line ∷ next ∷ lines) none = by_header (header_in line) none
+  where
+    read_by : Result Header Rule → Reading
+    read_by r = elim r as (λ _. Reading) [
+      | Ok h ↦ header_before h
+          (lines_read (so_far max) h.subject 2 (next ∷ lines))
+      | Err rule ↦ stopped 1 (Some rule)
+    ]
+
+    by_header : (r : Result Header Rule) → (read_by r).header ≡ None → (read_by r).entries ≡ []
+    by_header (Ok h) e = cc
+    by_header (Err rule) e = refl
+
+-- without a header there is no entry
+pub headless_empty : (max : ℕ) (bytes : List ℕ) → (read_so_far max bytes).header ≡ None → (read_so_far max bytes).entries ≡ []
+unfolding reading
+headless_empty max bytes none = headless_parts max (slice_split (λ b. b == 10) bytes) none
+
+-- what is known of bytes is what is wrong with their entries, or else their fault of text
+pub known_so_far : (max : ℕ) (bytes : List ℕ) (wrong fault : Option Verdict)
+    → wrong ≡ wrong_entries (read_so_far max bytes).header (read_so_far max bytes).ended (read_so_far max bytes).entries
+    → fault ≡ option_map (λ fault. Malformed fault.line fault.rule) (read_so_far max bytes).fault
+    → option_or wrong fault ≡ text_verdict_so_far max bytes
+unfolding text_verdict_so_far
+known_so_far max bytes wrong fault wrong_is fault_is = λ i. option_or (wrong_is i) (fault_is i)
+
+pub first_none : {A : Type 0} (a b : Option A) → option_or a b ≡ None → a ≡ None
+first_none None b e = refl
+first_none (Some x) b e = cc
+
+pub second_none : {A : Type 0} (a b : Option A) → option_or a b ≡ None → b ≡ None
+second_none None b e = e
+second_none (Some x) b e = cc
+
+-- what is wrong with the entries of bytes about which nothing is known
+entries_right : (max : ℕ) (bytes : List ℕ) → text_verdict_so_far max bytes ≡ None
+    → option_and_then (entries_verdict (read_so_far max bytes)) (read_so_far max bytes).header ≡ None
+unfolding text_verdict_so_far
+entries_right max bytes nothing = first_none _ _ nothing
+
+-- nothing is wrong with the entries, nor with their end
+header_right : (max : ℕ) (bytes : List ℕ) (h : Header) → text_verdict_so_far max bytes ≡ None → (read_so_far max bytes).header ≡ Some h
+    → entries_verdict (read_so_far max bytes) h ≡ None
+header_right max bytes h nothing has =
+    sym (ap (option_and_then (entries_verdict (read_so_far max bytes))) has) ∙ entries_right max bytes nothing
+
+-- where `end` was read and nothing is wrong, the log is accepted
+pub ended_right : (max : ℕ) (bytes : List ℕ) (h : Header) → text_verdict_so_far max bytes ≡ None → (read_so_far max bytes).header ≡ Some h
+    → (read_so_far max bytes).ended ≡ true → verdict h (read_so_far max bytes).entries ≡ accepted (read_so_far max bytes).entries
+unfolding verdict
+ended_right max bytes h nothing has done =
+    let r = read_so_far max bytes in
+    let wrong = header_right max bytes h nothing has in
+    let none : option_or (verdict_so_far h r.entries) (end_verdict h r.entries) ≡ None =
+    ap (λ b. option_or (verdict_so_far h r.entries) (cond b (end_verdict h r.entries) None)) (sym done) ∙ wrong in
+    ap (λ o. unwrap_or o (accepted r.entries)) none
+
+-- Where nothing is known of the bytes, the verdict about them as the whole input is their fault of text, or else acceptance.
+pub whole_right : (max : ℕ) (bytes : List ℕ) → text_verdict_so_far max bytes ≡ None
+    → text_verdict max bytes
+    ≡ unwrap_or (option_map (λ fault. Malformed fault.line fault.rule) (read_whole max bytes).fault) (accepted (read_so_far max bytes).entries)
+unfolding text_verdict
+whole_right max bytes nothing =
+    let r = read_so_far max bytes in
+    let w = read_whole max bytes in
+    let same = whole_same max bytes in
+    let right = entries_right max bytes nothing in
+    let wrong_is : option_and_then (entries_verdict w) w.header ≡ None =
+    (λ i. wrong_entries (sym same.header i) (sym same.ended i) (sym same.entries i)) ∙ right in
+    (λ i. unwrap_or (option_or (wrong_is i) (option_map (λ fault. Malformed fault.line fault.rule) w.fault)) (accepted (sym same.entries i)))
+
+pub whole_faulty : (max : ℕ) (bytes : List ℕ) (line : ℕ) (rule : Rule) → text_verdict_so_far max bytes ≡ None
+    → (read_whole max bytes).fault ≡ Some (record { line = line; rule = rule }) → Malformed line rule ≡ text_verdict max bytes
+whole_faulty max bytes line rule nothing fault =
+    sym (whole_right max bytes nothing
+    ∙ ap (λ o. unwrap_or (option_map (λ fault. Malformed fault.line fault.rule) o) (accepted (read_so_far max bytes).entries)) fault)
+
+pub whole_accepted : (max : ℕ) (bytes : List ℕ) (h : Header) → text_verdict_so_far max bytes ≡ None
+    → (read_whole max bytes).fault ≡ None → (read_whole max bytes).ended ≡ true → (read_so_far max bytes).header ≡ Some h
+    → verdict h (read_so_far max bytes).entries ≡ text_verdict max bytes
+whole_accepted max bytes h nothing fault done has =
+    ended_right max bytes h nothing has ((whole_same max bytes).ended ∙ done)
+    ∙ sym (whole_right max bytes nothing
+    ∙ ap (λ o. unwrap_or (option_map (λ fault. Malformed fault.line fault.rule) o) (accepted (read_so_far max bytes).entries)) fault)
+
+-- without a header there is a fault of text
+pub headless_faulty : (max : ℕ) (bytes : List ℕ) → (read_so_far max bytes).header ≡ None → (read_whole max bytes).fault ≡ None → ⊥
+headless_faulty max bytes none fault =
+    let found = headless_has_fault max bytes (sym (whole_same max bytes).header ∙ none) in
+    never (sym fault ∙ found.1)
+  where
+    never : {f : TextFault} → None ≡ Some f → ⊥
+    never e = cc

@@ -1,0 +1,2 @@
+pub mod LogReadings
+pub mod Checking

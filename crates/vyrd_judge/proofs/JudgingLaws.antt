@@ -1,0 +1,249 @@
+-- The entry that waits first is judged by its event.
+use Rattle.std.proofs.Common.{◌≡◌, ℕ, zero, suc, ◌<◌, ◌^◌, true, false, List, [], ◌∷◌, length, set, Option, Some, None, slice_get, refl, ap, subst, ◌∙◌, sym, arith}
+use Rattle.std.specs.Prelude.{◌||◌, Result, Ok, Err, IfOk}
+use Rattle.std.proofs.Math.Logic.{∥∥₁_elim}
+use Rattle.std.proofs.Math.Bool.{Bool-set}
+use Rattle.std.proofs.lemmas.Option.{slice_get_within}
+use Rattle.vyrd_base.specs.declared.header.Header.{Header}
+use Rattle.vyrd_base.specs.declared.subject.Method.{Method}
+use Rattle.vyrd_base.specs.declared.subject.Args.{Args}
+use Rattle.vyrd_base.specs.declared.log.Entry.{Entry}
+use Rattle.vyrd_base.specs.declared.verdict.Why.TheVariants.{Observer}
+use Rattle.vyrd_base.specs.declared.verdict.Verdict.TheVariants.{Violation}
+use Rattle.vyrd_base.specs.Subjects.{is_observer}
+use Rattle.vyrd_base.specs.Amounts.{Amounts}
+use Rattle.vyrd_base.specs.Specification.{answer_in}
+use Rattle.vyrd_base.specs.Verdicts.{line_of, first_fault}
+use Rattle.vyrd_base.proofs.BlockLaws.{by_same}
+use Rattle.vyrd_base.proofs.TestLaws.{below_of, is_below, same_number}
+use Rattle.vyrd_judge.specs.declared.outcome.Outcome.{Outcome}
+use Rattle.vyrd_judge.specs.declared.outcome.Outcome.TheVariants.{Goes, Faults, Ends}
+use Rattle.vyrd_judge.specs.declared.waiting.Event.TheVariants.{Begins, Commits, Returns}
+use Rattle.vyrd_judge.specs.declared.waiting.Waiting.{Waiting}
+use Rattle.vyrd_judge.specs.Executions.{has_method}
+use Rattle.vyrd_judge.specs.Watching.{Seen, has_answer}
+use Rattle.vyrd_judge.specs.Reached.{AreObservers, AreCurrent}
+use Rattle.vyrd_judge.specs.Judged.{Judged, HeadGives, MayJudge, CommitLeads}
+use Rattle.vyrd_judge.proofs.StandingLaws.{slice_get-set_same, slice_get-set_other, not_same}
+use Rattle.vyrd_judge.proofs.Reaching.{OthersStay}
+use Rattle.vyrd_judge.proofs.WaitingLaws.{Waits, begins, commits, returns, waits, IsBegin, IsCommit, IsReturn}
+use Rattle.vyrd_judge.proofs.JudgedLaws.{AtHead, judged_head}
+use Rattle.vyrd_judge.proofs.HeadLaws.{head_begins, begin_fits, head_caller, head_answered, head_unanswered, commit_fits, cut_here, head_faults, head_right, head_waits, head_few}
+
+-- the entry that waits first, by its event
+pub begins_at : {h : Header} {log : List Entry} {state : Amounts} {made : ℕ} {watches : List Seen} {x : Waiting} {xs : List Waiting}
+    {cuts : List (List ℕ)} {method : Method} {args : Args} → x.event ≡ Begins method args → Judged h log state made watches (x ∷ xs) cuts
+    → (at : AtHead h log state made watches x xs cuts) × IsBegin at.here at.earlier x method args
+begins_at {h} {log} {state} {made} {watches} {x} {xs} {cuts} {method} {args} event j =
+    let at = judged_head h log state made watches x xs cuts j in (at, by_event at (waits at.here at.earlier at.later x at.is))
+  where
+    by_event : (at : AtHead h log state made watches x xs cuts) → Waits at.here at.earlier at.later x → IsBegin at.here at.earlier x method args
+    by_event at (begins m a e is) =
+        let same_method : m ≡ method = cc in
+        let same_args : a ≡ args = cc in
+        subst (λ k. IsBegin at.here at.earlier x k args) same_method (subst (IsBegin at.here at.earlier x m) same_args is)
+    by_event at (commits m a o e is) = absurd (apart (sym event ∙ e))
+      where
+        apart : Begins method args ≡ Commits m a o → ⊥
+        apart p = cc
+    by_event at (returns r e is) = absurd (apart (sym event ∙ e))
+      where
+        apart : Begins method args ≡ Returns r → ⊥
+        apart p = cc
+
+pub commits_at : {h : Header} {log : List Entry} {state : Amounts} {made : ℕ} {watches : List Seen} {x : Waiting} {xs : List Waiting}
+    {cuts : List (List ℕ)} {method : Method} {args : Args} {o : Option ℕ} → x.event ≡ Commits method args o
+    → Judged h log state made watches (x ∷ xs) cuts
+    → (at : AtHead h log state made watches x xs cuts) × IsCommit at.here at.earlier at.later x method args o
+commits_at {h} {log} {state} {made} {watches} {x} {xs} {cuts} {method} {args} {o} event j =
+    let at = judged_head h log state made watches x xs cuts j in (at, by_event at (waits at.here at.earlier at.later x at.is))
+  where
+    by_event : (at : AtHead h log state made watches x xs cuts) → Waits at.here at.earlier at.later x
+        → IsCommit at.here at.earlier at.later x method args o
+    by_event at (commits m a p e is) =
+        let same_method : m ≡ method = cc in
+        let same_args : a ≡ args = cc in
+        let same_reply : p ≡ o = cc in
+        subst (λ k. IsCommit at.here at.earlier at.later x k args o) same_method
+        (subst (λ k. IsCommit at.here at.earlier at.later x m k o) same_args (subst (IsCommit at.here at.earlier at.later x m a) same_reply is))
+    by_event at (begins m a e is) = absurd (apart (sym event ∙ e))
+      where
+        apart : Commits method args o ≡ Begins m a → ⊥
+        apart p = cc
+    by_event at (returns r e is) = absurd (apart (sym event ∙ e))
+      where
+        apart : Commits method args o ≡ Returns r → ⊥
+        apart p = cc
+
+pub returns_at : {h : Header} {log : List Entry} {state : Amounts} {made : ℕ} {watches : List Seen} {x : Waiting} {xs : List Waiting}
+    {cuts : List (List ℕ)} {reply : ℕ} → x.event ≡ Returns reply → Judged h log state made watches (x ∷ xs) cuts
+    → (at : AtHead h log state made watches x xs cuts) × IsReturn at.here at.earlier x reply
+returns_at {h} {log} {state} {made} {watches} {x} {xs} {cuts} {reply} event j =
+    let at = judged_head h log state made watches x xs cuts j in (at, by_event at (waits at.here at.earlier at.later x at.is))
+  where
+    by_event : (at : AtHead h log state made watches x xs cuts) → Waits at.here at.earlier at.later x → IsReturn at.here at.earlier x reply
+    by_event at (returns r e is) = let same : r ≡ reply = cc in subst (IsReturn at.here at.earlier x) same is
+    by_event at (begins m a e is) = absurd (apart (sym event ∙ e))
+      where
+        apart : Returns reply ≡ Begins m a → ⊥
+        apart p = cc
+    by_event at (commits m a o e is) = absurd (apart (sym event ∙ e))
+      where
+        apart : Returns reply ≡ Commits m a o → ⊥
+        apart p = cc
+
+-- what may be judged: its caller, what was called, and how many steps were made
+pub begins_caller : {h : Header} {state : Amounts} {made : ℕ} {watches : List Seen} {x : Waiting} {cuts : List (List ℕ)} {method : Method} {args : Args}
+    → x.event ≡ Begins method args → MayJudge h state made watches x cuts → x.caller < h.callers
+begins_caller event may = below_of _ _ (∥∥₁_elim may (Bool-set _ _) (λ s.
+    let found = begins_at event s.2 in is_below _ _ (head_caller found.0 found.1.caller)))
+
+pub begins_may : {h : Header} {state : Amounts} {made : ℕ} {watches : List Seen} {x : Waiting} {cuts : List (List ℕ)} {method : Method} {args : Args}
+    → x.event ≡ Begins method args → MayJudge h state made watches x cuts → has_method h method args ≡ true
+begins_may event may = ∥∥₁_elim may (Bool-set _ _) (λ s. let found = begins_at event s.2 in begin_fits found.0 found.1)
+
+pub begins_observes : {h : Header} {state : Amounts} {made : ℕ} {watches : List Seen} {x : Waiting} {cuts : List (List ℕ)} {method : Method} {args : Args}
+    → x.event ≡ Begins method args → MayJudge h state made watches x cuts → is_observer method ≡ true
+begins_observes event may = ∥∥₁_elim may (Bool-set _ _) (λ s. (begins_at event s.2).1.observes)
+
+pub commits_may : {h : Header} {state : Amounts} {made : ℕ} {watches : List Seen} {x : Waiting} {cuts : List (List ℕ)} {method : Method} {args : Args}
+    {o : Option ℕ} → x.event ≡ Commits method args o → MayJudge h state made watches x cuts → has_method h method args ≡ true
+commits_may event may = ∥∥₁_elim may (Bool-set _ _) (λ s. let found = commits_at event s.2 in (commit_fits found.0 found.1).may)
+
+pub commits_mutates : {h : Header} {state : Amounts} {made : ℕ} {watches : List Seen} {x : Waiting} {cuts : List (List ℕ)} {method : Method} {args : Args}
+    {o : Option ℕ} → x.event ≡ Commits method args o → MayJudge h state made watches x cuts → is_observer method ≡ false
+commits_mutates event may = ∥∥₁_elim may (Bool-set _ _) (λ s. let found = commits_at event s.2 in (commit_fits found.0 found.1).mutates)
+
+pub returns_caller : {h : Header} {state : Amounts} {made : ℕ} {watches : List Seen} {x : Waiting} {cuts : List (List ℕ)} {reply : ℕ}
+    → x.event ≡ Returns reply → MayJudge h state made watches x cuts → x.caller < h.callers
+returns_caller event may = below_of _ _ (∥∥₁_elim may (Bool-set _ _) (λ s.
+    let found = returns_at event s.2 in is_below _ _ (head_caller found.0 found.1.caller)))
+
+pub steps_few : {h : Header} {state : Amounts} {made : ℕ} {watches : List Seen} {x : Waiting} {cuts : List (List ℕ)}
+    → MayJudge h state made watches x cuts → made < 2 ^ 62
+steps_few {h} {state} {made} {watches} {x} {cuts} may = below_of _ _ (∥∥₁_elim may (Bool-set _ _) (λ s.
+    let few : made < 2 ^ 62 = omega (arith, head_few (judged_head h s.0 state made watches x s.1 cuts s.2), s.3) in is_below made (2 ^ 62) few))
+
+observers-prop : (h : Header) (watches : List Seen) → IsProp (AreObservers h watches)
+observers-prop h watches = hlevel Bool-set
+
+pub judged_observers : {h : Header} {state : Amounts} {made : ℕ} {watches : List Seen} {x : Waiting} {cuts : List (List ℕ)}
+    → MayJudge h state made watches x cuts → AreObservers h watches
+judged_observers {h} {watches = watches} may = ∥∥₁_elim may (observers-prop h watches) (λ s. s.2.observers)
+
+current-prop : (state : Amounts) (watches : List Seen) → IsProp (AreCurrent state watches)
+current-prop state watches = hlevel Bool-set
+
+pub judged_current : {h : Header} {state : Amounts} {made : ℕ} {watches : List Seen} {x : Waiting} {cuts : List (List ℕ)}
+    → MayJudge h state made watches x cuts → AreCurrent state watches
+judged_current {state = state} {watches = watches} may = ∥∥₁_elim may (current-prop state watches) (λ s. s.2.current)
+
+-- one watch is changed
+others_stay : (c : ℕ) (watches : List Seen) (seen : Seen) → OthersStay c watches (set watches c seen)
+others_stay c watches seen d other = slice_get-set_other watches c d seen (not_same c d other)
+
+some_same : {a b : Seen} → Some a ≡ Some b → a ≡ b
+some_same e = cc
+
+observers_set : (h : Header) (c : ℕ) (watches : List Seen) (seen : Seen) → c < length watches → AreObservers h watches
+    → (seen.is_open ≡ true → (has_method h seen.method seen.args ≡ true) × (is_observer seen.method ≡ true))
+    → AreObservers h (set watches c seen)
+observers_set h c watches seen low all own = λ d other here is_open. by_same c d
+    (λ same. let it : seen ≡ other = some_same (sym (slice_get-set_same watches c seen low)
+    ∙ ap (slice_get (set watches c seen)) same ∙ here) in
+    let mine = own (ap (λ s. s.is_open) it ∙ is_open) in (
+      ap (λ s. has_method h s.method s.args) (sym it) ∙ mine.0,
+      ap (λ s. is_observer s.method) (sym it) ∙ mine.1,
+    ))
+    (λ apart. all d other (sym (slice_get-set_other watches c d seen (not_same c d apart)) ∙ here) is_open)
+
+current_set : (state : Amounts) (c : ℕ) (watches : List Seen) (seen : Seen) → c < length watches → AreCurrent state watches
+    → (seen.is_open ≡ true → has_answer seen.answers (answer_in state seen.method seen.args) ≡ true) → AreCurrent state (set watches c seen)
+current_set state c watches seen low all own = λ d other here is_open. by_same c d
+    (λ same. let it : seen ≡ other = some_same (sym (slice_get-set_same watches c seen low)
+    ∙ ap (slice_get (set watches c seen)) same ∙ here) in
+    ap (λ s. has_answer s.answers (answer_in state s.method s.args)) (sym it) ∙ own (ap (λ s. s.is_open) it ∙ is_open))
+    (λ apart. all d other (sym (slice_get-set_other watches c d seen (not_same c d apart)) ∙ here) is_open)
+
+-- an observer begins
+pub judged_begins : {h : Header} {log : List Entry} {state : Amounts} {made : ℕ} {watches : List Seen} {x : Waiting} {xs : List Waiting}
+    {cuts : List (List ℕ)} {method : Method} {args : Args} → x.event ≡ Begins method args → length watches ≡ h.callers
+    → Judged h log state made watches (x ∷ xs) cuts
+    → Judged h log state made (set watches x.caller (record { is_open = true; method = method; args = args; answers = answer_in state method args ∷ [] })) xs cuts
+judged_begins {h} {state = state} {watches = watches} {x} {method = method} {args = args} event long j =
+    let found = begins_at event j in
+    let low : x.caller < length watches = omega (arith, long, head_caller found.0 found.1.caller) in
+    head_begins (set watches x.caller seen) found.0 found.1 (others_stay x.caller watches seen) (slice_get-set_same watches x.caller seen low)
+    (observers_set h x.caller watches seen low j.observers (λ is_open. (begin_fits found.0 found.1, found.1.observes)))
+    (current_set state x.caller watches seen low j.current (λ is_open. ap (λ b. b || false) (same_number (answer_in state method args))))
+  where
+    seen : Seen
+    seen = record { is_open = true; method = method; args = args; answers = answer_in state method args ∷ [] }
+
+there : (xs : List Seen) (c : ℕ) → c < length xs → (seen : Seen) × (slice_get xs c ≡ Some seen)
+there [] c low = absurd (omega (arith, low))
+there (x ∷ xs) zero low = (x, refl)
+there (x ∷ xs) (suc c) low = there xs c (omega (arith, low))
+
+-- an observer returns
+pub watch_there : {h : Header} {log : List Entry} {state : Amounts} {made : ℕ} {watches : List Seen} {x : Waiting} {xs : List Waiting}
+    {cuts : List (List ℕ)} {reply : ℕ} → x.event ≡ Returns reply → length watches ≡ h.callers
+    → Judged h log state made watches (x ∷ xs) cuts → (seen : Seen) × (slice_get watches x.caller ≡ Some seen)
+watch_there {watches = watches} {x} event long j =
+    let found = returns_at event j in there watches x.caller (omega (arith, long, head_caller found.0 found.1.caller))
+
+pub judged_answered : {h : Header} {log : List Entry} {state : Amounts} {made : ℕ} {watches : List Seen} {x : Waiting} {xs : List Waiting}
+    {cuts : List (List ℕ)} {reply : ℕ} (seen : Seen) → x.event ≡ Returns reply → slice_get watches x.caller ≡ Some seen
+    → has_answer seen.answers reply ≡ true → Judged h log state made watches (x ∷ xs) cuts
+    → Judged h log state made (set watches x.caller (record seen { is_open = false })) xs cuts
+judged_answered {h} {state = state} {watches = watches} {x} seen event here answered j =
+    let found = returns_at event j in
+    let closed : Seen = record seen { is_open = false } in
+    head_answered (set watches x.caller closed) seen found.0 found.1 here answered (others_stay x.caller watches closed)
+    (observers_set h x.caller watches closed (slice_get_within watches x.caller seen here) j.observers (λ is_open. absurd (apart is_open)))
+    (current_set state x.caller watches closed (slice_get_within watches x.caller seen here) j.current (λ is_open. absurd (apart is_open)))
+  where
+    apart : false ≡ true → ⊥
+    apart e = cc
+
+pub judged_unanswered : {h : Header} {log : List Entry} {state : Amounts} {made : ℕ} {watches : List Seen} {x : Waiting} {xs : List Waiting}
+    {cuts : List (List ℕ)} {reply : ℕ} (seen : Seen) → x.event ≡ Returns reply → slice_get watches x.caller ≡ Some seen
+    → has_answer seen.answers reply ≡ false → Judged h log state made watches (x ∷ xs) cuts
+    → first_fault h log ≡ Some (Violation (line_of x.position) (Observer reply))
+judged_unanswered seen event here unanswered j =
+    let found = returns_at event j in head_unanswered seen found.0 found.1 here unanswered
+
+-- a commit that hasn't returned
+pub judged_waits : {h : Header} {log : List Entry} {state : Amounts} {made : ℕ} {watches : List Seen} {x : Waiting} {xs : List Waiting}
+    {cuts : List (List ℕ)} {method : Method} {args : Args} → x.event ≡ Commits method args None → Judged h log state made watches (x ∷ xs) cuts
+    → (first_fault h log ≡ None) × Judged h log state made watches (x ∷ xs) cuts
+judged_waits event j = let found = commits_at event j in (head_waits found.0 found.1, j)
+
+-- a commit that has, by what it leads to
+pub judged_commits : {E : Type 0} {h : Header} {log : List Entry} {state : Amounts} {made : ℕ} {watches : List Seen} {x : Waiting} {xs : List Waiting}
+    {cuts : List (List ℕ)} {method : Method} {args : Args} {reply : ℕ} (after : Amounts) (more : ℕ) (new : List Seen) (now : List (List ℕ))
+    (r : Result Outcome E) → x.event ≡ Commits method args (Some reply) → Judged h log state made watches (x ∷ xs) cuts
+    → ((words : List ℕ) (rest : List (List ℕ)) → cuts ≡ words ∷ rest
+    → IfOk r (CommitLeads h words rest (record { method = method; args = args }) reply state made watches after more new now))
+    → IfOk r (HeadGives h log after more new x xs now)
+judged_commits {E} {h} {log} {state} {made} {watches} {x} {xs} {cuts} {method} {args} {reply} after more new now r event j leads =
+    let found = commits_at event j in
+    let cut = cut_here found.0 found.1 in
+    by_result found.0 found.1 _ _ cut r (leads _ _ cut)
+  where
+    by_outcome : (at : AtHead h log state made watches x xs cuts) → IsCommit at.here at.earlier at.later x method args (Some reply)
+        → (words : List ℕ) (rest : List (List ℕ)) → cuts ≡ words ∷ rest → (o : Outcome)
+        → CommitLeads h words rest (record { method = method; args = args }) reply state made watches after more new now o
+        → HeadGives h log after more new x xs now o
+    by_outcome at is words rest cut Goes right =
+        subst (λ cs. Judged h log after more new xs cs) (sym right.waiting)
+        (head_right new rest words after more at is cut right.next right.same right.count right.seen right.observers right.current)
+    by_outcome at is words rest cut (Faults why) faulty = head_faults words why at is cut faulty
+    by_outcome at is words rest cut Ends never = absurd never
+
+    by_result : (at : AtHead h log state made watches x xs cuts) → IsCommit at.here at.earlier at.later x method args (Some reply)
+        → (words : List ℕ) (rest : List (List ℕ)) → cuts ≡ words ∷ rest → (s : Result Outcome E)
+        → IfOk s (CommitLeads h words rest (record { method = method; args = args }) reply state made watches after more new now)
+        → IfOk s (HeadGives h log after more new x xs now)
+    by_result at is words rest cut (Ok o) l = by_outcome at is words rest cut o l
+    by_result at is words rest cut (Err e) l = tt

@@ -1,0 +1,716 @@
+-- How the queue goes on with one more entry, and how entries leave it.
+use Rattle.std.proofs.Common.{◌≡◌, ℕ, zero, suc, ◌+◌, ◌-◌, ◌<◌, ◌≤◌, ◌^◌, Bool, true, false, cond, List, [], ◌∷◌, ◌++◌, map, length, set, get_or, ◌&&◌, Option, Some, None, Result, Ok, Err, slice_get, refl, ap, subst, ◌∙◌, sym, arith, length-append, length-set}
+use Rattle.std.specs.Prelude.{◌==◌, ◌≢◌, ◌||◌, not, option_map, is_some, unwrap_or, OnOk}
+use Rattle.std.specs.Option.{option_or, option_flatten, option_map_or}
+use Rattle.std.specs.Bool.{then_some}
+use Rattle.std.specs.List.{cons_option}
+use Rattle.std.proofs.lemmas.Option.{slice_get_within, get_or_from_slice_get}
+use Rattle.std.proofs.Math.Logic.{∥∥₁_elim}
+use Rattle.std.proofs.Math.Bool.{Bool-set}
+use Rattle.vyrd_base.specs.declared.header.Header.{Header}
+use Rattle.vyrd_base.specs.declared.subject.Method.{Method}
+use Rattle.vyrd_base.specs.declared.subject.Args.{Args}
+use Rattle.vyrd_base.specs.declared.log.Kind.{Kind}
+use Rattle.vyrd_base.specs.declared.log.Kind.TheVariants.{Call, Return, Write, Commit, BlockOpen, BlockClose, BlockCommit}
+use Rattle.vyrd_base.specs.declared.log.Entry.{Entry}
+use Rattle.vyrd_base.specs.Places.{first_answer}
+use Rattle.vyrd_base.specs.Callers.{Called, by_caller, open_call, call_or_return, has_committed, commit_or_call}
+use Rattle.vyrd_base.specs.Subjects.{is_observer}
+use Rattle.vyrd_base.specs.Shape.{checks_at, is_observing}
+use Rattle.vyrd_base.specs.Verdicts.{is_return}
+use Rattle.vyrd_base.specs.Commits.{returned}
+use Rattle.vyrd_base.proofs.BlockLaws.{entry, by_same, own_answer, other_answer, no_answer}
+use Rattle.vyrd_base.proofs.ShadowLaws.{all_kept, caller_kept}
+use Rattle.vyrd_base.proofs.TestLaws.{below_of, is_below, at_most_of, is_at_most, same_of, is_same}
+use Rattle.vyrd_judge.specs.declared.caller.Caller.{Caller}
+use Rattle.vyrd_judge.specs.declared.waiting.Event.{Event}
+use Rattle.vyrd_judge.specs.declared.waiting.Event.TheVariants.{Begins, Commits, Returns}
+use Rattle.vyrd_judge.specs.declared.waiting.Waiting.{Waiting}
+use Rattle.vyrd_judge.specs.HasWords.{Keeps}
+use Rattle.vyrd_judge.specs.Outcomes.{place_of}
+use Rattle.vyrd_judge.specs.Queued.{IsCaller, IsPending, IsUnreturned, HasQueued, HasTakenUp, MayQueue, CanLeave}
+use Rattle.vyrd_judge.specs.Waiting.{commit_of, waiting_of, waiting_at, replied_event, replied}
+use Rattle.vyrd_judge.proofs.ExecutionLaws.{open_call-other, open_call-quiet}
+use Rattle.vyrd_judge.proofs.FaultLaws.{Commits as Committing, alone, with_block, commits_inside, commits_unreturned}
+use Rattle.vyrd_judge.proofs.KeptFacts.{commit_kept, block_commit_runs, return_kept}
+use Rattle.vyrd_judge.proofs.StandingLaws.{slice_get-set_same, slice_get-set_other, not_same}
+
+some_same : {A : Type 0} {a b : A} → Some a ≡ Some b → a ≡ b
+some_same e = cc
+
+no_some : {A : Type 0} {a : A} → None ≡ Some a → ⊥
+no_some e = cc
+
+apart : false ≡ true → ⊥
+apart e = cc
+
+-- what the rules say of an entry, by its kind
+named : {h : Header} {earlier : List Entry} {e : Entry} {kind : Kind} → e.kind ≡ kind → Keeps h earlier e → Keeps h earlier (entry e.caller kind)
+named {h} {earlier} {e} is keeps = subst (λ k. Keeps h earlier (entry e.caller k)) is keeps
+
+call_is_free : {h : Header} {c : ℕ} {method : Method} {args : Args} {earlier : List Entry} → Keeps h earlier (entry c (Call method args))
+    → open_call c earlier ≡ None
+call_is_free {h} {c} {method} {args} {earlier} keeps = free (open_call c earlier)
+    (all_kept (checks_at h earlier (entry c (Call method args))) keeps.rules).1.1.1.0
+  where
+    free : (o : Option Called) → is_some o ≡ false → o ≡ None
+    free None e = refl
+    free (Some k) e = cc
+
+-- a mutator that returns has committed
+return_committed : {h : Header} {c reply : ℕ} {earlier : List Entry} {called : Called} → Keeps h earlier (entry c (Return reply))
+    → open_call c earlier ≡ Some called → is_observer called.method ≡ false → has_committed c earlier ≡ true
+return_committed {h} {c} {reply} {earlier} {called} keeps opened mutates =
+    committed (is_observing c earlier) (has_committed c earlier)
+    (ap (λ o. option_map_or (λ k. is_observer k.method) o false) opened ∙ mutates)
+    (all_kept (checks_at h earlier (entry c (Return reply))) keeps.rules).1.1.1.0
+  where
+    committed : (a b : Bool) → a ≡ false → not (a || b) ≡ false → b ≡ true
+    committed true b e f = cc
+    committed false true e f = refl
+    committed false false e f = cc
+
+commit_is_first : {h : Header} {c : ℕ} {earlier : List Entry} (kind : Kind) → Committing kind → Keeps h earlier (entry c kind) → has_committed c earlier ≡ false
+commit_is_first {h} {c} {earlier} _ alone keeps = (all_kept (checks_at h earlier (entry c Commit)) keeps.rules).1.1.1.0
+commit_is_first {h} {c} {earlier} _ with_block keeps = (all_kept (checks_at h earlier (entry c BlockCommit)) keeps.rules).1.1.1.1.0
+
+commit_opened : {h : Header} {c : ℕ} {earlier : List Entry} (kind : Kind) → Committing kind → Keeps h earlier (entry c kind)
+    → (called : Called) × (open_call c earlier ≡ Some called) × (is_observer called.method ≡ false)
+commit_opened {h} {c} {earlier} _ alone keeps = commit_kept h c earlier keeps.rules
+commit_opened {h} {c} {earlier} _ with_block keeps = block_commit_runs h c earlier keeps.rules
+
+-- whether a caller has committed, after another's entry, after one that is neither, and after its own
+committed-other : (c d : ℕ) (kind : Kind) (earlier : List Entry) → (d == c) ≡ false → has_committed c (entry d kind ∷ earlier) ≡ has_committed c earlier
+committed-other c d kind earlier other = ap (λ o. unwrap_or o false) (other_answer c d commit_or_call kind earlier other)
+
+committed-quiet : (c d : ℕ) (kind : Kind) (earlier : List Entry) → commit_or_call kind ≡ None → has_committed c (entry d kind ∷ earlier) ≡ has_committed c earlier
+committed-quiet c d kind earlier quiet = ap (λ o. unwrap_or o false) (no_answer c d commit_or_call kind earlier quiet)
+
+committed-own : (c : ℕ) (kind : Kind) (earlier : List Entry) (b : Bool) → commit_or_call kind ≡ Some b → has_committed c (entry c kind ∷ earlier) ≡ b
+committed-own c kind earlier b is = ap (λ o. unwrap_or o false) (own_answer c commit_or_call kind earlier
+    ∙ ap (λ o. option_or o (first_answer (by_caller c commit_or_call) earlier)) is)
+
+open_call-own : (c : ℕ) (kind : Kind) (earlier : List Entry) (o : Option Called) → call_or_return kind ≡ Some o → open_call c (entry c kind ∷ earlier) ≡ o
+open_call-own c kind earlier o is = ap option_flatten (own_answer c call_or_return kind earlier
+    ∙ ap (λ p. option_or p (first_answer (by_caller c call_or_return) earlier)) is)
+
+commits_called : (kind : Kind) → Committing kind → commit_or_call kind ≡ Some true
+commits_called _ alone = refl
+commits_called _ with_block = refl
+
+-- an entry that is no return leaves replies as they are
+unreplied : (e : Entry) → returned e.kind ≡ None → (xs : List Waiting) → map (replied e) xs ≡ xs
+unreplied e none [] = refl
+unreplied e none (x ∷ xs) = ap (λ y. y ∷ map (replied e) xs) (same x.event refl) ∙ ap (λ ys. x ∷ ys) (unreplied e none xs)
+  where
+    no_reply : (c : ℕ) → by_caller c returned e ≡ None
+    no_reply c = ap (λ o. cond (e.caller == c) o None) none ∙ either (e.caller == c)
+      where
+        either : (b : Bool) → cond {A = Option ℕ} b None None ≡ None
+        either true = refl
+        either false = refl
+
+    or_none : {A : Type 0} (o : Option A) → option_or o None ≡ o
+    or_none None = refl
+    or_none (Some a) = refl
+
+    same : (event : Event) → x.event ≡ event → replied e x ≡ x
+    same (Begins method args) is = ap (λ v. record { caller = x.caller; position = x.position; event = replied_event e x.caller v }) is
+        ∙ ap (λ v. record { caller = x.caller; position = x.position; event = v }) (sym is)
+    same (Returns reply) is = ap (λ v. record { caller = x.caller; position = x.position; event = replied_event e x.caller v }) is
+        ∙ ap (λ v. record { caller = x.caller; position = x.position; event = v }) (sym is)
+    same (Commits method args o) is = ap (λ v. record { caller = x.caller; position = x.position; event = replied_event e x.caller v }) is
+        ∙ ap (λ p. record { caller = x.caller; position = x.position; event = Commits method args (option_or o p) }) (no_reply x.caller)
+        ∙ ap (λ p. record { caller = x.caller; position = x.position; event = Commits method args p }) (or_none o)
+        ∙ ap (λ v. record { caller = x.caller; position = x.position; event = v }) (sym is)
+
+-- a return changes no entry but an unreturned commit of its caller
+reply_other : (c reply : ℕ) (x : Waiting) → ((method : Method) (args : Args) → x.event ≡ Commits method args None → x.caller ≢ c)
+    → replied (entry c (Return reply)) x ≡ x
+reply_other c reply x other = by_event x.event refl
+  where
+    e : Entry
+    e = entry c (Return reply)
+
+    by_event : (event : Event) → x.event ≡ event → replied e x ≡ x
+    by_event (Begins method args) is = ap (λ v. record { caller = x.caller; position = x.position; event = replied_event e x.caller v }) is
+        ∙ ap (λ v. record { caller = x.caller; position = x.position; event = v }) (sym is)
+    by_event (Returns r) is = ap (λ v. record { caller = x.caller; position = x.position; event = replied_event e x.caller v }) is
+        ∙ ap (λ v. record { caller = x.caller; position = x.position; event = v }) (sym is)
+    by_event (Commits method args (Some r)) is = ap (λ v. record { caller = x.caller; position = x.position; event = replied_event e x.caller v }) is
+        ∙ ap (λ v. record { caller = x.caller; position = x.position; event = v }) (sym is)
+    by_event (Commits method args None) is = ap (λ v. record { caller = x.caller; position = x.position; event = replied_event e x.caller v }) is
+        ∙ ap (λ b. record { caller = x.caller; position = x.position; event = Commits method args (cond b (Some reply) None) })
+        (not_own (c == x.caller) refl)
+        ∙ ap (λ v. record { caller = x.caller; position = x.position; event = v }) (sym is)
+      where
+        not_own : (b : Bool) → (c == x.caller) ≡ b → b ≡ false
+        not_own false p = refl
+        not_own true p = absurd (other method args is (sym (same_of c x.caller p)))
+
+-- a map that changes one element alone
+map_one : {A : Type 0} (f : A → A) (xs : List A) (i : ℕ) (y : A) → i < length xs → ((x : A) → slice_get xs i ≡ Some x → f x ≡ y)
+    → ((j : ℕ) (x : A) → j ≢ i → slice_get xs j ≡ Some x → f x ≡ x) → map f xs ≡ set xs i y
+map_one f [] i y low here others = absurd (omega (arith, low))
+map_one {A = A} f (x ∷ xs) zero y low here others = ap (λ z. z ∷ map f xs) (here x refl) ∙ ap (λ zs. y ∷ zs) (map_none xs (λ j z at. others (suc j) z (omega arith) at))
+  where
+    map_none : (zs : List A) → ((j : ℕ) (z : A) → slice_get zs j ≡ Some z → f z ≡ z) → map f zs ≡ zs
+    map_none [] same = refl
+    map_none (z ∷ zs) same = ap (λ w. w ∷ map f zs) (same 0 z refl) ∙ ap (λ ws. z ∷ ws) (map_none zs (λ j w at. same (suc j) w at))
+map_one f (x ∷ xs) (suc i) y low here others = ap (λ z. z ∷ map f xs) (others 0 x (omega arith) refl)
+    ∙ ap (λ zs. x ∷ zs) (map_one f xs i y (omega (arith, low)) here (λ j z far at. others (suc j) z (λ same. far (omega (arith, same))) at))
+
+-- the last element of a list, and those before it
+slice_get-last : {A : Type 0} (xs : List A) (x : A) → slice_get (xs ++ x ∷ []) (length xs) ≡ Some x
+slice_get-last [] x = refl
+slice_get-last (y ∷ xs) x = slice_get-last xs x
+
+slice_get-front : {A : Type 0} (xs : List A) (x : A) (i : ℕ) → i < length xs → slice_get (xs ++ x ∷ []) i ≡ slice_get xs i
+slice_get-front [] x i low = absurd (omega (arith, low))
+slice_get-front (y ∷ xs) x zero low = refl
+slice_get-front (y ∷ xs) x (suc i) low = slice_get-front xs x i (omega (arith, low))
+
+-- an element of the longer list is the last or one before it
+by_place : {A P : Type 0} (xs : List A) (x : A) (i : ℕ) (y : A) → slice_get (xs ++ x ∷ []) i ≡ Some y
+    → (slice_get xs i ≡ Some y → P) → (i ≡ length xs → x ≡ y → P) → P
+by_place [] x zero y here before last = last refl (some_same here)
+by_place [] x (suc i) y here before last = absurd (no_some here)
+by_place (z ∷ xs) x zero y here before last = before here
+by_place (z ∷ xs) x (suc i) y here before last = by_place xs x i y here before (λ p q. last (ap suc p) q)
+
+-- what waits goes on with an entry that is no return and doesn't wait itself
+quiet_up : {h : Header} {waiting : List Waiting} {taken : ℕ} {callers : List Caller} {earlier : List Entry} (c : ℕ) (kind : Kind)
+    → call_or_return kind ≡ None → commit_or_call kind ≡ None → returned kind ≡ None → waiting_at (place_of (entry c kind) earlier []) ≡ None
+    → HasQueued h waiting taken callers earlier → HasTakenUp h waiting waiting taken callers (entry c kind) earlier
+quiet_up {h} {waiting} {taken} {callers} {earlier} c kind inside quiet silent none q = record {
+  queued = record {
+    called = λ d k low is. q.called d k low (sym (open_call-quiet d c kind earlier inside) ∙ is);
+    pending = λ d k caller low is committed at. q.pending d k caller low (sym (open_call-quiet d c kind earlier inside) ∙ is)
+        (sym (committed-quiet d c kind earlier quiet) ∙ committed) at;
+    unreturned = λ i commit k at event. let u = q.unreturned i commit k at event in record {
+      opened = open_call-quiet commit.caller c kind earlier inside ∙ u.opened;
+      mutates = u.mutates;
+      committed = committed-quiet commit.caller c kind earlier quiet ∙ u.committed;
+      number = u.number;
+    };
+    count = omega (arith, q.count);
+  };
+  waiting = sym (unreplied (entry c kind) silent waiting) ∙ no_more (map (replied (entry c kind)) waiting)
+      ∙ ap (λ o. map (replied (entry c kind)) waiting ++ cons_option o []) (sym none);
+}
+  where
+    no_more : (xs : List Waiting) → xs ≡ xs ++ []
+    no_more [] = refl
+    no_more (x ∷ xs) = ap (λ ys. x ∷ ys) (no_more xs)
+
+pub write_up : {h : Header} {waiting : List Waiting} {taken : ℕ} {callers : List Caller} {earlier : List Entry} (c word value : ℕ)
+    → HasQueued h waiting taken callers earlier → HasTakenUp h waiting waiting taken callers (entry c (Write word value)) earlier
+write_up c word value q = quiet_up c (Write word value) refl refl refl refl q
+
+pub open_up : {h : Header} {waiting : List Waiting} {taken : ℕ} {callers : List Caller} {earlier : List Entry} (c : ℕ)
+    → HasQueued h waiting taken callers earlier → HasTakenUp h waiting waiting taken callers (entry c BlockOpen) earlier
+open_up c q = quiet_up c BlockOpen refl refl refl refl q
+
+pub close_up : {h : Header} {waiting : List Waiting} {taken : ℕ} {callers : List Caller} {earlier : List Entry} (c : ℕ)
+    → HasQueued h waiting taken callers earlier → HasTakenUp h waiting waiting taken callers (entry c BlockClose) earlier
+close_up c q = quiet_up c BlockClose refl refl refl refl q
+
+-- a call: what was called is known, and nothing of the caller waits unreturned
+call_queued : {h : Header} {waiting : List Waiting} {taken : ℕ} {callers : List Caller} {earlier : List Entry} {c : ℕ} {method : Method} {args : Args}
+    (caller : Caller) → caller.method ≡ method → caller.args ≡ args → c < length callers → Keeps h earlier (entry c (Call method args))
+    → HasQueued h waiting taken callers earlier → HasQueued h waiting taken (set callers c caller) (entry c (Call method args) ∷ earlier)
+call_queued {h} {waiting} {taken} {callers} {earlier} {c} {method} {args} caller of_method of_args low keeps q = record {
+  called = λ d k low_d is. by_same c d
+      (λ same. record {
+        caller = caller;
+        here = subst (λ x. slice_get (set callers c caller) x ≡ Some caller) same (slice_get-set_same callers c caller low);
+        method = of_method ∙ ap (λ x. x.method) (own d k same is);
+        args = of_args ∙ ap (λ x. x.args) (own d k same is);
+      })
+      (λ other. let old = q.called d k low_d (sym (open_call-other d c (Call method args) earlier other) ∙ is) in record {
+        caller = old.caller;
+        here = slice_get-set_other callers c d caller (not_same c d other) ∙ old.here;
+        method = old.method;
+        args = old.args;
+      });
+  pending = λ d k x low_d is committed at. by_same c d
+      (λ same. absurd (apart (sym (committed-own c (Call method args) earlier false refl)
+      ∙ ap (λ y. has_committed y (entry c (Call method args) ∷ earlier)) same ∙ committed)))
+      (λ other. q.pending d k x low_d (sym (open_call-other d c (Call method args) earlier other) ∙ is)
+      (sym (committed-other d c (Call method args) earlier other) ∙ committed)
+      (sym (slice_get-set_other callers c d caller (not_same c d other)) ∙ at));
+  unreturned = λ i commit k at event. let u = q.unreturned i commit k at event in by_same c commit.caller
+      (λ same. absurd (no_some (sym (call_is_free keeps) ∙ ap (λ x. open_call x earlier) same ∙ u.opened)))
+      (λ other. record {
+        opened = open_call-other commit.caller c (Call method args) earlier other ∙ u.opened;
+        mutates = u.mutates;
+        committed = committed-other commit.caller c (Call method args) earlier other ∙ u.committed;
+        number = λ x is. u.number x (sym (slice_get-set_other callers c commit.caller caller (not_same c commit.caller other)) ∙ is);
+      });
+  count = omega (arith, q.count);
+}
+  where
+    own : (d : ℕ) (k : Called) → c ≡ d → open_call d (entry c (Call method args) ∷ earlier) ≡ Some k → record { method = method; args = args } ≡ k
+    own d k same is = some_same (sym (open_call-own c (Call method args) earlier (Some (record { method = method; args = args })) refl)
+        ∙ ap (λ x. open_call x (entry c (Call method args) ∷ earlier)) same ∙ is)
+
+-- an entry that isn't a commit waits too
+pushed : {h : Header} {waiting : List Waiting} {taken : ℕ} {callers : List Caller} {e : Entry} {earlier : List Entry} (x : Waiting)
+    → ((k : Called) → x.event ≡ Commits k.method k.args None → ⊥) → taken + length waiting ≤ length earlier
+    → HasQueued h waiting taken callers (e ∷ earlier) → HasQueued h (waiting ++ x ∷ []) taken callers (e ∷ earlier)
+pushed {h} {waiting} {taken} {callers} {e} {earlier} x isnt few q = record {
+  called = q.called;
+  pending = λ d k caller low is committed at. let p = q.pending d k caller low is committed at in record {
+    commit = p.commit;
+    since = p.since;
+    here = slice_get-front waiting x (caller.commit - taken) (slice_get_within waiting (caller.commit - taken) p.commit p.here) ∙ p.here;
+    caller_is = p.caller_is;
+    event = p.event;
+  };
+  unreturned = λ i commit k at event. by_place waiting x i commit at
+      (λ before. q.unreturned i commit k before event)
+      (λ last same. absurd (isnt k (ap (λ w. w.event) same ∙ event)));
+  count = omega (arith, few, length-append waiting (x ∷ []));
+}
+
+no_more : {A : Type 0} (xs : List A) → xs ++ [] ≡ xs
+no_more [] = refl
+no_more (x ∷ xs) = ap (λ ys. x ∷ ys) (no_more xs)
+
+pub call_up : {h : Header} {old new : List Waiting} {taken taken' : ℕ} {callers callers' : List Caller} {earlier : List Entry} (c position : ℕ) (method : Method)
+    (args : Args) → c < length callers → position ≡ length earlier → Keeps h earlier (entry c (Call method args)) → HasQueued h old taken callers earlier
+    → callers' ≡ set callers c (record { method = method; args = args; commit = 0 })
+    → new ≡ old ++ cons_option (then_some (is_observer method) (record { caller = c; position = position; event = Begins method args })) []
+    → taken' ≡ taken
+    → HasTakenUp h old new taken' callers' (entry c (Call method args)) earlier
+call_up {h} {old} {new} {taken} {taken'} {callers} {callers'} {earlier} c position method args low at keeps q callers_are new_is same =
+    by_method (is_observer method) refl
+  where
+    x : Waiting
+    x = record { caller = c; position = position; event = Begins method args }
+
+    caller : Caller
+    caller = record { method = method; args = args; commit = 0 }
+
+    e : Entry
+    e = entry c (Call method args)
+
+    queued : HasQueued h old taken (set callers c caller) (e ∷ earlier)
+    queued = call_queued caller refl refl low keeps q
+
+    as_named : {xs : List Waiting} → new ≡ xs → HasQueued h xs taken (set callers c caller) (e ∷ earlier) → HasQueued h new taken' callers' (e ∷ earlier)
+    as_named {xs} is has = subst (λ ws. HasQueued h ws taken' callers' (e ∷ earlier)) (sym is)
+        (subst (λ n. HasQueued h xs n callers' (e ∷ earlier)) (sym same) (subst (λ cs. HasQueued h xs taken cs (e ∷ earlier)) (sym callers_are) has))
+
+    waiting_is : new ≡ map (replied e) old ++ cons_option (option_map (waiting_of (place_of e earlier [])) (then_some (is_observer method) (Begins method args))) []
+    waiting_is = new_is ∙ ap (λ ws. ws ++ cons_option (then_some (is_observer method) x) []) (sym (unreplied e refl old))
+        ∙ ap (λ o. map (replied e) old ++ cons_option o []) (either (is_observer method))
+      where
+        either : (b : Bool) → then_some b x ≡ option_map (waiting_of (place_of e earlier [])) (then_some b (Begins method args))
+        either true = ap (λ n. Some (record { caller = c; position = n; event = Begins method args })) at
+        either false = refl
+
+    by_method : (b : Bool) → is_observer method ≡ b → HasTakenUp h old new taken' callers' e earlier
+    by_method true observes = record {
+      queued = as_named (new_is ∙ ap (λ b. old ++ cons_option (then_some b x) []) observes)
+          (pushed x (λ k event. absurd (begins_isnt event)) q.count queued);
+      waiting = waiting_is;
+    }
+      where
+        begins_isnt : {m : Method} {a : Args} → Begins method args ≡ Commits m a None → ⊥
+        begins_isnt p = cc
+    by_method false mutates = record {
+      queued = as_named (new_is ∙ ap (λ b. old ++ cons_option (then_some b x) []) mutates ∙ no_more old) queued;
+      waiting = waiting_is;
+    }
+
+-- a return: its caller is in no execution then
+return_queued : {h : Header} {waiting : List Waiting} {taken : ℕ} {callers : List Caller} {earlier : List Entry} (c reply : ℕ)
+    → ((i : ℕ) (commit : Waiting) (k : Called) → slice_get waiting i ≡ Some commit → commit.event ≡ Commits k.method k.args None → commit.caller ≢ c)
+    → ((d : ℕ) (k : Called) (caller : Caller) → d < h.callers → (c == d) ≡ false → open_call d earlier ≡ Some k → has_committed d earlier ≡ true
+    → slice_get callers d ≡ Some caller → IsPending waiting taken d k caller)
+    → ((i : ℕ) (commit : Waiting) (k : Called) → slice_get waiting i ≡ Some commit → commit.event ≡ Commits k.method k.args None
+    → IsUnreturned callers taken earlier i commit k)
+    → ((d : ℕ) (k : Called) → d < h.callers → open_call d earlier ≡ Some k → IsCaller callers d k) → taken + length waiting ≤ length earlier + 1
+    → HasQueued h waiting taken callers (entry c (Return reply) ∷ earlier)
+return_queued {h} {waiting} {taken} {callers} {earlier} c reply none pending unreturned called few = record {
+  called = λ d k low is. by_same c d
+      (λ same. absurd (no_some (sym (open_call-own c (Return reply) earlier None refl) ∙ ap (λ x. open_call x (entry c (Return reply) ∷ earlier)) same ∙ is)))
+      (λ other. called d k low (sym (open_call-other d c (Return reply) earlier other) ∙ is));
+  pending = λ d k caller low is committed at. by_same c d
+      (λ same. absurd (no_some (sym (open_call-own c (Return reply) earlier None refl) ∙ ap (λ x. open_call x (entry c (Return reply) ∷ earlier)) same ∙ is)))
+      (λ other. pending d k caller low other (sym (open_call-other d c (Return reply) earlier other) ∙ is)
+      (sym (committed-other d c (Return reply) earlier other) ∙ committed) at);
+  unreturned = λ i commit k at event. let u = unreturned i commit k at event in by_same c commit.caller
+      (λ same. absurd (none i commit k at event (sym same)))
+      (λ other. record {
+        opened = open_call-other commit.caller c (Return reply) earlier other ∙ u.opened;
+        mutates = u.mutates;
+        committed = committed-other commit.caller c (Return reply) earlier other ∙ u.committed;
+        number = u.number;
+      });
+  count = omega (arith, few);
+}
+
+-- an observer's return
+pub observer_up : {h : Header} {old new : List Waiting} {taken taken' : ℕ} {callers callers' : List Caller} {earlier : List Entry} (c position reply : ℕ)
+    (called : Called) → open_call c earlier ≡ Some called → is_observer called.method ≡ true → position ≡ length earlier
+    → HasQueued h old taken callers earlier → callers' ≡ callers → new ≡ old ++ record { caller = c; position = position; event = Returns reply } ∷ []
+    → taken' ≡ taken → HasTakenUp h old new taken' callers' (entry c (Return reply)) earlier
+observer_up {h} {old} {new} {taken} {taken'} {callers} {callers'} {earlier} c position reply called opened observes at q same_callers new_is same = record {
+  queued = subst (λ ws. HasQueued h ws taken' callers' (e ∷ earlier)) (sym new_is)
+      (subst (λ n. HasQueued h (old ++ x ∷ []) n callers' (e ∷ earlier)) (sym same)
+      (subst (λ cs. HasQueued h (old ++ x ∷ []) taken cs (e ∷ earlier)) (sym same_callers)
+      (pushed x (λ k event. returns_isnt event) q.count
+      (return_queued c reply no_own (λ d k caller low other is committed here. q.pending d k caller low is committed here) q.unreturned q.called
+      (omega (arith, q.count))))));
+  waiting = new_is ∙ ap (λ ws. ws ++ x ∷ []) (sym (all_same old (λ i w here. reply_other c reply w (λ m a event. no_own i w (record { method = m; args = a }) here event))))
+      ∙ ap (λ n. map (replied e) old ++ record { caller = c; position = n; event = Returns reply } ∷ []) at
+      ∙ ap (λ b. map (replied e) old ++ cons_option (option_map (waiting_of (place_of e earlier [])) (then_some b (Returns reply))) []) (sym observing);
+}
+  where
+    e : Entry
+    e = entry c (Return reply)
+
+    x : Waiting
+    x = record { caller = c; position = position; event = Returns reply }
+
+    returns_isnt : {m : Method} {a : Args} → Returns reply ≡ Commits m a None → ⊥
+    returns_isnt p = cc
+
+    observing : is_observing c earlier ≡ true
+    observing = ap (λ o. option_map_or (λ k. is_observer k.method) o false) opened ∙ observes
+
+    no_own : (i : ℕ) (commit : Waiting) (k : Called) → slice_get old i ≡ Some commit → commit.event ≡ Commits k.method k.args None → commit.caller ≢ c
+    no_own i commit k here event same = let u = q.unreturned i commit k here event in
+        apart (sym u.mutates ∙ ap (λ j. is_observer j.method) (some_same (sym u.opened ∙ ap (λ d. open_call d earlier) same ∙ opened)) ∙ observes)
+
+    all_same : (xs : List Waiting) → ((i : ℕ) (w : Waiting) → slice_get xs i ≡ Some w → replied e w ≡ w) → map (replied e) xs ≡ xs
+    all_same [] so = refl
+    all_same (w ∷ ws) so = ap (λ y. y ∷ map (replied e) ws) (so 0 w refl) ∙ ap (λ ys. w ∷ ys) (all_same ws (λ i y here. so (suc i) y here))
+
+-- a mutator's return, whose commit waits
+pub found_commit : {h : Header} {waiting : List Waiting} {taken : ℕ} {callers : List Caller} {earlier : List Entry} {c reply : ℕ} {called : Called}
+    (caller : Caller) → slice_get callers c ≡ Some caller → open_call c earlier ≡ Some called → is_observer called.method ≡ false
+    → Keeps h earlier (entry c (Return reply)) → HasQueued h waiting taken callers earlier → IsPending waiting taken c called caller
+found_commit {h} {earlier = earlier} {c} {reply} {called} caller here opened mutates keeps q =
+    q.pending c called caller (caller_kept h earlier (entry c (Return reply)) keeps.rules) opened (return_committed keeps opened mutates) here
+
+pub mutator_up : {h : Header} {old new : List Waiting} {taken taken' : ℕ} {callers callers' : List Caller} {earlier : List Entry} (c reply : ℕ)
+    (called : Called) (caller : Caller) → slice_get callers c ≡ Some caller → open_call c earlier ≡ Some called → is_observer called.method ≡ false
+    → Keeps h earlier (entry c (Return reply)) → HasQueued h old taken callers earlier → caller.method ≡ called.method → caller.args ≡ called.args
+    → (p : IsPending old taken c called caller)
+    → callers' ≡ callers → new ≡ set old (caller.commit - taken) (record { caller = p.commit.caller; position = p.commit.position; event = Commits caller.method caller.args (Some reply) })
+    → taken' ≡ taken → HasTakenUp h old new taken' callers' (entry c (Return reply)) earlier
+mutator_up {h} {old} {new} {taken} {taken'} {callers} {callers'} {earlier} c reply called caller here opened mutates keeps q of_method of_args p same_callers new_is same = record {
+  queued = subst (λ ws. HasQueued h ws taken' callers' (e ∷ earlier)) (sym new_is)
+      (subst (λ n. HasQueued h (set old i x) n callers' (e ∷ earlier)) (sym same)
+      (subst (λ cs. HasQueued h (set old i x) taken cs (e ∷ earlier)) (sym same_callers)
+      (return_queued c reply others_own others_pending others_unreturned q.called (omega (arith, q.count, length-set old i x)))));
+  waiting = new_is ∙ sym (map_one (replied e) old i x low
+      (λ w at. let it : p.commit ≡ w = some_same (sym p.here ∙ at) in ap (replied e) (sym it) ∙ replied_here)
+      (λ j w far at. reply_other c reply w (λ m a event own. far (only j w (record { method = m; args = a }) at event own))))
+      ∙ sym (no_more (map (replied e) old))
+      ∙ ap (λ b. map (replied e) old ++ cons_option (option_map (waiting_of (place_of e earlier [])) (then_some b (Returns reply))) []) (sym observing);
+}
+  where
+    e : Entry
+    e = entry c (Return reply)
+
+    i : ℕ
+    i = caller.commit - taken
+
+    x : Waiting
+    x = record { caller = p.commit.caller; position = p.commit.position; event = Commits caller.method caller.args (Some reply) }
+
+    low : i < length old
+    low = slice_get_within old i p.commit p.here
+
+    observing : is_observing c earlier ≡ false
+    observing = ap (λ o. option_map_or (λ k. is_observer k.method) o false) opened ∙ mutates
+
+    replied_here : replied e p.commit ≡ x
+    replied_here =
+        ap (λ v. record { caller = p.commit.caller; position = p.commit.position; event = replied_event e p.commit.caller v }) p.event
+        ∙ ap (λ b. record { caller = p.commit.caller; position = p.commit.position; event = Commits called.method called.args (cond b (Some reply) None) })
+        (is_same c p.commit.caller (sym p.caller_is))
+        ∙ ap (λ m. record { caller = p.commit.caller; position = p.commit.position; event = Commits m called.args (Some reply) }) (sym of_method)
+        ∙ ap (λ a. record { caller = p.commit.caller; position = p.commit.position; event = Commits caller.method a (Some reply) }) (sym of_args)
+
+    -- the caller's unreturned commit is there alone
+    only : (j : ℕ) (w : Waiting) (k : Called) → slice_get old j ≡ Some w → w.event ≡ Commits k.method k.args None → w.caller ≡ c → j ≡ i
+    only j w k at event own =
+        let u = q.unreturned j w k at event in
+        let number : caller.commit ≡ taken + j = u.number caller (ap (slice_get callers) own ∙ here) in
+        omega (arith, number)
+
+    by_index : {P : Type 0} (j : ℕ) (w : Waiting) → slice_get (set old i x) j ≡ Some w → (slice_get old j ≡ Some w → j ≢ i → P) → (x ≡ w → P) → P
+    by_index j w at other own = by_same i j
+        (λ same_index. own (some_same (sym (slice_get-set_same old i x low) ∙ ap (slice_get (set old i x)) same_index ∙ at)))
+        (λ apart_index. other (sym (slice_get-set_other old i j x (not_same i j apart_index)) ∙ at) (λ same_index. not_same i j apart_index (sym same_index)))
+
+    replied_isnt : {m : Method} {a : Args} (w : Waiting) → x ≡ w → w.event ≡ Commits m a None → ⊥
+    replied_isnt w is event = isnt (ap (λ y. y.event) is ∙ event)
+      where
+        isnt : {n : Method} {b : Args} → Commits caller.method caller.args (Some reply) ≡ Commits n b None → ⊥
+        isnt r = cc
+
+    others_own : (j : ℕ) (w : Waiting) (k : Called) → slice_get (set old i x) j ≡ Some w → w.event ≡ Commits k.method k.args None → w.caller ≢ c
+    others_own j w k at event own = by_index j w at (λ was far. far (only j w k was event own)) (λ is. replied_isnt w is event)
+
+    others_pending : (d : ℕ) (k : Called) (x' : Caller) → d < h.callers → (c == d) ≡ false → open_call d earlier ≡ Some k → has_committed d earlier ≡ true
+        → slice_get callers d ≡ Some x' → IsPending (set old i x) taken d k x'
+    others_pending d k x' low_d other is committed at =
+        let r = q.pending d k x' low_d is committed at in record {
+          commit = r.commit;
+          since = r.since;
+          here = slice_get-set_other old i (x'.commit - taken) x
+              (λ same_index. not_same c d other (sym p.caller_is ∙ ap (λ w. w.caller) (some_same (sym p.here ∙ ap (slice_get old) same_index ∙ r.here)) ∙ r.caller_is))
+              ∙ r.here;
+          caller_is = r.caller_is;
+          event = r.event;
+        }
+
+    others_unreturned : (j : ℕ) (w : Waiting) (k : Called) → slice_get (set old i x) j ≡ Some w → w.event ≡ Commits k.method k.args None
+        → IsUnreturned callers taken earlier j w k
+    others_unreturned j w k at event = by_index j w at (λ was far. q.unreturned j w k was event) (λ is. absurd (replied_isnt w is event))
+
+-- a commit waits
+pub commit_up : {h : Header} {old new : List Waiting} {taken taken' : ℕ} {callers callers' : List Caller} {earlier : List Entry} (c position : ℕ) (kind : Kind)
+    (called : Called) (caller : Caller) → Committing kind → slice_get callers c ≡ Some caller → open_call c earlier ≡ Some called
+    → caller.method ≡ called.method → caller.args ≡ called.args → position ≡ length earlier
+    → Keeps h earlier (entry c kind) → HasQueued h old taken callers earlier
+    → callers' ≡ set callers c (record caller { commit = taken + length old })
+    → new ≡ old ++ record { caller = c; position = position; event = Commits caller.method caller.args None } ∷ []
+    → taken' ≡ taken → HasTakenUp h old new taken' callers' (entry c kind) earlier
+commit_up {h} {old} {new} {taken} {taken'} {callers} {callers'} {earlier} c position kind called caller commits here opened of_method of_args at keeps q callers_are new_is same = record {
+  queued = subst (λ ws. HasQueued h ws taken' callers' (e ∷ earlier)) (sym new_is)
+      (subst (λ n. HasQueued h (old ++ x ∷ []) n callers' (e ∷ earlier)) (sym same)
+      (subst (λ cs. HasQueued h (old ++ x ∷ []) taken cs (e ∷ earlier)) (sym callers_are) queued));
+  waiting = new_is ∙ ap (λ ws. ws ++ x ∷ []) (sym (unreplied e (commits_unreturned kind commits) old))
+      ∙ ap (λ n. map (replied e) old ++ record { caller = c; position = n; event = Commits caller.method caller.args None } ∷ []) at
+      ∙ ap (λ m. map (replied e) old ++ record { caller = c; position = length earlier; event = Commits m caller.args None } ∷ []) of_method
+      ∙ ap (λ a. map (replied e) old ++ record { caller = c; position = length earlier; event = Commits called.method a None } ∷ []) of_args
+      ∙ ap (λ o. map (replied e) old ++ cons_option o []) (sym (waits_here kind commits));
+}
+  where
+    e : Entry
+    e = entry c kind
+
+    x : Waiting
+    x = record { caller = c; position = position; event = Commits caller.method caller.args None }
+
+    y : Caller
+    y = record caller { commit = taken + length old }
+
+    low : c < length callers
+    low = slice_get_within callers c caller here
+
+    waits_here : (k : Kind) → Committing k → waiting_at (place_of (entry c k) earlier []) ≡ Some (record {
+      caller = c;
+      position = length earlier;
+      event = Commits called.method called.args None;
+    })
+    waits_here _ alone = ap (λ o. option_map (waiting_of (place_of (entry c Commit) earlier [])) (option_map (commit_of None) o)) opened
+    waits_here _ with_block = ap (λ o. option_map (waiting_of (place_of (entry c BlockCommit) earlier [])) (option_map (commit_of None) o)) opened
+
+    inside : (d : ℕ) → open_call d (e ∷ earlier) ≡ open_call d earlier
+    inside d = open_call-quiet d c kind earlier (commits_inside kind commits)
+
+    queued : HasQueued h (old ++ x ∷ []) taken (set callers c y) (e ∷ earlier)
+    queued = record {
+      called = λ d k low_d is. let was = q.called d k low_d (sym (inside d) ∙ is) in by_same c d
+          (λ same_caller. let it : caller ≡ was.caller = some_same (sym here ∙ ap (slice_get callers) same_caller ∙ was.here) in record {
+            caller = y;
+            here = subst (λ z. slice_get (set callers c y) z ≡ Some y) same_caller (slice_get-set_same callers c y low);
+            method = ap (λ z. z.method) it ∙ was.method;
+            args = ap (λ z. z.args) it ∙ was.args;
+          })
+          (λ other. record {
+            caller = was.caller;
+            here = slice_get-set_other callers c d y (not_same c d other) ∙ was.here;
+            method = was.method;
+            args = was.args;
+          });
+      pending = λ d k z low_d is committed z_at. by_same c d
+          (λ same_caller.
+          let it : y ≡ z = some_same (sym (slice_get-set_same callers c y low) ∙ ap (slice_get (set callers c y)) same_caller ∙ z_at) in
+          let number : taken + length old ≡ z.commit = ap (λ w. w.commit) it in
+          let place : z.commit - taken ≡ length old = omega (arith, number) in
+          let mine : called ≡ k = some_same (sym opened ∙ ap (λ w. open_call w earlier) same_caller ∙ sym (inside d) ∙ is) in
+          record {
+            commit = x;
+            since = omega (arith, number);
+            here = ap (slice_get (old ++ x ∷ [])) place ∙ slice_get-last old x;
+            caller_is = same_caller;
+            event = ap (λ m. Commits m caller.args None) (of_method ∙ ap (λ w. w.method) mine) ∙ ap (λ a. Commits k.method a None) (of_args ∙ ap (λ w. w.args) mine);
+          })
+          (λ other. let r = q.pending d k z low_d (sym (inside d) ∙ is) (sym (committed-other d c kind earlier other) ∙ committed)
+          (sym (slice_get-set_other callers c d y (not_same c d other)) ∙ z_at) in record {
+            commit = r.commit;
+            since = r.since;
+            here = slice_get-front old x (z.commit - taken) (slice_get_within old (z.commit - taken) r.commit r.here) ∙ r.here;
+            caller_is = r.caller_is;
+            event = r.event;
+          });
+      unreturned = λ j w k w_at event. by_place old x j w w_at
+          (λ before. let u = q.unreturned j w k before event in by_same c w.caller
+          (λ same_caller. absurd (apart (sym (commit_is_first kind commits keeps) ∙ ap (λ d. has_committed d earlier) same_caller ∙ u.committed)))
+          (λ other. record {
+            opened = inside w.caller ∙ u.opened;
+            mutates = u.mutates;
+            committed = committed-other w.caller c kind earlier other ∙ u.committed;
+            number = λ z z_at. u.number z (sym (slice_get-set_other callers c w.caller y (not_same c w.caller other)) ∙ z_at);
+          }))
+          (λ last is. let own : c ≡ w.caller = ap (λ v. v.caller) is in record {
+            opened = ap (λ d. open_call d (e ∷ earlier)) (sym own) ∙ inside c ∙ opened ∙ ap Some (same_call (sym of_method) (sym of_args) (ap (λ v. v.event) is ∙ event));
+            mutates = let runs = commit_opened kind commits keeps in
+                ap is_observer (sym (same_method (ap (λ v. v.event) is ∙ event)) ∙ of_method)
+                ∙ ap (λ k'. is_observer k'.method) (some_same (sym opened ∙ runs.1)) ∙ runs.2;
+            committed = ap (λ d. has_committed d (e ∷ earlier)) (sym own) ∙ committed-own c kind earlier true (commits_called kind commits);
+            number = λ z z_at.
+                let it : y ≡ z = some_same (sym (slice_get-set_same callers c y low) ∙ ap (slice_get (set callers c y)) own ∙ z_at) in
+                ap (λ v. v.commit) (sym it) ∙ ap (λ n. taken + n) (sym last);
+          });
+      count = omega (arith, q.count, length-append old (x ∷ []));
+    }
+      where
+        same_method : {m n : Method} {a b : Args} → Commits m a None ≡ Commits n b None → m ≡ n
+        same_method r = cc
+
+        same_args : {m n : Method} {a b : Args} → Commits m a None ≡ Commits n b None → a ≡ b
+        same_args r = cc
+
+        same_call : {k k' : Called} {m : Method} {a : Args} → k.method ≡ m → k.args ≡ a → Commits m a None ≡ Commits k'.method k'.args None → k ≡ k'
+        same_call {k} {k'} {m} {a} is_m is_a r =
+            ap (λ n. record { method = n; args = k.args }) (is_m ∙ same_method r) ∙ ap (λ b. record { method = k'.method; args = b }) (is_a ∙ same_args r)
+
+-- the first entry leaves
+pub queue_left : {h : Header} {waiting : List Waiting} {taken : ℕ} {callers : List Caller} {earlier : List Entry} (x : Waiting) (xs : List Waiting)
+    → waiting ≡ x ∷ xs → CanLeave x → HasQueued h waiting taken callers earlier → HasQueued h xs (taken + 1) callers earlier
+queue_left {h} {waiting} {taken} {callers} {earlier} x xs is can q = record {
+  called = q.called;
+  pending = λ d k caller low opened committed at. let p = q.pending d k caller low opened committed at in
+      step k caller p (caller.commit - taken) refl;
+  unreturned = λ i commit k at event. let u = q.unreturned (suc i) commit k (ap (λ ws. slice_get ws (suc i)) is ∙ at) event in record {
+    opened = u.opened;
+    mutates = u.mutates;
+    committed = u.committed;
+    number = λ caller here. let number : caller.commit ≡ taken + suc i = u.number caller here in omega (arith, number);
+  };
+  count = omega (arith, q.count, ap length is);
+}
+  where
+    step : {d : ℕ} (k : Called) (caller : Caller) (p : IsPending waiting taken d k caller) (n : ℕ) → caller.commit - taken ≡ n → IsPending xs (taken + 1) d k caller
+    step k caller p zero place =
+        absurd (can k.method k.args (ap (λ w. w.event) (some_same (sym (ap (λ ws. slice_get ws 0) is) ∙ ap (slice_get waiting) (sym place) ∙ p.here)) ∙ p.event))
+    step k caller p (suc n) place =
+        let next : caller.commit - (taken + 1) ≡ n = omega (arith, place) in record {
+          commit = p.commit;
+          since = omega (arith, place);
+          here = ap (slice_get xs) next ∙ sym (ap (λ ws. slice_get ws (suc n)) is) ∙ ap (slice_get waiting) (sym place) ∙ p.here;
+          caller_is = p.caller_is;
+          event = p.event;
+        }
+
+-- before the first entry
+pub queue_first : (h : Header) (callers : List Caller) → HasQueued h [] 0 callers []
+queue_first h callers = record {
+  called = λ c k low is. absurd (no_some is);
+  pending = λ c k caller low is committed at. absurd (no_some is);
+  unreturned = λ i commit k at event. absurd (no_some at);
+  count = omega arith;
+}
+
+-- what may follow: its caller, how many entries wait, and where a reply goes
+pub queue_caller : {h : Header} {waiting : List Waiting} {taken : ℕ} {callers : List Caller} {e : Entry} {position : ℕ}
+    → MayQueue h waiting taken callers e position → e.caller < h.callers
+queue_caller {h} {e = e} may = below_of _ _ (∥∥₁_elim may (Bool-set _ _) (λ s. is_below _ _ (caller_kept h s.0 e s.2.rules)))
+
+pub queue_few : {h : Header} {waiting : List Waiting} {taken : ℕ} {callers : List Caller} {e : Entry} {position : ℕ}
+    → position < 2 ^ 62 → MayQueue h waiting taken callers e position → taken + length waiting < 2 ^ 62
+queue_few {h} {waiting} {taken} {callers} {e} {position} few may = below_of _ _ (∥∥₁_elim may (Bool-set _ _) (λ s.
+    let low : taken + length waiting < 2 ^ 62 = omega (arith, few, s.1.count, s.3) in is_below (taken + length waiting) (2 ^ 62) low))
+
+pub queue_pending : {h : Header} {waiting : List Waiting} {taken : ℕ} {callers : List Caller} {e : Entry} {position reply : ℕ} (caller : Caller)
+    → e.kind ≡ Return reply → slice_get callers e.caller ≡ Some caller → is_observer caller.method ≡ false
+    → MayQueue h waiting taken callers e position → (taken ≤ caller.commit) × (caller.commit - taken < length waiting)
+queue_pending {h} {waiting} {taken} {callers} {e} {position} {reply} caller is here mutates may = (
+  at_most_of _ _ (∥∥₁_elim may (Bool-set _ _) (λ s. is_at_most _ _ (pending s.0 s.1 s.2).since)),
+  below_of _ _ (∥∥₁_elim may (Bool-set _ _) (λ s. is_below _ _ (slice_get_within waiting _ (pending s.0 s.1 s.2).commit (pending s.0 s.1 s.2).here))),
+)
+  where
+    pending : (earlier : List Entry) → HasQueued h waiting taken callers earlier → (keeps : Keeps h earlier e)
+        → IsPending waiting taken e.caller (return_kept h e.caller reply earlier (named is keeps).rules).0 caller
+    pending earlier q keeps =
+        let called = return_kept h e.caller reply earlier (named is keeps).rules in
+        let known = q.called e.caller called.0 (caller_kept h earlier e keeps.rules) called.1 in
+        let it : caller ≡ known.caller = some_same (sym here ∙ known.here) in
+        found_commit caller here called.1 (ap is_observer (sym known.method ∙ ap (λ z. z.method) (sym it)) ∙ mutates) (named is keeps) q
+
+-- what was called in an execution that returns or commits
+pub returning_called : {h : Header} {earlier : List Entry} {e : Entry} {reply : ℕ} → e.kind ≡ Return reply → Keeps h earlier e
+    → (called : Called) × (open_call e.caller earlier ≡ Some called)
+returning_called {h} {earlier} {e} {reply} is keeps = return_kept h e.caller reply earlier (named is keeps).rules
+
+pub committing_called : {h : Header} {earlier : List Entry} {e : Entry} (kind : Kind) → e.kind ≡ kind → Committing kind → Keeps h earlier e
+    → (called : Called) × (open_call e.caller earlier ≡ Some called) × (is_observer called.method ≡ false)
+committing_called kind is commits keeps = commit_opened kind commits (named is keeps)
+
+pub known_caller : {h : Header} {waiting : List Waiting} {taken : ℕ} {callers : List Caller} {earlier : List Entry} {e : Entry} {called : Called}
+    → Keeps h earlier e → open_call e.caller earlier ≡ Some called → HasQueued h waiting taken callers earlier → IsCaller callers e.caller called
+known_caller {h} {earlier = earlier} {e} {called} keeps opened q = q.called e.caller called (caller_kept h earlier e keeps.rules) opened
+
+-- the entry by its kind
+pub keeps_kind : {h : Header} {earlier : List Entry} {e : Entry} {kind : Kind} → e.kind ≡ kind → Keeps h earlier e → Keeps h earlier (entry e.caller kind)
+keeps_kind is keeps = named is keeps
+
+pub taken_kind : {h : Header} {old new : List Waiting} {taken : ℕ} {callers : List Caller} {earlier : List Entry} (e : Entry) {kind : Kind} → e.kind ≡ kind
+    → HasTakenUp h old new taken callers (entry e.caller kind) earlier → HasTakenUp h old new taken callers e earlier
+taken_kind {h} {old} {new} {taken} {callers} {earlier} e is up = subst (λ k. HasTakenUp h old new taken callers (entry e.caller k) earlier) (sym is) up
+
+pub ok_in : {T E P S : Type 0} (r : Result T E) → OnOk r P → (P → S) → OnOk r S
+ok_in (Ok x) p f = f p
+ok_in (Err x) p f = tt
+
+-- a return is taken in, whichever it is
+pub return_up : {T E : Type 0} {h : Header} {old : List Waiting} {taken : ℕ} {callers : List Caller} {earlier : List Entry} (r : Result T E)
+    (new : List Waiting) (taken' : ℕ) (callers' : List Caller) (c position reply : ℕ) → position ≡ length earlier → Keeps h earlier (entry c (Return reply)) → HasQueued h old taken callers earlier
+    → ((caller : Caller) → slice_get callers c ≡ Some caller → is_observer caller.method ≡ true
+    → OnOk r (new ≡ old ++ record { caller = c; position = position; event = Returns reply } ∷ []))
+    → ((caller : Caller) → slice_get callers c ≡ Some caller → is_observer caller.method ≡ false → (commit : Waiting)
+    → slice_get old (caller.commit - taken) ≡ Some commit
+    → OnOk r (new ≡ set old (caller.commit - taken) (record { caller = commit.caller; position = commit.position; event = Commits caller.method caller.args (Some reply) })))
+    → OnOk r (callers' ≡ callers) → OnOk r (taken' ≡ taken) → OnOk r (HasTakenUp h old new taken' callers' (entry c (Return reply)) earlier)
+return_up {h = h} {old} {taken} {callers} {earlier} r new taken' callers' c position reply at keeps q observer mutator same_callers same =
+    by_method (is_observer called.0.method) refl
+  where
+    called : (k : Called) × (open_call c earlier ≡ Some k)
+    called = return_kept h c reply earlier keeps.rules
+
+    known : IsCaller callers c called.0
+    known = q.called c called.0 (caller_kept h earlier (entry c (Return reply)) keeps.rules) called.1
+
+    all_ok : {T E P Q R S : Type 0} (s : Result T E) → OnOk s P → OnOk s Q → OnOk s R → (P → Q → R → S) → OnOk s S
+    all_ok (Ok x) p q' u f = f p q' u
+    all_ok (Err x) p q' u f = tt
+
+    by_method : (b : Bool) → is_observer called.0.method ≡ b → OnOk r (HasTakenUp h old new taken' callers' (entry c (Return reply)) earlier)
+    by_method true observes = all_ok r (observer known.caller known.here (ap is_observer known.method ∙ observes)) same_callers same (λ new_is of_callers of_taken.
+        observer_up c position reply called.0 called.1 observes at q of_callers new_is of_taken)
+    by_method false mutates =
+        let p = found_commit known.caller known.here called.1 mutates keeps q in
+        all_ok r (mutator known.caller known.here (ap is_observer known.method ∙ mutates) p.commit p.here) same_callers same (λ new_is of_callers of_taken.
+        mutator_up c reply called.0 known.caller known.here called.1 mutates keeps q known.method known.args p of_callers new_is of_taken)
+
+-- an observer returns exactly where what is known of the caller says so
+pub observer_is : {h : Header} {waiting : List Waiting} {taken : ℕ} {callers : List Caller} {earlier : List Entry} {e : Entry} {reply : ℕ} (caller : Caller)
+    → e.kind ≡ Return reply → caller ≡ get_or callers e.caller caller → Keeps h earlier e → HasQueued h waiting taken callers earlier
+    → is_observer caller.method ≡ (is_return e.kind && is_observing e.caller earlier)
+observer_is {h} {callers = callers} {earlier} {e} {reply} caller is here keeps q =
+    let called = returning_called is keeps in
+    let known = known_caller keeps called.1 q in
+    let it : known.caller ≡ caller = sym (get_or_from_slice_get callers e.caller known.caller caller known.here) ∙ sym here in
+    ap (λ z. is_observer z.method) (sym it) ∙ ap is_observer known.method
+    ∙ ap (λ o. option_map_or (λ k. is_observer k.method) o false) (sym called.1)
+    ∙ ap (λ k. is_return k && is_observing e.caller earlier) (sym is)

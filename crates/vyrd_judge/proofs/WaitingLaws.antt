@@ -1,0 +1,181 @@
+-- What waits as the log grows by one entry, and what an entry that waits is.
+use Rattle.std.proofs.Common.{◌≡◌, ℕ, Bool, true, false, List, [], ◌∷◌, ◌++◌, map, length, Option, Some, None, refl, ap, subst, ◌∙◌, sym}
+use Rattle.std.specs.Prelude.{option_map, filter_map}
+use Rattle.std.specs.Option.{option_or}
+use Rattle.std.specs.Bool.{then_some}
+use Rattle.std.specs.List.{cons_option}
+use Rattle.vyrd_base.specs.declared.header.Header.{Header}
+use Rattle.vyrd_base.specs.declared.subject.Method.{Method}
+use Rattle.vyrd_base.specs.declared.subject.Args.{Args}
+use Rattle.vyrd_base.specs.declared.log.Kind.{Kind}
+use Rattle.vyrd_base.specs.declared.log.Kind.TheVariants.{Call, Return, Write, Commit, BlockOpen, BlockClose, BlockCommit}
+use Rattle.vyrd_base.specs.declared.log.Entry.{Entry}
+use Rattle.vyrd_base.specs.Places.{Place, places_after, newest_first_onto}
+use Rattle.vyrd_base.specs.Callers.{Called, open_call, by_caller}
+use Rattle.vyrd_base.specs.Subjects.{is_observer}
+use Rattle.vyrd_base.specs.Shape.{is_observing}
+use Rattle.vyrd_base.specs.Commits.{returned, next_reply}
+use Rattle.vyrd_base.proofs.PlaceLaws.{with_later, places_after-append, first_answer-append}
+use Rattle.vyrd_base.proofs.ListLaws.{or_none}
+use Rattle.vyrd_judge.specs.declared.waiting.Event.{Event}
+use Rattle.vyrd_judge.specs.declared.waiting.Event.TheVariants.{Begins, Commits, Returns}
+use Rattle.vyrd_judge.specs.declared.waiting.Waiting.{Waiting}
+use Rattle.vyrd_judge.specs.Outcomes.{place_of}
+use Rattle.vyrd_judge.specs.Waiting.{commit_of, event_of, waiting_of, waiting_at, waiting_after, replied, cut_at, cuts_after}
+use Rattle.vyrd_judge.proofs.FaultLaws.{Commits as Committing, alone, with_block}
+
+-- a list and what comes after it
+filter_map-append : {A B : Type 0} (f : A → Option B) (xs ys : List A) → filter_map f (xs ++ ys) ≡ filter_map f xs ++ filter_map f ys
+filter_map-append f [] ys = refl
+filter_map-append f (x ∷ xs) ys = ap (cons_option (f x)) (filter_map-append f xs ys) ∙ joined (f x) (filter_map f xs) (filter_map f ys)
+  where
+    joined : {B : Type 0} (o : Option B) (bs cs : List B) → cons_option o (bs ++ cs) ≡ cons_option o bs ++ cs
+    joined None bs cs = refl
+    joined (Some b) bs cs = refl
+
+filter_map-map : {A B : Type 0} (f : A → Option B) (g : A → A) (k : B → B) → ((x : A) → f (g x) ≡ option_map k (f x))
+    → (xs : List A) → filter_map f (map g xs) ≡ map k (filter_map f xs)
+filter_map-map f g k so [] = refl
+filter_map-map f g k so (x ∷ xs) = ap (λ o. cons_option o (filter_map f (map g xs))) (so x)
+    ∙ ap (cons_option (option_map k (f x))) (filter_map-map f g k so xs) ∙ mapped k (f x) (filter_map f xs)
+  where
+    mapped : {B : Type 0} (j : B → B) (o : Option B) (bs : List B) → cons_option (option_map j o) (map j bs) ≡ map j (cons_option o bs)
+    mapped j None bs = refl
+    mapped j (Some b) bs = refl
+
+filter_map-same : {A B : Type 0} (f : A → Option B) (g : A → A) → ((x : A) → f (g x) ≡ f x) → (xs : List A)
+    → filter_map f (map g xs) ≡ filter_map f xs
+filter_map-same f g so [] = refl
+filter_map-same f g so (x ∷ xs) = ap (λ o. cons_option o (filter_map f (map g xs))) (so x) ∙ ap (cons_option (f x)) (filter_map-same f g so xs)
+
+reply_more : (c : ℕ) (later : List Entry) (e : Entry) → next_reply c (later ++ e ∷ []) ≡ option_or (next_reply c later) (by_caller c returned e)
+reply_more c later e = first_answer-append (by_caller c returned) later (e ∷ [])
+    ∙ ap (option_or (next_reply c later)) (or_none (by_caller c returned e))
+
+commit_replied : (e : Entry) (place : Place Entry) (kind : Kind) → Committing kind
+    → option_map (waiting_of (with_later (e ∷ []) place)) (event_of (with_later (e ∷ []) place) kind)
+    ≡ option_map (replied e) (option_map (waiting_of place) (event_of place kind))
+commit_replied e place _ alone = by_call (open_call place.here.caller place.earlier)
+  where
+    by_call : (o : Option Called) → option_map (waiting_of (with_later (e ∷ []) place))
+        (option_map (commit_of (next_reply place.here.caller (place.later ++ e ∷ []))) o)
+        ≡ option_map (replied e) (option_map (waiting_of place) (option_map (commit_of (next_reply place.here.caller place.later)) o))
+    by_call None = refl
+    by_call (Some called) = ap (λ r. Some (waiting_of place (Commits called.method called.args r))) (reply_more place.here.caller place.later e)
+commit_replied e place _ with_block = by_call (open_call place.here.caller place.earlier)
+  where
+    by_call : (o : Option Called) → option_map (waiting_of (with_later (e ∷ []) place))
+        (option_map (commit_of (next_reply place.here.caller (place.later ++ e ∷ []))) o)
+        ≡ option_map (replied e) (option_map (waiting_of place) (option_map (commit_of (next_reply place.here.caller place.later)) o))
+    by_call None = refl
+    by_call (Some called) = ap (λ r. Some (waiting_of place (Commits called.method called.args r))) (reply_more place.here.caller place.later e)
+
+kind_replied : (e : Entry) (place : Place Entry) (kind : Kind)
+    → option_map (waiting_of (with_later (e ∷ []) place)) (event_of (with_later (e ∷ []) place) kind)
+    ≡ option_map (replied e) (option_map (waiting_of place) (event_of place kind))
+kind_replied e place Commit = commit_replied e place Commit alone
+kind_replied e place BlockCommit = commit_replied e place BlockCommit with_block
+kind_replied e place (Call method args) = elim (is_observer method) as (λ b. option_map (waiting_of (with_later (e ∷ []) place)) (then_some b (Begins method args))
+    ≡ option_map (replied e) (option_map (waiting_of place) (then_some b (Begins method args)))) [ true ↦ refl | false ↦ refl ]
+kind_replied e place (Return reply) = elim (is_observing place.here.caller place.earlier) as (λ b. option_map (waiting_of (with_later (e ∷ []) place)) (then_some b (Returns reply))
+    ≡ option_map (replied e) (option_map (waiting_of place) (then_some b (Returns reply)))) [ true ↦ refl | false ↦ refl ]
+kind_replied e place (Write word value) = refl
+kind_replied e place BlockOpen = refl
+kind_replied e place BlockClose = refl
+
+-- the list that an option holds
+abbrev pub listed : {A : Type 0} → Option A → List A
+listed o = cons_option o []
+
+-- what waits with one more entry
+pub waiting_more : (earlier later : List Entry) (e : Entry)
+    → waiting_after earlier (later ++ e ∷ [])
+    ≡ map (replied e) (waiting_after earlier later) ++ listed (waiting_at (place_of e (newest_first_onto earlier later) []))
+waiting_more earlier later e =
+    ap (filter_map waiting_at) (places_after-append earlier later (e ∷ []))
+    ∙ filter_map-append waiting_at (map (with_later (e ∷ [])) (places_after earlier later)) (places_after (newest_first_onto earlier later) (e ∷ []))
+    ∙ ap (λ xs. xs ++ listed (waiting_at (place_of e (newest_first_onto earlier later) [])))
+    (filter_map-map waiting_at (with_later (e ∷ [])) (replied e) (λ place. kind_replied e place place.here.kind) (places_after earlier later))
+
+-- the words at the commits, with one more entry
+pub cuts_more : (h : Header) (earlier later : List Entry) (e : Entry)
+    → cuts_after h earlier (later ++ e ∷ []) ≡ cuts_after h earlier later ++ listed (cut_at h (place_of e (newest_first_onto earlier later) []))
+cuts_more h earlier later e =
+    ap (filter_map (cut_at h)) (places_after-append earlier later (e ∷ []))
+    ∙ filter_map-append (cut_at h) (map (with_later (e ∷ [])) (places_after earlier later)) (places_after (newest_first_onto earlier later) (e ∷ []))
+    ∙ ap (λ xs. xs ++ listed (cut_at h (place_of e (newest_first_onto earlier later) [])))
+    (filter_map-same (cut_at h) (with_later (e ∷ [])) (λ place. refl) (places_after earlier later))
+
+-- What an entry that waits is.
+pub record IsBegin (e : Entry) (earlier : List Entry) (x : Waiting) (method : Method) (args : Args) : Type 0 where
+  pub kind : e.kind ≡ Call method args
+  pub observes : is_observer method ≡ true
+  pub caller : x.caller ≡ e.caller
+  pub position : x.position ≡ length earlier
+
+pub record IsReturn (e : Entry) (earlier : List Entry) (x : Waiting) (reply : ℕ) : Type 0 where
+  pub kind : e.kind ≡ Return reply
+  pub observes : is_observing e.caller earlier ≡ true
+  pub caller : x.caller ≡ e.caller
+  pub position : x.position ≡ length earlier
+
+pub record IsCommit (e : Entry) (earlier later : List Entry) (x : Waiting) (method : Method) (args : Args) (o : Option ℕ) : Type 0 where
+  pub commits : Committing e.kind
+  pub opened : open_call e.caller earlier ≡ Some (record { method = method; args = args })
+  pub replies : next_reply e.caller later ≡ o
+  pub caller : x.caller ≡ e.caller
+  pub position : x.position ≡ length earlier
+
+-- the entry, whichever it is
+pub data Waits (e : Entry) (earlier later : List Entry) (x : Waiting) : Type 0 where
+  begins : (method : Method) (args : Args) → x.event ≡ Begins method args → IsBegin e earlier x method args → Waits e earlier later x
+  commits : (method : Method) (args : Args) (o : Option ℕ) → x.event ≡ Commits method args o → IsCommit e earlier later x method args o → Waits e earlier later x
+  returns : (reply : ℕ) → x.event ≡ Returns reply → IsReturn e earlier x reply → Waits e earlier later x
+
+pub waits : (e : Entry) (earlier later : List Entry) (x : Waiting) → waiting_at (place_of e earlier later) ≡ Some x → Waits e earlier later x
+waits e earlier later x is = by_kind e.kind refl is
+  where
+    place : Place Entry
+    place = place_of e earlier later
+
+    the_event : {event : Event} → Some (waiting_of place event) ≡ Some x → x.event ≡ event
+    the_event p = cc
+
+    the_caller : {event : Event} → Some (waiting_of place event) ≡ Some x → x.caller ≡ e.caller
+    the_caller p = cc
+
+    the_position : {event : Event} → Some (waiting_of place event) ≡ Some x → x.position ≡ length earlier
+    the_position p = cc
+
+    none : {A : Type 0} → None ≡ Some x → A
+    none p = cc
+
+    at_call : (method : Method) (args : Args) (b : Bool) → e.kind ≡ Call method args → is_observer method ≡ b
+        → option_map (waiting_of place) (then_some b (Begins method args)) ≡ Some x → Waits e earlier later x
+    at_call method args false named observes p = none p
+    at_call method args true named observes p = begins method args (the_event p)
+        (record { kind = named; observes = observes; caller = the_caller p; position = the_position p })
+
+    at_return : (reply : ℕ) (b : Bool) → e.kind ≡ Return reply → is_observing e.caller earlier ≡ b
+        → option_map (waiting_of place) (then_some b (Returns reply)) ≡ Some x → Waits e earlier later x
+    at_return reply false named observes p = none p
+    at_return reply true named observes p = returns reply (the_event p)
+        (record { kind = named; observes = observes; caller = the_caller p; position = the_position p })
+
+    at_commit : (o : Option Called) → Committing e.kind → open_call e.caller earlier ≡ o
+        → option_map (waiting_of place) (option_map (commit_of (next_reply e.caller later)) o) ≡ Some x → Waits e earlier later x
+    at_commit None committing opened p = none p
+    at_commit (Some called) committing opened p = commits called.method called.args (next_reply e.caller later) (the_event p)
+        (record { commits = committing; opened = opened; replies = refl; caller = the_caller p; position = the_position p })
+
+    committing_as : {kind : Kind} → e.kind ≡ kind → Committing kind → Committing e.kind
+    committing_as named c = subst Committing (sym named) c
+
+    by_kind : (kind : Kind) → e.kind ≡ kind → option_map (waiting_of place) (event_of place kind) ≡ Some x → Waits e earlier later x
+    by_kind (Call method args) named p = at_call method args (is_observer method) named refl p
+    by_kind (Return reply) named p = at_return reply (is_observing e.caller earlier) named refl p
+    by_kind Commit named p = at_commit (open_call e.caller earlier) (committing_as named alone) refl p
+    by_kind BlockCommit named p = at_commit (open_call e.caller earlier) (committing_as named with_block) refl p
+    by_kind (Write word value) named p = none p
+    by_kind BlockOpen named p = none p
+    by_kind BlockClose named p = none p

@@ -1,0 +1,70 @@
+use Rattle.std.proofs.Common.{◌∷◌, Ok, refl, ap, subst, sym, ◌∙◌, arith}
+use Rattle.vyrd_base.specs.Places.{newest_first}
+use Rattle.vyrd_base.specs.Verdicts.{first_fault}
+use Rattle.vyrd_judge.specs.Judged.{HeadGives, KnowsState}
+use Rattle.vyrd_judge.specs.Queued.{HasQueued}
+use Rattle.vyrd_judge.specs.Following.{Kept, HasTakenIn, MayCatchUp}
+use Rattle.vyrd_judge.proofs.FollowerLaws.{none_waits, first_judged, may_judge, few_taken, few_position, taken_on, sound_up}
+use Rattle.vyrd_judge.proofs.follower.Follower.judge_first.Goals as goal
+
+pub returns-in_default-clause-gives : goal.returns-in_default-clause-gives
+returns-in_default-clause-gives g c = λ log t.
+    (none_waits t (ap (λ (k : Kept). k.waiting) (sym c.self.view_is) ∙ c.first.ensures.none c.in_default.is), t)
+
+pub judge-requires-clause-may : goal.judge-requires-clause-may
+judge-requires-clause-may g c =
+    let rest = c.first.ensures.some c.in-Some.x c.in-Some.is in
+    may_judge c.in-Some.x rest.0 rest.1 (subst MayCatchUp (sym c.self.view_is) c.requires)
+
+pub judge-requires-clause-sound : goal.judge-requires-clause-sound
+judge-requires-clause-sound g c = sound_up (subst MayCatchUp (sym c.self.view_is) c.requires)
+
+pub leave-requires : goal.leave-requires
+leave-requires g c =
+    let rest = c.first.ensures.some c.in-Some.x c.in-Some.is in
+    record { few = few_taken c.in-Some.x rest.0 rest.1 (subst MayCatchUp (sym c.self.view_is) c.requires) }
+
+pub overflow_add-line : goal.overflow_add-line
+overflow_add-line g c =
+    let rest = c.first.ensures.some c.in-Some.x c.in-Some.is in
+    omega (arith, few_position c.in-Some.x rest.0 rest.1 (subst MayCatchUp (sym c.self.view_is) c.requires))
+
+pub returns-in-Goes-clause-gives : goal.returns-in-Goes-clause-gives
+returns-in-Goes-clause-gives g c = λ log t.
+    let i = c.self.inside in
+    let rest = c.first.ensures.some c.in-Some.x c.in-Some.is in
+    let was = subst (λ k. HasTakenIn k log) (sym c.self.view_is) t in
+    let gives = c.in_ok-judge.ensures.gives log rest.0 (first_judged c.in-Some.x rest.0 was rest.1) was.specified in
+    let judged = subst (HeadGives i.replay.header log (g.S.Spec.state c.judge.new.self.spec) (g.S.Spec.made c.judge.new.self.spec)
+    c.judge.new.self.watches.items c.in-Some.x rest.0 c.judge.new.views.cuts) c.in-Goes.is gives in
+    let queued = c.leave.ensures.left c.in-Some.x rest.0 (newest_first log) rest.1 (c.in_ok-judge.ensures.leaves (ap Ok c.in-Goes.is))
+    (subst (λ h. HasQueued h i.queue.waiting.items i.queue.taken i.queue.callers.items (newest_first log)) (sym c.self.invariant.2) was.queued) in
+    taken_on _ _ log rest.0 was judged
+    (subst (λ h. HasQueued h rest.0 c.leave.new.self.taken c.leave.new.self.callers.items (newest_first log)) c.self.invariant.2 queued)
+    (c.leave.ensures.waiting c.in-Some.x rest.0 rest.1) c.judge.ensures.header refl refl c.in_ok-judge.ensures.now c.judge.ensures.views_header
+    (subst (KnowsState c.judge.new.views (g.S.Spec.state c.judge.new.self.spec)) c.in-Goes.is (c.in_ok-judge.ensures.known was.specified)) refl refl refl
+
+pub returns-in-Faults-clause-gives : goal.returns-in-Faults-clause-gives
+returns-in-Faults-clause-gives g c = λ log t.
+    let i = c.self.inside in
+    let rest = c.first.ensures.some c.in-Some.x c.in-Some.is in
+    let was = subst (λ k. HasTakenIn k log) (sym c.self.view_is) t in
+    let gives = c.in_ok-judge.ensures.gives log rest.0 (first_judged c.in-Some.x rest.0 was rest.1) was.specified in
+    ap (λ (k : Kept). first_fault k.header log) (sym c.self.view_is)
+    ∙ subst (HeadGives i.replay.header log (g.S.Spec.state c.judge.new.self.spec) (g.S.Spec.made c.judge.new.self.spec)
+    c.judge.new.self.watches.items c.in-Some.x rest.0 c.judge.new.views.cuts) c.in-Faults.is gives
+
+pub returns-in-Ends-clause-gives : goal.returns-in-Ends-clause-gives
+returns-in-Ends-clause-gives g c = λ log t.
+    let i = c.self.inside in
+    let rest = c.first.ensures.some c.in-Some.x c.in-Some.is in
+    let was = subst (λ k. HasTakenIn k log) (sym c.self.view_is) t in
+    let gives = c.in_ok-judge.ensures.gives log rest.0 (first_judged c.in-Some.x rest.0 was rest.1) was.specified in
+    let ends = subst (HeadGives i.replay.header log (g.S.Spec.state c.judge.new.self.spec) (g.S.Spec.made c.judge.new.self.spec)
+    c.judge.new.self.watches.items c.in-Some.x rest.0 c.judge.new.views.cuts) c.in-Ends.is gives in (
+      ap (λ (k : Kept). first_fault k.header log) (sym c.self.view_is) ∙ ends.0,
+      taken_on _ _ log (c.in-Some.x ∷ rest.0) was ends.1
+          (subst (λ q. HasQueued i.replay.header q i.queue.taken i.queue.callers.items (newest_first log)) rest.1 was.queued)
+          rest.1 c.judge.ensures.header refl refl c.in_ok-judge.ensures.now c.judge.ensures.views_header
+          (subst (KnowsState c.judge.new.views (g.S.Spec.state c.judge.new.self.spec)) c.in-Ends.is (c.in_ok-judge.ensures.known was.specified)) refl refl refl,
+    )

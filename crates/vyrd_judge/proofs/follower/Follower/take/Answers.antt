@@ -1,0 +1,86 @@
+use Rattle.std.proofs.Common.{◌≡◌, ◌<◌, ◌^◌, ◌∷◌, ◌++◌, [], refl, ap, subst, sym, ◌∙◌}
+use Rattle.std.specs.Result.{IfOk}
+use Rattle.vyrd_base.specs.Verdicts.{first_fault, verdict_so_far}
+use Rattle.vyrd_judge.specs.Queued.{MayQueue}
+use Rattle.vyrd_judge.specs.Following.{Kept, IsFaultless, IsSomewhere}
+use Rattle.vyrd_judge.proofs.StepLaws.{if_ok}
+use Rattle.vyrd_judge.proofs.FollowerLaws.{broken_so_far, may_take, may_queue, few_commits, few_observers, low_caller_of, taken_all, may_catch_up, keeps_by, answer_with, sound_of}
+use Rattle.vyrd_judge.proofs.follower.Follower.take.Goals as goal
+
+pub returns-in-Err-clause-answer : goal.returns-in-Err-clause-answer
+returns-in-Err-clause-answer g c = λ log f.
+    let was = subst (λ k. IsFaultless k log) (sym c.self.view_is) f in
+    broken_so_far c.args.entry c.in-Err.fault.rule was (c.in-Err.ensures.fault _ was.taken_in.shape)
+    ∙ ap (λ (k : Kept). verdict_so_far k.header (log ++ c.args.entry ∷ [])) c.self.view_is
+
+pub observer_returns-observes-requires : goal.observer_returns-observes-requires
+observer_returns-observes-requires g c =
+    rw c.self.invariant.2 (low_caller_of c.args.entry (subst IsSomewhere (sym c.self.view_is) c.requires.somewhere)
+    (keeps_by c.args.entry c.self.inside.replay.header c.self.invariant.0 refl c.in_default.ensures.ok))
+
+pub follow-requires-clause-sound : goal.follow-requires-clause-sound
+follow-requires-clause-sound g c = sound_of (subst IsSomewhere (sym c.self.view_is) c.requires.somewhere)
+
+pub follow-requires-clause-may : goal.follow-requires-clause-may
+follow-requires-clause-may g c =
+    may_take c.args.entry (subst IsSomewhere (sym c.self.view_is) c.requires.somewhere)
+    (keeps_by c.args.entry c.self.inside.words.shadow.header c.self.invariant.0 c.self.invariant.1 c.in_default.ensures.ok)
+
+pub follow-requires-2-clause-may : goal.follow-requires-2-clause-may
+follow-requires-2-clause-may g c =
+    let i = c.self.inside in
+    subst (λ h. MayQueue h i.queue.waiting.items i.queue.taken i.queue.callers.items c.args.entry i.entries) (sym c.self.invariant.2)
+    (may_queue c.args.entry (subst IsSomewhere (sym c.self.view_is) c.requires.somewhere)
+    (keeps_by c.args.entry c.self.inside.replay.header c.self.invariant.0 refl c.in_default.ensures.ok))
+
+pub counted-self-inside-requires : goal.counted-self-inside-requires
+counted-self-inside-requires g c =
+    let was = subst IsSomewhere (sym c.self.view_is) c.requires.somewhere in
+    few_commits (subst (λ (k : Kept). k.entries < 2 ^ 62) (sym c.self.view_is) c.requires.few) was
+
+pub counted-self-inside-requires-2 : goal.counted-self-inside-requires-2
+counted-self-inside-requires-2 g c =
+    let was = subst IsSomewhere (sym c.self.view_is) c.requires.somewhere in
+    few_observers (subst (λ (k : Kept). k.entries < 2 ^ 62) (sym c.self.view_is) c.requires.few) was
+
+pub catch_up-requires : goal.catch_up-requires
+catch_up-requires g c =
+    may_catch_up _ _ c.args.entry (subst (λ (k : Kept). k.entries < 2 ^ 62) (sym c.self.view_is) c.requires.few)
+    (subst IsSomewhere (sym c.self.view_is) c.requires.somewhere)
+    (taken_all _ _ c.args.entry c.self.inside.queue.header c.is_commit.result c.observer_returns-observes.result
+    c.self.invariant.0 c.self.invariant.1 c.self.invariant.2 c.in_default.ensures.ok c.step.ensures.header c.in_ok-follow.ensures.taken c.follow.ensures.header
+    c.in_ok-follow-2.ensures.taken_up refl refl refl refl c.is_commit.ensures c.counted-self-inside.ensures c.observer_returns-observes.ensures
+    c.counted-self-inside-2.ensures refl (c.in_ok-follow.ensures.specified, c.in_ok-follow.ensures.sound))
+
+pub returns-clause-answer : goal.returns-clause-answer
+returns-clause-answer g c = λ log f.
+    let h = c.self.inside.replay.header in
+    let was = subst (λ k. IsFaultless k log) (sym c.self.view_is) f in
+    let more = log ++ c.args.entry ∷ [] in
+    let same = ap (λ (k : Kept). verdict_so_far k.header more) c.self.view_is in
+    if_ok (λ v. v ≡ first_fault h more) (λ v. v ≡ verdict_so_far c.args.self.now.header more) c.catch_up.result
+    (λ v is. answer_with v (taken_all _ _ c.args.entry c.self.inside.queue.header c.is_commit.result c.observer_returns-observes.result
+    c.self.invariant.0 c.self.invariant.1 c.self.invariant.2 c.in_default.ensures.ok c.step.ensures.header c.in_ok-follow.ensures.taken c.follow.ensures.header
+    c.in_ok-follow-2.ensures.taken_up refl refl refl refl c.is_commit.ensures c.counted-self-inside.ensures c.observer_returns-observes.ensures
+    c.counted-self-inside-2.ensures refl (c.in_ok-follow.ensures.specified, c.in_ok-follow.ensures.sound) log was.taken_in) is ∙ same)
+    (c.catch_up.ensures.answer more (taken_all _ _ c.args.entry c.self.inside.queue.header c.is_commit.result c.observer_returns-observes.result
+    c.self.invariant.0 c.self.invariant.1 c.self.invariant.2 c.in_default.ensures.ok c.step.ensures.header c.in_ok-follow.ensures.taken c.follow.ensures.header
+    c.in_ok-follow-2.ensures.taken_up refl refl refl refl c.is_commit.ensures c.counted-self-inside.ensures c.observer_returns-observes.ensures
+    c.counted-self-inside-2.ensures refl (c.in_ok-follow.ensures.specified, c.in_ok-follow.ensures.sound) log was.taken_in))
+
+pub returns-clause-follows : goal.returns-clause-follows
+returns-clause-follows g c = λ log f is.
+    let h = c.self.inside.replay.header in
+    let was = subst (λ k. IsFaultless k log) (sym c.self.view_is) f in
+    let more = log ++ c.args.entry ∷ [] in
+    record {
+      taken_in = c.catch_up.ensures.stays more (taken_all _ _ c.args.entry c.self.inside.queue.header c.is_commit.result c.observer_returns-observes.result
+          c.self.invariant.0 c.self.invariant.1 c.self.invariant.2 c.in_default.ensures.ok c.step.ensures.header c.in_ok-follow.ensures.taken c.follow.ensures.header
+          c.in_ok-follow-2.ensures.taken_up refl refl refl refl c.is_commit.ensures c.counted-self-inside.ensures c.observer_returns-observes.ensures
+          c.counted-self-inside-2.ensures refl (c.in_ok-follow.ensures.specified, c.in_ok-follow.ensures.sound) log was.taken_in) is;
+      faultless = ap (λ g'. first_fault g' more) c.catch_up.ensures.header
+          ∙ sym (subst (λ r. IfOk r (λ v. v ≡ first_fault h more)) is (c.catch_up.ensures.answer more (taken_all _ _ c.args.entry c.self.inside.queue.header c.is_commit.result c.observer_returns-observes.result
+          c.self.invariant.0 c.self.invariant.1 c.self.invariant.2 c.in_default.ensures.ok c.step.ensures.header c.in_ok-follow.ensures.taken c.follow.ensures.header
+          c.in_ok-follow-2.ensures.taken_up refl refl refl refl c.is_commit.ensures c.counted-self-inside.ensures c.observer_returns-observes.ensures
+          c.counted-self-inside-2.ensures refl (c.in_ok-follow.ensures.specified, c.in_ok-follow.ensures.sound) log was.taken_in)));
+    }

@@ -1,0 +1,32 @@
+use Rattle.std.proofs.Common.{◌++◌, [], ◌∷◌, take, filter_map, ap, ◌∙◌, sym, append-nil}
+use Rattle.std.specs.Prelude.{get_or}
+use Rattle.std.specs.List.{cons_option}
+use Rattle.std.proofs.lemmas.List.{take_all}
+use Rattle.vyrd_base.specs.declared.history.Stamped.{Stamped}
+use Rattle.vyrd_base.specs.declared.history.Did.TheVariants.{Read}
+use Rattle.vyrd_base.specs.Histories.{logged, log_of}
+use Rattle.vyrd_base.proofs.ListLaws.{filter_map_more}
+use Rattle.vyrd_judge.proofs.logged.log_of.Goals.{in-Some+in_ok-push, in_default}
+use Rattle.vyrd_judge.proofs.logged.log_of.Goals as goal
+
+-- what stands for the event past the end
+abbrev past : Stamped
+past = record { number = 0; caller = 0; did = Read 0 0 }
+
+pub loop-event-preserved : goal.loop-event-preserved
+loop-event-preserved c =
+    let here = get_or c.args.history.now c.loop-event.event-index past in
+    let before = filter_map (λ e. logged e.caller e.did) (take c.loop-event.event-index c.args.history.now) in
+    let more = filter_map_more (λ e. logged e.caller e.did) c.args.history.now c.loop-event.event-index past c.loop-event-test.true in
+    elim c.match-entry_of.branch [
+      | in-Some+in_ok-push w ↦ ap (λ log. log.items) w.log-is ∙ w.in_ok-push.ensures.items
+          ∙ ap (λ xs. xs ++ w.in-Some.entry ∷ []) c.loop-event.invariant
+          ∙ ap (λ o. before ++ cons_option o []) (sym w.in-Some.is ∙ c.entry_of.ensures) ∙ sym more
+      | in_default w ↦ ap (λ log. log.items) w.log-is ∙ c.loop-event.invariant ∙ sym (append-nil before)
+          ∙ ap (λ o. before ++ cons_option o []) (sym w.in_default.is ∙ c.entry_of.ensures) ∙ sym more
+    ]
+
+pub returns : goal.returns
+unfolding log_of
+returns c = c.loop-event.invariant
+    ∙ ap (filter_map (λ e. logged e.caller e.did)) (take_all c.loop-event.event-index c.args.history.now c.loop-event-test.false)

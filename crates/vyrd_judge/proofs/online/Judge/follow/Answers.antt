@@ -1,0 +1,30 @@
+use Rattle.std.proofs.Common.{◌∷◌, ◌++◌, [], take, ap, sym, subst, ◌∙◌, arith, append_assoc}
+use Rattle.std.proofs.lemmas.List.{take_more}
+use Rattle.vyrd_base.specs.Verdicts.{verdict_so_far}
+use Rattle.vyrd_judge.specs.Following.{JudgeView, HasFollowed}
+use Rattle.vyrd_judge.proofs.FrontLaws.{take_past}
+use Rattle.vyrd_judge.proofs.OnlineLaws.{so_far_is_known}
+use Rattle.vyrd_judge.proofs.online.Judge.follow.Goals as goal
+
+pub loop-entry-preserved : goal.loop-entry-preserved
+loop-entry-preserved g c =
+    let es = c.args.entries.now in
+    let i = c.loop-entry.entry-index in
+    record {
+      followed = λ log f. subst (HasFollowed c.feed.new.self)
+          (append_assoc log (take i es) _ ∙ ap (λ xs. log ++ xs) (sym (take_more es i _ c.loop-entry-test.true)))
+          (c.in_ok-feed.ensures.followed (log ++ take i es) (c.loop-entry.invariant.followed log f));
+      header = c.feed.ensures.header ∙ c.loop-entry.invariant.header;
+      counted = omega (arith, c.feed.ensures.counted, c.loop-entry.invariant.counted);
+    }
+
+pub returns-clause-followed : goal.returns-clause-followed
+returns-clause-followed g c = λ log f. subst (λ xs. HasFollowed c.loop-entry.self (log ++ xs))
+    (take_past c.args.entries.now c.loop-entry.entry-index c.loop-entry.auto.entry-index-end c.loop-entry-test.false)
+    (c.loop-entry.invariant.followed log f)
+
+pub returns-clause-answer : goal.returns-clause-answer
+returns-clause-answer g c = λ log f.
+    ap (λ (j : JudgeView). j.so_far) c.self.view_is
+    ∙ so_far_is_known (returns-clause-followed g c log f)
+    ∙ ap (λ h. verdict_so_far h (log ++ c.args.entries.now)) c.loop-entry.invariant.header

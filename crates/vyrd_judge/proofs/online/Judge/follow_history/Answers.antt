@@ -1,0 +1,57 @@
+use Rattle.std.proofs.Common.{◌≡◌, ◌∷◌, ◌++◌, [], List, Option, Some, None, take, ap, sym, subst, ◌∙◌, refl, arith, append_assoc, append-nil}
+use Rattle.std.specs.Prelude.{get_or}
+use Rattle.std.specs.List.{cons_option}
+use Rattle.std.proofs.lemmas.List.{take_all}
+use Rattle.vyrd_base.specs.declared.log.Entry.{Entry}
+use Rattle.vyrd_base.specs.Verdicts.{verdict_so_far}
+use Rattle.vyrd_base.specs.Histories.{logged, log_of}
+use Rattle.vyrd_judge.specs.Following.{JudgeView, HasFollowed}
+use Rattle.vyrd_judge.proofs.OnlineLaws.{so_far_is_known}
+use Rattle.vyrd_judge.proofs.HistoryLaws.{log_of_none, log_more, past}
+use Rattle.vyrd_judge.proofs.online.Judge.follow_history.Goals.{in-Some+in_ok-feed, in_default}
+use Rattle.vyrd_judge.proofs.online.Judge.follow_history.Goals as goal
+
+pub loop-event-init : goal.loop-event-init
+loop-event-init g c = record {
+  followed = λ log f. subst (HasFollowed c.args.self.now) (sym (ap (λ xs. log ++ xs) log_of_none ∙ append-nil log)) f;
+  header = refl;
+  counted = omega arith;
+}
+
+pub loop-event-preserved : goal.loop-event-preserved
+loop-event-preserved g c =
+    let es = c.args.history.now in
+    let i = c.loop-event.event-index in
+    let log_before = log_of (take i es) in
+    elim c.match-entry_of.branch [
+      | in-Some+in_ok-feed w ↦ record {
+        followed = λ log f. subst (HasFollowed c.match-entry_of.self)
+            (append_assoc log log_before (w.in-Some.entry ∷ [])
+            ∙ ap (λ o. log ++ (log_before ++ cons_option o [])) (sym w.in-Some.is ∙ c.entry_of.ensures)
+            ∙ ap (λ xs. log ++ xs) (sym (log_more es i c.loop-event-test.true)))
+            (subst (λ j. HasFollowed j ((log ++ log_before) ++ w.in-Some.entry ∷ [])) (sym w.self-is)
+            (w.in_ok-feed.ensures.followed (log ++ log_before) (c.loop-event.invariant.followed log f)));
+        header = ap (λ (j : JudgeView). j.kept.header) w.self-is ∙ w.feed.ensures.header ∙ c.loop-event.invariant.header;
+        counted = omega (arith, ap (λ (j : JudgeView). j.kept.entries) w.self-is, w.feed.ensures.counted, c.loop-event.invariant.counted);
+      }
+      | in_default w ↦ record {
+        followed = λ log f. subst (HasFollowed c.match-entry_of.self)
+            (ap (λ xs. log ++ xs) (sym (append-nil log_before)
+            ∙ ap (λ o. log_before ++ cons_option o []) (sym w.in_default.is ∙ c.entry_of.ensures)
+            ∙ sym (log_more es i c.loop-event-test.true)))
+            (subst (λ j. HasFollowed j (log ++ log_before)) (sym w.self-is) (c.loop-event.invariant.followed log f));
+        header = ap (λ (j : JudgeView). j.kept.header) w.self-is ∙ c.loop-event.invariant.header;
+        counted = omega (arith, ap (λ (j : JudgeView). j.kept.entries) w.self-is, c.loop-event.invariant.counted);
+      }
+    ]
+
+pub returns-clause-followed : goal.returns-clause-followed
+returns-clause-followed g c = λ log f. subst (λ xs. HasFollowed c.loop-event.self (log ++ log_of xs))
+    (take_all c.loop-event.event-index c.args.history.now c.loop-event-test.false)
+    (c.loop-event.invariant.followed log f)
+
+pub returns-clause-answer : goal.returns-clause-answer
+returns-clause-answer g c = λ log f.
+    ap (λ (j : JudgeView). j.so_far) c.self.view_is
+    ∙ so_far_is_known (returns-clause-followed g c log f)
+    ∙ ap (λ h. verdict_so_far h (log ++ log_of c.args.history.now)) c.loop-event.invariant.header

@@ -1,0 +1,64 @@
+use Rattle.std.proofs.Common.{◌<◌, length, arith}
+use Rattle.vyrd_base.specs.declared.log.Kind.TheVariants.{Commit, BlockCommit}
+use Rattle.vyrd_judge.proofs.FaultLaws.{alone, with_block}
+use Rattle.vyrd_judge.proofs.WordsLaws.{ok_three, low_caller}
+use Rattle.vyrd_judge.proofs.QueueLaws.{write_up, open_up, close_up, call_up, commit_up, queue_caller, queue_few, queue_pending, ok_in, return_up, committing_called, known_caller, keeps_kind, taken_kind}
+use Rattle.vyrd_judge.proofs.queue.Queue.follow.Goals as goal
+
+pub give_back-requires-clause-pending : goal.give_back-requires-clause-pending
+give_back-requires-clause-pending c = λ called here mutates. queue_pending called c.in-Return.is here mutates c.requires.may
+
+pub commit-requires-clause-caller : goal.commit-requires-clause-caller
+commit-requires-clause-caller c = queue_caller c.requires.may
+
+pub commit-requires-clause-few : goal.commit-requires-clause-few
+commit-requires-clause-few c = queue_few c.requires.few c.requires.may
+
+pub commit-requires-in-BlockCommit-clause-caller : goal.commit-requires-in-BlockCommit-clause-caller
+commit-requires-in-BlockCommit-clause-caller c = queue_caller c.requires.may
+
+pub commit-requires-in-BlockCommit-clause-few : goal.commit-requires-in-BlockCommit-clause-few
+commit-requires-in-BlockCommit-clause-few c = queue_few c.requires.few c.requires.may
+
+pub returns-in-Call-clause-taken_up : goal.returns-in-Call-clause-taken_up
+returns-in-Call-clause-taken_up c = λ earlier q keeps at.
+    let own = c.args.self.now in
+    let low : c.args.entry.caller < length own.callers.items = omega (arith, low_caller keeps, own.all, own.callers.ok.0) in
+    ok_three c.call.result c.call.ensures.callers c.call.ensures.waiting c.call.ensures.taken (λ callers waiting taken.
+    taken_kind c.args.entry c.in-Call.is
+    (call_up c.args.entry.caller c.args.position c.in-Call.method c.in-Call.args low at (keeps_kind c.in-Call.is keeps) q callers waiting taken))
+
+pub returns-in-Return-clause-taken_up : goal.returns-in-Return-clause-taken_up
+returns-in-Return-clause-taken_up c = λ earlier q keeps at.
+    ok_in c.give_back.result
+    (return_up c.give_back.result c.give_back.new.self.waiting.items c.give_back.new.self.taken c.give_back.new.self.callers.items c.args.entry.caller c.args.position c.in-Return.reply at (keeps_kind c.in-Return.is keeps) q
+    c.give_back.ensures.observer c.give_back.ensures.mutator c.give_back.ensures.callers c.give_back.ensures.taken)
+    (λ up. taken_kind c.args.entry c.in-Return.is up)
+
+pub returns-in-Commit-clause-taken_up : goal.returns-in-Commit-clause-taken_up
+returns-in-Commit-clause-taken_up c = λ earlier q keeps at.
+    let called = committing_called Commit c.in-Commit.is alone keeps in
+    let known = known_caller keeps called.1 q in
+    ok_three c.commit.result (c.commit.ensures.callers known.caller known.here) (c.commit.ensures.waiting known.caller known.here) c.commit.ensures.taken
+    (λ callers waiting taken. taken_kind c.args.entry c.in-Commit.is
+    (commit_up c.args.entry.caller c.args.position Commit called.0 known.caller alone known.here called.1 known.method known.args at
+    (keeps_kind c.in-Commit.is keeps) q callers waiting taken))
+
+pub returns-in-BlockCommit-clause-taken_up : goal.returns-in-BlockCommit-clause-taken_up
+returns-in-BlockCommit-clause-taken_up c = λ earlier q keeps at.
+    let called = committing_called BlockCommit c.in-BlockCommit.is with_block keeps in
+    let known = known_caller keeps called.1 q in
+    ok_three c.commit-in-BlockCommit.result (c.commit-in-BlockCommit.ensures.callers known.caller known.here)
+    (c.commit-in-BlockCommit.ensures.waiting known.caller known.here) c.commit-in-BlockCommit.ensures.taken
+    (λ callers waiting taken. taken_kind c.args.entry c.in-BlockCommit.is
+    (commit_up c.args.entry.caller c.args.position BlockCommit called.0 known.caller with_block known.here called.1 known.method known.args at
+    (keeps_kind c.in-BlockCommit.is keeps) q callers waiting taken))
+
+pub returns-in-Write-clause-taken_up : goal.returns-in-Write-clause-taken_up
+returns-in-Write-clause-taken_up c = λ earlier q keeps at. taken_kind c.args.entry c.in-Write.is (write_up c.args.entry.caller _ _ q)
+
+pub returns-in-BlockOpen-clause-taken_up : goal.returns-in-BlockOpen-clause-taken_up
+returns-in-BlockOpen-clause-taken_up c = λ earlier q keeps at. taken_kind c.args.entry c.in-BlockOpen.is (open_up c.args.entry.caller q)
+
+pub returns-in-BlockClose-clause-taken_up : goal.returns-in-BlockClose-clause-taken_up
+returns-in-BlockClose-clause-taken_up c = λ earlier q keeps at. taken_kind c.args.entry c.in-BlockClose.is (close_up c.args.entry.caller q)

@@ -1,0 +1,85 @@
+-- What the online judge keeps stands for a log.
+use Rattle.std.specs.Prelude.{◌≡◌, ◌≤◌, ◌^◌, ℕ, Bool, false, List, length, Option, Some, None}
+use Rattle.vyrd_base.specs.declared.header.Header.{Header}
+use Rattle.vyrd_base.specs.declared.log.Entry.{Entry}
+use Rattle.vyrd_base.specs.declared.verdict.Verdict.{Verdict}
+use Rattle.vyrd_base.specs.Amounts.{Amounts}
+use Rattle.vyrd_base.specs.Places.{newest_first}
+use Rattle.vyrd_base.specs.Front.{first_break}
+use Rattle.vyrd_base.specs.Commits.{commit_count}
+use Rattle.vyrd_base.specs.Verdicts.{first_fault, verdict_so_far, observer_count}
+use Rattle.vyrd_shape.specs.Following.{Kept as ShapeKept, HasFollowed as ShapeFollows}
+use Rattle.vyrd_shadow.specs.Following.{Kept as ShadowKept}
+use Rattle.vyrd_judge.specs.declared.caller.Caller.{Caller}
+use Rattle.vyrd_judge.specs.declared.outcome.Advance.{Advance}
+use Rattle.vyrd_judge.specs.declared.outcome.Advance.TheVariants.{Goes, Stops}
+use Rattle.vyrd_judge.specs.declared.waiting.Waiting.{Waiting}
+use Rattle.vyrd_judge.specs.Cuts.{Cuts}
+use Rattle.vyrd_judge.specs.HasWords.{HasWords}
+use Rattle.vyrd_judge.specs.Watching.{Seen}
+use Rattle.vyrd_judge.specs.Queued.{HasQueued}
+use Rattle.vyrd_judge.specs.Judged.{Judged}
+
+-- what is kept while nothing is wrong
+pub record Kept : Type 0 where
+  pub header : Header
+  pub shape : ShapeKept
+  pub shadow : ShadowKept
+  pub views : Cuts
+  pub waiting : List Waiting
+  pub taken : ℕ
+  pub callers : List Caller
+  pub state : Amounts
+  pub made : ℕ
+  pub watches : List Seen
+  pub entries : ℕ
+  pub commits : ℕ
+  pub observers : ℕ
+
+-- The log keeps all rules, and what is kept stands for it. Its entries may still have to be judged.
+pub record HasTakenIn (k : Kept) (log : List Entry) : Type 0 where
+  pub shape : ShapeFollows k.shape (newest_first log)
+  pub shape_header : k.shape.header ≡ k.header
+  pub words : HasWords k.shadow k.views (newest_first log)
+  pub shadow_header : k.shadow.header ≡ k.header
+  pub queued : HasQueued k.header k.waiting k.taken k.callers (newest_first log)
+  pub judged : Judged k.header log k.state k.made k.watches k.waiting k.views.cuts
+  pub kept : first_break k.header log ≡ None
+  pub specified : k.views.specified ≡ k.state
+  pub sound : k.views.refused ≡ false
+  pub entries : k.entries ≡ length log
+  pub commits : k.commits ≡ commit_count log
+  pub observers : k.observers ≡ observer_count log
+
+-- the same, and nothing is wrong with the log so far
+pub record IsFaultless (k : Kept) (log : List Entry) : Type 0 where
+  pub taken_in : HasTakenIn k log
+  pub faultless : first_fault k.header log ≡ None
+
+-- what is kept stands for some log
+abbrev pub IsSomewhere : Kept → Type 0
+IsSomewhere k = ∥ ((log : List Entry) × IsFaultless k log) ∥₁
+
+-- entries were taken in that may still have to be judged
+abbrev pub MayCatchUp : Kept → Type 0
+MayCatchUp k = ∥ ((log : List Entry) × HasTakenIn k log × (length log ≤ 2 ^ 62)) ∥₁
+
+-- what is kept, the verdict that stands, and whether memory was refused
+pub record JudgeView : Type 0 where
+  pub kept : Kept
+  pub so_far : Option Verdict
+  pub has_failed : Bool
+
+-- what is kept stands for the log, or a verdict stands
+abbrev pub FollowsBy : Kept → List Entry → Option Verdict → Type 0
+FollowsBy k log None = IsFaultless k log
+FollowsBy k log (Some v) = verdict_so_far k.header log ≡ Some v
+
+pub record HasFollowed (j : JudgeView) (log : List Entry) : Type 0 where
+  pub follows : FollowsBy j.kept log j.so_far
+
+-- what the entry that waits first leads to
+abbrev pub AdvanceGives : Header → List Entry → Kept → Advance → Type 0
+AdvanceGives h log k Goes = HasTakenIn k log
+AdvanceGives h log k (Stops None) = (first_fault h log ≡ None) × HasTakenIn k log
+AdvanceGives h log k (Stops (Some v)) = first_fault h log ≡ Some v

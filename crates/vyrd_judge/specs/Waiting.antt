@@ -1,0 +1,56 @@
+-- Which entries wait to be judged, and the words at the commits that wait.
+use Rattle.std.specs.Prelude.{ℕ, List, ◌∷◌, Option, None, option_map, filter_map}
+use Rattle.std.specs.Bool.{then_some}
+use Rattle.std.specs.Option.{option_or}
+use Rattle.vyrd_base.specs.declared.header.Header.{Header}
+use Rattle.vyrd_base.specs.declared.log.Kind.{Kind}
+use Rattle.vyrd_base.specs.declared.log.Kind.TheVariants.{Call, Return, Commit, BlockCommit}
+use Rattle.vyrd_base.specs.declared.log.Entry.{Entry}
+use Rattle.vyrd_base.specs.Places.{Place, places_after, position_of}
+use Rattle.vyrd_base.specs.Callers.{Called, open_call, by_caller}
+use Rattle.vyrd_base.specs.Subjects.{is_observer}
+use Rattle.vyrd_base.specs.Shape.{is_observing}
+use Rattle.vyrd_base.specs.Words.{words_after}
+use Rattle.vyrd_base.specs.Commits.{is_commit, returned, next_reply}
+use Rattle.vyrd_judge.specs.declared.waiting.Event.{Event}
+use Rattle.vyrd_judge.specs.declared.waiting.Event.TheVariants.{Begins, Commits, Returns}
+use Rattle.vyrd_judge.specs.declared.waiting.Waiting.{Waiting}
+
+-- a commit of what was called, with its reply
+abbrev pub commit_of : Option ℕ → Called → Event
+commit_of reply called = Commits called.method called.args reply
+
+-- the event of an entry of this kind, where it is one that is judged
+abbrev pub event_of : Place Entry → Kind → Option Event
+event_of place (Call method args) = then_some (is_observer method) (Begins method args)
+event_of place (Return reply) = then_some (is_observing place.here.caller place.earlier) (Returns reply)
+event_of place Commit = option_map (commit_of (next_reply place.here.caller place.later)) (open_call place.here.caller place.earlier)
+event_of place BlockCommit = option_map (commit_of (next_reply place.here.caller place.later)) (open_call place.here.caller place.earlier)
+event_of place _ = None
+
+-- the entry at a place, where it is one that is judged
+abbrev pub waiting_of : Place Entry → Event → Waiting
+waiting_of place event = record { caller = place.here.caller; position = position_of place; event = event }
+
+abbrev pub waiting_at : Place Entry → Option Waiting
+waiting_at place = option_map (waiting_of place) (event_of place place.here.kind)
+
+-- the entries from a place on that are judged
+abbrev pub waiting_after : List Entry → List Entry → List Waiting
+waiting_after earlier later = filter_map waiting_at (places_after earlier later)
+
+-- a waiting entry, once this entry has come too: a commit may have its reply now
+abbrev pub replied_event : Entry → ℕ → Event → Event
+replied_event e c (Commits method args o) = Commits method args (option_or o (by_caller c returned e))
+replied_event e c (Begins method args) = Begins method args
+replied_event e c (Returns reply) = Returns reply
+
+abbrev pub replied : Entry → Waiting → Waiting
+replied e x = record { caller = x.caller; position = x.position; event = replied_event e x.caller x.event }
+
+-- the words at the commits from a place on
+abbrev pub cut_at : Header → Place Entry → Option (List ℕ)
+cut_at h place = then_some (is_commit place.here.kind) (words_after h (place.here ∷ place.earlier))
+
+abbrev pub cuts_after : Header → List Entry → List Entry → List (List ℕ)
+cuts_after h earlier later = filter_map (cut_at h) (places_after earlier later)

@@ -1,0 +1,43 @@
+-- What is kept of a caller's open observer.
+use Rattle.std.specs.Prelude.{◌≡◌, ℕ, Bool, true, ◌||◌, ◌==◌, List}
+use Rattle.std.specs.List.{list_any}
+use Rattle.vyrd_base.specs.declared.subject.Method.{Method}
+use Rattle.vyrd_base.specs.declared.subject.Args.{Args}
+use Rattle.vyrd_base.specs.declared.log.Entry.{Entry}
+use Rattle.vyrd_base.specs.Callers.{Called}
+use Rattle.vyrd_base.specs.Amounts.{Amounts}
+use Rattle.vyrd_base.specs.Specification.{answer_in}
+use Rattle.vyrd_base.specs.Faults.{states_since_call}
+
+-- whether an observer is open, what was called, and what the states since its call answer
+pub record Seen : Type 0 where
+  pub is_open : Bool
+  pub method : Method
+  pub args : Args
+  pub answers : List ℕ
+
+-- whether one of the answers is this
+abbrev pub has_answer : List ℕ → ℕ → Bool
+has_answer answers reply = list_any (λ x. x == reply) answers
+
+-- the same observer, with one more answer
+pub record SeesAnswer (answer : ℕ) (old new : Seen) : Type 0 where
+  pub is_open : new.is_open ≡ old.is_open
+  pub method : new.method ≡ old.method
+  pub args : new.args ≡ old.args
+  pub answers : (reply : ℕ) → has_answer new.answers reply ≡ (has_answer old.answers reply || answer == reply)
+
+-- what is kept stands for the open observer of a caller: what was called, and what the states since the call answer
+pub record IsWatched (states : List Amounts) (c : ℕ) (earlier : List Entry) (called : Called) (seen : Seen) : Type 0 where
+  pub is_open : seen.is_open ≡ true
+  pub method : seen.method ≡ called.method
+  pub args : seen.args ≡ called.args
+  pub answers : (reply : ℕ) → has_answer seen.answers reply
+      ≡ list_any (λ state. answer_in state called.method called.args == reply) (states_since_call states c earlier)
+
+-- the same watch, which has seen this state too where it is open
+pub record SeesState (state : Amounts) (old new : Seen) : Type 0 where
+  pub is_open : new.is_open ≡ old.is_open
+  pub method : new.method ≡ old.method
+  pub args : new.args ≡ old.args
+  pub answers : old.is_open ≡ true → SeesAnswer (answer_in state old.method old.args) old new

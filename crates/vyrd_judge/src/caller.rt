@@ -1,0 +1,12 @@
+//! What is known of a caller.
+
+use vyrd_base::{Args, Method};
+
+/// A caller's last call, and the number of its commit among the entries that were to wait. Neither says anything where the caller
+/// is in no execution, and the number says nothing before the commit.
+#[derive(Clone, Copy)]
+pub(crate) struct Caller {
+    pub method: Method,
+    pub args: Args,
+    pub commit: u64,
+}

@@ -1,0 +1,216 @@
+//! All that is kept of a log in which nothing is wrong so far.
+
+ghost use Rattle.std.specs.Prelude.{◌≡◌, ◌<◌, ◌≤◌, ◌+◌, ◌^◌, ◌∷◌, ◌++◌, ◌&&◌, ℕ, Bool, List, [], length, Option, Some, None, Ok, IfOk, OnOk, if◌then◌else◌};
+ghost use Rattle.vyrd_base.specs.declared.header.Header.{Header};
+ghost use Rattle.vyrd_base.specs.declared.log.Entry.{Entry};
+ghost use Rattle.vyrd_base.specs.Verdicts.{first_fault, verdict, verdict_so_far};
+ghost use Rattle.vyrd_judge.specs.Following.{Kept, HasTakenIn, IsFaultless, IsSomewhere, MayCatchUp, AdvanceGives};
+ghost use Rattle.vyrd_judge.specs.declared.outcome.Advance.TheVariants.{Goes};
+
+use crate::counts::is_commit;
+use crate::outcome::{Advance, Outcome};
+use crate::queue::Queue;
+use crate::replay::Replay;
+use crate::words::Words;
+use std::alloc::{AllocError, Global};
+use std::marker::Model;
+use vyrd_base::{Entry, Header, Kind, Rule, Verdict};
+use vyrd_shape::Shape;
+use vyrd_spec::Spec;
+
+/// What is kept of a log in which nothing is wrong so far: what the rules of shape need to know of it, its words, the entries
+/// that wait to be judged, and the state at the first of these.
+#[derive(Drop)]
+pub(crate) struct Follower<S: Spec> {
+    shape: Shape,
+    words: Words,
+    queue: Queue,
+    replay: Replay<S>,
+    entries: u64,
+    commits: u64,
+    /// How many observers have returned.
+    observers: u64,
+}
+
+impl<S: Spec> Model for Follower<S> {
+    ghost use Rattle.std.specs.Prelude.{◌≡◌, ◌≤◌, ◌^◌};
+    ghost use Rattle.vyrd_judge.specs.Following.{Kept};
+
+    ghost Value = { Kept };
+
+    ghost view = { λ f. record {
+      header = f.replay.header;
+      shape = f.shape;
+      shadow = f.words.shadow;
+      views = f.words.views;
+      waiting = f.queue.waiting.items;
+      taken = f.queue.taken;
+      callers = f.queue.callers.items;
+      state = S.state f.replay.spec;
+      made = S.made f.replay.spec;
+      watches = f.replay.watches.items;
+      entries = f.entries;
+      commits = f.commits;
+      observers = f.observers;
+    } };
+
+    ghost invariant = { λ f. (f.shape.header ≡ f.replay.header) × (f.words.shadow.header ≡ f.replay.header) × (f.queue.header ≡ f.replay.header)
+        × (f.entries ≤ 2 ^ 62) };
+}
+
+impl<S: Spec> Follower<S> {
+    /// No entry was taken in.
+    pub fn new(alloc: Global, header: Header) -> Result<Follower<S>, AllocError>
+        requires subject { header.subject ≡ S.subject }
+        ensures taken_in { IfOk result (λ f. HasTakenIn f []) }
+        ensures header { IfOk result (λ f. f.header ≡ header) }
+        ensures entries { IfOk result (λ f. f.entries ≡ 0) }
+    {
+        Ok(Follower {
+            shape: Shape::new(alloc, header)?,
+            words: Words::new(alloc, header)?,
+            queue: Queue::new(alloc, header)?,
+            replay: Replay::new(alloc, header)?,
+            entries: 0,
+            commits: 0,
+            observers: 0,
+        })
+    }
+
+    /// Takes in one more entry, and judges what can be judged then. The answer is the verdict that stands with it. After a
+    /// verdict nothing is known of what is kept, and after want of memory neither.
+    #[inline(always)]
+    pub fn take_in(&mut self, entry: Entry) -> Result<Option<Verdict>, AllocError>
+        requires few { self.old.entries < 2 ^ 62 }
+        requires somewhere { IsSomewhere self.old }
+        ensures answer { (log : List Entry) → IsFaultless self.old log → IfOk result (λ v. v ≡ verdict_so_far self.old.header (log ++ entry ∷ [])) }
+        ensures follows { (log : List Entry) → IsFaultless self.old log → result ≡ Ok None → IsFaultless self.new (log ++ entry ∷ []) }
+        ensures counted { self.new.entries ≤ self.old.entries + 1 }
+        ensures header { self.new.header ≡ self.old.header }
+    {
+        let caller = entry.caller;
+        // Each call is compiled for its kind, so that no part of it looks at the kind again.
+        match entry.kind {
+            Kind::Call(method, args) => self.take(Entry {
+                caller,
+                kind: Kind::Call(method, args),
+            }),
+            Kind::Return(reply) => self.take(Entry {
+                caller,
+                kind: Kind::Return(reply),
+            }),
+            Kind::Write(word, value) => self.take(Entry {
+                caller,
+                kind: Kind::Write(word, value),
+            }),
+            Kind::Commit => self.take(Entry {
+                caller,
+                kind: Kind::Commit,
+            }),
+            Kind::BlockOpen => self.take(Entry {
+                caller,
+                kind: Kind::BlockOpen,
+            }),
+            Kind::BlockClose => self.take(Entry {
+                caller,
+                kind: Kind::BlockClose,
+            }),
+            Kind::BlockCommit => self.take(Entry {
+                caller,
+                kind: Kind::BlockCommit,
+            }),
+        }
+    }
+
+    // Takes in an entry, as `take_in` does.
+    #[inline(always)]
+    fn take(&mut self, entry: Entry) -> Result<Option<Verdict>, AllocError>
+        requires few { self.old.entries < 2 ^ 62 }
+        requires somewhere { IsSomewhere self.old }
+        ensures answer { (log : List Entry) → IsFaultless self.old log → IfOk result (λ v. v ≡ verdict_so_far self.old.header (log ++ entry ∷ [])) }
+        ensures follows { (log : List Entry) → IsFaultless self.old log → result ≡ Ok None → IsFaultless self.new (log ++ entry ∷ []) }
+        ensures counted { self.new.entries ≤ self.old.entries + 1 }
+        ensures header { self.new.header ≡ self.old.header }
+    {
+        if let Err(fault) = self.shape.step(&entry) {
+            return Ok(Some(Verdict::Malformed {
+                line: self.entries + 2,
+                rule: fault.rule,
+            }));
+        }
+        let observes = self.queue.observer_returns(entry);
+        self.words.follow(entry)?;
+        self.queue.follow(entry, self.entries)?;
+        self.commits = counted(self.commits, is_commit(entry.kind));
+        self.observers = counted(self.observers, observes);
+        self.entries += 1;
+        self.catch_up()
+    }
+
+    /// The verdict where `end` stands after the entries.
+    pub fn end(&self) -> Verdict
+        ensures { (log : List Entry) → IsFaultless self.now log → result ≡ verdict self.now.header log }
+    {
+        if self.shape.end().is_err() {
+            return Verdict::Malformed {
+                line: self.entries + 2,
+                rule: Rule::CallOpen,
+            };
+        }
+        Verdict::Accepted {
+            entries: self.entries,
+            commits: self.commits,
+            observers: self.observers,
+        }
+    }
+
+    // Judges all entries that wait, as far as they can be judged. The answer is the first fault so far.
+    #[inline(always)]
+    fn catch_up(&mut self) -> Result<Option<Verdict>, AllocError>
+        requires { MayCatchUp self.old }
+        ensures answer { (log : List Entry) → HasTakenIn self.old log → IfOk result (λ v. v ≡ first_fault self.old.header log) }
+        ensures stays { (log : List Entry) → HasTakenIn self.old log → result ≡ Ok None → HasTakenIn self.new log }
+        ensures entries { self.new.entries ≡ self.old.entries }
+        ensures header { self.new.header ≡ self.old.header }
+    {
+        loop {
+            match self.judge_first()? {
+                Advance::Goes => {}
+                Advance::Stops(verdict) => return Ok(verdict),
+            }
+        }
+    }
+
+    // Judges the entry that waits first, if there is one and it can be judged.
+    #[inline(always)]
+    fn judge_first(&mut self) -> Result<Advance, AllocError>
+        requires { MayCatchUp self.old }
+        ensures gives { (log : List Entry) → HasTakenIn self.old log → IfOk result (AdvanceGives self.old.header log self.new) }
+        ensures less { result ≡ Ok Goes → length self.new.waiting < length self.old.waiting }
+        ensures entries { self.new.entries ≡ self.old.entries }
+        ensures header { self.new.header ≡ self.old.header }
+    {
+        let Some(x) = self.queue.first() else {
+            return Ok(Advance::Stops(None));
+        };
+        match self.replay.judge(&mut self.words.views, x)? {
+            Outcome::Goes => {
+                self.queue.leave();
+                Ok(Advance::Goes)
+            }
+            Outcome::Faults(why) => {
+                let line = x.position + 2;
+                Ok(Advance::Stops(Some(Verdict::Violation { line, why })))
+            }
+            Outcome::Ends => Ok(Advance::Stops(None)),
+        }
+    }
+}
+
+// A count, with one more where this is true.
+fn counted(count: u64, more: bool) -> u64
+    requires { count + 1 < 2 ^ 64 }
+    ensures { result ≡ count + (if more then 1 else 0) }
+{
+    if more { count + 1 } else { count }
+}

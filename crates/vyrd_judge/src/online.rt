@@ -1,0 +1,168 @@
+//! The online judge.
+
+ghost use Rattle.std.specs.Prelude.{◌≡◌, length, take, ◌<◌, ◌≤◌, ◌+◌, ◌^◌, ◌∷◌, ◌++◌, ℕ, true, false, List, [], Option, Some, None, IfOk, OnOk, OnErr, unwrap_or};
+ghost use Rattle.std.specs.Result.{is_err};
+ghost use Rattle.vyrd_base.specs.declared.log.Entry.{Entry};
+ghost use Rattle.vyrd_base.specs.declared.verdict.Verdict.TheVariants.{Malformed};
+ghost use Rattle.vyrd_base.specs.declared.header.Header.{Header};
+ghost use Rattle.vyrd_base.specs.Histories.{log_of};
+ghost use Rattle.vyrd_base.specs.Verdicts.{verdict, verdict_so_far};
+ghost use Rattle.vyrd_judge.specs.Following.{HasFollowed};
+
+use crate::follower::Follower;
+use crate::logged::entry_of;
+use std::alloc::{AllocError, Global};
+use std::marker::Model;
+use vyrd_base::{Entry, Header, Rule, Stamped, Verdict};
+use vyrd_spec::Spec;
+
+/// A judge that takes the entries of a log one by one, in their order, and never looks back. `S` is the specification of the
+/// header's subject.
+///
+/// After each entry it knows the verdict that stands, however the log goes on: the first fault, or the first break of a rule of
+/// shape where no fault stands before it. A commit waits until its execution has returned, and then all commits before it have
+/// to be judged; so do observers that return behind it.
+///
+/// Time: an entry takes constant time on average, beside what the specification, the words and the comparison of the views
+/// take, and a commit time in proportion to the callers. Memory: in proportion to the header's words, the keys of the
+/// specification's state and the writes of open blocks. Beside it an entry that waits is kept, and a write that takes effect while
+/// a commit waits, so that memory grows with the log only while some execution stays open; and so do the answers of an open observer.
+///
+/// Want of memory may be met in [`Judge::feed`] alone. From then on `feed`, `finish` and `stop` answer it.
+#[derive(Drop)]
+pub struct Judge<S: Spec> {
+    follower: Follower<S>,
+    so_far: Option<Verdict>,
+    has_failed: bool,
+}
+
+impl<S: Spec> Model for Judge<S> {
+    ghost use Rattle.std.specs.Prelude.{◌≡◌, None, false};
+    ghost use Rattle.vyrd_judge.specs.Following.{JudgeView, IsSomewhere};
+
+    ghost Value = { JudgeView };
+
+    ghost view = { λ j. record { kept = j.follower; so_far = j.so_far; has_failed = j.has_failed } };
+
+    ghost invariant = { λ j. j.has_failed ≡ false → j.so_far ≡ None → IsSomewhere j.follower };
+}
+
+impl<S: Spec> Judge<S> {
+    /// A judge that has followed no entry. It takes memory in proportion to the header's words and callers.
+    pub fn new(alloc: Global, header: Header) -> Result<Judge<S>, AllocError>
+        requires subject { header.subject ≡ S.subject }
+        ensures followed { IfOk result (λ j. HasFollowed j []) }
+        ensures header { IfOk result (λ j. j.kept.header ≡ header) }
+        ensures entries { IfOk result (λ j. j.kept.entries ≡ 0) }
+        ensures so_far { IfOk result (λ j. j.so_far ≡ None) }
+        ensures has_failed { IfOk result (λ j. j.has_failed ≡ false) }
+    {
+        Ok(Judge {
+            follower: Follower::new(alloc, header)?,
+            so_far: None,
+            has_failed: false,
+        })
+    }
+
+    /// Follows one more entry. The answer is the verdict so far, with this entry: `None` where nothing stands yet. Once there is a
+    /// verdict it is answered again, and entries aren't looked at.
+    #[inline(always)]
+    pub fn feed(&mut self, entry: Entry) -> Result<Option<Verdict>, AllocError>
+        requires few { self.old.kept.entries < 2 ^ 62 }
+        ensures answer { (log : List Entry) → HasFollowed self.old log → IfOk result (λ v. v ≡ verdict_so_far self.old.kept.header (log ++ entry ∷ [])) }
+        ensures followed { (log : List Entry) → HasFollowed self.old log → OnOk result (HasFollowed self.new (log ++ entry ∷ [])) }
+        ensures so_far { IfOk result (λ v. self.new.so_far ≡ v) }
+        ensures stays { OnErr result (self.new.so_far ≡ self.old.so_far) }
+        ensures has_failed { self.new.has_failed ≡ is_err result }
+        ensures fails_again { self.old.has_failed ≡ true → is_err result ≡ true }
+        ensures counted { self.new.kept.entries ≤ self.old.kept.entries + 1 }
+        ensures header { self.new.kept.header ≡ self.old.kept.header }
+    {
+        if self.has_failed {
+            return Err(AllocError);
+        }
+        if let Some(verdict) = self.so_far {
+            return Ok(Some(verdict));
+        }
+        match self.follower.take_in(entry) {
+            Ok(verdict) => {
+                self.so_far = verdict;
+                Ok(verdict)
+            }
+            Err(error) => {
+                self.has_failed = true;
+                Err(error)
+            }
+        }
+    }
+
+    /// Follows further entries, in their order. The answer is the verdict so far, with all of them.
+    pub fn follow(&mut self, entries: &[Entry]) -> Result<Option<Verdict>, AllocError>
+        requires few { self.old.kept.entries + length entries.now ≤ 2 ^ 62 }
+        ensures answer { (log : List Entry) → HasFollowed self.old log → IfOk result (λ v. v ≡ verdict_so_far self.old.kept.header (log ++ entries.now)) }
+        ensures followed { (log : List Entry) → HasFollowed self.old log → OnOk result (HasFollowed self.new (log ++ entries.now)) }
+        ensures so_far { IfOk result (λ v. self.new.so_far ≡ v) }
+        ensures has_failed { OnErr result (self.new.has_failed ≡ true) }
+        ensures counted { self.new.kept.entries ≤ self.old.kept.entries + length entries.now }
+        ensures header { self.new.kept.header ≡ self.old.kept.header }
+    {
+        for entry in entries {
+            self.feed(*entry)?;
+        }
+        Ok(self.so_far)
+    }
+
+    /// Follows the log of a history: its marks and its writes, in their order. The answer is the verdict so far, with all of them.
+    pub fn follow_history(&mut self, history: &[Stamped]) -> Result<Option<Verdict>, AllocError>
+        requires few { self.old.kept.entries + length history.now ≤ 2 ^ 62 }
+        ensures answer { (log : List Entry) → HasFollowed self.old log → IfOk result (λ v. v ≡ verdict_so_far self.old.kept.header (log ++ log_of history.now)) }
+        ensures followed { (log : List Entry) → HasFollowed self.old log → OnOk result (HasFollowed self.new (log ++ log_of history.now)) }
+        ensures so_far { IfOk result (λ v. self.new.so_far ≡ v) }
+        ensures has_failed { OnErr result (self.new.has_failed ≡ true) }
+        ensures counted { self.new.kept.entries ≤ self.old.kept.entries + length history.now }
+        ensures header { self.new.kept.header ≡ self.old.kept.header }
+    {
+        for event in history {
+            if let Some(entry) = entry_of(*event) {
+                self.feed(entry)?;
+            }
+        }
+        Ok(self.so_far)
+    }
+
+    /// The verdict so far, as the last `feed` that wasn't refused has answered it.
+    pub fn so_far(&self) -> Option<Verdict>
+        ensures { result ≡ self.now.so_far }
+    {
+        self.so_far
+    }
+
+    /// The verdict about the whole log, where `end` stands after the entries.
+    pub fn finish(&self) -> Result<Verdict, AllocError>
+        ensures verdict { (log : List Entry) → HasFollowed self.now log → IfOk result (λ v. v ≡ verdict self.now.kept.header log) }
+        ensures has_failed { is_err result ≡ self.now.has_failed }
+    {
+        if self.has_failed {
+            return Err(AllocError);
+        }
+        match self.so_far {
+            Some(verdict) => Ok(verdict),
+            None => Ok(self.follower.end()),
+        }
+    }
+
+    /// The verdict where the text breaks a rule on this line: the one that stands, or else that break.
+    pub fn stop(&self, line: u64, rule: Rule) -> Result<Verdict, AllocError>
+        ensures verdict { (log : List Entry) → HasFollowed self.now log →
+            IfOk result (λ v. v ≡ unwrap_or (verdict_so_far self.now.kept.header log) (Malformed line rule)) }
+        ensures has_failed { is_err result ≡ self.now.has_failed }
+    {
+        if self.has_failed {
+            return Err(AllocError);
+        }
+        match self.so_far {
+            Some(verdict) => Ok(verdict),
+            None => Ok(Verdict::Malformed { line, rule }),
+        }
+    }
+}

@@ -1,0 +1,198 @@
+//! The part of a log that is judged.
+
+ghost use Rattle.std.specs.Prelude.{◌≡◌, ◌+◌, ◌<◌, ◌≤◌, ◌^◌, ◌∷◌, ℕ, List, [], true, false, length, Option, Some, None, Ok, IfOk, OnOk, slice_get, slice_set, vec_len};
+ghost use Rattle.vyrd_base.specs.declared.log.Entry.{Entry};
+ghost use Rattle.vyrd_base.specs.Amounts.{Amounts};
+ghost use Rattle.vyrd_base.specs.Specification.{start, answer_in};
+ghost use Rattle.vyrd_base.specs.Subjects.{is_observer};
+ghost use Rattle.vyrd_judge.specs.declared.outcome.Outcome.TheVariants.{Goes};
+ghost use Rattle.vyrd_judge.specs.declared.waiting.Waiting.{Waiting};
+ghost use Rattle.vyrd_judge.specs.Executions.{has_method};
+ghost use Rattle.vyrd_judge.specs.Judged.{Judged, HeadGives, MayJudge, CommitLeads, KnowsState};
+ghost use Rattle.vyrd_judge.specs.Queued.{CanLeave};
+ghost use Rattle.vyrd_judge.specs.Reached.{AreObservers, AreCurrent, AllSee};
+ghost use Rattle.vyrd_spec.specs.Touching.{is_touched};
+ghost use Rattle.vyrd_judge.specs.Watching.{Seen, SeesState, has_answer};
+
+use crate::outcome::Outcome;
+use crate::views::Views;
+use crate::waiting::{Event, Waiting};
+use crate::watch::Watch;
+use std::alloc::{AllocError, Global};
+use vyrd_base::{Args, Header, Method, Why};
+use vyrd_spec::{Spec, Touched};
+
+/// What is known where all entries before some place are judged: the state of the specification there, and each caller's open
+/// observer.
+#[derive(Drop)]
+pub(crate) struct Replay<S: Spec> {
+    pub header: Header,
+    pub spec: S,
+    /// By caller.
+    pub watches: Vec<Watch>,
+    ghost subject: { header.subject ≡ S.subject },
+    ghost spec_header: { S.header_of spec ≡ header },
+    ghost callers: { vec_len watches ≡ header.callers },
+}
+
+impl<S: Spec> Replay<S> {
+    /// The place before the first entry.
+    pub fn new(alloc: Global, header: Header) -> Result<Replay<S>, AllocError>
+        requires subject { header.subject ≡ S.subject }
+        ensures header { IfOk result (λ r. r.header ≡ header) }
+        ensures state { IfOk result (λ r. S.state r.spec ≡ start) }
+        ensures made { IfOk result (λ r. S.made r.spec ≡ 0) }
+        ensures closed { IfOk result (λ r. AreObservers header r.watches.items) }
+        ensures current { IfOk result (λ r. AreCurrent start r.watches.items) }
+    {
+        Ok(Replay {
+            header,
+            spec: S::start(alloc, header)?,
+            watches: closed_watches(alloc, header.callers())?,
+        })
+    }
+
+    // An observer begins, in the state here.
+    fn begin(&mut self, caller: u32, method: Method, args: Args)
+        requires caller { caller < self.old.header.callers }
+        requires allowed { has_method self.old.header method args ≡ true }
+        requires observer { is_observer method ≡ true }
+        ensures watches { self.new.watches.items ≡ slice_set self.old.watches.items caller (record {
+          is_open = true;
+          method = method;
+          args = args;
+          answers = answer_in (S.state self.old.spec) method args ∷ [];
+        }) }
+        ensures header { self.new.header ≡ self.old.header }
+        ensures spec { self.new.spec ≡ self.old.spec }
+    {
+        let answer = self.spec.answer(method, args);
+        self.watches[caller as usize].begin(method, args, answer);
+    }
+
+    // An observer returns. It says whether some state since its call answers the reply.
+    fn end(&mut self, caller: u32, reply: u64) -> bool
+        requires caller { caller < self.old.header.callers }
+        ensures answered { (seen : Seen) → slice_get self.old.watches.items caller ≡ Some seen → result ≡ has_answer seen.answers reply }
+        ensures watches { (seen : Seen) → slice_get self.old.watches.items caller ≡ Some seen →
+            self.new.watches.items ≡ slice_set self.old.watches.items caller (record seen { is_open = false }) }
+        ensures header { self.new.header ≡ self.old.header }
+        ensures spec { self.new.spec ≡ self.old.spec }
+    {
+        let watch = &mut self.watches[caller as usize];
+        watch.end();
+        watch.has_answer(reply)
+    }
+
+    // A commit is judged by its reply and by the words there, which wait first. What is open sees the state after it.
+    fn commit(
+        &mut self,
+        views: &mut Views,
+        method: Method,
+        args: Args,
+        reply: u64,
+    ) -> Result<Outcome, AllocError>
+        requires header { views.old.header ≡ self.old.header }
+        requires may { has_method self.old.header method args ≡ true }
+        requires mutates { is_observer method ≡ false }
+        requires few { S.made self.old.spec < 2 ^ 62 }
+        requires observers { AreObservers self.old.header self.old.watches.items }
+        requires current { AreCurrent (S.state self.old.spec) self.old.watches.items }
+        requires sound { views.old.refused ≡ false }
+        ensures leads { (words : List ℕ) (rest : List (List ℕ)) → views.old.cuts ≡ words ∷ rest → views.old.specified ≡ S.state self.old.spec →
+            IfOk result (CommitLeads self.old.header words rest (record { method = method; args = args }) reply (S.state self.old.spec) (S.made self.old.spec)
+            self.old.watches.items (S.state self.new.spec) (S.made self.new.spec) self.new.watches.items views.new.cuts) }
+        ensures now { OnOk result (views.new.now ≡ views.old.now) }
+        ensures known { views.old.specified ≡ S.state self.old.spec → IfOk result (KnowsState views.new (S.state self.new.spec)) }
+        ensures header { self.new.header ≡ self.old.header }
+        ensures views_header { views.new.header ≡ views.old.header }
+    {
+        let touched = self.spec.touched(method, args);
+        if !self.spec.step(method, args, reply)? {
+            return Ok(Outcome::Faults(Why::Reply(reply)));
+        }
+        if let Some(key) = views.difference(&self.spec, touched)? {
+            return Ok(Outcome::Faults(Why::View(key)));
+        }
+        see_all(&mut self.watches, &self.spec, touched)?;
+        Ok(Outcome::Goes)
+    }
+
+    /// Judges the entry that waits first, where it can be judged. After `Goes` it no longer waits, and after `Ends` all is as it
+    /// was. A commit takes time in proportion to the callers, beside that of the specification's step and of the comparison.
+    pub fn judge(&mut self, views: &mut Views, x: Waiting) -> Result<Outcome, AllocError>
+        requires header { views.old.header ≡ self.old.header }
+        requires may { MayJudge self.old.header (S.state self.old.spec) (S.made self.old.spec) self.old.watches.items x views.old.cuts }
+        requires sound { views.old.refused ≡ false }
+        ensures gives { (log : List Entry) (xs : List Waiting) →
+            Judged self.old.header log (S.state self.old.spec) (S.made self.old.spec) self.old.watches.items (x ∷ xs) views.old.cuts → views.old.specified ≡ S.state self.old.spec →
+            IfOk result (HeadGives self.old.header log (S.state self.new.spec) (S.made self.new.spec) self.new.watches.items x xs views.new.cuts) }
+        ensures leaves { result ≡ Ok Goes → CanLeave x }
+        ensures known { views.old.specified ≡ S.state self.old.spec → IfOk result (KnowsState views.new (S.state self.new.spec)) }
+        ensures now { OnOk result (views.new.now ≡ views.old.now) }
+        ensures header { self.new.header ≡ self.old.header }
+        ensures views_header { views.new.header ≡ views.old.header }
+    {
+        match x.event {
+            Event::Begins(method, args) => {
+                self.begin(x.caller, method, args);
+                Ok(Outcome::Goes)
+            }
+            Event::Commits(method, args, reply) => match reply {
+                Some(reply) => self.commit(views, method, args, reply),
+                None => Ok(Outcome::Ends),
+            },
+            Event::Returns(reply) => {
+                if self.end(x.caller, reply) {
+                    Ok(Outcome::Goes)
+                } else {
+                    Ok(Outcome::Faults(Why::Observer(reply)))
+                }
+            }
+        }
+    }
+}
+
+// A closed watch for each caller.
+fn closed_watches(alloc: Global, callers: u32) -> Result<Vec<Watch>, AllocError>
+    ensures len { IfOk result (λ watches. vec_len watches ≡ callers) }
+    ensures closed { IfOk result (λ watches. (c : ℕ) (seen : Seen) → slice_get watches.items c ≡ Some seen → seen.is_open ≡ false) }
+{
+    let mut watches = Vec::with_capacity(alloc, callers as usize)?;
+    for _ in 0..callers {
+        watches.push(Watch::new(alloc))?;
+    }
+    Ok(watches)
+}
+
+// An open observer sees the specification's state too, which differs from the one before in the touched keys alone.
+fn see_one<S: Spec>(watch: &mut Watch, spec: &S, touched: Touched) -> Result<(), AllocError>
+    requires allowed { watch.old.is_open ≡ true → has_method (S.header_of spec.now) watch.old.method watch.old.args ≡ true }
+    requires observer { watch.old.is_open ≡ true → is_observer watch.old.method ≡ true }
+    requires current { watch.old.is_open ≡ true → is_touched touched watch.old.args.a ≡ false →
+        has_answer watch.old.answers (answer_in (S.state spec.now) watch.old.method watch.old.args) ≡ true }
+    requires subject { (S.header_of spec.now).subject ≡ S.subject }
+    ensures { OnOk result (SeesState (S.state spec.now) watch.old watch.new) }
+{
+    if watch.is_open() && touched.has(u64::from(watch.args().a)) {
+        watch.see(spec.answer(watch.method(), watch.args()))?;
+    }
+    Ok(())
+}
+
+// Every open observer sees the specification's state too.
+fn see_all<S: Spec>(watches: &mut Vec<Watch>, spec: &S, touched: Touched) -> Result<(), AllocError>
+    requires observers { AreObservers (S.header_of spec.now) watches.old.items }
+    requires current { (c : ℕ) (seen : Seen) → slice_get watches.old.items c ≡ Some seen → seen.is_open ≡ true →
+        is_touched touched seen.args.a ≡ false → has_answer seen.answers (answer_in (S.state spec.now) seen.method seen.args) ≡ true }
+    requires subject { (S.header_of spec.now).subject ≡ S.subject }
+    ensures seen { OnOk result (AllSee (S.state spec.now) watches.old.items watches.new.items) }
+    ensures observers { OnOk result (AreObservers (S.header_of spec.now) watches.new.items) }
+    ensures current { OnOk result (AreCurrent (S.state spec.now) watches.new.items) }
+    ensures len { vec_len watches.new ≡ vec_len watches.old }
+{
+    for watch in watches.iter_mut() {
+        see_one(watch, spec, touched)?;
+    }
+    Ok(())
+}

@@ -1,0 +1,299 @@
+//! The words at the commits that wait, and what they show.
+
+ghost use Rattle.std.specs.Prelude.{◌≡◌, ◌<◌, ◌≤◌, ◌^◌, ◌+◌, ◌++◌, ℕ, false, List, [], ◌∷◌, length, map, take, drop, replicate, slice_set, Some, IfOk, OnOk, vec_len, vec_capacity, All};
+ghost use Rattle.vyrd_base.specs.Amounts.{Amounts, with_amount, first_difference as least_difference};
+ghost use Rattle.std.specs.Result.{is_err};
+ghost use Rattle.vyrd_base.specs.Layout.{plain_words};
+ghost use Rattle.vyrd_base.specs.Views.{view_of_words};
+ghost use Rattle.vyrd_shadow.specs.Blocks.{with_writes, AreInRange};
+ghost use Rattle.vyrd_spec.specs.Touching.{with_touched, with_key};
+ghost use Rattle.vyrd_view.specs.Comparing.{AgreeElsewhere};
+
+use std::alloc::{AllocError, Global};
+use std::collections::VecDeque;
+use std::marker::{Brand, Model};
+use std::sync::ledger::{Blank, Ledger};
+use vyrd_base::Header;
+use vyrd_spec::{Spec, Touched};
+use vyrd_view::{Compared, Steps};
+
+/// How many changed words are kept before they are compared, so that their list doesn't grow with the log.
+const MOST_CHANGED: usize = 1024;
+
+/// The words at the last commit that was compared, and the writes that took effect since then, up to each commit that waits
+/// and after the last of them.
+#[derive(Drop)]
+pub(crate) struct Views {
+    header: Header,
+    words: Vec<u64>,
+    /// How many of the writes took effect between each commit that waits and the commit before it.
+    counts: VecDeque<usize>,
+    writes: VecDeque<(u32, u64)>,
+    /// How many of the writes took effect after the last commit.
+    tail: usize,
+    /// Which words have changed since they were compared.
+    changed: Vec<u32>,
+    compared: Compared,
+}
+
+impl Model for Views {
+    ghost use Rattle.vyrd_shadow.specs.Blocks.{with_writes};
+    ghost use Rattle.vyrd_judge.specs.Cuts.{Cuts, cuts_of, AreCuts, AreKnown};
+
+    ghost Value = { Cuts };
+
+    ghost view = { λ v. record {
+      header = v.header;
+      base = v.words.items;
+      cuts = cuts_of v.words.items v.counts.items v.writes.items;
+      now = with_writes v.words.items v.writes.items;
+      compared = v.compared.words;
+      specified = v.compared.specified;
+      refused = v.compared.refused;
+    } };
+
+    ghost invariant = { λ v. AreCuts v.header v.words.items v.counts.items v.writes.items v.tail
+        × AreKnown v.header v.words.items v.changed.items v.compared };
+}
+
+impl Views {
+    /// All words are 0, and no commit waits.
+    pub fn new(alloc: Global, header: Header) -> Result<Views, AllocError>
+        ensures header { IfOk result (λ v. v.header ≡ header) }
+        ensures cuts { IfOk result (λ v. v.cuts ≡ []) }
+        ensures now { IfOk result (λ v. v.now ≡ replicate (plain_words header) 0) }
+        ensures specified { IfOk result (λ v. v.specified ≡ []) }
+        ensures sound { IfOk result (λ v. v.refused ≡ false) }
+    {
+        Ok(Views {
+            header,
+            words: vec![in alloc; 0; header.plain_words() as usize]?,
+            counts: VecDeque::new(alloc),
+            writes: VecDeque::new(alloc),
+            tail: 0,
+            changed: Vec::new(alloc),
+            compared: Compared::new(alloc, header)?,
+        })
+    }
+
+    /// A write takes effect. Where no commit waits it does so at once, and otherwise it waits too.
+    #[inline(always)]
+    pub fn effect(&mut self, word: u32, value: u64) -> Result<(), AllocError>
+        requires word { word < plain_words self.old.header }
+        requires value { value < 2 ^ 63 }
+        requires sound { self.old.refused ≡ false }
+        ensures now { OnOk result (self.new.now ≡ slice_set self.old.now word value) }
+        ensures cuts { OnOk result (self.new.cuts ≡ self.old.cuts) }
+        ensures specified { OnOk result (self.new.specified ≡ self.old.specified) }
+        ensures sound { OnOk result (self.new.refused ≡ false) }
+        ensures header { self.new.header ≡ self.old.header }
+    {
+        if self.counts.is_empty() {
+            self.take_effect(word, value)
+        } else {
+            self.writes.push_back((word, value))?;
+            self.tail += 1;
+            Ok(())
+        }
+    }
+
+    // A write takes effect at once, where no commit waits.
+    #[inline(always)]
+    fn take_effect(&mut self, word: u32, value: u64) -> Result<(), AllocError>
+        requires word { word < plain_words self.old.header }
+        requires value { value < 2 ^ 63 }
+        requires sound { self.old.refused ≡ false }
+        requires none_waits { self.old.cuts ≡ [] }
+        ensures now { OnOk result (self.new.now ≡ slice_set self.old.now word value) }
+        ensures cuts { OnOk result (self.new.cuts ≡ []) }
+        ensures specified { OnOk result (self.new.specified ≡ self.old.specified) }
+        ensures sound { OnOk result (self.new.refused ≡ false) }
+        ensures header { self.new.header ≡ self.old.header }
+    {
+        self.changed.reserve(self.tail + 1)?;
+        catch_up(
+            &mut self.words,
+            &mut self.changed,
+            &mut self.writes,
+            self.tail,
+        );
+        self.tail = 0;
+        self.words[word as usize] = value;
+        note(&mut self.changed, word);
+        if self.changed.len() >= MOST_CHANGED {
+            return self.compare_words();
+        }
+        Ok(())
+    }
+
+    /// A commit waits from here on.
+    #[inline(always)]
+    pub fn cut(&mut self) -> Result<(), AllocError>
+        ensures cuts { OnOk result (self.new.cuts ≡ self.old.cuts ++ self.old.now ∷ []) }
+        ensures now { OnOk result (self.new.now ≡ self.old.now) }
+        ensures specified { self.new.specified ≡ self.old.specified }
+        ensures sound { self.new.refused ≡ self.old.refused }
+        ensures header { self.new.header ≡ self.old.header }
+    {
+        self.counts.push_back(self.tail)?;
+        self.tail = 0;
+        Ok(())
+    }
+
+    // The first commit no longer waits: its words are those to be compared.
+    fn advance(&mut self) -> Result<(), AllocError>
+        ensures base { (words : List ℕ) (rest : List (List ℕ)) → self.old.cuts ≡ words ∷ rest → OnOk result (self.new.base ≡ words) }
+        ensures cuts { (words : List ℕ) (rest : List (List ℕ)) → self.old.cuts ≡ words ∷ rest → OnOk result (self.new.cuts ≡ rest) }
+        ensures now { self.new.now ≡ self.old.now }
+        ensures specified { self.new.specified ≡ self.old.specified }
+        ensures sound { self.new.refused ≡ self.old.refused }
+        ensures header { self.new.header ≡ self.old.header }
+    {
+        let Some(first) = self.counts.front() else {
+            return Ok(());
+        };
+        let count = *first;
+        self.changed.reserve(count)?;
+        let _ = self.counts.pop_front();
+        catch_up(&mut self.words, &mut self.changed, &mut self.writes, count);
+        Ok(())
+    }
+
+    // The changed words are compared.
+    fn compare_words(&mut self) -> Result<(), AllocError>
+        requires sound { self.old.refused ≡ false }
+        ensures cuts { self.new.cuts ≡ self.old.cuts }
+        ensures now { self.new.now ≡ self.old.now }
+        ensures compared { OnOk result (self.new.compared ≡ self.old.base) }
+        ensures specified { OnOk result (self.new.specified ≡ self.old.specified) }
+        ensures sound { OnOk result (self.new.refused ≡ false) }
+        ensures header { self.new.header ≡ self.old.header }
+    {
+        tell_words::<Brand>(
+            Blank::new(1),
+            &mut self.compared,
+            &self.words,
+            &self.changed,
+        )?;
+        self.changed.clear();
+        Ok(())
+    }
+
+    /// Compares what the words at the first commit that waits show with the specification's state after it: the least key
+    /// where they differ. That commit no longer waits then. The state differs from that of the last comparison in the touched keys
+    /// alone.
+    pub fn difference<S: Spec>(
+        &mut self,
+        spec: &S,
+        touched: Touched,
+    ) -> Result<Option<u64>, AllocError>
+        requires sound { self.old.refused ≡ false }
+        ensures difference { (words : List ℕ) (rest : List (List ℕ)) → self.old.cuts ≡ words ∷ rest →
+            with_touched touched (S.state spec.now) self.old.specified ≡ S.state spec.now →
+            IfOk result (λ found. found ≡ least_difference (view_of_words self.old.header words) (S.state spec.now)) }
+        ensures cuts { (words : List ℕ) (rest : List (List ℕ)) → self.old.cuts ≡ words ∷ rest → OnOk result (self.new.cuts ≡ rest) }
+        ensures now { OnOk result (self.new.now ≡ self.old.now) }
+        ensures specified { OnOk result (self.new.specified ≡ with_touched touched (S.state spec.now) self.old.specified) }
+        ensures sound { OnOk result (self.new.refused ≡ false) }
+        ensures header { self.new.header ≡ self.old.header }
+    {
+        self.advance()?;
+        self.compare_words()?;
+        self.specify(spec, touched.first)?;
+        self.specify(spec, touched.second)?;
+        Ok(self.compared.first_difference())
+    }
+
+    // The specification has its amount of the key now.
+    fn specify<S: Spec>(&mut self, spec: &S, key: Option<u64>) -> Result<(), AllocError>
+        requires sound { self.old.refused ≡ false }
+        ensures specified { OnOk result (self.new.specified ≡ with_key key (S.state spec.now) self.old.specified) }
+        ensures sound { OnOk result (self.new.refused ≡ false) }
+        ensures cuts { self.new.cuts ≡ self.old.cuts }
+        ensures now { self.new.now ≡ self.old.now }
+        ensures compared { OnOk result (self.new.compared ≡ self.old.compared) }
+        ensures header { self.new.header ≡ self.old.header }
+    {
+        match key {
+            Some(k) => tell_amount::<Brand>(Blank::new(1), &mut self.compared, k, spec.amount(k)),
+            None => Ok(()),
+        }
+    }
+}
+
+// The comparison learns the words. Nobody asks how many steps that takes.
+fn tell_words<L: Ledger>(
+    blank: Blank,
+    compared: &mut Compared,
+    words: &[u64],
+    changed: &[u32],
+) -> Result<(), AllocError>
+    requires name { blank.name ≡ L.name }
+    requires parts { blank.parts ≡ L.parts }
+    requires some { 0 < blank.parts }
+    requires sound { compared.old.refused ≡ false }
+    requires count { length words.now ≡ plain_words compared.old.header }
+    requires small { All (λ value. value < 2 ^ 63) words.now }
+    requires within { All (λ w. w < plain_words compared.old.header) changed.now }
+    requires elsewhere { AgreeElsewhere compared.old.words words.now changed.now }
+    ensures ok { OnOk result (compared.new ≡ record compared.old { words = words.now }) }
+    ensures refused { compared.new.refused ≡ is_err result }
+    ensures header { compared.new.header ≡ compared.old.header }
+{
+    let mut steps = Steps::<L>::new(blank);
+    compared.words_changed(words, changed, &mut steps)
+}
+
+// The comparison learns an amount.
+fn tell_amount<L: Ledger>(
+    blank: Blank,
+    compared: &mut Compared,
+    key: u64,
+    amount: u64,
+) -> Result<(), AllocError>
+    requires name { blank.name ≡ L.name }
+    requires parts { blank.parts ≡ L.parts }
+    requires some { 0 < blank.parts }
+    requires sound { compared.old.refused ≡ false }
+    ensures refused { compared.new.refused ≡ is_err result }
+    ensures ok { OnOk result (compared.new ≡ record compared.old { specified = with_amount compared.old.specified key amount }) }
+    ensures header { compared.new.header ≡ compared.old.header }
+{
+    let mut steps = Steps::<L>::new(blank);
+    compared.spec_changed(key, amount, &mut steps)
+}
+
+// The first writes take effect, and no longer wait.
+fn catch_up(
+    words: &mut Vec<u64>,
+    changed: &mut Vec<u32>,
+    writes: &mut VecDeque<(u32, u64)>,
+    count: usize,
+)
+    requires count { count ≤ length writes.old.items }
+    requires in_range { AreInRange (vec_len words.old) writes.old.items }
+    requires room { vec_len changed.old + count ≤ vec_capacity changed.old }
+    ensures words { words.new.items ≡ with_writes words.old.items (take count writes.old.items) }
+    ensures changed { changed.new.items ≡ changed.old.items ++ map (λ write. write.0) (take count writes.old.items) }
+    ensures writes { writes.new.items ≡ drop count writes.old.items }
+    ensures all { vec_len words.new ≡ vec_len words.old }
+    ensures capacity { vec_capacity changed.old ≤ vec_capacity changed.new }
+{
+    for _ in 0..count {
+        if let Some((word, value)) = writes.pop_front() {
+            words[word as usize] = value;
+            note(changed, word);
+        }
+    }
+}
+
+// One more word has changed. There is room for it.
+#[inline(always)]
+fn note(changed: &mut Vec<u32>, word: u32)
+    requires { vec_len changed.old < vec_capacity changed.old }
+    ensures items { changed.new.items ≡ changed.old.items ++ word ∷ [] }
+    ensures len { vec_len changed.new ≡ vec_len changed.old + 1 }
+    ensures capacity { vec_capacity changed.old ≤ vec_capacity changed.new }
+{
+    let _ = changed.push(word);
+}

@@ -1,8 +1,0 @@
-use Rattle.std.proofs.Common.{◌≡◌, take}
-use Rattle.std.specs.Prelude.{filter_map}
-use Rattle.vyrd_base.specs.Histories.{logged}
-use Rattle.vyrd_live.proofs.logged.log_of.Given as goal
-
--- what the events before this one left
-abbrev pub invariant-loop-event : goal.invariant-loop-event
-invariant-loop-event l = l.log.items ≡ filter_map (λ e. logged e.caller e.did) (take l.event-index l.history)

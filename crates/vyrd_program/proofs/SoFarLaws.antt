@@ -1,0 +1,94 @@
+-- A verdict that stands before the end is never acceptance.
+use Rattle.std.proofs.Common.{◌≡◌, ℕ, Bool, true, false, cond, List, [], ◌∷◌, Option, Some, None, refl, subst}
+use Rattle.std.specs.Prelude.{option_map, option_and_then}
+use Rattle.std.specs.Option.{option_or}
+use Rattle.std.specs.Bool.{then_some}
+use Rattle.vyrd_base.specs.declared.header.Header.{Header}
+use Rattle.vyrd_base.specs.declared.log.Entry.{Entry}
+use Rattle.vyrd_base.specs.declared.verdict.Rule.{Rule}
+use Rattle.vyrd_base.specs.declared.verdict.Rule.TheVariants.{CallOpen}
+use Rattle.vyrd_base.specs.declared.verdict.Why.{Why}
+use Rattle.vyrd_base.specs.declared.verdict.Verdict.{Verdict}
+use Rattle.vyrd_base.specs.declared.verdict.Verdict.TheVariants.{Accepted, Violation, Malformed}
+use Rattle.vyrd_base.specs.Places.{Place, places, newest_first, first_answer}
+use Rattle.vyrd_base.specs.Amounts.{Amounts}
+use Rattle.vyrd_base.specs.Specification.{start}
+use Rattle.vyrd_base.specs.Commits.{commits, states_from}
+use Rattle.vyrd_base.specs.Faults.{fault_at}
+use Rattle.vyrd_base.specs.Front.{front, first_break}
+use Rattle.vyrd_base.specs.Reading.{Reading, TextFault}
+use Rattle.vyrd_base.specs.Verdicts.{line_of, violation_at, first_fault, shape_verdict, verdict_so_far, is_call_open, end_verdict}
+use Rattle.vyrd_base.specs.TextVerdicts.{entries_verdict, known_verdict, text_verdict_so_far}
+use Rattle.vyrd_check.specs.LogReadings.{read_so_far}
+use Rattle.vyrd_program.specs.Outputs.{status_of}
+
+-- no acceptance
+abbrev IsBad : Option Verdict → Type 0
+IsBad None = Unit {0}
+IsBad (Some (Accepted entries commits observers)) = ⊥
+IsBad (Some (Violation line why)) = Unit {0}
+IsBad (Some (Malformed line rule)) = Unit {0}
+
+or_bad : (a b : Option Verdict) → IsBad a → IsBad b → IsBad (option_or a b)
+or_bad None b x y = y
+or_bad (Some v) b x y = x
+
+first_bad : {A : Type 0} (f : A → Option Verdict) → ((x : A) → IsBad (f x)) → (xs : List A) → IsBad (first_answer f xs)
+first_bad f each [] = tt
+first_bad f each (x ∷ xs) = or_bad (f x) (first_answer f xs) (each x) (first_bad f each xs)
+
+violation_bad : (line : ℕ) (o : Option Why) → IsBad (option_map (Violation line) o)
+violation_bad line None = tt
+violation_bad line (Some why) = tt
+
+malformed_bad : (line : ℕ) (o : Option Rule) → IsBad (option_map (Malformed line) o)
+malformed_bad line None = tt
+malformed_bad line (Some rule) = tt
+
+open_bad : (line : ℕ) (b : Bool) → IsBad (then_some b (Malformed line CallOpen))
+open_bad line true = tt
+open_bad line false = tt
+
+fault_bad : (o : Option TextFault) → IsBad (option_map (λ fault. Malformed fault.line fault.rule) o)
+fault_bad None = tt
+fault_bad (Some fault) = tt
+
+front_bad : (h : Header) (well_formed : List Entry) → IsBad (first_fault h well_formed)
+unfolding first_fault
+front_bad h well_formed =
+    let states = states_from start (commits well_formed) in
+    first_bad (violation_at h states) (λ place. violation_bad (line_of _) (fault_at h states place)) (places well_formed)
+
+log_bad : (h : Header) (entries : List Entry) → IsBad (verdict_so_far h entries)
+unfolding verdict_so_far shape_verdict
+log_bad h entries = or_bad (first_fault h (front h entries)) _ (front_bad h (front h entries)) (malformed_bad (line_of _) (first_break h entries))
+
+end_bad : (h : Header) (entries : List Entry) → IsBad (end_verdict h entries)
+unfolding end_verdict
+end_bad h entries = open_bad (line_of _) (is_call_open h (newest_first entries))
+
+entries_bad : (read : Reading) (h : Header) → IsBad (entries_verdict read h)
+entries_bad read h = or_bad (verdict_so_far h read.entries) _ (log_bad h read.entries) (by_end read.ended)
+  where
+    by_end : (b : Bool) → IsBad (cond b (end_verdict h read.entries) None)
+    by_end true = end_bad h read.entries
+    by_end false = tt
+
+known_bad : (read : Reading) → IsBad (known_verdict read)
+known_bad read = or_bad (option_and_then (entries_verdict read) read.header) _ (by_header read.header) (fault_bad read.fault)
+  where
+    by_header : (o : Option Header) → IsBad (option_and_then (entries_verdict read) o)
+    by_header None = tt
+    by_header (Some h) = entries_bad read h
+
+so_far_bad : (max : ℕ) (bytes : List ℕ) → IsBad (text_verdict_so_far max bytes)
+unfolding text_verdict_so_far
+so_far_bad max bytes = known_bad (read_so_far max bytes)
+
+pub never_accepted : (max : ℕ) (bytes : List ℕ) (v : Verdict) → text_verdict_so_far max bytes ≡ Some v → status_of v ≡ 0 → ⊥
+never_accepted max bytes v there zero_is = by_verdict v (subst IsBad there (so_far_bad max bytes)) zero_is
+  where
+    by_verdict : (v : Verdict) → IsBad (Some v) → status_of v ≡ 0 → ⊥
+    by_verdict (Accepted entries commits observers) bad e = bad
+    by_verdict (Violation line why) bad e = cc
+    by_verdict (Malformed line rule) bad e = cc
