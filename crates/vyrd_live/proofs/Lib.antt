@@ -6,3 +6,4 @@ pub mod Parts
 pub mod EndingLaws
 pub mod WorkerLists
 pub mod FreshWorkers
+pub mod TakenLaws

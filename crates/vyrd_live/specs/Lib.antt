@@ -4,3 +4,4 @@ pub mod Endings
 pub mod Acts
 pub mod Working
 pub mod Workers
+pub mod Taken

@@ -4,6 +4,8 @@
 //! leave is one legal history in which each caller's part plays the caller's script. A [`Run`] has this history, the memory at
 //! the end and the verdict about the history's log. [`judged`] adds the verdict to a history of any run.
 //!
+//! A [`Verifier`] judges a history while its events come in, in whatever order.
+//!
 //! What a run promises stands in `specs/`: `LiveRuns` says what it leaves, and `Rooms` when a limit leaves room for an
 //! operation. No promise says that two threads ran at one time; tests with gates speak of that.
 #![tactic(auto)]
@@ -14,9 +16,11 @@ mod live;
 mod run;
 #[cfg(test)]
 mod tests;
+mod verifier;
 mod worker;
 mod workers;
 
 pub use judging::judged;
 pub use live::run_live;
 pub use run::{LiveFault, Overrun, Run};
+pub use verifier::Verifier;

@@ -1,0 +1,176 @@
+-- One event more that is taken in, and one more that is handed out.
+use Rattle.std.proofs.Common.{◌≡◌, ◌≢◌, ℕ, zero, suc, ◌+◌, ◌<◌, ◌≤◌, List, [], ◌∷◌, ◌++◌, Bool, true, false, cond, eqb, ltb, filter_map, Option, Some, None, refl, sym, ap, ◌∙◌, subst, arith, append-nil, eq-eqb, ne_eqb}
+use Rattle.std.specs.Prelude.{◌==◌, is_some, nat_lt, if◌then◌else◌, ◌&&◌, ◌||◌, not}
+use Rattle.std.specs.Option.{option_to_list}
+use Rattle.std.specs.List.{cons_option}
+use Rattle.std.proofs.lemmas.List.Elements.{filter_map-append}
+use Rattle.std.proofs.lemmas.Bool.Decides.{nat_tests}
+use mathlib.Core.Logic.{dite}
+use native.Mathlib.Decide.{ℕ_discrete, dec_lt}
+use Rattle.vyrd_base.specs.declared.log.Entry.{Entry}
+use Rattle.vyrd_base.specs.declared.history.Stamped.{Stamped}
+use Rattle.vyrd_base.specs.Histories.{logged, log_of}
+use Rattle.vyrd_relay.specs.Numbers.{Kept, held, has, or_else}
+use Rattle.vyrd_judge.specs.Following.{JudgeView, HasFollowed}
+use Rattle.vyrd_live.specs.Taken.{numbered, in_order_below, VerifierView, has_failed, has_number, AreKept, is_in, IsTaking, IsJudging, HasTakenIn}
+
+-- an event more at the end is found where none with its number was there
+pub numbered_new : (n : ℕ) (taken : List Stamped) (e : Stamped) → numbered n taken ≡ None → e.number ≡ n → numbered n (taken ++ e ∷ []) ≡ Some e
+numbered_new n [] e none is = ap (λ (b : Bool). cond b (Some e) None) (eq-eqb e.number n is)
+numbered_new n (x ∷ xs) e none is = at (x.number == n) none (λ q. numbered_new n xs e q is)
+  where
+    at : (b : Bool) → (cond b (Some x) (numbered n xs)) ≡ None → (numbered n xs ≡ None → numbered n (xs ++ e ∷ []) ≡ Some e)
+        → cond b (Some x) (numbered n (xs ++ e ∷ [])) ≡ Some e
+    at true q more = absurd (cc)
+    at false q more = more q
+
+-- and what is found with another number is as it was
+pub numbered_old : (n : ℕ) (taken : List Stamped) (e : Stamped) → e.number ≢ n → numbered n (taken ++ e ∷ []) ≡ numbered n taken
+numbered_old n [] e apart = ap (λ (b : Bool). cond b (Some e) None) (ne_eqb e.number n apart)
+numbered_old n (x ∷ xs) e apart = ap (λ (o : Option Stamped). cond (x.number == n) (Some x) o) (numbered_old n xs e apart)
+
+pub in_order_same : (n : ℕ) (taken : List Stamped) (e : Stamped) → n ≤ e.number → in_order_below n (taken ++ e ∷ []) ≡ in_order_below n taken
+in_order_same zero taken e l = refl
+in_order_same (suc n) taken e l = let a = in_order_same n taken e (omega arith) in let b = numbered_old n taken e (λ q. omega arith) in
+    λ i. a i ++ option_to_list (b i)
+
+option_list : {A B : Type 0} (f : A → Option B) (a : A) → filter_map f (a ∷ []) ≡ option_to_list (f a)
+option_list f a = elim (f a) as (λ o. cons_option o [] ≡ option_to_list o) [
+  | None ↦ refl
+  | Some b ↦ refl
+]
+
+-- the log when the event with the next number is there too
+pub log_more : (n : ℕ) (taken : List Stamped) (e : Stamped) → numbered n taken ≡ Some e
+    → log_of (in_order_below (suc n) taken) ≡ log_of (in_order_below n taken) ++ option_to_list (logged e.caller e.did)
+unfolding log_of
+log_more n taken e found =
+    let f : Stamped → Option Entry = λ x. logged x.caller x.did in
+    ap (λ (o : Option Stamped). filter_map f (in_order_below n taken ++ option_to_list o)) found
+    ∙ filter_map-append f (in_order_below n taken) (e ∷ [])
+    ∙ ap (λ (l : List Entry). filter_map f (in_order_below n taken) ++ l) (option_list f e)
+
+-- the event with the next number was handed out
+pub kept_after : (k after : Kept) (taken : List Stamped) (e : Stamped) → held k k.next ≡ Some e → after.next ≡ k.next + 1
+    → ((n : ℕ) → k.next < n → held after n ≡ held k n) → AreKept k taken → AreKept after taken
+kept_after k after taken e found next same kept = record {
+  gone = λ n l. dite (dec_lt n k.next) (λ less. kept.gone n less)
+      (λ no_less. let is : k.next ≡ n = omega arith in
+      ap is_some (ap (λ (m : ℕ). numbered m taken) (sym is) ∙ sym (kept.later k.next (omega arith)) ∙ found));
+  later = λ n l. same n (omega arith) ∙ kept.later n (omega arith);
+}
+
+-- where a number wasn't had, it is from the next one on, and no event has it
+pub new_number : (k : Kept) (taken : List Stamped) (number : ℕ) → has k number ≡ false → AreKept k taken
+    → (k.next ≤ number) × (numbered number taken ≡ None)
+new_number k taken number not_had kept = dite (dec_lt number k.next)
+    (λ less. let b : ltb number k.next ≡ true = grind (arith, nat_tests) in
+    absurd (differ (sym not_had ∙ ap (λ (x : Bool). x || is_some (held k number)) b)))
+    (λ no_less. let l : k.next ≤ number = omega arith in let b : ltb number k.next ≡ false = grind (arith, nat_tests) in
+    (l, none (numbered number taken) (sym (ap is_some (kept.later number l)) ∙ ap (λ (x : Bool). x || is_some (held k number)) (sym b) ∙ not_had)))
+  where
+    differ : false ≢ true
+    differ e = cc
+
+    none : (o : Option Stamped) → is_some o ≡ false → o ≡ None
+    none None e = refl
+    none (Some x) e = absurd (differ (sym e))
+
+-- an event with a new number is put in
+pub kept_with : (k after : Kept) (taken : List Stamped) (e : Stamped) → has k e.number ≡ false → after.next ≡ k.next
+    → ((n : ℕ) → held after n ≡ (if n == e.number then Some e else held k n)) → AreKept k taken → AreKept after (taken ++ e ∷ [])
+kept_with k after taken e not_had next put kept =
+    let new = new_number k taken e.number not_had kept in record {
+      gone = λ n l. ap is_some (numbered_old n taken e (λ q. let a = new.0 in omega arith)) ∙ kept.gone n (omega arith);
+      later = λ n l. dite (ℕ_discrete n e.number)
+          (λ is. put n ∙ ap (λ (b : Bool). cond b (Some e) (held k n)) (eq-eqb n e.number is)
+          ∙ sym (numbered_new n taken e (ap (λ (m : ℕ). numbered m taken) is ∙ new.1) (sym is)))
+          (λ apart. put n ∙ ap (λ (b : Bool). cond b (Some e) (held k n)) (ne_eqb n e.number apart)
+          ∙ kept.later n (omega arith) ∙ sym (numbered_old n taken e (λ q. apart (sym q))));
+    }
+
+pub taking_after : (judge judge' : JudgeView) (k after : Kept) (taken : List Stamped) (e : Stamped) → held k k.next ≡ Some e → after.next ≡ k.next + 1
+    → ((n : ℕ) → k.next < n → held after n ≡ held k n)
+    → ((log : List Entry) → HasFollowed judge log → HasFollowed judge' (log ++ option_to_list (logged e.caller e.did)))
+    → IsTaking judge k taken → IsTaking judge' after taken
+taking_after judge judge' k after taken e found next same fed t =
+    let here : numbered k.next taken ≡ Some e = sym (t.in_hand.later k.next (omega arith)) ∙ found in
+    let log = ap (λ (n : ℕ). log_of (in_order_below n taken)) next ∙ ap (λ (n : ℕ). log_of (in_order_below n taken)) (one_more k.next) ∙ log_more k.next taken e here in record {
+      in_hand = kept_after k after taken e found next same t.in_hand;
+      judged = subst (HasFollowed judge') (sym log) (fed _ t.judged);
+    }
+  where
+    one_more : (n : ℕ) → n + 1 ≡ suc n
+    one_more n = omega arith
+
+pub taking_with : (judge : JudgeView) (k after : Kept) (taken : List Stamped) (e : Stamped) → has k e.number ≡ false → after.next ≡ k.next
+    → ((n : ℕ) → held after n ≡ (if n == e.number then Some e else held k n))
+    → IsTaking judge k taken → IsTaking judge after (taken ++ e ∷ [])
+taking_with judge k after taken e not_had next put t =
+    let new = new_number k taken e.number not_had t.in_hand in record {
+      in_hand = kept_with k after taken e not_had next put t.in_hand;
+      judged = subst (HasFollowed judge) (ap log_of (sym (ap (λ (n : ℕ). in_order_below n (taken ++ e ∷ [])) next ∙ in_order_same k.next taken e new.0))) t.judged;
+    }
+
+-- nothing was taken in
+pub taking_none : (judge : JudgeView) (k : Kept) → k.next ≡ 0 → ((n : ℕ) → held k n ≡ None) → HasFollowed judge [] → IsTaking judge k []
+unfolding log_of
+taking_none judge k next none fed = record {
+  in_hand = record { gone = λ n l. absurd (omega arith); later = λ n l. none n };
+  judged = subst (λ (n : ℕ). HasFollowed judge (log_of (in_order_below n []))) (sym next) fed;
+}
+
+-- what is had is what was taken in
+pub knows_all : (k : Kept) (taken : List Stamped) → AreKept k taken → (n : ℕ) → is_in k None n ≡ is_some (numbered n taken)
+knows_all k taken kept n = dite (dec_lt n k.next)
+    (λ less. let b : ltb n k.next ≡ true = grind (arith, nat_tests) in
+    ap (λ (x : Bool). x || is_some (held k n)) b ∙ sym (kept.gone n less))
+    (λ no_less. let b : ltb n k.next ≡ false = grind (arith, nat_tests) in
+    ap (λ (x : Bool). x || is_some (held k n)) b ∙ ap is_some (kept.later n (omega arith)))
+
+-- a new verifier
+pub taken_first : (v : VerifierView) → v.refused ≡ None → IsTaking v.judge v.kept [] → HasTakenIn v []
+taken_first v none t = record {
+  known = λ n. ap (λ (r : Option ℕ). is_in v.kept r n) none ∙ knows_all v.kept [] t.in_hand n;
+  judging = λ going. record { taking = t; missing = refl };
+}
+
+-- one event more was taken in
+pub taken_more : (old new : VerifierView) (taken : List Stamped) (e : Stamped) → has_failed old ≡ false → new.refused ≡ None
+    → ((xs : List Stamped) → IsTaking old.judge old.kept xs → IsTaking new.judge new.kept (xs ++ e ∷ []))
+    → held new.kept new.kept.next ≡ None → HasTakenIn old taken → HasTakenIn new (taken ++ e ∷ [])
+taken_more old new taken e going none step gone t =
+    let now = step taken (t.judging going).taking in record {
+      known = λ n. ap (λ (r : Option ℕ). is_in new.kept r n) none ∙ knows_all new.kept (taken ++ e ∷ []) now.in_hand n;
+      judging = λ still. record { taking = now; missing = sym (now.in_hand.later new.kept.next (omega arith)) ∙ gone };
+    }
+
+-- an event was refused
+pub taken_same : (old new : VerifierView) (taken : List Stamped) (number : ℕ) → old.refused ≡ None → new.refused ≡ Some number
+    → has_number old number ≡ false → ((n : ℕ) → n ≢ number → has new.kept n ≡ has old.kept n) → HasTakenIn old taken → HasTakenIn new taken
+taken_same old new taken number none some not_had same t = record {
+  known = λ n. ap (λ (r : Option ℕ). is_in new.kept r n) some ∙ dite (ℕ_discrete n number)
+      (λ is. ap (λ (b : Bool). has new.kept n && not b) (eq-eqb n number is) ∙ no_and (has new.kept n)
+      ∙ sym not_had ∙ t.known number ∙ ap (λ (m : ℕ). is_some (numbered m taken)) (sym is))
+      (λ apart. ap (λ (b : Bool). has new.kept n && not b) (ne_eqb n number apart) ∙ and_yes (has new.kept n) ∙ same n apart
+      ∙ ap (λ (r : Option ℕ). is_in old.kept r n) (sym none) ∙ t.known n);
+  judging = λ still. absurd (differ (sym (ap (λ (r : Option ℕ). is_some r) some) ∙ still));
+}
+  where
+    differ : true ≢ false
+    differ e = cc
+
+    no_and : (b : Bool) → (b && false) ≡ false
+    no_and true = refl
+    no_and false = refl
+
+    and_yes : (b : Bool) → (b && true) ≡ b
+    and_yes true = refl
+    and_yes false = refl
+
+-- what is had changes at the number of the event that is put in alone
+pub has_with : (k after : Kept) (e : Stamped) → after.next ≡ k.next → ((n : ℕ) → held after n ≡ (if n == e.number then Some e else held k n))
+    → (n : ℕ) → n ≢ e.number → has after n ≡ has k n
+has_with k after e next put n apart =
+    ap (λ (m : ℕ). ltb n m || is_some (held after n)) next
+    ∙ ap (λ (o : Option Stamped). ltb n k.next || is_some o) (put n ∙ ap (λ (b : Bool). cond b (Some e) (held k n)) (ne_eqb n e.number apart))

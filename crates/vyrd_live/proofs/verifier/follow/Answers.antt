@@ -1,0 +1,35 @@
+use Rattle.std.proofs.Common.{◌≡◌, ◌≢◌, ◌∙◌, ℕ, None, Ok, Err, ap, sym, subst}
+use Rattle.std.specs.Prelude.{Result}
+use Rattle.std.specs.Result.{OnErr}
+use Rattle.vyrd_relay.specs.Numbers.{Kept, held, has}
+use Rattle.vyrd_live.proofs.TakenLaws.{taking_with, has_with}
+use Rattle.vyrd_live.proofs.verifier.follow.Goals as goal
+
+pub loop-more-preserved : goal.loop-more-preserved
+loop-more-preserved c =
+    let inv = c.loop-more.invariant in
+    let e = c.in_ok-more.ensures in record {
+      taking = λ taken t. e.followed taken (inv.taking taken t);
+      had = λ n. c.advance.ensures.had n ∙ inv.had n;
+      missing = λ p. let m = c.advance.ensures.missing (c.in_ok-more.was ∙ ap Ok p) in subst (λ (k : Kept). held k k.next ≡ None) (sym m.0) m.1;
+      few = c.advance.ensures.few;
+      going = e.going;
+      header = c.advance.ensures.header ∙ inv.header;
+    }
+
+-- what holds in any case holds of an error
+on_err : {T E : Type 0} {P : Type 0} (r : Result T E) → P → OnErr r P
+on_err (Ok x) p = tt
+on_err (Err e) p = p
+
+pub returns-in_err-more-clause-had : goal.returns-in_err-more-clause-had
+returns-in_err-more-clause-had c =
+    let e = c.in_ok-put.ensures in
+    on_err c.from_residual-in_err-more.result
+    (λ (n : ℕ) (apart : n ≢ c.args.item.number). c.advance.ensures.had n ∙ c.loop-more.invariant.had n ∙ has_with c.args.reorder.now c.put.new.self c.args.item e.next e.held n apart)
+
+pub returns-clause-followed : goal.returns-clause-followed
+returns-clause-followed c =
+    let e = c.in_ok-put.ensures in
+    λ taken t. c.loop-more.invariant.taking _ (taking_with c.args.judge.now c.args.reorder.now c.put.new.self
+    taken c.args.item c.requires.new e.next e.held t)
