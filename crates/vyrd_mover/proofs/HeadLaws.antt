@@ -1,0 +1,129 @@
+-- The first line of a history has one reading.
+use Rattle.std.proofs.Common.{◌≡◌, ℕ, ◌<◌, ◌^◌, Bool, true, false, cond, List, [], ◌∷◌, ◌++◌, Option, Some, None, refl, ap, sym, ◌∙◌, arith}
+use Rattle.std.specs.Prelude.{codes, decimal}
+use Rattle.std.specs.List.{list_all}
+use Rattle.std.specs.Str.{bytes_eq}
+use Rattle.std.proofs.lemmas.List.{append_cancel_left}
+use Rattle.std.proofs.lemmas.Slice.Eq.{bytes_eq-Decides}
+use Rattle.vyrd_base.specs.declared.header.Header.{Header}
+use Rattle.vyrd_base.specs.declared.subject.Subject.{Subject}
+use Rattle.vyrd_base.specs.Limits.{is_known_version, is_sized, is_within}
+use Rattle.vyrd_base.specs.Spelling.{subject_name}
+use Rattle.vyrd_base.specs.Lines.{fields_of, number_of, subject_called, header_if, header_of}
+use Rattle.vyrd_base.proofs.SplitLaws.{lacks, split-join, lacks-join, number_of_decimal, bytes_same}
+use Rattle.vyrd_base.proofs.LineLaws.{is_plain_field, plain_number, plain_spaces, plain_line_feeds}
+use Rattle.vyrd_base.proofs.TestLaws.{both_true, first_true, second_true}
+use Rattle.vyrd_base.proofs.SubjectLaws.{plain_subject, subject_read, one_name}
+use Rattle.vyrd_base.proofs.ReadingLaws.{known_version}
+use Rattle.vyrd_text.proofs.PartLaws.{one_before_space}
+use Rattle.vyrd_text.proofs.HeaderLaws.{small_size, small_callers, made, not_made}
+use Rattle.vyrd_mover.specs.HistoryText.{history_header_line}
+use Rattle.vyrd_mover.specs.HistoryLines.{history_header_if, history_header_from, history_header_in}
+use Rattle.vyrd_mover.specs.HistorySpelled.{AreBoundsRead, IsFirstRead}
+
+-- a size that no number of callers follows
+pub no_callers : (text : List ℕ) (m : ℕ) (r : List ℕ) → m < 2 ^ 64 → text ≡ decimal m ++ 32 ∷ r
+    → ((n : ℕ) → n < 2 ^ 32 → r ≡ decimal n → ⊥) → AreBoundsRead text None
+no_callers text m r low e none size callers s c f =
+    let is = one_before_space m size r (decimal callers) low (omega arith) (sym e ∙ f) in
+    none callers c is.1
+
+-- a line that no bounds end
+pub no_bounds : (line r : List ℕ) (found : Subject) (t : List ℕ) → line ≡ codes "history " ++ r → r ≡ subject_name found ++ 32 ∷ t
+    → AreBoundsRead t None → IsFirstRead line None
+no_bounds line r found t e g none subject size callers s c f =
+    let after = append_cancel_left (codes "history ") r (subject_name subject ++ 32 ∷ (decimal size ++ 32 ∷ decimal callers)) (sym e ∙ f) in
+    none size callers s c (one_name found subject t (decimal size ++ 32 ∷ decimal callers) (sym g ∙ after))
+
+-- a first line and what it names
+module _ (subject : Subject) (size callers : ℕ) (s : size < 2 ^ 64) (c : callers < 2 ^ 64) where
+  plain : list_all is_plain_field (codes "history" ∷ subject_name subject ∷ decimal size ∷ decimal callers ∷ []) ≡ true
+  plain = both_true _ _ refl (both_true _ _ (plain_subject subject) (both_true _ _ (plain_number size s) (both_true _ _ (plain_number callers c) refl)))
+
+  fields : fields_of (history_header_line subject size callers) ≡ codes "history" ∷ subject_name subject ∷ decimal size ∷ decimal callers ∷ []
+  fields = split-join 32 (codes "history") (subject_name subject ∷ decimal size ∷ decimal callers ∷ [])
+      (plain_spaces (codes "history" ∷ subject_name subject ∷ decimal size ∷ decimal callers ∷ []) plain)
+
+  -- it is one line
+  pub first_line_whole : lacks 10 (history_header_line subject size callers) ≡ true
+  first_line_whole = lacks-join 10 32 (codes "history") (subject_name subject ∷ decimal size ∷ decimal callers ∷ []) refl
+      (plain_line_feeds (codes "history" ∷ subject_name subject ∷ decimal size ∷ decimal callers ∷ []) plain)
+
+  -- it is read as the header with its numbers, where there is one
+  pub header_known : history_header_in (history_header_line subject size callers) ≡ header_of 1 subject size callers
+  unfolding history_header_in
+  header_known =
+      let line = history_header_line subject size callers in
+      ap (history_header_from line) fields
+      ∙ (λ i. history_header_if line (subject_read subject i) (number_of_decimal size s i) (number_of_decimal callers c i))
+      ∙ ap (λ b. cond b (header_of 1 subject size callers) None) (bytes_same line)
+
+sized : (h : Header) → is_sized h.size h.callers ≡ true
+sized h = second_true (is_known_version h.version) _ h.within
+
+pub size_fits : (h : Header) → h.size < 2 ^ 32
+size_fits h = small_size h.size h.callers (sized h)
+
+pub callers_fit : (h : Header) → h.callers < 2 ^ 32
+callers_fit h = small_callers h.size h.callers (sized h)
+
+-- a header is read back from its first line
+pub header_in-first_line : (h : Header) → history_header_in (history_header_line h.subject h.size h.callers) ≡ Some h
+header_in-first_line h =
+    let s : h.size < 2 ^ 64 = let l = size_fits h in omega (arith, l) in
+    let c : h.callers < 2 ^ 64 = let l = callers_fit h in omega (arith, l) in
+    header_known h.subject h.size h.callers s c
+    ∙ made 1 h.subject h.size h.callers h (known_version h.version (first_true _ _ h.within)) refl refl refl
+
+-- what a first line is read as has it as its first line
+pub header_in_sound : (line : List ℕ) (h : Header) → history_header_in line ≡ Some h → line ≡ history_header_line h.subject h.size h.callers
+unfolding history_header_in
+header_in_sound line h found = from (fields_of line) found
+  where
+    of_header : (subject : Subject) (size callers : ℕ) (b : Bool) (e : is_within 1 size callers ≡ b)
+        → line ≡ history_header_line subject size callers → header_if 1 subject size callers b e ≡ Some h
+        → line ≡ history_header_line h.subject h.size h.callers
+    of_header subject size callers false e same f = cc
+    of_header subject size callers true e same f =
+        let is : record { version = 1; subject = subject; size = size; callers = callers; within = e } ≡ h = cc in
+        same ∙ ap (λ x. history_header_line x.subject x.size x.callers) is
+
+    spelled : (subject : Subject) (size callers : ℕ) (b : Bool) → bytes_eq (history_header_line subject size callers) line ≡ b
+        → cond b (header_of 1 subject size callers) None ≡ Some h → line ≡ history_header_line h.subject h.size h.callers
+    spelled subject size callers false t f = cc
+    spelled subject size callers true t f =
+        of_header subject size callers (is_within 1 size callers) refl
+        (sym ((bytes_eq-Decides (history_header_line subject size callers) line).0 t)) f
+
+    if_spelled : (subject : Option Subject) (size callers : ℕ) → history_header_if line subject size callers ≡ Some h
+        → line ≡ history_header_line h.subject h.size h.callers
+    if_spelled None size callers f = cc
+    if_spelled (Some subject) size callers f = spelled subject size callers (bytes_eq (history_header_line subject size callers) line) refl f
+
+    from : (parts : List (List ℕ)) → history_header_from line parts ≡ Some h → line ≡ history_header_line h.subject h.size h.callers
+    from [] f = cc
+    from (a ∷ []) f = cc
+    from (a ∷ b ∷ []) f = cc
+    from (a ∷ b ∷ c ∷ []) f = cc
+    from (a ∷ b ∷ c ∷ d ∷ more) f = if_spelled (subject_called b) (number_of c) (number_of d) f
+
+-- a line that names nothing is no first line
+pub no_first : (line : List ℕ) → IsFirstRead line None → None ≡ history_header_in line
+no_first line none = by_answer (history_header_in line) refl
+  where
+    by_answer : (o : Option Header) → history_header_in line ≡ o → None ≡ o
+    by_answer None e = refl
+    by_answer (Some h) e = absurd (none h.subject h.size h.callers (size_fits h) (callers_fit h) (header_in_sound line h e))
+
+module _ (line : List ℕ) (subject : Subject) (size callers : ℕ) (s : size < 2 ^ 32) (c : callers < 2 ^ 32)
+    (is : line ≡ history_header_line subject size callers) where
+  on_line : history_header_in line ≡ header_of 1 subject size callers
+  on_line = ap history_header_in is ∙ header_known subject size callers (omega (arith, s)) (omega (arith, c))
+
+  -- its numbers aren't within the limits
+  pub out_of_bounds : ¬ (is_within 1 size callers ≡ true) → None ≡ history_header_in line
+  out_of_bounds no_header = sym (on_line ∙ not_made 1 subject size callers no_header)
+
+  -- or they are
+  pub first_found : (h : Header) → h.version ≡ 1 → h.subject ≡ subject → h.size ≡ size → h.callers ≡ callers → Some h ≡ history_header_in line
+  first_found h v u n k = sym (on_line ∙ made 1 subject size callers h v u n k)

@@ -1,0 +1,76 @@
+-- What a legal history says of the event at a place, and how small the cells of a header are.
+use Rattle.std.proofs.Common.{◌≡◌, ℕ, zero, suc, ◌+◌, ◌^◌, ◌<◌, ◌≤◌, true, ◌&&◌, List, [], ◌∷◌, length, take, get_or, subst, arith}
+use Rattle.std.specs.Prelude.{◌==◌, nat_le, nat_lt}
+use Rattle.std.specs.List.{list_all}
+use Rattle.vyrd_base.specs.declared.header.Header.{Header}
+use Rattle.vyrd_base.specs.declared.subject.Subject.{Subject}
+use Rattle.vyrd_base.specs.declared.subject.Subject.TheVariants.{Multiset, Cache, Tree}
+use Rattle.vyrd_base.specs.declared.history.Did.{Did}
+use Rattle.vyrd_base.specs.declared.history.Did.TheVariants.{Read, Wrote, Took, Gave, Marked}
+use Rattle.vyrd_base.specs.declared.history.Stamped.{Stamped}
+use Rattle.vyrd_base.specs.Limits.{is_known_version, is_sized}
+use Rattle.vyrd_base.specs.Layout.{plain_words_of, lock_words_of, plain_words, lock_words}
+use Rattle.vyrd_base.specs.Places.{places_after, newest_first, newest_first_onto}
+use Rattle.vyrd_base.specs.Histories.{Cells, may_do, is_legal_at, is_legal}
+use Rattle.vyrd_base.proofs.TestLaws.{first_true, second_true, same_of, below_of, at_most_of}
+use Rattle.vyrd_mover.specs.Usage.{IsInRange}
+
+-- the event may come here
+pub record MayCome (cells : Cells) (earlier : List Stamped) (number : ℕ) (e : Stamped) : Type 0 where
+  pub numbered : e.number ≡ number
+  pub caller : e.caller < cells.callers
+  pub may : may_do cells earlier e.caller e.did ≡ true
+
+legal_place : (cells : Cells) (earlier xs : List Stamped) (i : ℕ) (d : Stamped) → list_all (is_legal_at cells) (places_after earlier xs) ≡ true
+    → i < length xs → MayCome cells (newest_first_onto earlier (take i xs)) (length earlier + i) (get_or xs i d)
+legal_place cells earlier [] i d legal low = absurd (omega arith)
+legal_place cells earlier (x ∷ xs) zero d legal low =
+    let here : is_legal_at cells (record { earlier = earlier; here = x; later = xs }) ≡ true = first_true _ _ legal in
+    let both : ((x.number == length earlier) && nat_lt x.caller cells.callers) ≡ true = first_true _ _ here in
+    let number : x.number ≡ length earlier = same_of x.number (length earlier) (first_true _ _ both) in
+    record {
+      numbered = omega arith;
+      caller = below_of x.caller cells.callers (second_true (x.number == length earlier) _ both);
+      may = second_true ((x.number == length earlier) && nat_lt x.caller cells.callers) _ here;
+    }
+legal_place cells earlier (x ∷ xs) (suc i) d legal low =
+    let n : length (x ∷ earlier) + i ≡ length earlier + suc i = omega arith in
+    subst (λ n. MayCome cells (newest_first_onto (x ∷ earlier) (take i xs)) n (get_or xs i d)) n
+    (legal_place cells (x ∷ earlier) xs i d (second_true (is_legal_at cells (record { earlier = earlier; here = x; later = xs })) _ legal) (omega arith))
+
+pub legal_event : (cells : Cells) (history : List Stamped) (i : ℕ) (d : Stamped) → is_legal cells history ≡ true → i < length history
+    → MayCome cells (newest_first (take i history)) i (get_or history i d)
+unfolding is_legal
+legal_event cells history i d legal low =
+    let n : 0 + i ≡ i = omega arith in
+    subst (λ n. MayCome cells (newest_first (take i history)) n (get_or history i d)) n (legal_place cells [] history i d legal low)
+
+-- an event that may come has its cell in range
+pub in_range : (cells : Cells) (earlier : List Stamped) (caller : ℕ) (did : Did) → may_do cells earlier caller did ≡ true
+    → IsInRange cells.plain (cells.plain + cells.locks) did
+in_range cells earlier caller (Read cell value) may = below_of cell cells.plain (first_true _ _ may)
+in_range cells earlier caller (Wrote cell value) may = below_of cell cells.plain (first_true _ _ may)
+in_range cells earlier caller (Took lock) may = below_of lock (cells.plain + cells.locks) (second_true (nat_le cells.plain lock) _ (first_true _ _ may))
+in_range cells earlier caller (Gave lock) may = below_of lock (cells.plain + cells.locks) (second_true (nat_le cells.plain lock) _ (first_true _ _ may))
+in_range cells earlier caller (Marked kind) may = tt
+
+small_subject : (subject : Subject) (size : ℕ) → size ≤ 1024 → plain_words_of subject size + lock_words_of subject size < 2 ^ 31
+small_subject Multiset size low = omega arith
+small_subject Cache size low = omega arith
+small_subject Tree size low = omega arith
+
+sized : (h : Header) → is_sized h.size h.callers ≡ true
+sized h = second_true (is_known_version h.version) _ h.within
+
+pub few_callers : (h : Header) → h.callers ≤ 64
+few_callers h = at_most_of h.callers 64 (second_true (nat_le 1 h.size && nat_le h.size 1024 && nat_le 1 h.callers) _ (sized h))
+
+pub some_callers : (h : Header) → 0 < h.callers
+some_callers h =
+    let one : 1 ≤ h.callers = at_most_of 1 h.callers (second_true (nat_le 1 h.size && nat_le h.size 1024) _
+    (first_true (nat_le 1 h.size && nat_le h.size 1024 && nat_le 1 h.callers) _ (sized h))) in
+    omega arith
+
+pub few_cells : (h : Header) → plain_words h + lock_words h < 2 ^ 31
+few_cells h = small_subject h.subject h.size (at_most_of h.size 1024 (second_true (nat_le 1 h.size) _
+    (first_true (nat_le 1 h.size && nat_le h.size 1024) _ (first_true (nat_le 1 h.size && nat_le h.size 1024 && nat_le 1 h.callers) _ (sized h)))))

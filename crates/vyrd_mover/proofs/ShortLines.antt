@@ -1,0 +1,79 @@
+-- No line of a history has more than 64 bytes.
+use Rattle.std.proofs.Common.{◌≡◌, ℕ, ◌<◌, ◌≤◌, ◌^◌, true, not, List, [], ◌∷◌, ◌++◌, map, length, arith, length-append}
+use Rattle.std.specs.Prelude.{codes, decimal, nat_lt}
+use Rattle.std.specs.List.{AllByRecursion}
+use Rattle.std.proofs.lemmas.Fmt.{length-decimal-le}
+use Rattle.vyrd_base.specs.declared.header.Header.{Header}
+use Rattle.vyrd_base.specs.declared.subject.Subject.{Subject}
+use Rattle.vyrd_base.specs.declared.history.Did.{Did}
+use Rattle.vyrd_base.specs.declared.history.Did.TheVariants.{Read, Wrote, Took, Gave, Marked}
+use Rattle.vyrd_base.specs.declared.history.Stamped.{Stamped}
+use Rattle.vyrd_base.specs.Spelling.{subject_name, end_line, is_kind_of}
+use Rattle.vyrd_base.specs.Histories.{is_write}
+use Rattle.vyrd_base.proofs.LongLines.{short_entry}
+use Rattle.vyrd_base.proofs.TestLaws.{both_true, first_true, second_true, below_of}
+use Rattle.vyrd_base.proofs.SubjectLaws.{short_subject}
+use Rattle.vyrd_mover.specs.HistoryText.{Recorded, history_header_line, did_line, event_line, history_lines}
+use Rattle.vyrd_mover.specs.HistoryLines.{is_did_of, is_event_of}
+use Rattle.vyrd_mover.specs.HistoryLimits.{KeepsLimits}
+use Rattle.vyrd_mover.proofs.HeadLaws.{size_fits, callers_fit}
+
+short_number : (n : ℕ) → n < 2 ^ 32 → length (decimal n) ≤ 10
+short_number n h = length-decimal-le 10 n (omega arith) (omega arith) (omega arith)
+
+short_value : (n : ℕ) → n < 2 ^ 64 → length (decimal n) ≤ 20
+short_value n h = length-decimal-le 20 n (omega arith) (omega arith) (omega arith)
+
+short_pair : (caller cell value : ℕ) (word : List ℕ) → caller < 2 ^ 32 → cell < 2 ^ 32 → value < 2 ^ 64 → length word ≤ 5
+    → length (decimal caller ++ 32 ∷ (word ++ 32 ∷ (decimal cell ++ 32 ∷ decimal value))) ≤ 64
+short_pair caller cell value word lc lx lv lw =
+    omega (
+      arith,
+      short_number caller lc,
+      short_number cell lx,
+      short_value value lv,
+      length-append (decimal caller) (32 ∷ (word ++ 32 ∷ (decimal cell ++ 32 ∷ decimal value))),
+      length-append word (32 ∷ (decimal cell ++ 32 ∷ decimal value)),
+      length-append (decimal cell) (32 ∷ decimal value),
+    )
+
+short_one : (caller lock : ℕ) (word : List ℕ) → caller < 2 ^ 32 → lock < 2 ^ 32 → length word ≤ 5
+    → length (decimal caller ++ 32 ∷ (word ++ 32 ∷ decimal lock)) ≤ 64
+short_one caller lock word lc lx lw =
+    omega (
+      arith,
+      short_number caller lc,
+      short_number lock lx,
+      length-append (decimal caller) (32 ∷ (word ++ 32 ∷ decimal lock)),
+      length-append word (32 ∷ decimal lock),
+    )
+
+short_did : (subject : Subject) (caller : ℕ) (did : Did) → nat_lt caller (2 ^ 32) ≡ true → is_did_of subject did ≡ true → length (did_line caller did) ≤ 64
+short_did subject caller (Read cell value) low is = short_pair caller cell value (codes "read") (below_of _ _ low) (below_of cell (2 ^ 32) (first_true _ _ is))
+    (below_of value (2 ^ 64) (second_true (nat_lt cell (2 ^ 32)) _ is)) (omega arith)
+short_did subject caller (Wrote cell value) low is = short_pair caller cell value (codes "wrote") (below_of _ _ low) (below_of cell (2 ^ 32) (first_true _ _ is))
+    (below_of value (2 ^ 64) (second_true (nat_lt cell (2 ^ 32)) _ is)) (omega arith)
+short_did subject caller (Took lock) low is = short_one caller lock (codes "took") (below_of _ _ low) (below_of _ _ is) (omega arith)
+short_did subject caller (Gave lock) low is = short_one caller lock (codes "gave") (below_of _ _ low) (below_of _ _ is) (omega arith)
+short_did subject caller (Marked kind) low is = short_entry subject (record { caller = caller; kind = kind })
+    (both_true (nat_lt caller (2 ^ 32)) (is_kind_of subject kind) low (first_true (is_kind_of subject kind) (not (is_write kind)) is))
+
+short_first : (h : Header) → length (history_header_line h.subject h.size h.callers) ≤ 64
+short_first h =
+    omega (
+      arith,
+      short_number h.size (size_fits h),
+      short_number h.callers (callers_fit h),
+      short_subject h.subject,
+      length-append (subject_name h.subject) (32 ∷ (decimal h.size ++ 32 ∷ decimal h.callers)),
+      length-append (decimal h.size) (32 ∷ decimal h.callers),
+    )
+
+short_later : (subject : Subject) (es : List Stamped) → AllByRecursion (λ e. is_event_of subject e ≡ true) es
+    → AllByRecursion (λ line. length line ≤ 64) (map event_line es ++ end_line ∷ [])
+short_later subject [] all = (omega arith, tt)
+short_later subject (e ∷ es) all =
+    (short_did subject e.caller e.did (first_true _ _ all.0) (second_true (nat_lt e.caller (2 ^ 32)) _ all.0), short_later subject es all.1)
+
+pub short_lines : (r : Recorded) → KeepsLimits r → AllByRecursion (λ line. length line ≤ 64) (history_lines r)
+short_lines r keeps = (short_first r.header, short_later r.header.subject r.history keeps.spelled)

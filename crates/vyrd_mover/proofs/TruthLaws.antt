@@ -1,0 +1,58 @@
+-- What tests joined by `or`, and tests of numbers in a row, tell.
+use Rattle.std.proofs.Common.{◌≡◌, ◌≢◌, ℕ, zero, suc, ◌+◌, ◌<◌, ◌≤◌, Bool, true, false, not, ◌||◌, ◌⊎◌, inl, inr, refl, ap, ◌∙◌, arith}
+use Rattle.std.specs.List.{list_any}
+use Rattle.std.specs.Prelude.{◌==◌}
+use Rattle.vyrd_base.proofs.TestLaws.{same_of, apart_of}
+use Rattle.vyrd_base.specs.Places.{numbers_from}
+
+pub either_true : (a b : Bool) → (a || b) ≡ true → (a ≡ true) ⊎ (b ≡ true)
+either_true true b e = inl refl
+either_true false b e = inr e
+
+pub left_true : (a b : Bool) → a ≡ true → (a || b) ≡ true
+left_true true b e = refl
+left_true false b e = cc
+
+pub right_true : (a b : Bool) → b ≡ true → (a || b) ≡ true
+right_true true b e = refl
+right_true false b e = e
+
+pub implied : (a b : Bool) → (not a || b) ≡ true → a ≡ true → b ≡ true
+implied true b e f = e
+implied false b e f = cc
+
+pub implies : (a b : Bool) → (a ≡ true → b ≡ true) → (not a || b) ≡ true
+implies true b h = h refl
+implies false b h = refl
+
+pub true_or_false : (b : Bool) → (b ≡ true) ⊎ (b ≡ false)
+true_or_false true = inl refl
+true_or_false false = inr refl
+
+-- a number of a row at which the test gives true
+abbrev pub Found : (ℕ → Bool) → ℕ → ℕ → Type 0
+Found test k n = (x : ℕ) × (k ≤ x) × (x < k + n) × (test x ≡ true)
+
+wider : (test : ℕ → Bool) (k n : ℕ) → Found test (k + 1) n → Found test k (suc n)
+wider test k n found = (found.0, omega arith, omega arith, found.3)
+
+first_or_later : (test : ℕ → Bool) (k n : ℕ) → (list_any test (numbers_from (k + 1) n) ≡ true → Found test (k + 1) n)
+    → (test k ≡ true) ⊎ (list_any test (numbers_from (k + 1) n) ≡ true) → Found test k (suc n)
+first_or_later test k n later (inl e) = (k, omega arith, omega arith, e)
+first_or_later test k n later (inr e) = wider test k n (later e)
+
+pub any_tells : (test : ℕ → Bool) (k n : ℕ) → list_any test (numbers_from k n) ≡ true → Found test k n
+any_tells test k zero e = cc
+any_tells test k (suc n) e = first_or_later test k n (any_tells test (k + 1) n) (either_true (test k) _ e)
+
+here_or_later : (test : ℕ → Bool) (k n x : ℕ) → k ≤ x → x < k + suc n → test x ≡ true
+    → (k + 1 ≤ x → x < k + 1 + n → list_any test (numbers_from (k + 1) n) ≡ true) → (b : Bool) → (k == x) ≡ b
+    → list_any test (numbers_from k (suc n)) ≡ true
+here_or_later test k n x low high e later true same = left_true (test k) _ (ap test (same_of k x same) ∙ e)
+here_or_later test k n x low high e later false other =
+    let ne : k ≢ x = apart_of k x other in right_true (test k) _ (later (omega arith) (omega arith))
+
+pub tells_any : (test : ℕ → Bool) (k n x : ℕ) → k ≤ x → x < k + n → test x ≡ true → list_any test (numbers_from k n) ≡ true
+tells_any test k zero x low high e = absurd (omega arith)
+tells_any test k (suc n) x low high e =
+    here_or_later test k n x low high e (λ l h. tells_any test (k + 1) n x l h e) (k == x) refl

@@ -1,0 +1,17 @@
+pub mod RaceFree
+pub mod Movers
+pub mod Blocks
+pub mod Exchanges
+pub mod Gathering
+pub mod Samples
+pub mod Usage
+pub mod Ahead
+pub mod HistoryText
+pub mod HistoryLines
+pub mod HistoryReading
+pub mod Refusals
+pub mod Writable
+pub mod HistorySpelled
+pub mod Remembering
+pub mod HistoryLimits
+pub mod BlocksText

@@ -1,0 +1,33 @@
+//! What a caller's block has ahead.
+
+ghost use Rattle.std.specs.Prelude.{◌≡◌, ◌+◌, ◌<◌, ◌^◌};
+ghost use Rattle.vyrd_mover.specs.Ahead.{with_event};
+
+use vyrd_base::Stamped;
+
+/// What a caller does from some place of a history on, up to its next block end.
+#[derive(Clone, Copy)]
+pub(crate) struct Ahead {
+    /// The line of the first event that is no left mover.
+    pub not_left: Option<u64>,
+    /// The line of the last event of the shortest beginning that has no cut.
+    pub uncut: Option<u64>,
+}
+
+impl Ahead {
+    /// The same with one more event before it, which is a left mover or isn't, and a right mover or
+    /// isn't.
+    pub fn with_event(self, event: &Stamped, is_left: bool, is_right: bool) -> Ahead
+        requires { event.now.number < 2 ^ 63 }
+        ensures { result ≡ with_event event.now is_left is_right self }
+    {
+        Ahead {
+            not_left: if is_left {
+                self.not_left
+            } else {
+                Some(event.number + 2)
+            },
+            uncut: if is_right { self.uncut } else { self.not_left },
+        }
+    }
+}

@@ -1,0 +1,161 @@
+//! The events of a history that were read so far, and what the next one may be.
+
+ghost use Rattle.std.specs.Prelude.{◌≡◌, ◌<◌, ◌≤◌, ◌+◌, ◌^◌, ◌==◌, ℕ, Bool, List, true, false, not, None, [], length, replicate, IfOk, OnOk, OnErr};
+ghost use Rattle.vyrd_base.specs.Layout.{plain_words, lock_words};
+ghost use Rattle.vyrd_base.specs.Places.{newest_first};
+ghost use Rattle.vyrd_base.specs.Histories.{cells_of, is_legal_at, is_plain, is_lock, may_do};
+ghost use Rattle.vyrd_mover.specs.HistoryText.{Recorded, recorded_of};
+ghost use Rattle.vyrd_mover.specs.HistoryReading.{broken_by, is_misplaced, next_place, with_event};
+ghost use Rattle.vyrd_mover.specs.Remembering.{Remembers, values_after, open_after};
+ghost use Rattle.vyrd_mover.specs.Usage.{IsInRange};
+
+use crate::fault::HistoryRule;
+use crate::past::Past;
+use std::alloc::{AllocError, Global};
+use std::marker::Model;
+use vyrd_base::{Did, Header, Kind, Stamped, Subject};
+
+/// A history that is being read, with the values that it leaves.
+#[derive(Drop)]
+pub(crate) struct Ledger {
+    header: Header,
+    /// By cell, plain words first.
+    values: Vec<u64>,
+    /// By caller: whether it has an open block.
+    open_blocks: Vec<bool>,
+    history: Vec<Stamped>,
+}
+
+impl Model for Ledger {
+    ghost use Rattle.vyrd_mover.specs.HistoryText.{Recorded};
+    ghost use Rattle.vyrd_mover.specs.Remembering.{Remembers};
+
+    ghost Value = { Recorded };
+
+    ghost view = { λ s. record { header = s.header; history = s.history.items } };
+
+    ghost invariant = { λ s. Remembers s.header s.values.items s.open_blocks.items s.history.items };
+}
+
+impl Ledger {
+    /// No event was read. It takes memory in proportion to the cells and the callers.
+    pub fn new(alloc: Global, header: Header) -> Result<Ledger, AllocError>
+        ensures { IfOk result (λ s. s ≡ record { header = header; history = [] }) }
+    {
+        let cells = header.plain_words() + header.lock_words();
+        Ok(Ledger {
+            header,
+            values: vec![in alloc; 0; cells as usize]?,
+            open_blocks: vec![in alloc; false; header.callers() as usize]?,
+            history: Vec::new(alloc),
+        })
+    }
+
+    /// The subject of the header.
+    pub fn subject(&self) -> Subject
+        ensures { result ≡ self.now.header.subject }
+    {
+        self.header.subject()
+    }
+
+    /// How many events were read.
+    pub fn len(&self) -> usize
+        ensures { result ≡ length self.now.history }
+    {
+        self.history.len()
+    }
+
+    /// The first rule that one more event breaks, whose number is that of the events so far.
+    pub fn broken_rule(&self, event: &Stamped) -> Option<HistoryRule>
+        requires { event.now.number ≡ length self.now.history }
+        ensures { result ≡ broken_by self.now event.now }
+    {
+        if !self.may_come(event) {
+            return Some(HistoryRule::NotLegal);
+        }
+        if self.is_misplaced(event) {
+            return Some(HistoryRule::BlockMark);
+        }
+        None
+    }
+
+    /// Whether one more event is legal, whose number is that of the events so far.
+    fn may_come(&self, event: &Stamped) -> bool
+        requires { event.now.number ≡ length self.now.history }
+        ensures { result ≡ is_legal_at (cells_of self.now.header) (next_place self.now.history event.now) }
+    {
+        event.caller < self.header.callers() && self.may_do(event.caller, event.did)
+    }
+
+    /// Whether the caller may do this after the events so far.
+    fn may_do(&self, caller: u32, did: Did) -> bool
+        requires { caller < self.now.header.callers }
+        ensures { result ≡ may_do (cells_of self.now.header) (newest_first self.now.history) caller did }
+    {
+        match did {
+            Did::Read(cell, value) => self.is_plain(cell) && self.values[cell as usize] == value,
+            Did::Wrote(cell, value) => self.is_plain(cell) && value < 1 << 63,
+            Did::Took(lock) => self.is_lock(lock) && self.values[lock as usize] == 0,
+            Did::Gave(lock) => {
+                self.is_lock(lock) && self.values[lock as usize] == u64::from(caller) + 1
+            }
+            Did::Marked(kind) => !matches!(kind, Kind::Write(_, _)),
+        }
+    }
+
+    /// Whether the cell is a plain word.
+    fn is_plain(&self, cell: u32) -> bool
+        ensures { result ≡ is_plain (cells_of self.now.header) cell }
+    {
+        cell < self.header.plain_words()
+    }
+
+    /// Whether the cell is a lock.
+    fn is_lock(&self, cell: u32) -> bool
+        ensures { result ≡ is_lock (cells_of self.now.header) cell }
+    {
+        let plain = self.header.plain_words();
+        plain <= cell && cell < plain + self.header.lock_words()
+    }
+
+    /// Whether one more event opens a block in its caller's open block, or ends one without it.
+    fn is_misplaced(&self, event: &Stamped) -> bool
+        requires { event.now.caller < self.now.header.callers }
+        ensures { result ≡ is_misplaced (next_place self.now.history event.now) }
+    {
+        let is_open = self.open_blocks[event.caller as usize];
+        match event.did {
+            Did::Marked(Kind::BlockOpen) => is_open,
+            Did::Marked(Kind::BlockClose | Kind::BlockCommit) => !is_open,
+            _ => false,
+        }
+    }
+
+    /// Puts one more event, which breaks no rule, behind the others.
+    pub fn put(&mut self, event: Stamped) -> Result<(), AllocError>
+        requires { broken_by self.old event ≡ None }
+        ensures { OnOk result (self.new ≡ with_event self.old event) }
+    {
+        self.history.push(event)?;
+        let place = event.caller as usize;
+        match event.did {
+            Did::Wrote(cell, value) => self.values[cell as usize] = value,
+            Did::Took(lock) => self.values[lock as usize] = u64::from(event.caller) + 1,
+            Did::Gave(lock) => self.values[lock as usize] = 0,
+            Did::Marked(Kind::BlockOpen) => self.open_blocks[place] = true,
+            Did::Marked(Kind::BlockClose | Kind::BlockCommit) => self.open_blocks[place] = false,
+            Did::Read(_, _) | Did::Marked(_) => {}
+        }
+        Ok(())
+    }
+
+    /// The history that was read.
+    pub fn into_past(self) -> Past
+        ensures { recorded_of result ≡ self }
+    {
+        Past {
+            header: self.header,
+            history: self.history,
+        }
+    }
+}

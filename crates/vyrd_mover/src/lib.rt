@@ -1,0 +1,42 @@
+//! The commit blocks of a history, checked by Lipton's reduction (CACM 1975), and the text of a
+//! history.
+//!
+//! The central call is `check_blocks`: it says that all blocks of a legal history that end are
+//! reducible, or names the first that isn't, and the event at which that shows. A block is
+//! reducible where its caller's events in it are takes and accesses of race-free cells, then any
+//! one event, then gives and accesses of race-free cells. Where it answers that all are, its
+//! contract says that each block can be gathered: in some legal history each caller does the same
+//! in the same order, and all that the block's caller does from its open to its end stands side by
+//! side.
+//!
+//! A block that isn't reducible may still be atomic. Nothing is said of that.
+//!
+//! `read_history` reads a history from its text, or names the first bad line and the rule that it
+//! breaks. `write_history` writes that text. What is written of a legal history within the limits
+//! is read back as that history.
+#![tactic(auto)]
+
+mod ahead;
+mod blocks;
+mod check;
+mod fault;
+pub mod laws;
+mod ledger;
+mod line;
+mod past;
+mod reader;
+mod survey;
+#[cfg(test)]
+mod tests;
+mod usage;
+mod uses;
+pub mod worked;
+pub mod worked_text;
+mod writer;
+
+pub use blocks::{Blocks, write_blocks};
+pub use check::check_blocks;
+pub use fault::{HistoryFault, HistoryRule, write_history_refusal};
+pub use past::Past;
+pub use reader::read_history;
+pub use writer::write_history;

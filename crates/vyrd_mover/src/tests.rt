@@ -1,0 +1,122 @@
+//! What the reader, the writer and the check answer about small histories.
+
+use crate::{
+    HistoryFault, check_blocks, read_history, write_blocks, write_history, write_history_refusal,
+};
+use std::alloc::{AllocError, Global};
+use std::test::Fail;
+
+/// The insert of 5 into a bucket of one.
+const INSERT: &[u8] = b"history multiset 1 1
+0 call insert 5
+0 took 8
+0 read 0 0
+0 wrote 1 5
+0 wrote 0 1
+0 gave 8
+0 took 8
+0 open
+0 wrote 0 2
+0 close commit
+0 gave 8
+0 return 1
+end
+";
+
+/// The line that is written about the text of a history.
+fn answer(alloc: Global, text: &[u8]) -> Result<Vec<u8>, AllocError> {
+    let mut line = Vec::new(alloc);
+    match read_history(alloc, text) {
+        Ok(past) => {
+            let blocks = check_blocks(alloc, past.header, &past.history)?;
+            write_blocks(blocks, &mut line)?;
+        }
+        Err(HistoryFault::Refused { line: number, rule }) => {
+            write_history_refusal(number, rule, &mut line)?;
+        }
+        Err(HistoryFault::Memory) => {}
+    }
+    Ok(line)
+}
+
+#[test]
+fn answers_about_histories(rt: HostRuntime) -> Result<(), Fail> {
+    let cases: [(&[u8], &[u8]); 9] = [
+        (INSERT, b"movers: 1 blocks, all reducible\n"),
+        (
+            b"history multiset 1 2\n0 open\n0 wrote 0 1\n0 wrote 1 5\n0 close\n1 wrote 0 0\n1 wrote 1 6\nend\n",
+            b"block at line 2: not reducible at line 4\n",
+        ),
+        (
+            b"history multiset 1 1\n0 open\n0 took 8\n0 gave 8\n0 took 8\n0 close\n0 gave 8\nend\n",
+            b"block at line 2: not reducible at line 5\n",
+        ),
+        (
+            b"history multiset 1 1\n0 read 0 1\nend\n",
+            b"history refused at line 2: not legal\n",
+        ),
+        (
+            b"history multiset 1 1\n0 close\nend\n",
+            b"history refused at line 2: block mark out of place\n",
+        ),
+        (b"", b"history refused at line 1: no end\n"),
+        (
+            b"history multiset 1 1\nend\n\n",
+            b"history refused at line 3: text after end\n",
+        ),
+        (
+            b"history multiset 1 2\n0 took 8\n0 open\n0 wrote 0 1\n0 wrote 1 5\n0 close\n0 gave 8\n1 took 8\n1 wrote 0 0\n1 gave 8\nend\n",
+            b"movers: 1 blocks, all reducible\n",
+        ),
+        (
+            b"history multiset 1 2\n0 open\n1 open\n1 wrote 0 1\n1 wrote 0 2\n0 wrote 0 3\n0 wrote 0 4\n1 close\n0 close\nend\n",
+            b"block at line 2: not reducible at line 7\n",
+        ),
+    ];
+    for (text, line) in cases {
+        assert_eq!(rt; answer(rt.alloc(), text)?.as_slice(), line);
+    }
+    Ok(())
+}
+
+/// The text of the history that the text says, and nothing where it says none.
+fn rewritten(alloc: Global, text: &[u8]) -> Result<Vec<u8>, AllocError> {
+    let mut written = Vec::new(alloc);
+    if let Ok(past) = read_history(alloc, text) {
+        write_history(past.header, &past.history, &mut written)?;
+    }
+    Ok(written)
+}
+
+#[test]
+fn history_read_and_written(rt: HostRuntime) -> Result<(), Fail> {
+    assert_eq!(rt; rewritten(rt.alloc(), INSERT)?.as_slice(), INSERT);
+    Ok(())
+}
+
+/// The text of a history of that many reads, each on a line.
+fn text_of_reads(alloc: Global, count: u32) -> Result<Vec<u8>, AllocError> {
+    let mut text = Vec::new(alloc);
+    text.extend_from_slice(b"history multiset 1 1\n")?;
+    for _ in 0..count {
+        text.extend_from_slice(b"0 read 0 0\n")?;
+    }
+    text.extend_from_slice(b"end\n")?;
+    Ok(text)
+}
+
+#[test]
+fn limit_of_lines(rt: HostRuntime) -> Result<(), Fail> {
+    let cases: [(u32, &[u8]); 2] = [
+        (3_999_998, b"movers: 0 blocks, all reducible\n"),
+        (
+            3_999_999,
+            b"history refused at line 4000001: too many lines\n",
+        ),
+    ];
+    for (count, line) in cases {
+        let text = text_of_reads(rt.alloc(), count)?;
+        assert_eq!(rt; answer(rt.alloc(), &text)?.as_slice(), line);
+    }
+    Ok(())
+}
