@@ -1,5 +1,5 @@
 -- How the places of a list, and the first answer in it, grow with the list.
-use Rattle.std.proofs.Common.{◌≡◌, ℕ, zero, suc, ◌+◌, List, [], ◌∷◌, ◌++◌, map, Option, Some, None, refl, ap, ◌∙◌, sym, arith}
+use Rattle.std.proofs.Common.{◌≡◌, ℕ, zero, suc, ◌+◌, List, [], ◌∷◌, ◌++◌, length, map, Option, Some, None, refl, ap, ◌∙◌, sym, arith}
 use Rattle.std.specs.Option.{option_or}
 use Rattle.vyrd_base.specs.Places.{Place, places_after, first_answer, newest_first_onto, newest_first, numbers_from, numbers_below}
 
@@ -41,3 +41,8 @@ numbers_from-push k (suc n) =
 
 pub numbers_below-push : (n : ℕ) → numbers_below (n + 1) ≡ numbers_below n ++ n ∷ []
 numbers_below-push n = let e : 0 + n ≡ n = omega arith in numbers_from-push 0 n ∙ ap (λ x. numbers_from 0 n ++ x ∷ []) e
+
+-- a function's values at n numbers in a row are n
+pub length-mapped : (f : ℕ → ℕ) (k n : ℕ) → length (map f (numbers_from k n)) ≡ n
+length-mapped f k zero = refl
+length-mapped f k (suc n) = ap suc (length-mapped f (k + 1) n)

@@ -35,6 +35,8 @@ pub record SourceState : Type 0 where
   -- the bytes that it will still give, and how many at most in one read
   pub rest : List ℕ
   pub cut : ℕ
+  -- what was still to come when a read last failed
+  pub left_off : List ℕ
   -- how many reads there were, the numbers of those that fail, and how many failed
   pub made : ℕ
   pub failing : List ℕ
@@ -46,6 +48,8 @@ pub record SinkState : Type 0 where
   pub taken : List ℕ
   pub room : ℕ
   pub cut : ℕ
+  -- what it had taken when a write last failed
+  pub left_off : List ℕ
   -- how many writes there were, the numbers of those that fail, and how many failed
   pub made : ℕ
   pub failing : List ℕ

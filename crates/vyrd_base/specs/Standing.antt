@@ -1,13 +1,13 @@
 -- The words that represent a state of the specification, and the state, which is the one that they show. All locks are free,
 -- and nothing is damaged.
-use Rattle.std.specs.Prelude.{ℕ, ◌+◌, ◌*◌, ◌/◌, ◌%◌, Bool, not, ◌&&◌, ◌||◌, ◌==◌, List, slice_index, drop, Option}
+use Rattle.std.specs.Prelude.{ℕ, ◌+◌, ◌*◌, ◌/◌, ◌%◌, Bool, not, ◌&&◌, ◌||◌, ◌==◌, List, length, slice_index, drop, Option}
 use Rattle.std.specs.List.{list_all}
 use Rattle.std.specs.Bool.{then_some}
 use Rattle.vyrd_base.specs.declared.header.Header.{Header}
 use Rattle.vyrd_base.specs.declared.subject.Subject.{Subject}
 use Rattle.vyrd_base.specs.declared.subject.Subject.TheVariants.{Multiset, Cache, Tree}
 use Rattle.vyrd_base.specs.Places.{numbers_below}
-use Rattle.vyrd_base.specs.Layout.{plain_words}
+use Rattle.vyrd_base.specs.Layout.{plain_words, lock_words}
 use Rattle.vyrd_base.specs.Amounts.{Amounts}
 use Rattle.vyrd_base.specs.Views.{Chunk, chunk_at, is_chunk, cached_pair, stored_pair, view_of_words}
 use Rattle.vyrd_base.specs.Trees.{is_tree}
@@ -26,8 +26,9 @@ is_sound Multiset size words = list_all (is_sound_slot size words) (numbers_belo
 is_sound Cache size words = list_all (λ h. is_sound_chunk (chunk_at words h)) (numbers_below size)
 is_sound Tree size words = is_tree size words
 
--- the state for which the words stand, plain words and then locks, all of which are 0
+-- the state for which the words stand: as many as the header says, plain words and then locks, all of which are 0
 unfoldable pub state_of_words : Header → List ℕ → Option Amounts
 state_of_words h words = then_some
-    (is_sound h.subject h.size words && list_all (λ lock. lock == 0) (drop (plain_words h) words))
+    (length words == plain_words h + lock_words h
+    && (is_sound h.subject h.size words && list_all (λ lock. lock == 0) (drop (plain_words h) words)))
     (view_of_words h words)

@@ -49,6 +49,7 @@ impl AmountMap {
         ensures ok { OnOk result (self.new ≡ with_amount self.old key amount) }
         ensures err { OnErr result (self.new ≡ self.old) }
         ensures absent { OnErr result (amount_of self.old key ≡ 0) }
+        ensures none { OnErr result (amount ≢ 0) }
     {
         if amount == 0 {
             self.remove(key);
@@ -70,6 +71,8 @@ impl AmountMap {
         requires { amount_of self.old key + more < 2 ^ 64 }
         ensures ok { OnOk result (self.new ≡ plus_amount self.old key more) }
         ensures err { OnErr result (self.new ≡ self.old) }
+        ensures absent { OnErr result (amount_of self.old key ≡ 0) }
+        ensures none { OnErr result (more ≢ 0) }
         ensures formed { IsAmounts self.old }
     {
         let before = self.amount(key);

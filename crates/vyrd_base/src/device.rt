@@ -3,9 +3,20 @@
 ghost use Rattle.std.specs.Prelude.{◌≡◌, ℕ, ◌+◌, ◌-◌, ◌<◌, ◌≤◌, Bool, true, List, length, Option, Ok, IsOk, IfOk, OnOk, OnErr};
 ghost use Rattle.vyrd_base.specs.Devices.{HasRisen, Gives, IsAtEnd, Takes};
 
+use std::error::Error;
+use std::fmt;
+
 /// A read or a write failed. The device has counted it, and the bytes are as they were before the call.
 #[derive(Clone, Copy, Debug, PartialEq, Eq)]
 pub struct Failed;
+
+impl fmt::Display for Failed {
+    fn fmt<W: fmt::Write>(&self, f: &mut fmt::Formatter<W>) -> fmt::Result {
+        write!(f, "a read or a write failed")
+    }
+}
+
+impl Error for Failed {}
 
 /// Where the bytes of an input come from. A read waits for as long as the source does.
 pub trait Source {
@@ -14,6 +25,9 @@ pub trait Source {
 
     /// A count that rises with each read that fails, and with no other. It stays at 2^64 - 1.
     ghost faults: { Self → ℕ };
+
+    /// What was still to come when a read last failed, where the source tells its bytes.
+    ghost left_off: { Self → Option (List ℕ) };
 
     /// Whether it is known that no read will fail.
     ghost is_sure: { Self → Bool };
@@ -25,6 +39,8 @@ pub trait Source {
         ensures given { IfOk result (λ n. Gives (rest self.old) n buf.new (rest self.new)) }
         ensures at_end { result ≡ Ok 0 → IsAtEnd (rest self.new) }
         ensures kept { OnErr result (rest self.new ≡ rest self.old) }
+        ensures stopped { OnErr result (left_off self.new ≡ rest self.new) }
+        ensures goes_on { IfOk result (λ _. left_off self.new ≡ left_off self.old) }
 
         ensures counted { faults self.old ≤ faults self.new }
         ensures cause { OnErr result (HasRisen (faults self.old) (faults self.new)) }
@@ -44,6 +60,9 @@ pub trait Sink {
     /// A count that rises with each write that fails, and with no other. It stays at 2^64 - 1.
     ghost faults: { Self → ℕ };
 
+    /// What it had taken when a write last failed, where the sink tells its bytes.
+    ghost left_off: { Self → Option (List ℕ) };
+
     /// How many bytes more it is known to take with no fault.
     ghost sure_room: { Self → ℕ };
 
@@ -52,6 +71,8 @@ pub trait Sink {
         requires { 0 < length piece.now }
         ensures taken { IfOk result (λ n. Takes (taken self.old) n piece.now (taken self.new)) }
         ensures kept { OnErr result (taken self.new ≡ taken self.old) }
+        ensures stopped { OnErr result (left_off self.new ≡ taken self.new) }
+        ensures goes_on { IfOk result (λ _. left_off self.new ≡ left_off self.old) }
 
         ensures counted { faults self.old ≤ faults self.new }
         ensures cause { OnErr result (HasRisen (faults self.old) (faults self.new)) }

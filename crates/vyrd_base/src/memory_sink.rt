@@ -14,11 +14,13 @@ pub struct MemorySink {
     taken: Vec<u8>,
     room: usize,
     cut: usize,
+    /// How many bytes were taken when a write last failed, which contracts see as those bytes.
+    left_off: usize,
     calls: Calls,
 }
 
 impl Model for MemorySink {
-    ghost use Rattle.std.specs.Prelude.{◌==◌, ◌<◌, ◌≤◌, length, vec_capacity};
+    ghost use Rattle.std.specs.Prelude.{◌==◌, ◌<◌, ◌≤◌, length, take, vec_capacity};
     ghost use Rattle.vyrd_base.specs.Devices.{SinkState};
 
     ghost Value = { SinkState };
@@ -27,12 +29,13 @@ impl Model for MemorySink {
       taken = s.taken.items;
       room = s.room;
       cut = s.cut;
+      left_off = take s.left_off s.taken.items;
       made = s.calls.made;
       failing = s.calls.failing.items;
       faults = s.calls.faults;
     } };
 
-    ghost invariant = { λ s. (length s.taken.items ≤ s.room) × (s.room ≤ vec_capacity s.taken) × (0 < s.cut) };
+    ghost invariant = { λ s. (s.left_off ≤ length s.taken.items) × (length s.taken.items ≤ s.room) × (s.room ≤ vec_capacity s.taken) × (0 < s.cut) };
 }
 
 impl MemorySink {
@@ -58,6 +61,7 @@ impl MemorySink {
             taken: Vec::with_capacity(alloc, room)?,
             room,
             cut,
+            left_off: 0,
             calls: Calls::new(alloc, failing)?,
         })
     }
@@ -75,6 +79,8 @@ impl Sink for MemorySink {
 
     ghost faults = { λ s. s.faults };
 
+    ghost left_off = { λ s. Some s.left_off };
+
     ghost sure_room = { sure_room_of };
 
     fn write(&mut self, piece: &[u8]) -> Result<usize, Failed>
@@ -82,6 +88,8 @@ impl Sink for MemorySink {
         ensures taken { IfOk result (λ n. Takes (Some self.old.taken) n piece.now (Some self.new.taken)) }
         ensures size { IfOk result (λ n. n ≡ min (min (length piece.now) self.old.cut) (self.old.room - length self.old.taken)) }
         ensures kept { OnErr result (self.new.taken ≡ self.old.taken) }
+        ensures stopped { OnErr result (self.new.left_off ≡ self.new.taken) }
+        ensures goes_on { IfOk result (λ _. self.new.left_off ≡ self.old.left_off) }
 
         // It fails just where it finds no room, or where the number of this write is one of those that were given.
         ensures fails { is_err result ≡ write_fails self.old }
@@ -96,6 +104,7 @@ impl Sink for MemorySink {
     {
         let left = self.room - self.taken.len();
         if self.calls.next_fails() || left == 0 {
+            self.left_off = self.taken.len();
             return Err(self.calls.fault());
         }
         let n = piece.len().min(self.cut).min(left);

@@ -13,6 +13,8 @@ use std::marker::Model;
 pub struct MemorySource {
     bytes: Vec<u8>,
     given: usize,
+    /// How many bytes were given when a read last failed, which contracts see as what was still to come.
+    left_off: usize,
     cut: usize,
     calls: Calls,
 }
@@ -26,6 +28,7 @@ impl Model for MemorySource {
     ghost view = { λ s. record {
       rest = drop s.given s.bytes.items;
       cut = s.cut;
+      left_off = drop s.left_off s.bytes.items;
       made = s.calls.made;
       failing = s.calls.failing.items;
       faults = s.calls.faults;
@@ -54,6 +57,7 @@ impl MemorySource {
         Ok(MemorySource {
             bytes: Vec::from_slice(alloc, bytes)?,
             given: 0,
+            left_off: 0,
             cut,
             calls: Calls::new(alloc, failing)?,
         })
@@ -65,6 +69,8 @@ impl Source for MemorySource {
 
     ghost faults = { λ s. s.faults };
 
+    ghost left_off = { λ s. Some s.left_off };
+
     ghost is_sure = { λ s. length s.failing == 0 };
 
     fn read(&mut self, buf: &mut [u8]) -> Result<usize, Failed>
@@ -73,6 +79,8 @@ impl Source for MemorySource {
         ensures size { IfOk result (λ n. n ≡ min (min (length self.old.rest) self.old.cut) (length buf.old)) }
         ensures at_end { result ≡ Ok 0 → IsAtEnd (Some self.new.rest) }
         ensures kept { OnErr result (self.new.rest ≡ self.old.rest) }
+        ensures stopped { OnErr result (self.new.left_off ≡ self.new.rest) }
+        ensures goes_on { IfOk result (λ _. self.new.left_off ≡ self.old.left_off) }
 
         // It fails just where the number of this read is one of those that were given.
         ensures fails { is_err result ≡ fails_next self.old.made self.old.failing }
@@ -85,6 +93,7 @@ impl Source for MemorySource {
         ensures failures_alone { IfOk result (λ _. self.new.faults ≡ self.old.faults) }
     {
         if self.calls.next_fails() {
+            self.left_off = self.given;
             return Err(self.calls.fault());
         }
         let (_, rest) = self.bytes.split_at(self.given);

@@ -30,6 +30,8 @@ impl<R: Read> Source for StdSource<R> {
 
     ghost faults = { λ s. s.faults };
 
+    ghost left_off = { λ _. None };
+
     ghost is_sure = { λ _. false };
 
     /// Where the reader tells its bytes, they are what is given.
@@ -72,6 +74,8 @@ impl<W: Write> Sink for StdSink<W> {
     ghost taken = { λ _. None };
 
     ghost faults = { λ s. s.faults };
+
+    ghost left_off = { λ _. None };
 
     ghost sure_room = { λ _. 0 };
 

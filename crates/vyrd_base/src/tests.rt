@@ -1,9 +1,12 @@
 //! Values from outside: the limits of a header, its words and methods at one header a subject, and devices call by call.
 
+ghost use Rattle.std.specs.Prelude.{◌≡◌, IfOk};
+
 use crate::{
     AmountMap, AmountTable, Args, Failed, Gate, Header, MemorySink, MemorySource, Method, OpenGate,
     Sink, Source, StdSink, StdSource, Subject, View,
 };
+use std::io;
 use std::io::Cursor;
 use std::test::Fail;
 
@@ -159,6 +162,61 @@ fn readers_and_writers(rt: HostRuntime) -> Result<(), Fail> {
     let mut full = StdSink::new(Cursor::new([0; 2]));
     assert_eq!(rt; full.write(&[1, 2, 3]), Ok(2));
     assert_eq!(rt; full.write(&[3]), Err(Failed));
+    Ok(())
+}
+
+// A stream whose first call is interrupted, and whose later calls take or give a byte.
+#[derive(Drop)]
+struct InterruptedOnce {
+    calls: usize,
+}
+
+impl InterruptedOnce {
+    fn answer(&mut self) -> io::Result<usize>
+        ensures { IfOk result (λ n. n ≡ 1) }
+    {
+        self.calls = self.calls.saturating_add(1);
+        if self.calls == 1 {
+            return Err(io::Error::from(io::ErrorKind::Interrupted));
+        }
+        Ok(1)
+    }
+}
+
+impl io::Read for InterruptedOnce {
+    fn read(&mut self, buf: &mut [u8]) -> io::Result<usize> {
+        if buf.is_empty() {
+            return Ok(0);
+        }
+        self.answer()
+    }
+}
+
+impl io::Write for InterruptedOnce {
+    fn write(&mut self, piece: &[u8]) -> io::Result<usize> {
+        if piece.is_empty() {
+            return Ok(0);
+        }
+        self.answer()
+    }
+
+    fn flush(&mut self) -> io::Result<()> {
+        Ok(())
+    }
+}
+
+/// A stream's failed call is the device's, and isn't made again.
+#[test]
+fn first_call_that_fails(rt: HostRuntime) -> Result<(), Fail> {
+    let mut source = StdSource::new(InterruptedOnce { calls: 0 });
+    assert_eq!(rt; source.read(&mut [0; 4]), Err(Failed));
+    assert_eq!(rt; source.inner.calls, 1);
+    assert_eq!(rt; source.read(&mut [0; 4]), Ok(1));
+
+    let mut sink = StdSink::new(InterruptedOnce { calls: 0 });
+    assert_eq!(rt; sink.write(&[1, 2]), Err(Failed));
+    assert_eq!(rt; sink.inner.calls, 1);
+    assert_eq!(rt; sink.write(&[1, 2]), Ok(1));
     Ok(())
 }
 

@@ -5,12 +5,13 @@ ghost use Rattle.std.specs.Prelude.{◌≡◌, ◌+◌, ◌^◌, [], ◌∷◌, 
 ghost use Rattle.vyrd_base.specs.Verdicts.{verdict};
 ghost use Rattle.vyrd_base.specs.Standing.{state_of_words};
 ghost use Rattle.vyrd_base.specs.Histories.{is_legal, log_of, cells_of};
-ghost use Rattle.vyrd_base.specs.declared.history.Did.TheVariants.{Took, Gave};
+ghost use Rattle.vyrd_base.specs.declared.history.Did.TheVariants.{Took, Gave, Read, Wrote, Marked};
 ghost use Rattle.vyrd_base.specs.SampleWords.{multiset_of_2, cache_of_1, tree_of_4, two_leaves, lookup_events, event};
-ghost use Rattle.vyrd_base.specs.Samples.{alone, two, two_on_cache, inserted, claimed, deleted, looked_up, too_early, beside_block, no_block, raced, waits, stray, torn, insert, lookup, return};
+ghost use Rattle.vyrd_base.specs.Samples.{alone, two, two_on_cache, inserted, claimed, deleted, looked_up, too_early, beside_block, no_block, raced, waits, stray, torn, insert, commit, begin, lookup, return};
 ghost use Rattle.vyrd_base.specs.declared.verdict.Verdict.TheVariants.{Accepted, Violation, Malformed};
 ghost use Rattle.vyrd_base.specs.declared.verdict.Why.TheVariants.{Reply, View, Observer};
-ghost use Rattle.vyrd_base.specs.declared.verdict.Rule.TheVariants.{BlockRaced, CallOpen, ValueRange, WordRange, CallerRange};
+ghost use Rattle.vyrd_base.specs.declared.verdict.Rule.TheVariants.{BlockRaced, CallOpen, ValueRange, WordRange, CallerRange, SecondCommit, ReturnInBlock, NoCommit};
+ghost use Rattle.vyrd_base.specs.declared.log.Kind.TheVariants.{Write};
 
 /// Logs that keep the rules and refine the specification.
 #[tactic(auto, unfolding(crate::proofs::Opened::opened))]
@@ -34,6 +35,7 @@ pub fn violations()
     ensures earlier_commit { verdict two (waits 1) ≡ Violation 3 (Reply 1) }
     ensures observer { verdict two (waits 0) ≡ Violation 5 (Observer 7) }
     ensures torn_write { verdict two_on_cache torn ≡ Violation 16 (View 0) }
+    ensures no_such_reply { verdict alone (insert 0 5 ∷ commit 0 ∷ return 0 2 ∷ []) ≡ Violation 3 (Reply 2) }
 {}
 
 /// Logs that break a rule of shape.
@@ -44,6 +46,10 @@ pub fn malformed_logs()
     ensures value { verdict alone (stray 7 9223372036854775808) ≡ Malformed 3 ValueRange }
     ensures word { verdict alone (stray 8 9223372036854775807) ≡ Malformed 3 WordRange }
     ensures caller { verdict alone (insert 1 5 ∷ []) ≡ Malformed 2 CallerRange }
+    ensures unreturned { verdict alone (insert 0 5 ∷ commit 0 ∷ []) ≡ Malformed 4 CallOpen }
+    ensures second_commit { verdict alone (insert 0 5 ∷ commit 0 ∷ commit 0 ∷ []) ≡ Malformed 4 SecondCommit }
+    ensures return_in_block { verdict alone (insert 0 5 ∷ begin 0 ∷ return 0 0 ∷ []) ≡ Malformed 4 ReturnInBlock }
+    ensures no_commit { verdict alone (insert 0 5 ∷ return 0 0 ∷ []) ≡ Malformed 3 NoCommit }
 {}
 
 /// Words that stand for a state, and words that don't.
@@ -53,15 +59,30 @@ pub fn standing_words()
     ensures other_bucket { state_of_words multiset_of_2 (2 ∷ 5 ∷ replicate 16 0) ≡ None }
     ensures clean_chunk { state_of_words cache_of_1 (1 ∷ 7 ∷ 0 ∷ 7 ∷ 0 ∷ 0 ∷ []) ≡ Some ((0, 7) ∷ []) }
     ensures clean_but_other { state_of_words cache_of_1 (1 ∷ 7 ∷ 0 ∷ 8 ∷ 0 ∷ 0 ∷ []) ≡ None }
+    ensures no_words { state_of_words alone [] ≡ None }
     ensures empty_tree { state_of_words tree_of_4 (replicate 56 0) ≡ Some [] }
     ensures tree { state_of_words tree_of_4 two_leaves
         ≡ Some ((1, 4294967297) ∷ (2, 4294967298) ∷ (3, 4294967299) ∷ (4, 4294967300) ∷ (5, 4294967301) ∷ []) }
 {}
 
-/// A legal history and its log, and a history in which a lock is taken twice.
+/// A legal history and its log.
 #[tactic(auto, unfolding(crate::proofs::Opened::opened))]
 pub fn histories()
     ensures legal { is_legal (cells_of alone) lookup_events ≡ true }
     ensures log { log_of lookup_events ≡ lookup 0 5 ∷ return 0 0 ∷ [] }
+{}
+
+/// Histories that no run has. Cell 8 is the lock of the one bucket.
+#[tactic(auto, unfolding(crate::proofs::Opened::opened))]
+pub fn illegal_histories()
     ensures taken_twice { is_legal (cells_of two) (event 0 0 (Took 8) ∷ event 1 1 (Took 8) ∷ []) ≡ false }
+    ensures given_free { is_legal (cells_of alone) (event 0 0 (Gave 8) ∷ []) ≡ false }
+    ensures given_by_another { is_legal (cells_of two) (event 0 0 (Took 8) ∷ event 1 1 (Gave 8) ∷ []) ≡ false }
+    ensures lock_read { is_legal (cells_of alone) (event 0 0 (Read 8 0) ∷ []) ≡ false }
+    ensures wrong_read { is_legal (cells_of alone) (event 0 0 (Read 0 1) ∷ []) ≡ false }
+    ensures stale_read { is_legal (cells_of alone) (event 0 0 (Wrote 0 1) ∷ event 1 0 (Read 0 0) ∷ []) ≡ false }
+    ensures too_big { is_legal (cells_of alone) (event 0 0 (Wrote 0 (2 ^ 63)) ∷ []) ≡ false }
+    ensures number_skipped { is_legal (cells_of alone) (event 1 0 (Took 8) ∷ []) ≡ false }
+    ensures no_caller { is_legal (cells_of alone) (event 0 1 (Took 8) ∷ []) ≡ false }
+    ensures mark_of_a_write { is_legal (cells_of alone) (event 0 0 (Marked (Write 0 1)) ∷ []) ≡ false }
 {}
