@@ -14,6 +14,8 @@ use crate::rule::InOrder;
 use crate::sender::Sender;
 use crossbeam_queue::{Pass, RuledArrayQueue};
 use std::alloc::{AllocError, Global};
+use std::error::Error;
+use std::fmt;
 use std::marker::{Brand, Model};
 use std::sync::Wait;
 use vyrd_base::Stamped;
@@ -23,6 +25,14 @@ type Queue = RuledArrayQueue<Stamped, Known, InOrder>;
 /// The queue held as many events as it can, and nothing was sent.
 #[derive(Clone, Copy, Debug, PartialEq, Eq)]
 pub struct Full;
+
+impl fmt::Display for Full {
+    fn fmt<W: fmt::Write>(&self, f: &mut fmt::Formatter<W>) -> fmt::Result {
+        write!(f, "the relay is full")
+    }
+}
+
+impl Error for Full {}
 
 /// A bounded queue of events, from the senders of all callers to one receiver. Threads share it by reference.
 ///

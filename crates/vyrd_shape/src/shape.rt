@@ -13,6 +13,8 @@ ghost use Rattle.vyrd_shape.specs.Following.{HasFollowed, IsInRange};
 use crate::holders::Holders;
 use crate::phase::Phase;
 use std::alloc::{AllocError, Global};
+use std::error::Error;
+use std::fmt;
 use std::marker::Model;
 use vyrd_base::{Entry, Header, Kind, Rule};
 
@@ -22,6 +24,14 @@ pub struct ShapeFault {
     /// The first of the rules that is broken, in their order.
     pub rule: Rule,
 }
+
+impl fmt::Display for ShapeFault {
+    fn fmt<W: fmt::Write>(&self, f: &mut fmt::Formatter<W>) -> fmt::Result {
+        write!(f, "{:?}", self.rule)
+    }
+}
+
+impl Error for ShapeFault {}
 
 /// What the rules of shape need to know of the entries so far: for each caller what it is in the middle of, and for each word
 /// which caller's open block has written it.

@@ -9,6 +9,8 @@ ghost use Rattle.vyrd_trace.specs.Hands.{IsOf, Holds, with_one_more, with_look, 
 
 use crate::hand::{Hand, note};
 use crate::traced::Traced;
+use std::error::Error;
+use std::fmt;
 use std::marker::Brand;
 use vyrd_base::{Did, Kind};
 
@@ -17,6 +19,14 @@ use vyrd_base::{Did, Kind};
 pub struct Busy {
     pub found: u64,
 }
+
+impl fmt::Display for Busy {
+    fn fmt<W: fmt::Write>(&self, f: &mut fmt::Formatter<W>) -> fmt::Result {
+        write!(f, "the cell is busy")
+    }
+}
+
+impl Error for Busy {}
 
 /// What a load saw: the number of its event, and the cell's value.
 #[derive(Clone, Copy, Debug, PartialEq, Eq)]

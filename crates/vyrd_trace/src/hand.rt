@@ -1,7 +1,7 @@
 //! A hand: one caller's lane, with the seat that its events are drawn with.
 
 ghost use Rattle.std.specs.Prelude.{◌≡◌, ◌+◌, ◌<◌, ◌≤◌, max, length, true, [], ◌∷◌, ◌++◌, IfOk, IfErr, Err, vec_len, vec_capacity};
-ghost use Rattle.vyrd_trace.specs.declared.hand.Reserve.TheVariants.{Spent};
+ghost use Rattle.vyrd_trace.specs.declared.hand.Reserve.TheVariants.{Memory, Spent};
 ghost use Rattle.vyrd_trace.specs.declared.record.Stage.TheVariants.{Rest};
 ghost use Rattle.vyrd_trace.specs.Lanes.{stamp};
 ghost use Rattle.vyrd_trace.specs.Hands.{with_spare};
@@ -9,6 +9,8 @@ ghost use Rattle.vyrd_trace.specs.Hands.{with_spare};
 use crate::record::Record;
 use atomic_table::Seat;
 use std::alloc::Global;
+use std::error::Error;
+use std::fmt;
 use std::marker::Model;
 use vyrd_base::{Did, Stamped};
 
@@ -20,6 +22,17 @@ pub enum Reserve {
     /// There was no memory.
     Memory,
 }
+
+impl fmt::Display for Reserve {
+    fn fmt<W: fmt::Write>(&self, f: &mut fmt::Formatter<W>) -> fmt::Result {
+        match self {
+            Reserve::Spent => write!(f, "the limit of events is reached"),
+            Reserve::Memory => write!(f, "out of memory"),
+        }
+    }
+}
+
+impl Error for Reserve {}
 
 /// One caller's events so far, and the right to make more. Between calls it has no action in hand and claims no cell.
 #[derive(Drop)]
@@ -65,6 +78,7 @@ impl Hand {
         ensures ready { IfOk result (λ _. self.new ≡ with_spare self.old (max self.old.spare n)) }
         ensures spent { (self.old.limit < length self.old.lane + n → result ≡ Err Spent) × (result ≡ Err Spent → self.old.limit < length self.old.lane + n) }
         ensures refused { IfErr result (λ _. self.new ≡ self.old) }
+        ensures enough { result ≡ Err Memory → self.old.spare < n }
     {
         let len = self.lane.len() as u64;
         if n > self.limit - len {
