@@ -160,13 +160,13 @@ turn_runs h scripts earlier c sound run = by_event (event_now earlier (act_of sc
     by_event None e = run
     by_event (Some did) e = in_range_or_not c h.callers (λ low. event_runs h scripts earlier c did sound run low e) (λ high. absurd (none did e high))
 
-turns_run : (h : Header) (scripts : List Script) (callers : List ℕ) (earlier : List Stamped) → AreSoundScripts h scripts → IsRun h scripts earlier
+pub turns_run : (h : Header) (scripts : List Script) (callers : List ℕ) (earlier : List Stamped) → AreSoundScripts h scripts → IsRun h scripts earlier
     → IsRun h scripts (after_turns scripts callers earlier)
 turns_run h scripts [] earlier sound run = run
 turns_run h scripts (c ∷ callers) earlier sound run =
     turns_run h scripts callers (after_turn scripts c earlier) sound (turn_runs h scripts earlier c sound run)
 
-rounds_run : (h : Header) (scripts : List Script) (rounds : ℕ) (earlier : List Stamped) → AreSoundScripts h scripts → IsRun h scripts earlier
+pub rounds_run : (h : Header) (scripts : List Script) (rounds : ℕ) (earlier : List Stamped) → AreSoundScripts h scripts → IsRun h scripts earlier
     → IsRun h scripts (after_rounds scripts rounds earlier)
 rounds_run h scripts zero earlier sound run = run
 rounds_run h scripts (suc rounds) earlier sound run =

@@ -7,12 +7,13 @@ mod BoundSums
 mod PlayLaws
 mod PlayedLaws
 mod RunLaws
-mod Standings
-mod LegalEvents
-mod Agreements
-mod KeptRules
+pub mod Standings
+pub mod LegalEvents
+pub mod Agreements
+pub mod KeptRules
 pub mod RaceLaws
+mod LaneLaws
 pub mod LoggedCalls
-mod HeldLocks
+pub mod HeldLocks
 pub mod LegalRuns
 pub mod OneEnd

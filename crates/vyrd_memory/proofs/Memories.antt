@@ -1,5 +1,5 @@
 -- What it says of a memory that it stands for a state.
-use Rattle.std.proofs.Common.{◌≡◌, ℕ, ◌+◌, ◌<◌, ◌≤◌, Bool, true, false, cond, map, Some, refl, ap, ◌∙◌, sym, arith, rules}
+use Rattle.std.proofs.Common.{◌≡◌, ℕ, ◌+◌, ◌<◌, ◌≤◌, Bool, true, false, cond, length, map, Some, refl, ap, ◌∙◌, sym, arith, rules}
 use Rattle.std.specs.Prelude.{◌==◌, ◌≢◌, ◌&&◌, drop, slice_index}
 use Rattle.std.specs.Bool.{then_some}
 use Rattle.std.specs.List.{list_all}
@@ -11,6 +11,7 @@ use Rattle.vyrd_base.specs.Layout.{plain_words, lock_words}
 use Rattle.vyrd_base.specs.Amounts.{Amounts}
 use Rattle.vyrd_base.specs.Views.{view_of_words}
 use Rattle.vyrd_base.specs.Standing.{is_sound, state_of_words}
+use Rattle.vyrd_base.proofs.PlaceLaws.{length-mapped}
 use Rattle.vyrd_base.proofs.TestLaws.{both_true, first_true, second_true}
 use Rattle.vyrd_memory.specs.Alone.{Memory, words_in, state_in, with_cell}
 use Rattle.vyrd_memory.proofs.NumberLists.{element_below, drop-from, all_pass, pass_all}
@@ -45,31 +46,39 @@ then_some_true : {A : Type 0} (b : Bool) (x y : A) → then_some b x ≡ Some y 
 then_some_true true x y e = (refl, cc)
 then_some_true false x y e = cc
 
+-- the words are as many as the header says
+right_length : (h : Header) (memory : Memory) → (length (words_in h memory) == plain_words h + lock_words h) ≡ true
+right_length h memory =
+    let is : length (words_in h memory) ≡ plain_words h + lock_words h = length-mapped memory 0 (plain_words h + lock_words h) in
+    grind (arith, nat_tests)
+
 -- what a memory that stands for a state is
 pub stands : (h : Header) (memory : Memory) (state : Amounts) → state_in h memory ≡ Some state → Stands h memory state
 unfolding state_of_words
 stands h memory state e = record {
-  sound = first_true (is_sound h.subject h.size (words_in h memory)) (list_all is_free (drop (plain_words h) (words_in h memory))) both.0;
+  sound = first_true (is_sound h.subject h.size (words_in h memory)) (list_all is_free (drop (plain_words h) (words_in h memory))) both;
   free = λ lock from to. zero_of (memory lock) (all_pass (λ lock. is_free (memory lock)) (plain_words h) (lock_words h) free lock from to);
-  shows = both.1;
+  shows = all.1;
 }
   where
-    both : ((is_sound h.subject h.size (words_in h memory) && list_all is_free (drop (plain_words h) (words_in h memory))) ≡ true) ×
-        (view_of_words h (words_in h memory) ≡ state)
-    both =
-        then_some_true (is_sound h.subject h.size (words_in h memory) && list_all is_free (drop (plain_words h) (words_in h memory)))
-        (view_of_words h (words_in h memory)) state e
+    all : ((length (words_in h memory) == plain_words h + lock_words h
+        && (is_sound h.subject h.size (words_in h memory) && list_all is_free (drop (plain_words h) (words_in h memory)))) ≡ true)
+        × (view_of_words h (words_in h memory) ≡ state)
+    all = then_some_true _ (view_of_words h (words_in h memory)) state e
+
+    both : (is_sound h.subject h.size (words_in h memory) && list_all is_free (drop (plain_words h) (words_in h memory))) ≡ true
+    both = second_true (length (words_in h memory) == plain_words h + lock_words h) _ all.0
 
     free : list_all (λ lock. is_free (memory lock)) (numbers_from (plain_words h) (lock_words h)) ≡ true
     free =
         sym (ap (list_all is_free) (locks_are h memory) ∙ free_list memory (plain_words h) (lock_words h))
-        ∙ second_true (is_sound h.subject h.size (words_in h memory)) (list_all is_free (drop (plain_words h) (words_in h memory))) both.0
+        ∙ second_true (is_sound h.subject h.size (words_in h memory)) (list_all is_free (drop (plain_words h) (words_in h memory))) both
 
 -- a memory that is so stands for the state
 pub standing : (h : Header) (memory : Memory) (state : Amounts) → Stands h memory state → state_in h memory ≡ Some state
 unfolding state_of_words
 standing h memory state s =
-    ap (λ b. then_some b (view_of_words h (words_in h memory))) (both_true _ _ s.sound free) ∙ ap Some s.shows
+    ap (λ b. then_some b (view_of_words h (words_in h memory))) (both_true _ _ (right_length h memory) (both_true _ _ s.sound free)) ∙ ap Some s.shows
   where
     free : list_all is_free (drop (plain_words h) (words_in h memory)) ≡ true
     free = ap (list_all is_free) (locks_are h memory) ∙ free_list memory (plain_words h) (lock_words h)

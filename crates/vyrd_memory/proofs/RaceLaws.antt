@@ -89,7 +89,7 @@ unfolding log_of
 newest_log history = reversed_map [] history
 
 -- no call is open at the end
-none_any : (test : ℕ → Bool) (k n : ℕ) → ((i : ℕ) → k ≤ i → i < k + n → test i ≡ false) → list_any test (numbers_from k n) ≡ false
+pub none_any : (test : ℕ → Bool) (k n : ℕ) → ((i : ℕ) → k ≤ i → i < k + n → test i ≡ false) → list_any test (numbers_from k n) ≡ false
 none_any test k zero each = refl
 none_any test k (suc n) each =
     ap (λ b. b || list_any test (numbers_from (k + 1) n)) (each k (omega arith) (omega arith))
@@ -149,7 +149,7 @@ all_keep h scripts history sound legal played c low =
     let part = part_of c (newest_first history) in
     sound_keeps h (script_of scripts c) part (sound.sound c low) (played c).plays (are_answers (cells_of h) (newest_first history) c legal)
 
-all_rest : (h : Header) (scripts : List Script) (history : List Stamped) → AreSoundScripts h scripts → AreLegal (cells_of h) (newest_first history)
+pub all_rest : (h : Header) (scripts : List Script) (history : List Stamped) → AreSoundScripts h scripts → AreLegal (cells_of h) (newest_first history)
     → PlayToTheEnd scripts history → (c : ℕ) → c < h.callers → standing_in (part_of c (newest_first history)) ≡ at_rest
 all_rest h scripts history sound legal played c low =
     let part = part_of c (newest_first history) in
@@ -157,14 +157,24 @@ all_rest h scripts history sound legal played c low =
     (sound_left h (script_of scripts c) part (sound.sound c low) (played c).plays
     (are_answers (cells_of h) (newest_first history) c legal)) (played c).done
 
--- so a broken rule that is named is that of raced blocks
+-- so the first break is of that rule, and no call is open at the end
+pub only_races_break : (h : Header) (scripts : List Script) (history : List Stamped) → AreSoundScripts h scripts
+    → is_legal (cells_of h) history ≡ true → PlayToTheEnd scripts history → OnlyRaced (first_break h (log_of history))
+only_races_break h scripts history sound is_legal_ played =
+    let legal = legal_events (cells_of h) history is_legal_ in
+    first_break_only h (log_of history) (subst (AreOnlyRaced h) (sym (newest_log history))
+    (log_only h (newest_first history) legal (all_keep h scripts history sound legal played)))
+
+pub none_is_open : (h : Header) (scripts : List Script) (history : List Stamped) → AreSoundScripts h scripts
+    → is_legal (cells_of h) history ≡ true → PlayToTheEnd scripts history → is_call_open h (newest_first (log_of history)) ≡ false
+none_is_open h scripts history sound is_legal_ played =
+    let legal = legal_events (cells_of h) history is_legal_ in
+    ap (is_call_open h) (newest_log history)
+    ∙ none_open h (newest_first history) (all_keep h scripts history sound legal played) (all_rest h scripts history sound legal played)
+
+-- and a broken rule that the verdict names is that of raced blocks
 pub only_races : (h : Header) (scripts : List Script) (history : List Stamped) → AreSoundScripts h scripts → is_legal (cells_of h) history ≡ true
     → PlayToTheEnd scripts history → (line : ℕ) (rule : Rule) → verdict h (log_of history) ≡ Malformed line rule → rule ≡ BlockRaced
 only_races h scripts history sound is_legal_ played line rule e =
-    let legal = legal_events (cells_of h) history is_legal_ in
-    let keep : AllKeep h (newest_first history) = all_keep h scripts history sound legal played in
-    let only : AreOnlyRaced h (newest_first (log_of history)) =
-    subst (AreOnlyRaced h) (sym (newest_log history)) (log_only h (newest_first history) legal keep) in
-    let closed : is_call_open h (newest_first (log_of history)) ≡ false =
-    ap (is_call_open h) (newest_log history) ∙ none_open h (newest_first history) keep (all_rest h scripts history sound legal played) in
-    (first_break_only h (log_of history) only).raced rule (named_is_broken h (log_of history) line rule closed e)
+    (only_races_break h scripts history sound is_legal_ played).raced rule
+    (named_is_broken h (log_of history) line rule (none_is_open h scripts history sound is_legal_ played) e)

@@ -35,7 +35,7 @@ AreAnswers (did ∷ earlier) = IsAnswer (act_of_event did) (answer_of did) × Ar
 pub some_same : {A : Type 0} (x y : A) → ◌≡◌ {A = Option A} (Some x) (Some y) → x ≡ y
 some_same x y e = cc
 
-event_act : (act : Act) (did : Did) → event_of act (answer_of did) ≡ Some did → act ≡ act_of_event did
+pub event_act : (act : Act) (did : Did) → event_of act (answer_of did) ≡ Some did → act ≡ act_of_event did
 event_act (Load cell) did e = ap act_of_event (some_same (Read cell (answer_of did)) did e)
 event_act (Store cell value) did e = ap act_of_event (some_same (Wrote cell value) did e)
 event_act (Take lock) did e = ap act_of_event (some_same (Took lock) did e)

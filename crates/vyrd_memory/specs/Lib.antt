@@ -10,5 +10,6 @@ pub mod HandLaws
 pub mod PlayerLaws
 pub mod Playing
 pub mod Runs
+pub mod LaneRules
 pub mod Visits
 pub mod VisitLaws

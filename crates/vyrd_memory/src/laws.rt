@@ -1,5 +1,6 @@
 //! Laws of runs, by turns and all at once. Each function does nothing: its contract is the law.
 
+ghost use Rattle.vyrd_memory.specs.LaneRules.{EndedLanesAreClosed, LanesKeepTheRules, NoneIsOpenAtTheEnd, OnlyRacesBreakRules};
 ghost use Rattle.vyrd_memory.specs.Runs.{EndedRunsArentStuck, LoggedCallsFit, OnlyRacesAreMalformed, RunsByTurnsAreLegal, RunsByTurnsPlayToTheEnd, TurnsHaveOneEnd};
 
 /// A run by turns of sound scripts is a legal history, and each script is played to its end in it.
@@ -8,10 +9,19 @@ pub fn run_by_turns_is_legal()
     ensures played { RunsByTurnsPlayToTheEnd }
 {}
 
+/// A caller whose part of a history plays a sound script keeps every rule of shape in the log, but that its writes may race with
+/// other callers' blocks; also where the script isn't at its end, and whatever the others do. At its end no execution is open.
+pub fn lanes_keep_the_rules()
+    ensures kept { LanesKeepTheRules }
+    ensures closed { EndedLanesAreClosed }
+{}
+
 /// In the log of a legal history in which sound scripts are played to their end, no rule is broken but by a write to a word
-/// that another caller's open block has written.
+/// that another caller's open block has written, and no execution is open at its end. So a verdict names no other rule.
 pub fn only_races_are_malformed()
-    ensures { OnlyRacesAreMalformed }
+    ensures breaks { OnlyRacesBreakRules }
+    ensures closed { NoneIsOpenAtTheEnd }
+    ensures named { OnlyRacesAreMalformed }
 {}
 
 /// The calls in that log are of the header's subject, with arguments in range.

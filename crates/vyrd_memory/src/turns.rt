@@ -13,6 +13,8 @@ use crate::act::Act;
 use crate::machine::Machine;
 use crate::op::Turn;
 use std::alloc::{AllocError, Global};
+use std::error::Error;
+use std::fmt;
 use vyrd_base::{Did, Header, Stamped};
 
 /// What a run by turns leaves.
@@ -32,6 +34,17 @@ pub enum StepFault {
     /// There was no memory.
     Memory,
 }
+
+impl fmt::Display for StepFault {
+    fn fmt<W: fmt::Write>(&self, f: &mut fmt::Formatter<W>) -> fmt::Result {
+        match self {
+            StepFault::Stuck => write!(f, "the run by turns is stuck"),
+            StepFault::Memory => write!(f, "out of memory"),
+        }
+    }
+}
+
+impl Error for StepFault {}
 
 // Does an act of the caller in the memory. There is no event where the act is none, or where it takes a lock that is held.
 fn perform(words: &mut Vec<u64>, caller: u32, act: Act) -> Option<Did>

@@ -1,0 +1,105 @@
+-- The part of one caller that plays a sound script keeps the rules, whatever the others do.
+use Rattle.std.proofs.Common.{◌≡◌, ℕ, ◌<◌, Bool, true, false, cond, List, [], ◌∷◌, Option, Some, None, refl, ap, ◌∙◌, sym, subst, arith}
+use Rattle.std.specs.Prelude.{◌==◌, is_some, is_none, filter_map}
+use Rattle.std.specs.List.{cons_option}
+use Rattle.std.proofs.lemmas.Bool.Decides.{nat_tests}
+use Rattle.vyrd_base.specs.declared.header.Header.{Header}
+use Rattle.vyrd_base.specs.declared.log.Entry.{Entry}
+use Rattle.vyrd_base.specs.declared.history.Did.{Did}
+use Rattle.vyrd_base.specs.declared.history.Did.TheVariants.{Read, Wrote, Took, Gave, Marked}
+use Rattle.vyrd_base.specs.declared.history.Stamped.{Stamped}
+use Rattle.vyrd_base.specs.declared.verdict.Rule.{Rule}
+use Rattle.vyrd_base.specs.declared.verdict.Rule.TheVariants.{BlockRaced}
+use Rattle.vyrd_base.specs.Places.{newest_first}
+use Rattle.vyrd_base.specs.Callers.{open_call}
+use Rattle.vyrd_base.specs.Front.{first_break}
+use Rattle.vyrd_base.specs.Verdicts.{is_call_open}
+use Rattle.vyrd_base.specs.Histories.{cells_of, is_legal, logged, log_of}
+use Rattle.vyrd_base.proofs.HistoryLaws.{log_entry}
+use Rattle.vyrd_memory.specs.Scripts.{Script, left_after, Plays, PlaysToTheEnd}
+use Rattle.vyrd_memory.specs.Soundness.{Standing, at_rest, may_act, IsSound}
+use Rattle.vyrd_memory.specs.Turns.{part_of}
+use Rattle.vyrd_memory.specs.Runs.{AreSoundScripts, PlayToTheEnd}
+use Rattle.vyrd_memory.specs.LaneRules.{AreSmallReads, KeepsTheRules}
+use Rattle.vyrd_memory.proofs.Standings.{act_of_event, standing_in, KeepsTo, AreAnswers, sound_keeps, sound_left, rests_at_stop}
+use Rattle.vyrd_memory.proofs.Agreements.{Agrees, agrees, keeps_before}
+use Rattle.vyrd_memory.proofs.KeptRules.{isnt_open, write_kept, mark_kept}
+use Rattle.vyrd_memory.proofs.RaceLaws.{newest_log}
+
+-- small reads are what an act may be answered
+are_answers : (dids : List Did) → AreSmallReads dids → AreAnswers dids
+are_answers [] small = tt
+are_answers (Read cell value ∷ earlier) small = (small.0, are_answers earlier small.1)
+are_answers (Wrote cell value ∷ earlier) small = (refl, are_answers earlier small)
+are_answers (Took lock ∷ earlier) small = (refl, are_answers earlier small)
+are_answers (Gave lock ∷ earlier) small = (refl, are_answers earlier small)
+are_answers (Marked kind ∷ earlier) small = (refl, are_answers earlier small)
+
+-- one event more of the caller, and of another
+own_keeps : (h : Header) (c : ℕ) (did : Did) (s : Standing) (log : List Entry) → c < h.callers → may_act h s (act_of_event did) ≡ true
+    → Agrees c s log → KeepsTheRules h c log → KeepsTheRules h c (cons_option (logged c did) log)
+own_keeps h c (Read cell value) s log low may a keeps = keeps
+own_keeps h c (Wrote cell value) s log low may a keeps = (λ same. (write_kept h c cell value s log low may a).raced, keeps)
+own_keeps h c (Took lock) s log low may a keeps = keeps
+own_keeps h c (Gave lock) s log low may a keeps = keeps
+own_keeps h c (Marked kind) s log low may a keeps = (λ same. (mark_kept h c kind s log low may a).raced, keeps)
+
+differ : (d c : ℕ) → (d == c) ≡ false → d ≡ c → ⊥
+differ d c apart same = grind (arith, nat_tests)
+
+other_keeps : (h : Header) (c d : ℕ) (did : Did) (log : List Entry) → (d == c) ≡ false
+    → KeepsTheRules h c log → KeepsTheRules h c (cons_option (logged d did) log)
+other_keeps h c d (Read cell value) log apart keeps = keeps
+other_keeps h c d (Wrote cell value) log apart keeps = (λ same. absurd (differ d c apart same), keeps)
+other_keeps h c d (Took lock) log apart keeps = keeps
+other_keeps h c d (Gave lock) log apart keeps = keeps
+other_keeps h c d (Marked kind) log apart keeps = (λ same. absurd (differ d c apart same), keeps)
+
+event_keeps : (h : Header) (c : ℕ) (e : Stamped) (earlier : List Stamped) → c < h.callers → (b : Bool) → (e.caller == c) ≡ b
+    → KeepsTo h (cons_option (cond b (Some e.did) None) (part_of c earlier)) → KeepsTheRules h c (filter_map log_entry earlier)
+    → KeepsTheRules h c (cons_option (logged e.caller e.did) (filter_map log_entry earlier))
+event_keeps h c e earlier low true is keeps rest =
+    let same : c ≡ e.caller = grind (arith, nat_tests) in
+    subst (λ d. KeepsTheRules h c (cons_option (logged d e.did) (filter_map log_entry earlier))) same
+    (own_keeps h c e.did (standing_in (part_of c earlier)) (filter_map log_entry earlier) low keeps.0 (agrees h c earlier keeps.1) rest)
+event_keeps h c e earlier low false is keeps rest = other_keeps h c e.caller e.did (filter_map log_entry earlier) is rest
+
+-- so the log of events in which the caller keeps to what it may do
+events_keep : (h : Header) (c : ℕ) (earlier : List Stamped) → c < h.callers → KeepsTo h (part_of c earlier)
+    → KeepsTheRules h c (filter_map log_entry earlier)
+events_keep h c [] low keeps = tt
+events_keep h c (e ∷ earlier) low keeps =
+    event_keeps h c e earlier low (e.caller == c) refl keeps (events_keep h c earlier low (keeps_before h c e earlier keeps))
+
+pub lane_keeps : (h : Header) (c : ℕ) (script : Script) (history : List Stamped) → c < h.callers → IsSound h at_rest script
+    → Plays script (part_of c (newest_first history)) → AreSmallReads (part_of c (newest_first history))
+    → KeepsTheRules h c (newest_first (log_of history))
+lane_keeps h c script history low sound plays small =
+    subst (KeepsTheRules h c) (sym (newest_log history))
+    (events_keep h c (newest_first history) low
+    (sound_keeps h script (part_of c (newest_first history)) sound plays (are_answers (part_of c (newest_first history)) small)))
+
+none_there : {A : Type 0} (o : Option A) → is_some o ≡ false → o ≡ None
+none_there None e = refl
+none_there (Some x) e = cc
+
+pub lane_is_closed : (h : Header) (c : ℕ) (script : Script) (history : List Stamped) → c < h.callers → IsSound h at_rest script
+    → PlaysToTheEnd script (part_of c (newest_first history)) → AreSmallReads (part_of c (newest_first history))
+    → open_call c (newest_first (log_of history)) ≡ None
+lane_is_closed h c script history low sound plays small =
+    ap (open_call c) (newest_log history)
+    ∙ none_there (open_call c (filter_map log_entry (newest_first history)))
+    (isnt_open c (standing_in part) (filter_map log_entry (newest_first history)) (agrees h c (newest_first history) keeps)
+    (ap (λ s. is_none s.called) at_end))
+  where
+    part : List Did
+    part = part_of c (newest_first history)
+
+    answers : AreAnswers part
+    answers = are_answers part small
+
+    keeps : KeepsTo h part
+    keeps = sound_keeps h script part sound plays.plays answers
+
+    at_end : standing_in part ≡ at_rest
+    at_end = rests_at_stop h (standing_in part) (left_after script part) (sound_left h script part sound plays.plays answers) plays.done
