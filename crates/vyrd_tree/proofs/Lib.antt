@@ -4,4 +4,5 @@ pub mod Added
 pub mod Parted
 pub mod Rooms
 pub mod Hangs
+pub mod Onward
 pub mod PassLaws

@@ -47,12 +47,17 @@ leaf_found size m low key t (suc left) n used leaf from more =
         subst (λ b. LeafOf size m low key (cond b (leaf_from left m key (right_at m n)) n)) (sym (past (bound_at m n) key some le))
         (later on.in_use (on.same_level ∙ leaf) (omega arith) (omega arith))
 
-pub leaf_is : (h : Header) (m : Memory) (low : ℕ → ℕ) (key n : ℕ) → IsTree h.size m low → LeafOf h.size m low key n → leaf_of h m key ≡ n
-leaf_is h m low key n t l =
+-- the leaf of a key is a leaf in use that has the key in its range, and no other node is
+pub leaf_stands : (h : Header) (m : Memory) (low : ℕ → ℕ) (key : ℕ) → IsTree h.size m low → LeafOf h.size m low key (leaf_of h m key)
+leaf_stands h m low key t =
     let none = zero_low h.size m low t in
     let few = after_few (last_in h.size m) m low 0 (omega arith) in
     let fits = t.last_low in
-    let found = leaf_found h.size m low key t h.size 0 (omega arith) t.zero_leaf (omega (arith, none)) (omega (arith, few, fits)) in
+    leaf_found h.size m low key t h.size 0 (omega arith) t.zero_leaf (omega (arith, none)) (omega (arith, few, fits))
+
+pub leaf_is : (h : Header) (m : Memory) (low : ℕ → ℕ) (key n : ℕ) → IsTree h.size m low → LeafOf h.size m low key n → leaf_of h m key ≡ n
+leaf_is h m low key n t l =
+    let found = leaf_stands h m low key t in
     one_cover h.size m low t (leaf_of h m key) n key found.in_use l.in_use (found.leaf ∙ sym l.leaf) found.covers l.covers
 
 by_outcome : (P : Type 0) (says : ℕ → Memory → Type 0) (o : Option Outcome) → EndsSo says o

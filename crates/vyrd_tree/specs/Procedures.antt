@@ -56,21 +56,38 @@ abbrev pub replace_value : Header → ℕ → ℕ → ℕ → Script
 replace_value h node place value =
     perform (Mark BlockOpen) (perform (Store (value_cell node place) value) (perform (Mark BlockCommit) (unlock_node h node (returns 2))))
 
--- an entry for a key that isn't there: the leaf may be split, and then the new leaf gets an entry above, in up to 16 rounds
-abbrev pub insert_new : Header → Variant → ℕ → ℕ → Arrived → Script
-insert_new h variant key value at =
-    if nat_lt (length at.entries) 4 then add_entry h at key value BlockCommit (returns 1)
-    else with_unused h (changes_nothing h at.node) (λ new.
-    split_entry h at key value new BlockCommit (ascend h variant 16 0 (split_key at key value) new (returns 1)))
+-- the ascent after a leaf was split: up to 16 rounds for the new leaf, and then it returns 1
+abbrev pub ascend_from_leaf : Header → Variant → ℕ → ℕ → Script
+ascend_from_leaf h variant key leaf = ascend h variant 16 0 key leaf (returns 1)
 
--- what an insert does in the leaf of its key
+-- An entry for a key that isn't there. The leaf may be split, and then comes what is given for the first key of the new leaf and
+-- its number.
+abbrev pub insert_new_then : Header → ℕ → ℕ → (ℕ → ℕ → Script) → Arrived → Script
+insert_new_then h key value split at =
+    if nat_lt (length at.entries) 4 then add_entry h at key value BlockCommit (returns 1)
+    else with_unused h (changes_nothing h at.node) (λ new. split_entry h at key value new BlockCommit (split (split_key at key value) new))
+
+-- the same, and after a split the ascent
+abbrev pub insert_new : Header → Variant → ℕ → ℕ → Arrived → Script
+insert_new h variant key value at = insert_new_then h key value (ascend_from_leaf h variant) at
+
+-- what an insert does in the leaf of its key, and after a split what is given
+abbrev pub insert_in_then : Header → ℕ → ℕ → (ℕ → ℕ → Script) → Arrived → Option ℕ → Script
+insert_in_then h key value split at None = insert_new_then h key value split at
+insert_in_then h key value split at (Some place) = replace_value h at.node place value
+
+-- the same, and after a split the ascent
 abbrev pub insert_in : Header → Variant → ℕ → ℕ → Arrived → Option ℕ → Script
-insert_in h variant key value at None = insert_new h variant key value at
-insert_in h variant key value at (Some place) = replace_value h at.node place value
+insert_in h variant key value at place = insert_in_then h key value (ascend_from_leaf h variant) at place
+
+-- insert k v, and after a split what is given
+abbrev pub insert_then : Header → Variant → ℕ → ℕ → (ℕ → ℕ → Script) → Script
+insert_then h variant key value split =
+    walk_down h variant key gives_up (λ at. insert_in_then h key value split at (place_of key at.entries))
 
 -- insert k v
 abbrev pub insert_entry : Header → Variant → ℕ → ℕ → Script
-insert_entry h variant key value = walk_down h variant key gives_up (λ at. insert_in h variant key value at (place_of key at.entries))
+insert_entry h variant key value = insert_then h variant key value (ascend_from_leaf h variant)
 
 -- the procedure of each method; those of another subject have none
 abbrev pub by_method : Header → Variant → Method → ℕ → ℕ → Script
