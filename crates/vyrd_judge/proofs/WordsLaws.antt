@@ -16,7 +16,7 @@ use Rattle.vyrd_base.specs.Callers.{has_block}
 use Rattle.vyrd_base.specs.Layout.{plain_words}
 use Rattle.vyrd_base.specs.Words.{block_writes, effects_at, effects, given_to, value_after, words_after}
 use Rattle.vyrd_base.specs.Commits.{is_commit}
-use Rattle.vyrd_base.proofs.PlaceLaws.{first_answer-append}
+use Rattle.vyrd_base.proofs.PlaceLaws.{first_answer-append, length-mapped}
 use Rattle.vyrd_base.proofs.BlockLaws.{entry}
 use Rattle.vyrd_base.proofs.ShadowLaws.{caller_kept, open_kept, close_kept, block_commit_kept}
 use Rattle.vyrd_base.proofs.TestLaws.{below_of, is_below, same_of, neither_true, same_number}
@@ -57,10 +57,6 @@ map_at : (f g : ℕ → ℕ) (k n x : ℕ) → f (k + x) ≡ g (k + x) → get_o
 map_at f g k zero x same = refl
 map_at f g k (suc n) zero same = let e : k + 0 ≡ k = omega arith in subst (λ j. f j ≡ g j) e same
 map_at f g k (suc n) (suc x) same = let e : k + suc x ≡ k + 1 + x = omega arith in map_at f g (k + 1) n x (subst (λ j. f j ≡ g j) e same)
-
-length-mapped : (f : ℕ → ℕ) (k n : ℕ) → length (map f (numbers_from k n)) ≡ n
-length-mapped f k zero = refl
-length-mapped f k (suc n) = ap suc (length-mapped f (k + 1) n)
 
 pub length-words_after : (h : Header) (earlier : List Entry) → length (words_after h earlier) ≡ plain_words h
 unfolding words_after

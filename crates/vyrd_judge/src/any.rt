@@ -3,6 +3,7 @@
 ghost use Rattle.std.specs.Prelude.{◌≡◌, length, ◌<◌, ◌≤◌, ◌+◌, ◌^◌, ◌∷◌, ◌++◌, ℕ, true, false, List, [], Option, Some, None, Ok, IfOk, OnOk, OnErr, unwrap_or};
 ghost use Rattle.std.specs.Result.{is_err};
 ghost use Rattle.vyrd_base.specs.declared.log.Entry.{Entry};
+ghost use Rattle.vyrd_base.specs.declared.verdict.Verdict.{Verdict};
 ghost use Rattle.vyrd_base.specs.declared.verdict.Verdict.TheVariants.{Malformed};
 ghost use Rattle.vyrd_base.specs.Histories.{log_of};
 ghost use Rattle.vyrd_base.specs.Verdicts.{verdict, verdict_so_far};
@@ -69,6 +70,7 @@ impl AnyJudge {
         ensures followed { (log : List Entry) → HasFollowed self.old log → OnOk result (HasFollowed self.new (log ++ entry ∷ [])) }
         ensures so_far { IfOk result (λ v. self.new.so_far ≡ v) }
         ensures stays { OnErr result (self.new.so_far ≡ self.old.so_far) }
+        ensures stands { (v : Verdict) → self.old.so_far ≡ Some v → self.old.has_failed ≡ false → result ≡ Ok (Some v) }
         ensures has_failed { self.new.has_failed ≡ is_err result }
         ensures fails_again { self.old.has_failed ≡ true → is_err result ≡ true }
         ensures counted { self.new.kept.entries ≤ self.old.kept.entries + 1 }
@@ -87,6 +89,7 @@ impl AnyJudge {
         ensures answer { (log : List Entry) → HasFollowed self.old log → IfOk result (λ v. v ≡ verdict_so_far self.old.kept.header (log ++ entries.now)) }
         ensures followed { (log : List Entry) → HasFollowed self.old log → OnOk result (HasFollowed self.new (log ++ entries.now)) }
         ensures so_far { IfOk result (λ v. self.new.so_far ≡ v) }
+        ensures stays { OnErr result (self.new.so_far ≡ self.old.so_far) }
         ensures has_failed { OnErr result (self.new.has_failed ≡ true) }
         ensures counted { self.new.kept.entries ≤ self.old.kept.entries + length entries.now }
         ensures header { self.new.kept.header ≡ self.old.kept.header }
@@ -104,6 +107,7 @@ impl AnyJudge {
         ensures answer { (log : List Entry) → HasFollowed self.old log → IfOk result (λ v. v ≡ verdict_so_far self.old.kept.header (log ++ log_of history.now)) }
         ensures followed { (log : List Entry) → HasFollowed self.old log → OnOk result (HasFollowed self.new (log ++ log_of history.now)) }
         ensures so_far { IfOk result (λ v. self.new.so_far ≡ v) }
+        ensures stays { OnErr result (self.new.so_far ≡ self.old.so_far) }
         ensures has_failed { OnErr result (self.new.has_failed ≡ true) }
         ensures counted { self.new.kept.entries ≤ self.old.kept.entries + length history.now }
         ensures header { self.new.kept.header ≡ self.old.kept.header }

@@ -1,8 +1,9 @@
 //! The online judge.
 
-ghost use Rattle.std.specs.Prelude.{◌≡◌, length, take, ◌<◌, ◌≤◌, ◌+◌, ◌^◌, ◌∷◌, ◌++◌, ℕ, true, false, List, [], Option, Some, None, IfOk, OnOk, OnErr, unwrap_or};
+ghost use Rattle.std.specs.Prelude.{◌≡◌, length, take, ◌<◌, ◌≤◌, ◌+◌, ◌^◌, ◌∷◌, ◌++◌, ℕ, true, false, List, [], Option, Some, None, Ok, IfOk, OnOk, OnErr, unwrap_or};
 ghost use Rattle.std.specs.Result.{is_err};
 ghost use Rattle.vyrd_base.specs.declared.log.Entry.{Entry};
+ghost use Rattle.vyrd_base.specs.declared.verdict.Verdict.{Verdict};
 ghost use Rattle.vyrd_base.specs.declared.verdict.Verdict.TheVariants.{Malformed};
 ghost use Rattle.vyrd_base.specs.declared.header.Header.{Header};
 ghost use Rattle.vyrd_base.specs.Histories.{log_of};
@@ -29,11 +30,22 @@ use vyrd_spec::Spec;
 /// a commit waits, so that memory grows with the log only while some execution stays open; and so do the answers of an open observer.
 ///
 /// Want of memory may be met in [`Judge::feed`] alone. From then on `feed`, `finish` and `stop` answer it.
-#[derive(Drop)]
 pub struct Judge<S: Spec> {
     follower: Follower<S>,
     so_far: Option<Verdict>,
     has_failed: bool,
+}
+
+impl<S: Spec> Drop for Judge<S> {
+    // By hand, so that whoever lets a judge go has one call to prove and not the letting go of each of its parts.
+    fn drop(self) {
+        let Judge {
+            follower,
+            so_far: _,
+            has_failed: _,
+        } = self;
+        drop(follower);
+    }
 }
 
 impl<S: Spec> Model for Judge<S> {
@@ -73,6 +85,7 @@ impl<S: Spec> Judge<S> {
         ensures followed { (log : List Entry) → HasFollowed self.old log → OnOk result (HasFollowed self.new (log ++ entry ∷ [])) }
         ensures so_far { IfOk result (λ v. self.new.so_far ≡ v) }
         ensures stays { OnErr result (self.new.so_far ≡ self.old.so_far) }
+        ensures stands { (v : Verdict) → self.old.so_far ≡ Some v → self.old.has_failed ≡ false → result ≡ Ok (Some v) }
         ensures has_failed { self.new.has_failed ≡ is_err result }
         ensures fails_again { self.old.has_failed ≡ true → is_err result ≡ true }
         ensures counted { self.new.kept.entries ≤ self.old.kept.entries + 1 }
@@ -102,6 +115,7 @@ impl<S: Spec> Judge<S> {
         ensures answer { (log : List Entry) → HasFollowed self.old log → IfOk result (λ v. v ≡ verdict_so_far self.old.kept.header (log ++ entries.now)) }
         ensures followed { (log : List Entry) → HasFollowed self.old log → OnOk result (HasFollowed self.new (log ++ entries.now)) }
         ensures so_far { IfOk result (λ v. self.new.so_far ≡ v) }
+        ensures stays { OnErr result (self.new.so_far ≡ self.old.so_far) }
         ensures has_failed { OnErr result (self.new.has_failed ≡ true) }
         ensures counted { self.new.kept.entries ≤ self.old.kept.entries + length entries.now }
         ensures header { self.new.kept.header ≡ self.old.kept.header }
@@ -118,6 +132,7 @@ impl<S: Spec> Judge<S> {
         ensures answer { (log : List Entry) → HasFollowed self.old log → IfOk result (λ v. v ≡ verdict_so_far self.old.kept.header (log ++ log_of history.now)) }
         ensures followed { (log : List Entry) → HasFollowed self.old log → OnOk result (HasFollowed self.new (log ++ log_of history.now)) }
         ensures so_far { IfOk result (λ v. self.new.so_far ≡ v) }
+        ensures stays { OnErr result (self.new.so_far ≡ self.old.so_far) }
         ensures has_failed { OnErr result (self.new.has_failed ≡ true) }
         ensures counted { self.new.kept.entries ≤ self.old.kept.entries + length history.now }
         ensures header { self.new.kept.header ≡ self.old.kept.header }

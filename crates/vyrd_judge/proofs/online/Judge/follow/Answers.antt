@@ -3,7 +3,7 @@ use Rattle.std.proofs.lemmas.List.{take_more}
 use Rattle.vyrd_base.specs.Verdicts.{verdict_so_far}
 use Rattle.vyrd_judge.specs.Following.{JudgeView, HasFollowed}
 use Rattle.vyrd_judge.proofs.FrontLaws.{take_past}
-use Rattle.vyrd_judge.proofs.OnlineLaws.{so_far_is_known}
+use Rattle.vyrd_judge.proofs.OnlineLaws.{so_far_is_known, still_known, refused_stays, on_error}
 use Rattle.vyrd_judge.proofs.online.Judge.follow.Goals as goal
 
 pub loop-entry-preserved : goal.loop-entry-preserved
@@ -16,6 +16,8 @@ loop-entry-preserved g c =
           (c.in_ok-feed.ensures.followed (log ++ take i es) (c.loop-entry.invariant.followed log f));
       header = c.feed.ensures.header ∙ c.loop-entry.invariant.header;
       counted = omega (arith, c.feed.ensures.counted, c.loop-entry.invariant.counted);
+      so_far = still_known c.args.self.now c.loop-entry.self c.feed.new.self c.in_ok-feed.field-0 c.loop-entry.invariant.so_far c.in_ok-feed.ensures.fails_again
+          c.in_ok-feed.ensures.stands c.in_ok-feed.ensures.so_far c.in_ok-feed.ensures.has_failed;
     }
 
 pub returns-clause-followed : goal.returns-clause-followed
@@ -28,3 +30,8 @@ returns-clause-answer g c = λ log f.
     ap (λ (j : JudgeView). j.so_far) c.self.view_is
     ∙ so_far_is_known (returns-clause-followed g c log f)
     ∙ ap (λ h. verdict_so_far h (log ++ c.args.entries.now)) c.loop-entry.invariant.header
+
+pub returns-in_err-feed-clause-stays : goal.returns-in_err-feed-clause-stays
+returns-in_err-feed-clause-stays g c = on_error c.from_residual.result
+    (refused_stays c.args.self.now c.loop-entry.self c.feed.new.self c.in_err-feed.field-0.0 c.loop-entry.invariant.so_far
+    c.in_err-feed.ensures.stands c.in_err-feed.ensures.stays)

@@ -1,4 +1,4 @@
-use Rattle.std.proofs.Common.{◌≡◌, ◌∷◌, ◌++◌, [], List, Option, Some, None, take, ap, sym, subst, ◌∙◌, refl, arith, append_assoc, append-nil}
+use Rattle.std.proofs.Common.{◌≡◌, inl, ◌∷◌, ◌++◌, [], List, Option, Some, None, take, ap, sym, subst, ◌∙◌, refl, arith, append_assoc, append-nil}
 use Rattle.std.specs.Prelude.{get_or}
 use Rattle.std.specs.List.{cons_option}
 use Rattle.std.proofs.lemmas.List.{take_all}
@@ -6,7 +6,7 @@ use Rattle.vyrd_base.specs.declared.log.Entry.{Entry}
 use Rattle.vyrd_base.specs.Verdicts.{verdict_so_far}
 use Rattle.vyrd_base.specs.Histories.{logged, log_of}
 use Rattle.vyrd_judge.specs.Following.{JudgeView, HasFollowed}
-use Rattle.vyrd_judge.proofs.OnlineLaws.{so_far_is_known}
+use Rattle.vyrd_judge.proofs.OnlineLaws.{so_far_is_known, StaysOrStands, still_known, refused_stays, on_error}
 use Rattle.vyrd_judge.proofs.HistoryLaws.{log_of_none, log_more, past}
 use Rattle.vyrd_judge.proofs.online.Judge.follow_history.Goals.{in-Some+in_ok-feed, in_default}
 use Rattle.vyrd_judge.proofs.online.Judge.follow_history.Goals as goal
@@ -16,6 +16,7 @@ loop-event-init g c = record {
   followed = λ log f. subst (HasFollowed c.args.self.now) (sym (ap (λ xs. log ++ xs) log_of_none ∙ append-nil log)) f;
   header = refl;
   counted = omega arith;
+  so_far = inl refl;
 }
 
 pub loop-event-preserved : goal.loop-event-preserved
@@ -33,6 +34,9 @@ loop-event-preserved g c =
             (w.in_ok-feed.ensures.followed (log ++ log_before) (c.loop-event.invariant.followed log f)));
         header = ap (λ (j : JudgeView). j.kept.header) w.self-is ∙ w.feed.ensures.header ∙ c.loop-event.invariant.header;
         counted = omega (arith, ap (λ (j : JudgeView). j.kept.entries) w.self-is, w.feed.ensures.counted, c.loop-event.invariant.counted);
+        so_far = subst (StaysOrStands c.args.self.now) (sym w.self-is)
+            (still_known c.args.self.now c.loop-event.self w.feed.new.self w.in_ok-feed.field-0 c.loop-event.invariant.so_far
+            w.in_ok-feed.ensures.fails_again w.in_ok-feed.ensures.stands w.in_ok-feed.ensures.so_far w.in_ok-feed.ensures.has_failed);
       }
       | in_default w ↦ record {
         followed = λ log f. subst (HasFollowed c.match-entry_of.self)
@@ -42,6 +46,7 @@ loop-event-preserved g c =
             (subst (λ j. HasFollowed j (log ++ log_before)) (sym w.self-is) (c.loop-event.invariant.followed log f));
         header = ap (λ (j : JudgeView). j.kept.header) w.self-is ∙ c.loop-event.invariant.header;
         counted = omega (arith, ap (λ (j : JudgeView). j.kept.entries) w.self-is, c.loop-event.invariant.counted);
+        so_far = subst (StaysOrStands c.args.self.now) (sym w.self-is) c.loop-event.invariant.so_far;
       }
     ]
 
@@ -55,3 +60,8 @@ returns-clause-answer g c = λ log f.
     ap (λ (j : JudgeView). j.so_far) c.self.view_is
     ∙ so_far_is_known (returns-clause-followed g c log f)
     ∙ ap (λ h. verdict_so_far h (log ++ log_of c.args.history.now)) c.loop-event.invariant.header
+
+pub returns-in_err-feed-clause-stays : goal.returns-in_err-feed-clause-stays
+returns-in_err-feed-clause-stays g c = on_error c.from_residual.result
+    (refused_stays c.args.self.now c.loop-event.self c.feed.new.self c.in_err-feed.field-0.0 c.loop-event.invariant.so_far
+    c.in_err-feed.ensures.stands c.in_err-feed.ensures.stays)

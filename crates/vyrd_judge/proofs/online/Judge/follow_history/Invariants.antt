@@ -2,6 +2,7 @@ use Rattle.std.proofs.Common.{◌≡◌, ◌≤◌, ◌+◌, ◌++◌, List, tak
 use Rattle.vyrd_base.specs.declared.log.Entry.{Entry}
 use Rattle.vyrd_base.specs.Histories.{log_of}
 use Rattle.vyrd_judge.specs.Following.{HasFollowed}
+use Rattle.vyrd_judge.proofs.OnlineLaws.{StaysOrStands}
 use Rattle.vyrd_judge.proofs.online.Judge.follow_history.Given as goal
 
 abbrev pub invariant-loop-event : goal.invariant-loop-event
@@ -9,4 +10,5 @@ invariant-loop-event g l = record {
   followed : (log : List Entry) → HasFollowed l.initial.self log → HasFollowed l.self (log ++ log_of (take l.event-index l.fn.history));
   header : l.self.kept.header ≡ l.initial.self.kept.header;
   counted : l.self.kept.entries ≤ l.initial.self.kept.entries + l.event-index;
+  so_far : StaysOrStands l.initial.self l.self;
 }
