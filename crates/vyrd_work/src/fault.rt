@@ -4,6 +4,8 @@ ghost use Rattle.std.specs.Prelude.{◌≡◌, ◌≤◌, ◌++◌, length, OnOk
 ghost use Rattle.vyrd_work.specs.Refusals.{work_rule_text, refusal_text};
 
 use std::alloc::AllocError;
+use std::error::Error;
+use std::fmt;
 use vyrd_text::LineBuffer;
 
 /// A rule that a line of a workload can break. Where a line breaks several, the first of them in this order is named.
@@ -65,6 +67,17 @@ pub enum WorkFault {
     /// There was no memory for the workload.
     Memory,
 }
+
+impl fmt::Display for WorkFault {
+    fn fmt<W: fmt::Write>(&self, f: &mut fmt::Formatter<W>) -> fmt::Result {
+        match self {
+            WorkFault::Refused { line, rule } => write!(f, "line {line}: {rule:?}"),
+            WorkFault::Memory => write!(f, "out of memory"),
+        }
+    }
+}
+
+impl Error for WorkFault {}
 
 /// Appends the line that says which line of a workload is bad and why, with its line feed. A refusal leaves `out` unchanged.
 pub fn write_refusal(line: u64, rule: WorkRule, out: &mut Vec<u8>) -> Result<(), AllocError>

@@ -38,7 +38,7 @@ same_chunk c d e0 e1 e2 e3 e4 = λ i. record { state = e0 i; cached_lo = e1 i; c
 many_cells : (h : Header) → h.subject ≡ Cache → plain_words h + lock_words h ≡ 5 * h.size + h.size
 many_cells h is = ap (λ s. plain_words_of s h.size + lock_words_of s h.size) is
 
-chunk_in : (h : Header) (memory : Memory) (k : ℕ) → h.subject ≡ Cache → k < h.size → chunk_at (words_in h memory) k ≡ chunk_of memory k
+pub chunk_in : (h : Header) (memory : Memory) (k : ℕ) → h.subject ≡ Cache → k < h.size → chunk_at (words_in h memory) k ≡ chunk_of memory k
 chunk_in h memory k is low =
     let many = many_cells h is in
     same_chunk (chunk_at (words_in h memory) k) (chunk_of memory k)

@@ -43,7 +43,7 @@ state_is_plain h is slot low = ap (λ s. nat_lt (2 * slot) (plain_words_of s h.s
 value_is_plain : (h : Header) → h.subject ≡ Multiset → (slot : ℕ) → slot < 4 * h.size → is_plain (cells_of h) (value_word slot) ≡ true
 value_is_plain h is slot low = ap (λ s. nat_lt (2 * slot + 1) (plain_words_of s h.size)) is ∙ is_below (2 * slot + 1) (8 * h.size) (omega arith)
 
-is_its_lock : (h : Header) → h.subject ≡ Multiset → (bucket : ℕ) → bucket < h.size → is_lock (cells_of h) (lock_of h bucket) ≡ true
+pub is_its_lock : (h : Header) → h.subject ≡ Multiset → (bucket : ℕ) → bucket < h.size → is_lock (cells_of h) (lock_of h bucket) ≡ true
 is_its_lock h is bucket low =
     ap (λ s. nat_le (plain_words_of s h.size) (8 * h.size + bucket)
     && nat_lt (8 * h.size + bucket) (plain_words_of s h.size + lock_words_of s h.size)) is
@@ -65,7 +65,7 @@ store_sound h s cell value later plain low called sound =
     (both_true _ _ (both_true _ _ plain (is_below value (2 ^ 63) low)) called, λ answer is. sound)
 
 -- the same lock isn't held any more
-gone : (lock : ℕ) (locks : List ℕ) → filter (λ held. not (held == lock)) (lock ∷ locks) ≡ filter (λ held. not (held == lock)) locks
+pub gone : (lock : ℕ) (locks : List ℕ) → filter (λ held. not (held == lock)) (lock ∷ locks) ≡ filter (λ held. not (held == lock)) locks
 gone lock locks = ap (λ b. cond (not b) (lock ∷ filter (λ held. not (held == lock)) locks)
     (filter (λ held. not (held == lock)) locks)) (same_number lock)
 

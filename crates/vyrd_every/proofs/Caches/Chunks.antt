@@ -1,0 +1,106 @@
+-- What is known of a chunk while its lock is held, and what a block that stores into it makes of the state.
+use Rattle.std.proofs.Common.{◌≡◌, ◌≢◌, ℕ, ◌+◌, ◌*◌, ◌/◌, ◌<◌, ◌≤◌, true, ap, ◌∙◌, subst, arith}
+use Rattle.vyrd_base.specs.declared.header.Header.{Header}
+use Rattle.vyrd_base.specs.declared.subject.Subject.TheVariants.{Cache}
+use Rattle.vyrd_base.specs.Layout.{plain_words, lock_words, plain_words_of, lock_words_of}
+use Rattle.vyrd_base.specs.Amounts.{Amounts, with_amount}
+use Rattle.vyrd_base.specs.Views.{Chunk}
+use Rattle.vyrd_base.specs.Standing.{is_sound_chunk}
+use Rattle.vyrd_memory.specs.Alone.{Memory, with_cell}
+use Rattle.vyrd_memory.specs.Soundness.{Standing, holds}
+use Rattle.vyrd_memory.proofs.Memories.{Stands, changed_cell, other_cell}
+use Rattle.vyrd_cache.specs.Procedures.{lock_of}
+use Rattle.vyrd_cache.specs.Laws.Chunks.{chunk_of, same_chunk, shown, Leaves, changed_chunk, kept_chunk}
+use Rattle.vyrd_cache.specs.Laws.Stores.{with_cached, with_stored, with_state}
+use Rattle.vyrd_every.specs.Hands.{Hand, Access}
+use Rattle.vyrd_every.specs.Others.{Rely}
+use Rattle.vyrd_every.specs.Guarded.{cache}
+
+-- the words of a chunk whose lock is held
+pub chunk_access : (h : Header) (s : Standing) (n cell : ℕ) → n < h.size → holds s (lock_of h n) ≡ true → 5 * n ≤ cell → cell < 5 * n + 5
+    → Access (cache h) s cell
+chunk_access h s n cell low held from to = record {
+  low = omega (arith, low, from, to);
+  held = let e : n ≡ cell / 5 = omega (arith, from, to) in subst (λ k. holds s (lock_of h k) ≡ true) e held;
+}
+
+-- they stay as they are
+pub chunk_stays : (h : Header) (s : Standing) (k : Hand) (before now : Memory) (n : ℕ) → n < h.size → holds s (lock_of h n) ≡ true
+    → Rely (cache h) s k before now → chunk_of now n ≡ chunk_of before n
+chunk_stays h s k before now n low held rely =
+    same_chunk (chunk_of now n) (chunk_of before n)
+    (rely.held (5 * n) (chunk_access h s n (5 * n) low held (omega arith) (omega arith)))
+    (rely.held (5 * n + 1) (chunk_access h s n (5 * n + 1) low held (omega arith) (omega arith)))
+    (rely.held (5 * n + 2) (chunk_access h s n (5 * n + 2) low held (omega arith) (omega arith)))
+    (rely.held (5 * n + 3) (chunk_access h s n (5 * n + 3) low held (omega arith) (omega arith)))
+    (rely.held (5 * n + 4) (chunk_access h s n (5 * n + 4) low held (omega arith) (omega arith)))
+
+-- the memory after three stores
+abbrev pub thrice : Memory → ℕ → ℕ → ℕ → ℕ → ℕ → ℕ → Memory
+thrice memory a x b y s z = with_cell (with_cell (with_cell memory a x) b y) s z
+
+thrice-state : (memory : Memory) (a x b y s z : ℕ) → thrice memory a x b y s z s ≡ z
+thrice-state memory a x b y s z = changed_cell (with_cell (with_cell memory a x) b y) s z
+
+thrice-high : (memory : Memory) (a x b y s z : ℕ) → b ≢ s → thrice memory a x b y s z b ≡ y
+thrice-high memory a x b y s z other = other_cell (with_cell (with_cell memory a x) b y) s z b other ∙ changed_cell (with_cell memory a x) b y
+
+thrice-low : (memory : Memory) (a x b y s z : ℕ) → a ≢ s → a ≢ b → thrice memory a x b y s z a ≡ x
+thrice-low memory a x b y s z other lower =
+    other_cell (with_cell (with_cell memory a x) b y) s z a other ∙ other_cell (with_cell memory a x) b y a lower ∙ changed_cell memory a x
+
+pub thrice-other : (memory : Memory) (a x b y s z cell : ℕ) → cell ≢ s → cell ≢ b → cell ≢ a → thrice memory a x b y s z cell ≡ memory cell
+thrice-other memory a x b y s z cell other upper lower =
+    other_cell (with_cell (with_cell memory a x) b y) s z cell other ∙ other_cell (with_cell memory a x) b y cell upper ∙ other_cell memory a x cell lower
+
+-- the chunk after its cached pair and its state were stored, and after its stored pair and its state were
+pub after_cached : (memory : Memory) (n z x y : ℕ)
+    → chunk_of (thrice memory (5 * n + 1) x (5 * n + 2) y (5 * n) z) n ≡ with_cached z x y (chunk_of memory n)
+after_cached memory n z x y =
+    same_chunk (chunk_of (thrice memory (5 * n + 1) x (5 * n + 2) y (5 * n) z) n) (with_cached z x y (chunk_of memory n))
+    (thrice-state memory (5 * n + 1) x (5 * n + 2) y (5 * n) z)
+    (thrice-low memory (5 * n + 1) x (5 * n + 2) y (5 * n) z (λ e. omega (arith, e)) (λ e. omega (arith, e)))
+    (thrice-high memory (5 * n + 1) x (5 * n + 2) y (5 * n) z (λ e. omega (arith, e)))
+    (thrice-other memory (5 * n + 1) x (5 * n + 2) y (5 * n) z (5 * n + 3) (λ e. omega (arith, e)) (λ e. omega (arith, e)) (λ e. omega (arith, e)))
+    (thrice-other memory (5 * n + 1) x (5 * n + 2) y (5 * n) z (5 * n + 4) (λ e. omega (arith, e)) (λ e. omega (arith, e)) (λ e. omega (arith, e)))
+
+pub after_stored : (memory : Memory) (n z x y : ℕ)
+    → chunk_of (thrice memory (5 * n + 3) x (5 * n + 4) y (5 * n) z) n ≡ with_stored z x y (chunk_of memory n)
+after_stored memory n z x y =
+    same_chunk (chunk_of (thrice memory (5 * n + 3) x (5 * n + 4) y (5 * n) z) n) (with_stored z x y (chunk_of memory n))
+    (thrice-state memory (5 * n + 3) x (5 * n + 4) y (5 * n) z)
+    (thrice-other memory (5 * n + 3) x (5 * n + 4) y (5 * n) z (5 * n + 1) (λ e. omega (arith, e)) (λ e. omega (arith, e)) (λ e. omega (arith, e)))
+    (thrice-other memory (5 * n + 3) x (5 * n + 4) y (5 * n) z (5 * n + 2) (λ e. omega (arith, e)) (λ e. omega (arith, e)) (λ e. omega (arith, e)))
+    (thrice-low memory (5 * n + 3) x (5 * n + 4) y (5 * n) z (λ e. omega (arith, e)) (λ e. omega (arith, e)))
+    (thrice-high memory (5 * n + 3) x (5 * n + 4) y (5 * n) z (λ e. omega (arith, e)))
+
+pub after_state : (memory : Memory) (n z : ℕ) → chunk_of (with_cell memory (5 * n) z) n ≡ with_state z (chunk_of memory n)
+after_state memory n z =
+    same_chunk (chunk_of (with_cell memory (5 * n) z) n) (with_state z (chunk_of memory n))
+    (changed_cell memory (5 * n) z)
+    (other_cell memory (5 * n) z (5 * n + 1) (λ e. omega (arith, e)))
+    (other_cell memory (5 * n) z (5 * n + 2) (λ e. omega (arith, e)))
+    (other_cell memory (5 * n) z (5 * n + 3) (λ e. omega (arith, e)))
+    (other_cell memory (5 * n) z (5 * n + 4) (λ e. omega (arith, e)))
+
+-- no entries are of locks, so that all are free in what the log shows
+pub free_lock : (h : Header) (memory : Memory) (state : Amounts) (n : ℕ) → h.subject ≡ Cache → Stands h memory state → n < h.size
+    → memory (lock_of h n) ≡ 0
+free_lock h memory state n is s low =
+    let plain : plain_words h ≡ 5 * h.size = ap (λ t. plain_words_of t h.size) is in
+    let locks : lock_words h ≡ h.size = ap (λ t. lock_words_of t h.size) is in
+    s.free (lock_of h n) (omega (arith, plain, locks, low)) (omega (arith, plain, locks, low))
+
+-- the memory stands for a state where its chunk is known
+pub kept : (h : Header) (old new : Memory) (state : Amounts) (n : ℕ) (chunk : Chunk) → h.subject ≡ Cache → Stands h old state → n < h.size
+    → Leaves old new n (lock_of h n) → new (lock_of h n) ≡ old (lock_of h n) → chunk_of new n ≡ chunk → is_sound_chunk chunk ≡ true
+    → shown chunk ≡ shown (chunk_of old n) → Stands h new state
+kept h old new state n chunk is s low leaves free e sound same =
+    kept_chunk h old new state n is s low leaves (free ∙ free_lock h old state n is s low) (ap is_sound_chunk e ∙ sound) (ap shown e ∙ same)
+
+pub changed : (h : Header) (old new : Memory) (state : Amounts) (n : ℕ) (chunk : Chunk) → h.subject ≡ Cache → Stands h old state → n < h.size
+    → Leaves old new n (lock_of h n) → new (lock_of h n) ≡ old (lock_of h n) → chunk_of new n ≡ chunk → is_sound_chunk chunk ≡ true
+    → Stands h new (with_amount state n (shown chunk))
+changed h old new state n chunk is s low leaves free e sound =
+    subst (λ d. Stands h new (with_amount state n (shown d))) e
+    (changed_chunk h old new state n is s low leaves (free ∙ free_lock h old state n is s low) (ap is_sound_chunk e ∙ sound))

@@ -1,0 +1,88 @@
+-- The cache as a structure: a chunk's lock guards its words, and nothing is reserved.
+use Rattle.std.proofs.Common.{◌≡◌, ℕ, ◌+◌, ◌*◌, ◌/◌, ◌<◌, ◌≤◌, Bool, true, false, cond, List, [], map, refl, ap, ◌∙◌, sym, subst, arith}
+use Rattle.std.specs.Prelude.{◌==◌, ◌&&◌, nat_lt, nat_le, flat_map, slice_index}
+use Rattle.vyrd_base.specs.declared.header.Header.{Header}
+use Rattle.vyrd_base.specs.declared.subject.Subject.TheVariants.{Cache}
+use Rattle.vyrd_base.specs.declared.log.Entry.{Entry}
+use Rattle.vyrd_base.specs.Places.{numbers_below}
+use Rattle.vyrd_base.specs.Layout.{plain_words, plain_words_of, lock_words_of}
+use Rattle.vyrd_base.specs.Amounts.{Amounts, collected}
+use Rattle.vyrd_base.specs.Specification.{start}
+use Rattle.vyrd_base.specs.Words.{effects, value_after, words_after}
+use Rattle.vyrd_base.specs.Views.{chunk_at, chunk_parts, parts_of, view_of_words}
+use Rattle.vyrd_base.specs.Standing.{is_sound, is_sound_chunk}
+use Rattle.vyrd_base.specs.Histories.{cells_of, is_lock}
+use Rattle.vyrd_base.proofs.SumLaws.{given, given_nothing}
+use Rattle.vyrd_base.proofs.TestLaws.{both_true, is_below, is_at_most}
+use Rattle.vyrd_memory.specs.Alone.{words_in}
+use Rattle.vyrd_memory.proofs.NumberLists.{element_below, flat_map_alike, pass_all}
+use Rattle.vyrd_memory.proofs.PartSums.{collected-is}
+use Rattle.vyrd_memory.proofs.Memories.{Stands}
+use Rattle.vyrd_cache.specs.Procedures.{lock_of}
+use Rattle.vyrd_cache.specs.Laws.Chunks.{chunk_of, same_chunk, chunk_in}
+use Rattle.vyrd_every.specs.Structures.{Fits, shown_by}
+use Rattle.vyrd_every.specs.Guarded.{cache}
+
+lock_cell : (h : Header) (chunk : ℕ) → h.subject ≡ Cache → chunk < h.size → is_lock (cells_of h) (lock_of h chunk) ≡ true
+lock_cell h chunk is low =
+    ap (λ s. nat_le (plain_words_of s h.size) (lock_of h chunk) && nat_lt (lock_of h chunk) (plain_words_of s h.size + lock_words_of s h.size)) is
+    ∙ both_true _ _ (is_at_most (5 * h.size) (5 * h.size + chunk) (omega arith)) (is_below (5 * h.size + chunk) (5 * h.size + h.size) (omega (arith, low)))
+
+-- nothing was written yet
+nothing_given : (size q k : ℕ) → given q (chunk_parts size k (chunk_of (shown_by []) k)) ≡ 0
+nothing_given size q k =
+    let one : given q (chunk_parts size k (chunk_of (shown_by []) k)) ≡ cond (q == k) 0 0 = omega arith in
+    one ∙ by_key (q == k)
+  where
+    by_key : (b : Bool) → ◌≡◌ {A = ℕ} (cond b 0 0) 0
+    by_key true = refl
+    by_key false = refl
+
+empty_stands : (h : Header) → h.subject ≡ Cache → Stands h (shown_by []) start
+unfolding view_of_words
+empty_stands h is = record {
+  sound = subst (λ subject. is_sound subject h.size (words_in h (shown_by [])) ≡ true) (sym is)
+      (pass_all (λ j. is_sound_chunk (chunk_at (words_in h (shown_by [])) j)) 0 h.size (λ j from to.
+      let below : j < h.size = omega (arith, to) in ap is_sound_chunk (chunk_in h (shown_by []) j is below)));
+  free = λ lock from to. refl;
+  shows = ap (λ subject. collected (parts_of subject h.size (words_in h (shown_by [])))) is
+      ∙ collected-is (flat_map (λ k. chunk_parts h.size k (chunk_at (words_in h (shown_by [])) k)) (numbers_below h.size)) start
+      (record { rising = tt; some = tt })
+      (λ q. given_nothing (λ k. chunk_parts h.size k (chunk_at (words_in h (shown_by [])) k)) q 0 h.size (λ j from to.
+      let below : j < h.size = omega (arith, to) in
+      ap (λ c. given q (chunk_parts h.size j c)) (chunk_in h (shown_by []) j is below) ∙ nothing_given h.size q j));
+}
+
+-- the view of the words that the log leaves is the state that they stand for
+view_is : (h : Header) (log : List Entry) (state : Amounts) → h.subject ≡ Cache → Stands h (shown_by log) state
+    → view_of_words h (words_after h log) ≡ state
+unfolding view_of_words words_after
+view_is h log state is s =
+    ap (λ t. collected (parts_of t h.size (map (value_after (effects log)) (numbers_below (plain_words h))))) is
+    ∙ ap collected (flat_map_alike (λ k. chunk_parts h.size k (chunk_at (map (value_after (effects log)) (numbers_below (plain_words h))) k))
+    (λ k. chunk_parts h.size k (chunk_at (words_in h (shown_by log)) k)) 0 h.size each)
+    ∙ ap (λ t. collected (parts_of t h.size (words_in h (shown_by log)))) (sym is)
+    ∙ s.shows
+  where
+    word : (cell : ℕ) → cell < 5 * h.size → slice_index (map (value_after (effects log)) (numbers_below (plain_words h))) cell ≡ shown_by log cell
+    word cell low = element_below (value_after (effects log)) (plain_words h) cell (subst (λ s. cell < plain_words_of s h.size) (sym is) low)
+
+    each : (k : ℕ) → 0 ≤ k → k < 0 + h.size
+        → chunk_parts h.size k (chunk_at (map (value_after (effects log)) (numbers_below (plain_words h))) k)
+        ≡ chunk_parts h.size k (chunk_at (words_in h (shown_by log)) k)
+    each k from to =
+        let below : k < h.size = omega (arith, to) in
+        ap (chunk_parts h.size k)
+        (same_chunk (chunk_at (map (value_after (effects log)) (numbers_below (plain_words h))) k) (chunk_of (shown_by log) k)
+        (word (5 * k) (omega (arith, below))) (word (5 * k + 1) (omega (arith, below))) (word (5 * k + 2) (omega (arith, below)))
+        (word (5 * k + 3) (omega (arith, below))) (word (5 * k + 4) (omega (arith, below)))
+        ∙ sym (chunk_in h (shown_by log) k is below))
+
+-- it fits a header of the cache
+pub cache_fits : (h : Header) → h.subject ≡ Cache → Fits (cache h)
+cache_fits h is = record {
+  plain = λ cell low. subst (λ s. cell < plain_words_of s h.size) (sym is) low;
+  locks = λ cell low. lock_cell h (cell / 5) is (omega (arith, low));
+  begins = empty_stands h is;
+  view = λ log state s. view_is h log state is s;
+}

@@ -1,0 +1,104 @@
+-- No commit is a fault, and no observer's return is one.
+use Rattle.std.proofs.Common.{◌≡◌, ℕ, ◌+◌, Bool, true, false, cond, not, ◌||◌, List, [], ◌∷◌, ◌++◌, Option, Some, None, option_map, length, refl, ap, ◌∙◌, sym}
+use Rattle.std.specs.Prelude.{◌==◌, filter, slice_get, take, drop, option_and_then}
+use Rattle.std.specs.Option.{option_and}
+use Rattle.std.specs.List.{list_any}
+use Rattle.std.proofs.lemmas.List.{append_assoc}
+use Rattle.std.proofs.Math.Seq.{take-append-add}
+use Rattle.vyrd_base.specs.declared.header.Header.{Header}
+use Rattle.vyrd_base.specs.declared.log.Entry.{Entry}
+use Rattle.vyrd_base.specs.declared.verdict.Why.TheVariants.{View, Reply, Observer}
+use Rattle.vyrd_base.specs.Places.{Place}
+use Rattle.vyrd_base.specs.Callers.{Called, open_call, entries_before_call}
+use Rattle.vyrd_base.specs.Subjects.{is_observer}
+use Rattle.vyrd_base.specs.Amounts.{Amounts, amount_of, keys_of, least, first_difference}
+use Rattle.vyrd_base.specs.Specification.{next_state, answer_in}
+use Rattle.vyrd_base.specs.Words.{words_after}
+use Rattle.vyrd_base.specs.Views.{view_of_words}
+use Rattle.vyrd_base.specs.Commits.{Committed, next_reply, committed_at, once_returned, state_after, states_from, commit_count}
+use Rattle.vyrd_base.specs.Faults.{commit_fault, states_since_call, observer_fault, return_fault, fault_of_commit}
+use Rattle.vyrd_base.proofs.Lasting.{slice_get_seam}
+use Rattle.vyrd_base.proofs.TestLaws.{same_number}
+use Rattle.vyrd_every.specs.Between.{has_answer}
+
+-- a state differs from itself nowhere
+none_kept : (p : ℕ → Bool) (xs : List ℕ) → ((x : ℕ) → p x ≡ false) → filter p xs ≡ []
+none_kept p [] none = refl
+none_kept p (x ∷ xs) none = ap (λ b. cond b (x ∷ filter p xs) (filter p xs)) (none x) ∙ none_kept p xs none
+
+no_difference : (state : Amounts) → first_difference state state ≡ None
+no_difference state =
+    ap least (none_kept (λ key. not (amount_of state key == amount_of state key)) (keys_of state ++ keys_of state)
+    (λ key. ap not (same_number (amount_of state key))))
+
+-- the states from one on begin with it
+pub later_states : Amounts → List Committed → List Amounts
+later_states state [] = []
+later_states state (x ∷ xs) = elim (state_after state x) [ None ↦ [] | Some next ↦ states_from next xs ]
+
+pub states_begin : (state : Amounts) (xs : List Committed) → states_from state xs ≡ state ∷ later_states state xs
+unfolding later_states
+states_begin state [] = refl
+states_begin state (x ∷ xs) = refl
+
+-- the state at a place
+state_here : (passed later : List Amounts) (state : Amounts) (n : ℕ) → length passed ≡ n → slice_get (passed ++ state ∷ later) n ≡ Some state
+state_here passed later state n e = slice_get_seam passed (state ∷ later) n e
+
+-- a commit after which the words show the next state is no fault
+pub commit_is_right : (h : Header) (passed later : List Amounts) (state next : Amounts) (place : Place Entry) (called : Called) (reply : ℕ)
+    → view_of_words h (words_after h (place.here ∷ place.earlier)) ≡ next → length passed ≡ commit_count place.earlier
+    → open_call place.here.caller place.earlier ≡ Some called → next_reply place.here.caller place.later ≡ Some reply
+    → next_state called.method called.args reply state ≡ Some next
+    → fault_of_commit h (passed ++ state ∷ later) place ≡ None
+commit_is_right h passed later state next place called reply shows count call returns allowed =
+    ap (option_and_then (commit_fault shown (committed_at place))) (state_here passed later state (commit_count place.earlier) count)
+    ∙ (λ i. commit_fault shown (record { caller = place.here.caller; called = call i; reply = returns i }) state)
+    ∙ ap (λ o. elim o [ None ↦ Some (Reply reply) | Some after ↦ option_map View (first_difference shown after) ]) allowed
+    ∙ ap (λ s. option_map View (first_difference s next)) shows
+    ∙ ap (option_map View) (no_difference next)
+  where
+    shown : Amounts
+    shown = view_of_words h (words_after h (place.here ∷ place.earlier))
+
+-- and the states go on with the next one
+pub state_goes_on : (passed : List Amounts) (state next : Amounts) (x : Committed) (xs : List Committed) (called : Called) (reply : ℕ)
+    → x.called ≡ Some called → x.reply ≡ Some reply → next_state called.method called.args reply state ≡ Some next
+    → passed ++ states_from state (x ∷ xs) ≡ (passed ++ state ∷ []) ++ states_from next xs
+state_goes_on passed state next x xs called reply call returns allowed =
+    ap (λ o. passed ++ state ∷ (elim o [ None ↦ [] | Some after ↦ states_from after xs ])) after
+    ∙ sym (append_assoc passed (state ∷ []) (states_from next xs))
+  where
+    after : state_after state x ≡ Some next
+    after = (λ i. once_returned (λ c r. next_state c.method c.args r state) (record { caller = x.caller; called = call i; reply = returns i })) ∙ allowed
+
+-- an observer's return with an answer that was seen is no fault
+and_none : {A B : Type 0} (o : Option A) → option_and {T = A} {U = B} o None ≡ None
+and_none None = refl
+and_none (Some x) = refl
+
+pub return_is_right : (passed later : List Amounts) (state : Amounts) (c : ℕ) (log : List Entry) (reply : ℕ) → length passed ≡ commit_count log
+    → ((called : Called) → open_call c log ≡ Some called → is_observer called.method ≡ true
+    → has_answer (passed ++ state ∷ []) (commit_count (entries_before_call c log)) called reply ≡ true)
+    → return_fault (passed ++ state ∷ later) c log reply ≡ None
+return_is_right passed later state c log reply count seen =
+    ap (option_and (slice_get (passed ++ state ∷ later) (commit_count log))) (by_call (open_call c log) refl)
+    ∙ and_none (slice_get (passed ++ state ∷ later) (commit_count log))
+  where
+    states : List Amounts
+    states = passed ++ state ∷ later
+
+    window : states_since_call states c log ≡ drop (commit_count (entries_before_call c log)) (passed ++ state ∷ [])
+    window = ap (λ n. drop (commit_count (entries_before_call c log)) (take (n + 1) states)) (sym count)
+        ∙ ap (drop (commit_count (entries_before_call c log))) (take-append-add passed (state ∷ later) 1)
+
+    by_method : (called : Called) → open_call c log ≡ Some called → (b : Bool) → is_observer called.method ≡ b
+        → cond (not b || list_any (λ s. answer_in s called.method called.args == reply) (states_since_call states c log)) None (Some (Observer reply)) ≡ None
+    by_method called e true observes =
+        ap (λ xs. cond (list_any (λ s. answer_in s called.method called.args == reply) xs) None (Some (Observer reply))) window
+        ∙ ap (λ b. cond b None (Some (Observer reply))) (seen called e observes)
+    by_method called e false mutates = refl
+
+    by_call : (o : Option Called) → open_call c log ≡ o → option_and_then (observer_fault (states_since_call states c log) reply) o ≡ None
+    by_call None e = refl
+    by_call (Some called) e = by_method called e (is_observer called.method) refl

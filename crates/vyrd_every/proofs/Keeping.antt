@@ -1,0 +1,48 @@
+-- What a proof about a structure has to give: something that holds at the beginning and after every event, with the states that have
+-- passed. All that follows of the log goes by this alone.
+use Rattle.std.specs.Prelude.{◌≡◌, ℕ, ◌<◌, true, false, List, [], ◌∷◌, length}
+use Rattle.vyrd_base.specs.declared.header.Header.{Header}
+use Rattle.vyrd_base.specs.declared.history.Did.{Did}
+use Rattle.vyrd_base.specs.declared.history.Stamped.{Stamped}
+use Rattle.vyrd_base.specs.Amounts.{Amounts}
+use Rattle.vyrd_base.specs.Specification.{start}
+use Rattle.vyrd_base.specs.Commits.{commit_count}
+use Rattle.vyrd_base.specs.Words.{words_after}
+use Rattle.vyrd_base.specs.Views.{view_of_words}
+use Rattle.vyrd_base.proofs.ShadowLaws.{WellFormed}
+use Rattle.vyrd_memory.specs.declared.act.Act.TheVariants.{Take}
+use Rattle.vyrd_memory.specs.Scripts.{Script, after_answer, left_after}
+use Rattle.vyrd_memory.specs.Soundness.{holds}
+use Rattle.vyrd_memory.specs.Runs.{AreSoundScripts}
+use Rattle.vyrd_memory.specs.Turns.{part_of, script_of, act_of, is_done}
+use Rattle.vyrd_memory.proofs.Standings.{standing_in}
+use Rattle.vyrd_memory.proofs.LegalRuns.{IsRun}
+use Rattle.vyrd_every.specs.Between.{log_in}
+use Rattle.vyrd_every.proofs.Answered.{passed_after}
+use Rattle.vyrd_every.proofs.NextEvent.{Leading, Returning}
+
+-- one more event
+pub record GoesOn (Holds : List Stamped → List Amounts → Amounts → Type 0) (scripts : List Script) (earlier : List Stamped) (number c : ℕ) (did : Did)
+    (passed : List Amounts) (state : Amounts) : Type 0 where
+  pub next : Amounts
+  pub holds_now : Holds (record { number = number; caller = c; did = did } ∷ earlier) (passed_after did passed state) next
+  pub leading : Leading c did (log_in earlier) (after_answer (left_after (script_of scripts c) (part_of c earlier)) 0) state next
+  pub returning : Returning c did (log_in earlier) passed state
+
+pub record Keeping (h : Header) (scripts : List Script) : Type 1 where
+  pub sound : AreSoundScripts h scripts
+  pub Holds : List Stamped → List Amounts → Amounts → Type 0
+  pub begins : Holds [] [] start
+  pub goes_on : (earlier : List Stamped) (number c : ℕ) (did : Did) (passed : List Amounts) (state : Amounts)
+      → IsRun h scripts (record { number = number; caller = c; did = did } ∷ earlier) → Holds earlier passed state
+      → GoesOn Holds scripts earlier number c did passed state
+  pub kept : (earlier : List Stamped) (passed : List Amounts) (state : Amounts) → Holds earlier passed state → WellFormed h (log_in earlier)
+  pub count : (earlier : List Stamped) (passed : List Amounts) (state : Amounts) → Holds earlier passed state → length passed ≡ commit_count (log_in earlier)
+  pub view : (earlier : List Stamped) (passed : List Amounts) (state : Amounts) → IsRun h scripts earlier → Holds earlier passed state
+      → view_of_words h (words_after h (log_in earlier)) ≡ state
+  -- who takes a lock holds only lower ones, and who is done holds none
+  pub upward : (earlier : List Stamped) (passed : List Amounts) (state : Amounts) → IsRun h scripts earlier → Holds earlier passed state
+      → (c : ℕ) → c < h.callers → (lock : ℕ) → act_of scripts c earlier ≡ Take lock
+      → (held : ℕ) → holds (standing_in (part_of c earlier)) held ≡ true → held < lock
+  pub idle : (earlier : List Stamped) (passed : List Amounts) (state : Amounts) → IsRun h scripts earlier → Holds earlier passed state
+      → (c : ℕ) → c < h.callers → is_done (act_of scripts c earlier) ≡ true → (lock : ℕ) → holds (standing_in (part_of c earlier)) lock ≡ false

@@ -1,0 +1,56 @@
+-- The multiset as a structure: a bucket's lock guards the words of its slots, and a slot with state 1 is reserved.
+use Rattle.std.proofs.Common.{◌≡◌, ℕ, ◌+◌, ◌*◌, ◌/◌, ◌<◌, ◌≤◌, cond, List, [], ◌∷◌, map, refl, ap, ◌∙◌, sym, subst, arith}
+use Rattle.std.specs.Prelude.{◌==◌, flat_map, slice_index}
+use Rattle.vyrd_base.specs.declared.header.Header.{Header}
+use Rattle.vyrd_base.specs.declared.subject.Subject.TheVariants.{Multiset}
+use Rattle.vyrd_base.specs.declared.log.Entry.{Entry}
+use Rattle.vyrd_base.specs.Places.{numbers_below}
+use Rattle.vyrd_base.specs.Layout.{plain_words, plain_words_of}
+use Rattle.vyrd_base.specs.Amounts.{Amounts, collected}
+use Rattle.vyrd_base.specs.Specification.{start}
+use Rattle.vyrd_base.specs.Words.{effects, value_after, words_after}
+use Rattle.vyrd_base.specs.Views.{slot_parts, parts_of, view_of_words}
+use Rattle.vyrd_base.proofs.SumLaws.{given_nothing}
+use Rattle.vyrd_memory.proofs.NumberLists.{element_below, flat_map_alike}
+use Rattle.vyrd_memory.proofs.PartSums.{collected-is}
+use Rattle.vyrd_multiset.specs.Laws.Slotted.{IsMultiset, parts_in}
+use Rattle.vyrd_multiset.specs.Laws.Sound.{is_its_lock}
+use Rattle.vyrd_every.specs.Structures.{Fits, shown_by}
+use Rattle.vyrd_every.specs.Guarded.{multiset}
+
+-- the view of the words that the log leaves is the state that they stand for
+view_is : (h : Header) (log : List Entry) (state : Amounts) → h.subject ≡ Multiset → IsMultiset h (shown_by log) state
+    → view_of_words h (words_after h log) ≡ state
+unfolding view_of_words words_after
+view_is h log state is m =
+    ap (λ s. collected (parts_of s h.size (map (value_after (effects log)) (numbers_below (plain_words h))))) is
+    ∙ ap collected (flat_map_alike (slot_parts (map (value_after (effects log)) (numbers_below (plain_words h)))) (parts_in (shown_by log)) 0 (4 * h.size) each)
+    ∙ collected-is (flat_map (parts_in (shown_by log)) (numbers_below (4 * h.size))) state m.formed m.shows
+  where
+    word : (cell : ℕ) → cell < 8 * h.size → slice_index (map (value_after (effects log)) (numbers_below (plain_words h))) cell ≡ shown_by log cell
+    word cell low = element_below (value_after (effects log)) (plain_words h) cell (subst (λ s. cell < plain_words_of s h.size) (sym is) low)
+
+    each : (i : ℕ) → 0 ≤ i → i < 0 + 4 * h.size
+        → slot_parts (map (value_after (effects log)) (numbers_below (plain_words h))) i ≡ parts_in (shown_by log) i
+    each i from to =
+        ap (λ a. cond (a == 2) ((slice_index (map (value_after (effects log)) (numbers_below (plain_words h))) (2 * i + 1), 1) ∷ []) [])
+        (word (2 * i) (omega arith))
+        ∙ ap (λ v. cond (shown_by log (2 * i) == 2) ((v, 1) ∷ []) []) (word (2 * i + 1) (omega arith))
+
+-- nothing was written yet
+empty_means : (h : Header) → IsMultiset h (shown_by []) start
+empty_means h = record {
+  sound = λ i low valid. cc;
+  free = λ b low. refl;
+  shows = λ q. given_nothing (parts_in (shown_by [])) q 0 (4 * h.size) (λ j from to. refl);
+  formed = record { rising = tt; some = tt };
+}
+
+-- it fits a header of the multiset
+pub multiset_fits : (h : Header) → h.subject ≡ Multiset → Fits (multiset h)
+multiset_fits h is = record {
+  plain = λ cell low. subst (λ s. cell < plain_words_of s h.size) (sym is) low;
+  locks = λ cell low. is_its_lock h is (cell / 8) (omega (arith, low));
+  begins = empty_means h;
+  view = λ log state m. view_is h log state is m;
+}

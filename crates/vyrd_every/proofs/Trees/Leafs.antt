@@ -1,0 +1,550 @@
+-- What the operations of the tree do in the leaf of their key: lookups, deletes, and the commits of others that split no node.
+use Rattle.std.proofs.Common.{◌≡◌, ◌≢◌, ℕ, suc, ◌+◌, ◌-◌, ◌<◌, ◌≤◌, ◌^◌, ◌⊎◌, inl, inr, Bool, true, false, cond, not, List, [], ◌∷◌, ◌++◌, Option, Some, None, length, refl, ap, ◌∙◌, sym, subst, arith}
+use Rattle.std.specs.Prelude.{◌==◌, ◌||◌, drop, remove}
+use Rattle.std.specs.Bool.{then_some}
+use Rattle.std.specs.List.{AllByRecursion as Each}
+use Rattle.vyrd_base.specs.declared.header.Header.{Header}
+use Rattle.vyrd_base.specs.declared.subject.Method.{Method}
+use Rattle.vyrd_base.specs.declared.subject.Method.TheVariants.{TrDelete, TrLookup}
+use Rattle.vyrd_base.specs.declared.subject.Args.{Args}
+use Rattle.vyrd_base.specs.declared.log.Kind.TheVariants.{BlockOpen, BlockCommit}
+use Rattle.vyrd_base.specs.Callers.{Called}
+use Rattle.vyrd_base.specs.Subjects.{is_observer}
+use Rattle.vyrd_base.specs.Amounts.{Amounts, amount_of, with_amount}
+use Rattle.vyrd_base.specs.Specification.{is_present, next_state, answer_in}
+use Rattle.vyrd_base.proofs.AmountLaws.{amount_of-with_amount, IsAmounts-with_amount}
+use Rattle.vyrd_base.proofs.TestLaws.{isnt_same}
+use Rattle.vyrd_memory.specs.declared.act.Act.TheVariants.{Store, Mark}
+use Rattle.vyrd_memory.specs.declared.op.Variant.TheVariants.{Correct}
+use Rattle.vyrd_memory.specs.Alone.{Memory}
+use Rattle.vyrd_memory.specs.Scripts.{Script, perform, returns, gives_up}
+use Rattle.vyrd_memory.specs.Soundness.{Standing, holds}
+use Rattle.vyrd_multiset.specs.Laws.Sound.{gone}
+use Rattle.vyrd_tree.specs.Cells.{count_cell, root_cell, lock_of, unlock_node}
+use Rattle.vyrd_tree.specs.Walk.{Arrived, walk_from}
+use Rattle.vyrd_tree.specs.Split.{write_entries, rewrite}
+use Rattle.vyrd_tree.specs.Procedures.{changes_nothing, walk_down, place_of, value_at as value_in, reply_of, look_in, lookup, delete_in, delete}
+use Rattle.vyrd_tree.specs.Laws.Steps.{holding}
+use Rattle.vyrd_tree.specs.RightAlone.Nodes.{level_at, count_at, bound_at, root_in, Rising, IsLeafEntry, entries_at}
+use Rattle.vyrd_tree.specs.RightAlone.Order.{Covers}
+use Rattle.vyrd_tree.specs.RightAlone.Entries.{Entries, gives, gives-append, gives_none, gives_one, entry_gives_none, take_front, drop_front, found_around, not_found, IsAround, each_back}
+use Rattle.vyrd_tree.specs.RightAlone.Changes.{length_join, entries_removed, gives_around}
+use Rattle.vyrd_tree.specs.RightAlone.Tested.{length-entries}
+use Rattle.vyrd_tree.specs.RightAlone.Held.{Rewritten}
+use Rattle.vyrd_tree.specs.RightAlone.Walked.{loaded_at}
+use Rattle.vyrd_tree.specs.RightAlone.Done.{changed_inside}
+use Rattle.vyrd_every.proofs.Acts.{never}
+use Rattle.vyrd_every.specs.Hands.{written}
+use Rattle.vyrd_every.specs.Trees.Shapes.{Shape, HasEntries, IsLinked}
+use Rattle.vyrd_every.specs.Trees.States.{ShowsState}
+use Rattle.vyrd_every.specs.Trees.Hands.{TreeHand}
+use Rattle.vyrd_every.specs.Trees.Others.{TreeRely}
+use Rattle.vyrd_every.specs.Trees.RightScripts.{TreeRight, TreeCommits}
+use Rattle.vyrd_every.proofs.Trees.Parts.{HandStands, hand_stays, tree_rely_more, tree_load, tree_give_last, Changeless, changeless}
+use Rattle.vyrd_every.proofs.Trees.Walks.{AtNode, Onward, Arrives, walk_right}
+use Rattle.vyrd_every.proofs.Trees.Order.{one_cover_in}
+use Rattle.vyrd_every.proofs.Trees.Kept.{code, uncode, linked_low, rewritten_hangs, rewritten_state, coded}
+use Rattle.vyrd_every.proofs.Trees.Blocks.{with_pending, hand_with, rely_with, tree_open, InBlock, store_in_node, store_entries, entry_writes, node_writes, node_rewritten, entries_kept, Rewrites, rewrites}
+
+-- a node that has the key in its range, on a level
+pub record IsIn (g : Shape) (m : Memory) (level n key : ℕ) : Type 0 where
+  pub linked : g.linked n ≡ true
+  pub level_is : level_at m n ≡ level
+  pub covers : Covers m g.low n key
+
+pub still_in : (h : Header) (s : Standing) (k : TreeHand) (g : Shape) (m : Memory) (g' : Shape) (m' : Memory) (level n key : ℕ) → IsIn g m level n key
+    → holds s (lock_of h n) ≡ true → TreeRely h s k g m g' m' → IsIn g' m' level n key
+still_in h s k g m g' m' level n key is held rely = record {
+  linked = rely.grows.linked n is.linked;
+  level_is = rely.grows.level n is.linked ∙ is.level_is;
+  covers = record {
+    from = (let from = is.covers.from in let low = rely.grows.low n is.linked in omega arith);
+    to = subst (λ b. b ≢ 0 → key < b) (sym (rely.held n 2 is.linked held (omega arith))) is.covers.to;
+  };
+}
+
+-- the key of a leaf's entry has 2^32 and the entry's value as its amount
+pub present_in : (size : ℕ) (g : Shape) (m : Memory) (s : Amounts) (n key : ℕ) (front back : Entries) (entry : ℕ × ℕ) → IsLinked size g m → ShowsState g m s
+    → IsIn g m 0 n key → IsAround key (entries_at m n) front entry back → amount_of s key ≡ 2 ^ 32 + entry.1
+present_in size g m s n key front back entry t st is around =
+    let es = t.entries n is.linked in
+    let one = gives_one key front entry back (subst Rising around.parts es.rise) (subst (Each IsLeafEntry) around.parts (es.leaf is.level_is)) around.key_is in
+    st.shows key n is.linked is.level_is is.covers ∙ ap (gives key) around.parts ∙ gives-append key front (entry ∷ back) ∙ plus one.0 one.2
+  where
+    plus : {a b c : ℕ} → a ≡ 0 → b ≡ c → a + b ≡ c
+    plus e f = omega arith
+
+-- a key that no entry of its leaf has isn't there
+pub absent_in : (size : ℕ) (g : Shape) (m : Memory) (s : Amounts) (n key : ℕ) → IsLinked size g m → ShowsState g m s → IsIn g m 0 n key
+    → Each (λ x. x.0 ≢ key) (entries_at m n) → amount_of s key ≡ 0
+absent_in size g m s n key t st is apart =
+    let es = t.entries n is.linked in
+    st.shows key n is.linked is.level_is is.covers ∙ gives_none key (entries_at m n) (es.leaf is.level_is) apart
+
+-- the leaf of the key has other entries, which give the key another amount and every other key the same
+pub changed_in : (size : ℕ) (g : Shape) (m m' : Memory) (s : Amounts) (n key amount : ℕ) (new : Entries) → IsLinked size g m → ShowsState g m s
+    → IsIn g m 0 n key → Rewritten size m m' n new → gives key new ≡ amount
+    → ((q : ℕ) → q ≢ key → gives q new ≡ gives q (entries_at m n)) → ShowsState g m' (with_amount s key amount)
+changed_in size g m m' s n key amount new t st is r here there =
+    rewritten_state size g m m' s (with_amount s key amount) n new t st is.linked r (IsAmounts-with_amount s key amount st.formed)
+    (λ leaf q over. changed_inside s key amount q (entries_at m n) new here (there q) (st.shows q n is.linked is.level_is over))
+    (λ q a linked leaf apart over. amount_of-with_amount s key amount q ∙ ap (λ b. cond b amount (amount_of s q))
+    (isnt_same q key (λ e. off apart (one_cover_in size g m t a n key linked is.linked (leaf ∙ sym is.level_is) (subst (Covers m g.low a) e over) is.covers))))
+  where
+    off : {a b : ℕ} → (a < b) ⊎ (b < a) → a ≢ b
+    off (inl lt) = omega (arith, lt)
+    off (inr lt) = omega (arith, lt)
+
+pub there : (s : Amounts) (x : ℕ) → amount_of s x ≢ 0 → is_present s x ≡ true
+there s x some = ap not (isnt_same (amount_of s x) 0 some)
+
+pub not_there : (s : Amounts) (x : ℕ) → amount_of s x ≡ 0 → is_present s x ≡ false
+not_there s x none = ap (λ n. not (n == 0)) none
+
+-- the hand of an operation that has nothing but its call
+pub record IsBare (k : TreeHand) (called : Called) : Type 0 where
+  pub fresh : k.fresh ≡ None
+  pub hanging : k.hanging ≡ None
+  pub called_is : k.called ≡ Some called
+
+-- the return
+pub tree_returns : (h : Header) (k : TreeHand) (g : Shape) (m : Memory) (committed : Bool) (called : Called) (reply : ℕ) → IsLinked h.size g m
+    → HandStands h k g m → IsBare k called → ((c : Called) → k.called ≡ Some c → is_observer c.method ≡ true → k.answered ≡ Some reply)
+    → TreeRight h (holding [] called.method committed false) k g m (returns reply)
+tree_returns h k g m committed called reply tree hand bare answer = (
+  over,
+  g,
+  record {
+    reaches = tt;
+    grows = c.grows;
+    leaves = c.leaves;
+    tree = tree;
+    top = c.top;
+    closed = c.closed;
+    alone = c.alone;
+    ahead = λ quiet out. absurd (never quiet out);
+    wrote = λ quiet out. absurd (never quiet out);
+    within = λ inside goes same. (refl, refl);
+    taken = c.taken;
+    hung = c.hung;
+    leads = λ state shows. shows;
+    pending = refl;
+    out = or_false k.out;
+    called = refl;
+    answers = (refl, answer);
+  },
+  λ g' m' rely. record { rests = refl; fresh = bare.fresh; hanging = bare.hanging; called = refl; quiet = hand.quiet },
+)
+  where
+    over : TreeHand
+    over = record { fresh = k.fresh; hanging = k.hanging; pending = k.pending; out = k.out; called = None; answered = None }
+
+    c : Changeless h (holding [] called.method committed false) k g m
+    c = changeless h (holding [] called.method committed false) k g m hand
+
+    or_false : (b : Bool) → b ≡ (b || false)
+    or_false true = refl
+    or_false false = refl
+
+-- a mutator returns whatever it has answered
+pub tree_mutates : (k : TreeHand) (called : Called) (reply : ℕ) → k.called ≡ Some called → is_observer called.method ≡ false
+    → (c : Called) → k.called ≡ Some c → is_observer c.method ≡ true → k.answered ≡ Some reply
+tree_mutates k called reply is mutator c is' observes =
+    let same : called ≡ c = some_same called c (sym is ∙ is') in
+    absurd (never mutator (subst (λ x. is_observer x.method ≡ true) (sym same) observes))
+  where
+    some_same : (x y : Called) → ◌≡◌ {A = Option Called} (Some x) (Some y) → x ≡ y
+    some_same x y e = cc
+
+-- with the leaf's lock held: commit, unlock it, and return 0
+pub nothing_right : (h : Header) (called : Called) (k : TreeHand) (g : Shape) (m : Memory) (n : ℕ) → IsLinked h.size g m
+    → HandStands h k g m → IsBare k called → is_observer called.method ≡ false
+    → ((state : Amounts) → ShowsState g m state → next_state called.method called.args 0 state ≡ Some state)
+    → TreeRight h (holding (lock_of h n ∷ []) called.method false false) k g m (changes_nothing h n)
+nothing_right h called k g m n tree hand bare mutator stays = (
+  k,
+  g,
+  record {
+    reaches = tt;
+    grows = c.grows;
+    leaves = c.leaves;
+    tree = tree;
+    top = c.top;
+    closed = c.closed;
+    alone = c.alone;
+    ahead = λ quiet out. absurd (never quiet out);
+    wrote = λ quiet out. absurd (never quiet out);
+    within = λ inside goes same. (refl, refl);
+    taken = c.taken;
+    hung = c.hung;
+    leads = λ state shows. record {
+      called = called;
+      is_called = bare.called_is;
+      reply = 0;
+      returns = λ answer is. refl;
+      next = state;
+      allowed = stays state shows;
+      means = shows;
+    };
+    pending = refl;
+    out = or_false k.out;
+    called = refl;
+    answers = refl;
+  },
+  λ g' m' rely. tree_give_last h called.method true k g' m' (lock_of h n) (returns 0) rely.tree
+      (hand_stays h (holding (lock_of h n ∷ []) called.method true false) k g m g' m' hand rely)
+      (λ g'' m'' rely'. tree_returns h k g'' m'' true called 0 rely'.tree
+      (hand_stays h (holding [] called.method true false) k g' m' g'' m''
+      (hand_stays h (holding (lock_of h n ∷ []) called.method true false) k g m g' m' hand rely) rely')
+      bare (tree_mutates k called 0 bare.called_is mutator)),
+)
+  where
+    c : Changeless h (holding (lock_of h n ∷ []) called.method false false) k g m
+    c = changeless h (holding (lock_of h n ∷ []) called.method false false) k g m hand
+
+    or_false : (b : Bool) → b ≡ (b || false)
+    or_false true = refl
+    or_false false = refl
+
+-- A block with these writes gives the leaf other entries and commits, and the leaf is unlocked.
+pub commit_block : (h : Header) (called : Called) (k : TreeHand) (g : Shape) (m : Memory) (n : ℕ) (new : Entries) (ws : List (ℕ × ℕ)) (later : Script)
+    → IsLinked h.size g m → AtNode h (holding (lock_of h n ∷ []) called.method false false) k g m n → level_at m n ≡ 0
+    → ((g' : Shape) (m' : Memory) → TreeRely h (holding (lock_of h n ∷ []) called.method false false) k g m g' m'
+    → Rewritten h.size m' (written ws m') n new)
+    → ((g' : Shape) (m' : Memory) → TreeRely h (holding (lock_of h n ∷ []) called.method false false) k g m g' m'
+    → HasEntries g' m' (level_at m' n) (g'.low n) (bound_at m' n) new)
+    → ((g' : Shape) (m' : Memory) → TreeRely h (holding (lock_of h n ∷ []) called.method false false) k g m g' m'
+    → (state : Amounts) → ShowsState g' m' state → Rewritten h.size m' (written ws m') n new
+    → TreeCommits (with_pending k ws) (unlock_node h n later) g' (written ws m') state)
+    → ((g' : Shape) (m' : Memory) → IsLinked h.size g' m' → HandStands h (with_pending k ws) g' m'
+    → TreeRight h (holding [] called.method true false) (with_pending k ws) g' m' later)
+    → InBlock h called.method false k g m n ws (perform (Mark BlockCommit) (unlock_node h n later))
+commit_block h called k g m n new ws later tree at leaf rewritten right commits rest a x r = (
+  with_pending k ws,
+  a,
+  record {
+    reaches = tt;
+    grows = w.grows;
+    leaves = w.leaves;
+    tree = w.tree;
+    top = λ quiet is quiet'. w.top is;
+    closed = λ out quiet. cc;
+    alone = λ out. cc;
+    ahead = λ quiet out. cc;
+    wrote = λ quiet out. cc;
+    within = λ inside goes same. (refl, refl);
+    taken = w.taken;
+    hung = λ y mine. let was = hand.hanging y mine in
+        (was.0, rewritten_hangs h.size a x (written ws x) n new y r.tree linked rw was.1 (λ some. absurd (some leaf_here)), inl mine);
+    leads = λ state shows. commits a x r state shows rw;
+    pending = refl;
+    out = refl;
+    called = refl;
+    answers = refl;
+  },
+  λ b y r'. tree_give_last h called.method true (with_pending k ws) b y (lock_of h n) later r'.tree
+      (hand_stays h (holding (lock_of h n ∷ []) called.method true false) (with_pending k ws) a (written ws x) b y hand_after r')
+      (λ c z r''. rest c z r''.tree (hand_stays h (holding [] called.method true false) (with_pending k ws) b y c z
+      (hand_stays h (holding (lock_of h n ∷ []) called.method true false) (with_pending k ws) a (written ws x) b y hand_after r') r'')),
+)
+  where
+    s : Standing
+    s = holding (lock_of h n ∷ []) called.method false false
+
+    inside : Standing
+    inside = holding (lock_of h n ∷ []) called.method false true
+
+    linked : a.linked n ≡ true
+    linked = r.grows.linked n at.linked
+
+    leaf_here : level_at x n ≡ 0
+    leaf_here = r.grows.level n at.linked ∙ leaf
+
+    hand : HandStands h (with_pending k ws) a x
+    hand = hand_with h k ws a x (hand_stays h s k g m a x at.hand r)
+
+    rw : Rewritten h.size x (written ws x) n new
+    rw = rewritten a x r
+
+    w : Rewrites h inside (with_pending k ws) a x (written ws x)
+    w = rewrites h inside (with_pending k ws) a x (written ws x) n new r.tree hand linked at.held rw
+        (right a x r) (λ y of_y other hangs some. absurd (some leaf_here))
+
+    hand_after : HandStands h (with_pending k ws) a (written ws x)
+    hand_after = record {
+      fresh = λ y mine. let t = w.taken y mine in (t.0, t.1);
+      hanging = λ y mine. let was = hand.hanging y mine in
+          (was.0, rewritten_hangs h.size a x (written ws x) n new y r.tree linked rw was.1 (λ some. absurd (some leaf_here)));
+      quiet = refl;
+    }
+
+-- The leaf gets other entries in a block that commits, and is unlocked.
+pub rewrite_right : (h : Header) (called : Called) (k : TreeHand) (g : Shape) (m : Memory) (n : ℕ) (front back xs : Entries) (later : Script)
+    → IsLinked h.size g m → AtNode h (holding (lock_of h n ∷ []) called.method false false) k g m n → level_at m n ≡ 0
+    → entries_at m n ≡ front ++ back → length (front ++ xs) ≤ 4
+    → ((g' : Shape) (m' : Memory) → TreeRely h (holding (lock_of h n ∷ []) called.method false false) k g m g' m'
+    → HasEntries g' m' (level_at m' n) (g'.low n) (bound_at m' n) (front ++ xs))
+    → ((g' : Shape) (m' : Memory) → TreeRely h (holding (lock_of h n ∷ []) called.method false false) k g m g' m'
+    → (state : Amounts) → ShowsState g' m' state → Rewritten h.size m' (written (node_writes n front xs) m') n (front ++ xs)
+    → TreeCommits (with_pending k (node_writes n front xs)) (unlock_node h n later) g' (written (node_writes n front xs) m') state)
+    → ((g' : Shape) (m' : Memory) → IsLinked h.size g' m' → HandStands h (with_pending k (node_writes n front xs)) g' m'
+    → TreeRight h (holding [] called.method true false) (with_pending k (node_writes n front xs)) g' m' later)
+    → Onward h (holding (lock_of h n ∷ []) called.method false false) k g m (rewrite h n (length front) (front ++ xs) BlockCommit later)
+rewrite_right h called k g m n front back xs later tree at leaf before few right commits rest g' m' rely =
+    subst (λ ys. TreeRight h s k g' m' (perform (Mark BlockOpen) (write_entries n (length front) ys counted)))
+    (sym (drop_front front xs))
+    (tree_open h (lock_of h n ∷ []) called.method false k g' m' (write_entries n (length front) xs counted) rely.tree (hand_stays h s k g m g' m' at.hand rely)
+    (λ g'' m'' rely'. block g'' m'' (tree_rely_more h s k g g' g'' m m' m'' rely
+    (rely_with h (lock_of h n ∷ []) called.method false true false k [] g' g'' m' m'' rely'))))
+  where
+    s : Standing
+    s = holding (lock_of h n ∷ []) called.method false false
+
+    closing : Script
+    closing = perform (Mark BlockCommit) (unlock_node h n later)
+
+    counted : Script
+    counted = perform (Store (count_cell n) (length (front ++ xs))) closing
+
+    parts : length (front ++ xs) ≡ length front + length xs
+    parts = length_join front xs
+
+    low_level : level_at m n ≤ g.top
+    low_level = omega (arith, leaf)
+
+    block : InBlock h called.method false k g m n [] (write_entries n (length front) xs counted)
+    block = store_entries h called.method false k g m n (length front) xs [] counted tree at low_level (omega (arith, few, parts))
+        (store_in_node h called.method false k g m n 1 (length (front ++ xs)) (entry_writes n (length front) xs []) closing
+        tree at low_level (omega arith) (λ e. omega (arith, e))
+        (commit_block h called k g m n (front ++ xs) (node_writes n front xs) later tree at leaf
+        (λ a x r. node_rewritten h.size x n (count_at x n) front back xs (linked_low h.size a x r.tree n (r.grows.linked n at.linked))
+        (entries_kept h s k g m n a x tree at r ∙ before) few) right commits rest))
+
+-- From the root to the leaf of the key: an operation's walk is never lost.
+pub walk_down_right : (h : Header) (method : Method) (committed : Bool) (key : ℕ) (k : TreeHand) (g : Shape) (m : Memory) (lost : Script) (arrived : Arrived → Script)
+    → IsLinked h.size g m → HandStands h k g m → Arrives h method committed k g m key 0 arrived
+    → TreeRight h (holding [] method committed false) k g m (walk_down h Correct key lost arrived)
+walk_down_right h method committed key k g m lost arrived tree hand there =
+    tree_load h (holding [] method committed false) k g m (root_cell h) (λ root. walk_from h Correct key 0 h.size root lost arrived) tree hand (inr (inl refl)) refl
+    (λ g' m' rely. walk_right h method committed key 0 k g m lost arrived hand there h.size (root_in h.size m) (λ x. false) g' m' rely (record {
+      linked = rely.grows.linked (root_in h.size m) tree.root_linked;
+      from = (let low = rely.grows.low (root_in h.size m) tree.root_linked in let first = tree.root_first in omega arith);
+      high = omega arith;
+      behind = λ x e. cc;
+      enough = omega arith;
+    }))
+
+-- the value at the place of an entry
+value_is : (xs front back : Entries) (entry : ℕ × ℕ) → xs ≡ front ++ entry ∷ back → value_in xs (length front) ≡ entry.1
+value_is xs front back entry e = ap (λ ys. value_in ys (length front)) e ∙ at front
+  where
+    at : (front : Entries) → value_in (front ++ entry ∷ back) (length front) ≡ entry.1
+    at [] = refl
+    at (x ∷ front) = at front
+
+-- a lookup
+pub lookup_right : (h : Header) (args : Args) (k : TreeHand) (g : Shape) (m : Memory) → IsLinked h.size g m → HandStands h k g m
+    → IsBare k (record { method = TrLookup; args = args })
+    → TreeRight h (holding [] TrLookup false false) k g m (lookup h Correct args.a)
+lookup_right h args k g m tree hand bare =
+    walk_down_right h TrLookup false args.a k g m (returns 0) (λ at. look_in h at (place_of args.a at.entries)) tree hand arrives
+  where
+    called : Called
+    called = record { method = TrLookup; args = args }
+
+    free : Standing
+    free = holding [] TrLookup false false
+
+    arrives : Arrives h TrLookup false k g m args.a 0 (λ at. look_in h at (place_of args.a at.entries))
+    arrives n a x begun at leaf over b y r = (
+      answered,
+      b,
+      record {
+        reaches = refl;
+        grows = c.grows;
+        leaves = c.leaves;
+        tree = r.tree;
+        top = c.top;
+        closed = c.closed;
+        alone = c.alone;
+        ahead = λ quiet out. absurd (never quiet out);
+        wrote = λ quiet out. absurd (never quiet out);
+        within = λ inside goes same. (refl, refl);
+        taken = c.taken;
+        hung = c.hung;
+        leads = λ state shows. shows;
+        pending = refl;
+        out = or_false k.out;
+        called = refl;
+        answers = inr (record {
+          called = called;
+          is_called = bare.called_is;
+          reply = reply;
+          answer = refl;
+          seen = λ state shows. by_place state shows (place_of args.a (entries_at x n)) refl;
+        });
+      },
+      subst Later (sym (gone (lock_of h n) [])) later,
+    )
+      where
+        s : Standing
+        s = holding (lock_of h n ∷ []) TrLookup false false
+
+        reply : ℕ
+        reply = reply_of (entries_at x n) (place_of args.a (entries_at x n))
+
+        answered : TreeHand
+        answered = record {
+          fresh = k.fresh;
+          hanging = k.hanging;
+          pending = k.pending;
+          out = k.out;
+          called = k.called;
+          answered = Some (reply_of (entries_at x n) (place_of args.a (entries_at x n)));
+        }
+
+        hand' : HandStands h k b y
+        hand' = hand_stays h s k a x b y at.hand r
+
+        c : Changeless h s k b y
+        c = changeless h s k b y hand'
+
+        or_false : (b : Bool) → b ≡ (b || false)
+        or_false true = refl
+        or_false false = refl
+
+        is : IsIn b y 0 n args.a
+        is = still_in h s k a x b y 0 n args.a (record { linked = at.linked; level_is = leaf; covers = over }) at.held r
+
+        same : entries_at y n ≡ entries_at x n
+        same = entries_kept h s k a x n b y begun.tree at r
+
+        by_place : (state : Amounts) → ShowsState b y state → (o : Option ℕ) → place_of args.a (entries_at x n) ≡ o
+            → answer_in state TrLookup args ≡ reply_of (entries_at x n) (place_of args.a (entries_at x n))
+        by_place state shows None e =
+            ap (λ b. cond b (amount_of state args.a - 2 ^ 32 + 1) 0) (not_there state args.a
+            (absent_in h.size b y state n args.a r.tree shows is (subst (Each (λ x. x.0 ≢ args.a)) (sym same) (not_found args.a (entries_at x n) e))))
+            ∙ sym (ap (reply_of (entries_at x n)) e)
+        by_place state shows (Some i) e =
+            let found = found_around args.a (entries_at x n) i e in
+            let around = found.4 in
+            let amount : amount_of state args.a ≡ 2 ^ 32 + found.1.1 = present_in h.size b y state n args.a found.0 found.2 found.1 r.tree shows is
+            (record { parts = same ∙ around.parts; key_is = around.key_is }) in
+            ap (λ b. cond b (amount_of state args.a - 2 ^ 32 + 1) 0) (there state args.a (omega (arith, amount)))
+            ∙ plus_one found.1.1 (amount_of state args.a) amount
+            ∙ sym (ap (reply_of (entries_at x n)) e ∙ ap (λ i. value_in (entries_at x n) i + 1) (sym found.3)
+            ∙ ap (λ v. v + 1) (value_is (entries_at x n) found.0 found.2 found.1 around.parts))
+          where
+            plus_one : (value amount : ℕ) → amount ≡ 2 ^ 32 + value → amount - 2 ^ 32 + 1 ≡ value + 1
+            plus_one value amount e = omega arith
+
+        Later : List ℕ → Type 0
+        Later locks = (g' : Shape) → (now : Memory) → TreeRely h (holding locks TrLookup false false) answered b y g' now
+            → TreeRight h (holding locks TrLookup false false) answered g' now (returns reply)
+
+        later : Later []
+        later g' now r' = tree_returns h answered g' now false called reply r'.tree
+            (hand_stays h free answered b y g' now (record { fresh = hand'.fresh; hanging = hand'.hanging; quiet = hand'.quiet }) r')
+            (record { fresh = bare.fresh; hanging = bare.hanging; called_is = bare.called_is }) (λ c is observes. refl)
+
+-- a delete
+pub delete_right : (h : Header) (args : Args) (k : TreeHand) (g : Shape) (m : Memory) → IsLinked h.size g m → HandStands h k g m
+    → IsBare k (record { method = TrDelete; args = args })
+    → TreeRight h (holding [] TrDelete false false) k g m (delete h Correct args.a)
+delete_right h args k g m tree hand bare =
+    walk_down_right h TrDelete false args.a k g m gives_up (λ at. delete_in h at (place_of args.a at.entries)) tree hand arrives
+  where
+    called : Called
+    called = record { method = TrDelete; args = args }
+
+    arrives : Arrives h TrDelete false k g m args.a 0 (λ at. delete_in h at (place_of args.a at.entries))
+    arrives n a x begun at leaf over = by_place (place_of args.a (entries_at x n)) refl
+      where
+        s : Standing
+        s = holding (lock_of h n ∷ []) TrDelete false false
+
+        is : IsIn a x 0 n args.a
+        is = record { linked = at.linked; level_is = leaf; covers = over }
+
+        removed : (i : ℕ) (front : Entries) (entry : ℕ × ℕ) (back : Entries) → length front ≡ i → IsAround args.a (entries_at x n) front entry back
+            → Onward h s k a x (rewrite h n i (remove (entries_at x n) i) BlockCommit (returns 1))
+        removed i front entry back len around =
+            subst (λ i. Onward h s k a x (rewrite h n i (remove (entries_at x n) i) BlockCommit (returns 1))) len
+            (subst (λ xs. Onward h s k a x (rewrite h n (length front) xs BlockCommit (returns 1))) (sym remains)
+            (rewrite_right h called k a x n front (entry ∷ back) back (returns 1) begun.tree at leaf around.parts few right
+            (λ b y r state shows rw. record {
+              called = called;
+              is_called = bare.called_is;
+              reply = 1;
+              returns = λ answer is. refl;
+              next = with_amount state args.a 0;
+              allowed = ap (λ b. then_some b (with_amount state args.a 0)) (there state args.a (let e = amount b y r state shows in omega (arith, e)));
+              means = changed_in h.size b y (written (node_writes n front back) y) state n args.a 0 (front ++ back) r.tree shows
+                  (still_in h s k a x b y 0 n args.a is at.held r) rw (gives-append args.a front back ∙ plus one.0 one.1)
+                  (λ q apart. others q apart ∙ ap (gives q) (sym (entries_kept h s k a x n b y begun.tree at r)));
+            })
+            (λ b y t hand'. tree_returns h (with_pending k (node_writes n front back)) b y true called 1 t hand'
+            (record { fresh = bare.fresh; hanging = bare.hanging; called_is = bare.called_is })
+            (tree_mutates (with_pending k (node_writes n front back)) called 1 bare.called_is refl))))
+          where
+            before : HasEntries a x (level_at x n) (a.low n) (bound_at x n) (front ++ entry ∷ back)
+            before = subst (HasEntries a x (level_at x n) (a.low n) (bound_at x n)) around.parts (begun.tree.entries n at.linked)
+
+            one : (gives args.a front ≡ 0) × (gives args.a back ≡ 0) × (gives args.a (entry ∷ back) ≡ 2 ^ 32 + entry.1)
+            one = gives_one args.a front entry back before.rise (before.leaf leaf) around.key_is
+
+            right : (b : Shape) (y : Memory) → TreeRely h s k a x b y → HasEntries b y (level_at y n) (b.low n) (bound_at y n) (front ++ back)
+            right b y r =
+                uncode h.size b y (level_at y n) (b.low n) (bound_at y n) (front ++ back)
+                (entries_removed h.size (coded b y (level_at y n)) b.low (level_at y n) (b.low n) (bound_at y n) front back entry
+                (r.grows.level n at.linked ∙ leaf)
+                (code h.size b y (level_at y n) (b.low n) (bound_at y n) (front ++ entry ∷ back) (linked_low h.size b y r.tree)
+                (subst (HasEntries b y (level_at y n) (b.low n) (bound_at y n)) (entries_kept h s k a x n b y begun.tree at r ∙ around.parts)
+                (r.tree.entries n (r.grows.linked n at.linked)))))
+
+            amount : (b : Shape) (y : Memory) → TreeRely h s k a x b y → (state : Amounts) → ShowsState b y state → amount_of state args.a ≡ 2 ^ 32 + entry.1
+            amount b y r state shows = present_in h.size b y state n args.a front back entry r.tree shows (still_in h s k a x b y 0 n args.a is at.held r)
+                (record { parts = entries_kept h s k a x n b y begun.tree at r ∙ around.parts; key_is = around.key_is })
+
+            remains : remove (entries_at x n) (length front) ≡ front ++ back
+            remains =
+                ap (λ xs. remove xs (length front)) around.parts
+                ∙ ap (λ xs. xs ++ drop (suc (length front)) (front ++ entry ∷ back)) (take_front front (entry ∷ back))
+                ∙ ap (λ xs. front ++ xs) (drop_next front)
+              where
+                drop_next : (front : Entries) → drop (suc (length front)) (front ++ entry ∷ back) ≡ back
+                drop_next [] = refl
+                drop_next (z ∷ front) = drop_next front
+
+            few : length (front ++ back) ≤ 4
+            few =
+                let p = length_join front back in
+                let q = length_join front (entry ∷ back) in
+                let len : length (front ++ entry ∷ back) ≡ count_at x n = sym (ap length around.parts) ∙ length-entries x n 0 (count_at x n) in
+                let few = begun.tree.few n at.linked in
+                omega arith
+
+            plus : {p q : ℕ} → p ≡ 0 → q ≡ 0 → p + q ≡ 0
+            plus e f = omega arith
+
+            leaves : Each IsLeafEntry (entry ∷ back)
+            leaves = each_back IsLeafEntry front (entry ∷ back) (before.leaf leaf)
+
+            others : (q : ℕ) → q ≢ args.a → gives q (front ++ back) ≡ gives q (entries_at x n)
+            others q apart =
+                let none = entry_gives_none q entry leaves.0 (λ e. apart (sym e ∙ around.key_is)) in
+                let joined = gives_around q front back entry in
+                let parts = ap (gives q) around.parts in
+                omega (arith, none, joined, parts)
+
+        by_place : (o : Option ℕ) → place_of args.a (entries_at x n) ≡ o
+            → Onward h s k a x (delete_in h (loaded_at x n) (place_of args.a (entries_at x n)))
+        by_place None e =
+            subst (λ o. Onward h s k a x (delete_in h (loaded_at x n) o)) (sym e)
+            (λ b y r. nothing_right h called k b y n r.tree (hand_stays h s k a x b y at.hand r) bare refl
+            (λ state shows. ap (λ b. then_some (not b) state) (not_there state args.a
+            (absent_in h.size b y state n args.a r.tree shows (still_in h s k a x b y 0 n args.a is at.held r)
+            (subst (Each (λ z. z.0 ≢ args.a)) (sym (entries_kept h s k a x n b y begun.tree at r)) (not_found args.a (entries_at x n) e))))))
+        by_place (Some i) e =
+            let found = found_around args.a (entries_at x n) i e in
+            subst (λ o. Onward h s k a x (delete_in h (loaded_at x n) o)) (sym e) (removed i found.0 found.1 found.2 found.3 found.4)

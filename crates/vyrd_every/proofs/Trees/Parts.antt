@@ -1,0 +1,220 @@
+-- Single acts of a script of the tree that change nothing, and what a caller knows still, whatever the others do.
+use Rattle.std.proofs.Common.{◌≡◌, ℕ, ◌<◌, ◌≤◌, ◌⊎◌, inl, Bool, true, false, List, [], ◌∷◌, Some, refl, ◌∙◌, sym, subst, arith}
+use Rattle.std.specs.Prelude.{◌||◌}
+use Rattle.vyrd_base.specs.declared.header.Header.{Header}
+use Rattle.vyrd_base.specs.declared.subject.Method.{Method}
+use Rattle.vyrd_memory.specs.declared.act.Act.TheVariants.{Load, Take, Give}
+use Rattle.vyrd_memory.specs.Alone.{Memory}
+use Rattle.vyrd_memory.specs.Scripts.{Script, step, perform}
+use Rattle.vyrd_memory.specs.Soundness.{Standing, holds, after_act}
+use Rattle.vyrd_tree.specs.Cells.{lock_of, root_lock, used_lock}
+use Rattle.vyrd_tree.specs.RightAlone.Nodes.{level_at, last_in, root_in}
+use Rattle.vyrd_tree.specs.Laws.Steps.{holding}
+use Rattle.vyrd_multiset.specs.Laws.Sound.{gone}
+use Rattle.vyrd_every.proofs.Acts.{never}
+use Rattle.vyrd_every.specs.Trees.Shapes.{Shape, IsLinked, Hangs}
+use Rattle.vyrd_every.specs.Trees.Others.{Grows}
+use Rattle.vyrd_every.specs.Trees.Hands.{TreeHand, MayLoad}
+use Rattle.vyrd_every.specs.Trees.Others.{TreeRely, TreeLeaves}
+use Rattle.vyrd_every.specs.Trees.RightScripts.{TreeRight}
+
+-- what holds of a hand between two acts of its caller, but while a new root is seen before its block is closed
+pub record HandStands (h : Header) (k : TreeHand) (g : Shape) (m : Memory) : Type 0 where
+  pub fresh : (n : ℕ) → k.fresh ≡ Some n → (g.linked n ≡ false) × (n ≤ last_in h.size m)
+  pub hanging : (n : ℕ) → k.hanging ≡ Some n → (g.linked n ≡ true) × Hangs g m n
+  pub quiet : k.out ≡ false
+
+pub hand_stays : (h : Header) (s : Standing) (k : TreeHand) (g : Shape) (m : Memory) (g' : Shape) (m' : Memory) → HandStands h k g m
+    → TreeRely h s k g m g' m' → HandStands h k g' m'
+hand_stays h s k g m g' m' hand rely = record {
+  fresh = λ n mine. let was = hand.fresh n mine in (rely.fresh n mine ∙ was.0, rely.used n mine was.1);
+  hanging = λ n mine. let was = hand.hanging n mine in (rely.grows.linked n was.0, rely.hanging n mine was.1);
+  quiet = hand.quiet;
+}
+
+pub grows_same : (g : Shape) (m : Memory) → Grows g m g m
+grows_same g m = record { linked = λ n l. l; low = λ n l. refl; level = λ n l. refl; top = omega arith }
+
+pub grows_more : (a b c : Shape) (x y z : Memory) → Grows a x b y → Grows b y c z → Grows a x c z
+grows_more a b c x y z one two = record {
+  linked = λ n l. two.linked n (one.linked n l);
+  low = λ n l. two.low n (one.linked n l) ∙ one.low n l;
+  level = λ n l. two.level n (one.linked n l) ∙ one.level n l;
+  top = (let first = one.top in let second = two.top in omega arith);
+}
+
+-- the others do one thing after the other
+pub tree_rely_more : (h : Header) (s : Standing) (k : TreeHand) (a b c : Shape) (x y z : Memory) → TreeRely h s k a x b y → TreeRely h s k b y c z
+    → TreeRely h s k a x c z
+tree_rely_more h s k a b c x y z one two = record {
+  grows = grows_more a b c x y z one.grows two.grows;
+  held = λ n place linked held low. two.held n place (one.grows.linked n linked) held low ∙ one.held n place linked held low;
+  fresh = λ n mine. two.fresh n mine ∙ one.fresh n mine;
+  used = λ n mine le. two.used n mine (one.used n mine le);
+  hanging = λ n mine hangs. two.hanging n mine (one.hanging n mine hangs);
+  root = λ held. ((two.root held).0 ∙ (one.root held).0, (two.root held).1 ∙ (one.root held).1);
+  count = λ held. two.count held ∙ one.count held;
+  tree = two.tree;
+  calm = two.calm;
+}
+
+-- with fewer locks held, less is relied upon
+pub tree_rely_less : (h : Header) (s s' : Standing) (k : TreeHand) (a b : Shape) (x y : Memory) → ((lock : ℕ) → holds s' lock ≡ true → holds s lock ≡ true)
+    → TreeRely h s k a x b y → TreeRely h s' k a x b y
+tree_rely_less h s s' k a b x y fewer r = record {
+  grows = r.grows;
+  held = λ n place linked held low. r.held n place linked (fewer (lock_of h n) held) low;
+  fresh = r.fresh;
+  used = r.used;
+  hanging = r.hanging;
+  root = λ held. r.root (fewer (root_lock h) held);
+  count = λ held. r.count (fewer (used_lock h) held);
+  tree = r.tree;
+  calm = λ held out. r.calm (fewer (root_lock h) held) out;
+}
+
+leaves_same : (h : Header) (s : Standing) (k : TreeHand) (g : Shape) (m : Memory) → TreeLeaves h s k g m g m
+leaves_same h s k g m = record {
+  others = λ n place linked free low. refl;
+  unlinked = λ n un other. un;
+  used = omega arith;
+  hanging = λ n linked other hangs. hangs;
+  root = λ free. (refl, refl);
+  count = λ free. refl;
+}
+
+-- what an act does that changes nothing
+pub record Changeless (h : Header) (s : Standing) (k : TreeHand) (g : Shape) (m : Memory) : Type 0 where
+  pub grows : Grows g m g m
+  pub leaves : TreeLeaves h s k g m g m
+  pub taken : (n : ℕ) → k.fresh ≡ Some n → (g.linked n ≡ false) × (n ≤ last_in h.size m) × ((k.fresh ≡ Some n) ⊎ (last_in h.size m < n))
+  pub hung : (n : ℕ) → k.hanging ≡ Some n → (g.linked n ≡ true) × Hangs g m n × ((k.hanging ≡ Some n) ⊎ (g.linked n ≡ false))
+  pub alone : k.out ≡ true → (holds s (root_lock h) ≡ true) × (s.in_block ≡ true)
+  pub closed : k.out ≡ true → k.out ≡ false → g.top ≡ level_at m (root_in h.size m)
+  pub top : k.out ≡ false → g.top ≡ level_at m (root_in h.size m) → k.out ≡ false → g.top ≡ level_at m (root_in h.size m)
+
+pub changeless : (h : Header) (s : Standing) (k : TreeHand) (g : Shape) (m : Memory) → HandStands h k g m → Changeless h s k g m
+changeless h s k g m hand = record {
+  grows = grows_same g m;
+  leaves = leaves_same h s k g m;
+  taken = λ n mine. let has = hand.fresh n mine in (has.0, has.1, inl mine);
+  hung = λ n mine. let has = hand.hanging n mine in (has.0, has.1, inl mine);
+  alone = λ out. absurd (never hand.quiet out);
+  closed = λ out quiet. absurd (never quiet out);
+  top = λ out is quiet. is;
+}
+
+pub tree_load : (h : Header) (s : Standing) (k : TreeHand) (g : Shape) (m : Memory) (cell : ℕ) (rest : ℕ → Script) → IsLinked h.size g m → HandStands h k g m
+    → MayLoad h s g cell → s.in_block ≡ false
+    → ((g' : Shape) → (now : Memory) → TreeRely h s k g m g' now → TreeRight h s k g' now (rest (m cell)))
+    → TreeRight h s k g m (step (Load cell) rest)
+tree_load h s k g m cell rest tree hand may out later =
+    let c : Changeless h s k g m = changeless h s k g m hand in (
+      k,
+      g,
+      record {
+        reaches = (may, out);
+        grows = c.grows;
+        leaves = c.leaves;
+        tree = tree;
+        top = c.top;
+        closed = c.closed;
+        alone = c.alone;
+        ahead = λ quiet out. absurd (never quiet out);
+        wrote = λ quiet out. absurd (never quiet out);
+        within = λ inside goes same. (refl, refl);
+        taken = c.taken;
+        hung = c.hung;
+        leads = λ state shows. shows;
+        pending = refl;
+        out = or_false k.out;
+        called = refl;
+        answers = refl;
+      },
+      later,
+    )
+  where
+    or_false : (b : Bool) → b ≡ (b || false)
+    or_false true = refl
+    or_false false = refl
+
+pub tree_take : (h : Header) (s : Standing) (k : TreeHand) (g : Shape) (m : Memory) (lock : ℕ) (rest : Script) → IsLinked h.size g m → HandStands h k g m
+    → ((held : ℕ) → holds s held ≡ true → held < lock)
+    → ((g' : Shape) → (now : Memory) → TreeRely h (after_act s (Take lock)) k g m g' now → TreeRight h (after_act s (Take lock)) k g' now rest)
+    → TreeRight h s k g m (perform (Take lock) rest)
+tree_take h s k g m lock rest tree hand above later =
+    let c : Changeless h s k g m = changeless h s k g m hand in (
+      k,
+      g,
+      record {
+        reaches = above;
+        grows = c.grows;
+        leaves = c.leaves;
+        tree = tree;
+        top = c.top;
+        closed = c.closed;
+        alone = c.alone;
+        ahead = λ quiet out. absurd (never quiet out);
+        wrote = λ quiet out. absurd (never quiet out);
+        within = λ inside goes same. (refl, refl);
+        taken = c.taken;
+        hung = c.hung;
+        leads = λ state shows. shows;
+        pending = refl;
+        out = or_false k.out;
+        called = refl;
+        answers = refl;
+      },
+      later,
+    )
+  where
+    or_false : (b : Bool) → b ≡ (b || false)
+    or_false true = refl
+    or_false false = refl
+
+pub tree_give : (h : Header) (s : Standing) (k : TreeHand) (g : Shape) (m : Memory) (lock : ℕ) (rest : Script) → IsLinked h.size g m → HandStands h k g m
+    → s.in_block ≡ false
+    → ((g' : Shape) → (now : Memory) → TreeRely h (after_act s (Give lock)) k g m g' now → TreeRight h (after_act s (Give lock)) k g' now rest)
+    → TreeRight h s k g m (perform (Give lock) rest)
+tree_give h s k g m lock rest tree hand out later =
+    let c : Changeless h s k g m = changeless h s k g m hand in (
+      k,
+      g,
+      record {
+        reaches = out;
+        grows = c.grows;
+        leaves = c.leaves;
+        tree = tree;
+        top = c.top;
+        closed = c.closed;
+        alone = c.alone;
+        ahead = λ quiet out. absurd (never quiet out);
+        wrote = λ quiet out. absurd (never quiet out);
+        within = λ inside goes same. (refl, refl);
+        taken = c.taken;
+        hung = c.hung;
+        leads = λ state shows. shows;
+        pending = refl;
+        out = or_false k.out;
+        called = refl;
+        answers = inl refl;
+      },
+      later,
+    )
+  where
+    or_false : (b : Bool) → b ≡ (b || false)
+    or_false true = refl
+    or_false false = refl
+
+-- the only lock is given back
+pub tree_give_last : (h : Header) (method : Method) (committed : Bool) (k : TreeHand) (g : Shape) (m : Memory) (lock : ℕ) (rest : Script) → IsLinked h.size g m
+    → HandStands h k g m
+    → ((g' : Shape) → (now : Memory) → TreeRely h (holding [] method committed false) k g m g' now → TreeRight h (holding [] method committed false) k g' now rest)
+    → TreeRight h (holding (lock ∷ []) method committed false) k g m (perform (Give lock) rest)
+tree_give_last h method committed k g m lock rest tree hand later =
+    tree_give h (holding (lock ∷ []) method committed false) k g m lock rest tree hand refl
+    (subst Later (sym (gone lock [])) later)
+  where
+    Later : List ℕ → Type 0
+    Later locks = (g' : Shape) → (now : Memory) → TreeRely h (holding locks method committed false) k g m g' now
+        → TreeRight h (holding locks method committed false) k g' now rest

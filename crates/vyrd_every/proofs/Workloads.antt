@@ -1,0 +1,187 @@
+-- The laws, of workloads.
+use Rattle.std.proofs.Common.{◌≡◌, ℕ, ◌+◌, ◌*◌, ◌<◌, ◌≤◌, inl, inr, Bool, true, false, List, [], ◌∷◌, Option, Some, None, option_map, length, refl, ap, ◌∙◌, sym, subst, arith}
+use Rattle.std.specs.Prelude.{nat_le}
+use Rattle.std.specs.Option.{option_or}
+use Rattle.std.proofs.lemmas.Bool.Decides.{nat_tests}
+use Rattle.std.specs.List.{AllByRecursion}
+use Rattle.vyrd_base.specs.declared.header.Header.{Header}
+use Rattle.vyrd_base.specs.declared.subject.Subject.{Subject}
+use Rattle.vyrd_base.specs.declared.subject.Subject.TheVariants.{Multiset, Cache, Tree}
+use Rattle.vyrd_base.specs.declared.log.Kind.{Kind}
+use Rattle.vyrd_base.specs.declared.log.Entry.{Entry}
+use Rattle.vyrd_base.specs.declared.history.Stamped.{Stamped}
+use Rattle.vyrd_base.specs.declared.verdict.Why.{Why}
+use Rattle.vyrd_base.specs.declared.verdict.Verdict.TheVariants.{Violation}
+use Rattle.vyrd_base.specs.Limits.{is_known_version}
+use Rattle.vyrd_base.specs.Places.{Place, places, position_of, first_answer, newest_first}
+use Rattle.vyrd_base.specs.Front.{first_break}
+use Rattle.vyrd_base.specs.Amounts.{Amounts}
+use Rattle.vyrd_base.specs.Faults.{fault_at}
+use Rattle.vyrd_base.specs.Histories.{log_of}
+use Rattle.vyrd_base.specs.Verdicts.{line_of, violation_at, first_fault, is_call_open, accepted, verdict}
+use Rattle.vyrd_base.proofs.TestLaws.{first_true, second_true}
+use Rattle.vyrd_memory.specs.declared.op.Op.{Op}
+use Rattle.vyrd_memory.specs.Bounds.{bound_in, bounds_of}
+use Rattle.vyrd_memory.specs.declared.op.Variant.TheVariants.{Correct}
+use Rattle.vyrd_memory.specs.Alone.{Memory}
+use Rattle.vyrd_memory.specs.Players.{is_callable, are_callable}
+use Rattle.vyrd_memory.specs.Scripts.{Script, operations}
+use Rattle.vyrd_memory.specs.Soundness.{at_rest}
+use Rattle.vyrd_memory.specs.Turns.{script_of, GetsStuck}
+use Rattle.vyrd_memory.proofs.LegalRuns.{IsRun}
+use Rattle.vyrd_work.specs.Workloads.{Workload}
+use Rattle.vyrd_work.specs.WorkLimits.{KeepsLimits}
+use Rattle.vyrd_work.specs.WorkScripts.{procedure_in, ops_of, work_script, work_scripts}
+use Rattle.vyrd_work.proofs.ScriptLaws.{ops_are_few, ops_are_callable}
+use Rattle.vyrd_work.proofs.SoundScripts.{script_at, scripts_sound}
+use Rattle.vyrd_every.specs.Schedules.{IsCorrect, IsCorrectMultiset, IsCorrectCache, IsCorrectMultisetOrCache, IsSchedule, states_of}
+use Rattle.vyrd_every.specs.Structures.{Structure}
+use Rattle.vyrd_every.specs.Hands.{empty_hand}
+use Rattle.vyrd_every.specs.RightScripts.{DoesRight, IsRight, AreRight}
+use Rattle.vyrd_every.specs.Guarded.{multiset, cache}
+use Rattle.vyrd_every.proofs.Followed.{operations_right}
+use Rattle.vyrd_every.proofs.Multisets.Guards.{multiset_fits}
+use Rattle.vyrd_every.proofs.Multisets.Wholes.{multiset_right}
+use Rattle.vyrd_every.proofs.Caches.Guards.{cache_fits}
+use Rattle.vyrd_every.proofs.Caches.Wholes.{cache_right}
+use Rattle.vyrd_every.specs.Trees.Starts.{IsCorrectTree}
+use Rattle.vyrd_every.proofs.Keeping.{Keeping}
+use Rattle.vyrd_every.proofs.Trees.Wholes.{tree_script_right}
+use Rattle.vyrd_every.proofs.Trees.Keeps.{tree_keeping}
+use Rattle.vyrd_every.proofs.Kept.{keeping_of}
+use Rattle.vyrd_every.proofs.Reached.{no_break, all_front}
+use Rattle.vyrd_every.proofs.Accepted.{AreDone, whole_run, none_open_at_end, no_fault, is_accepted}
+use Rattle.vyrd_every.proofs.Unstuck.{never_stuck}
+use Rattle.vyrd_multiset.specs.Procedures.{multiset_procedure}
+use Rattle.vyrd_cache.specs.Procedures.{cache_procedure}
+
+-- the script of a caller does right, if the procedure of each operation does
+script_right : (S : Structure) (w : Workload) (procedure : Op → Script) (c : ℕ) (now : Memory)
+    → procedure_in w.header.subject w.header w.variant ≡ procedure → c < w.header.callers
+    → are_callable S.header (ops_of c w.ops) ≡ true → ((op : Op) → is_callable S.header op ≡ true → IsRight S procedure op)
+    → DoesRight S at_rest empty_hand now (script_of (work_scripts w) c)
+script_right S w procedure c now same low callable each =
+    subst (DoesRight S at_rest empty_hand now) (sym its)
+    (operations_right S procedure (ops_of c w.ops) empty_hand now each callable (record { rests = refl; owned = λ slot. refl; called = refl }))
+  where
+    its : script_of (work_scripts w) c ≡ operations procedure (ops_of c w.ops)
+    its =
+        let e : 0 + c ≡ c = omega arith in
+        script_at (work_script w) 0 w.header.callers c low ∙ ap (work_script w) e ∙ ap (λ p. operations p (ops_of c w.ops)) same
+
+-- so do the scripts of a workload of the correct multiset, and of the correct cache
+multisets_right : (w : Workload) → KeepsLimits w → IsCorrectMultiset w → AreRight (multiset w.header) (work_scripts w)
+multisets_right w limits is = record {
+  fits = multiset_fits w.header is.subject;
+  sound = scripts_sound w limits;
+  right = λ c low now. script_right (multiset w.header) w (multiset_procedure w.header Correct) c now
+      (λ i. procedure_in (is.subject i) w.header (is.variant i)) low (ops_are_callable w c limits)
+      (λ op callable. multiset_right w.header op is.subject callable);
+}
+
+caches_right : (w : Workload) → KeepsLimits w → IsCorrectCache w → AreRight (cache w.header) (work_scripts w)
+caches_right w limits is = record {
+  fits = cache_fits w.header is.subject;
+  sound = scripts_sound w limits;
+  right = λ c low now. script_right (cache w.header) w (cache_procedure w.header Correct) c now
+      (λ i. procedure_in (is.subject i) w.header (is.variant i)) low (ops_are_callable w c limits)
+      (λ op callable. cache_right w.header op is.subject callable);
+}
+
+-- a header's size is 1 or more
+some_size : (h : Header) → 0 < h.size
+some_size h = at_least (first_true _ _ (first_true _ _ (first_true _ _ (second_true (is_known_version h.version) _ h.within))))
+  where
+    at_least : nat_le 1 h.size ≡ true → 0 < h.size
+    at_least e = grind (arith, nat_tests)
+
+trees_right : (w : Workload) → KeepsLimits w → IsCorrectTree w → Keeping w.header (work_scripts w)
+trees_right w limits is = tree_keeping w.header (work_scripts w) (record {
+  subject = is.subject;
+  some = some_size w.header;
+  sound = scripts_sound w limits;
+  right = λ c low g m tree. tree_script_right w c g m limits is low tree;
+})
+
+-- so there is something that holds after every event
+pub keeping : (w : Workload) → KeepsLimits w → IsCorrect w → Keeping w.header (work_scripts w)
+keeping w limits is = by_subject w.header.subject refl
+  where
+    by_subject : (s : Subject) → w.header.subject ≡ s → Keeping w.header (work_scripts w)
+    by_subject Multiset e = keeping_of (multiset w.header) (work_scripts w) (multisets_right w limits (record { subject = e; variant = is }))
+    by_subject Cache e = keeping_of (cache w.header) (work_scripts w) (caches_right w limits (record { subject = e; variant = is }))
+    by_subject Tree e = trees_right w limits (record { subject = e; variant = is })
+
+-- there is no first fault
+none_first : (h : Header) (scripts : List Script) (k : Keeping h scripts) (history : List Stamped) → IsRun h scripts (newest_first history)
+    → AreDone h scripts (newest_first history)
+    → first_answer (violation_at h (states_of (log_of history))) (places (log_of history)) ≡ None
+unfolding first_fault
+none_first h scripts k history run done =
+    sym (ap (λ es. first_answer (violation_at h (states_of es)) (places es)) (all_front h scripts k history run))
+    ∙ no_fault h scripts k history run done
+
+-- no place is a fault
+no_why : (line : ℕ) (o : Option Why) → option_map (Violation line) o ≡ None → o ≡ None
+no_why line None e = refl
+no_why line (Some why) e = cc
+
+each_right : (h : Header) (states : List Amounts) (ps : List (Place Entry)) → first_answer (violation_at h states) ps ≡ None
+    → AllByRecursion (λ place. fault_at h states place ≡ None) ps
+each_right h states [] e = tt
+each_right h states (place ∷ ps) e =
+    let parts = both_none (violation_at h states place) (first_answer (violation_at h states) ps) e in
+    (no_why (line_of (position_of place)) (fault_at h states place) parts.0, each_right h states ps parts.1)
+  where
+    both_none : {A : Type 0} (a b : Option A) → option_or a b ≡ None → (a ≡ None) × (b ≡ None)
+    both_none None b e = (refl, e)
+    both_none (Some a) b e = cc
+
+pub where_kind : (h : Header) (states : List Amounts) (test : Kind → Bool) (ps : List (Place Entry)) → AllByRecursion (λ place. fault_at h states place ≡ None) ps
+    → AllByRecursion (λ place. test place.here.kind ≡ true → fault_at h states place ≡ None) ps
+where_kind h states test [] all = tt
+where_kind h states test (place ∷ ps) all = (λ e. all.0, where_kind h states test ps all.1)
+
+-- what follows wherever something holds after every event
+pub formed : (w : Workload) (history : List Stamped) → Keeping w.header (work_scripts w) → IsSchedule w history → first_break w.header (log_of history) ≡ None
+formed w history k schedule = no_break w.header (work_scripts w) k history (whole_run w.header (work_scripts w) history schedule.legal schedule.parts)
+
+pub closed : (w : Workload) (history : List Stamped) → Keeping w.header (work_scripts w) → IsSchedule w history
+    → is_call_open w.header (newest_first (log_of history)) ≡ false
+closed w history k schedule = none_open_at_end w.header (work_scripts w) k history schedule.legal schedule.parts
+
+pub kinds_right : (w : Workload) (history : List Stamped) (test : Kind → Bool) → Keeping w.header (work_scripts w) → IsSchedule w history
+    → AllByRecursion (λ place. test place.here.kind ≡ true → fault_at w.header (states_of (log_of history)) place ≡ None) (places (log_of history))
+kinds_right w history test k schedule =
+    where_kind w.header (states_of (log_of history)) test (places (log_of history))
+    (each_right w.header (states_of (log_of history)) (places (log_of history))
+    (none_first w.header (work_scripts w) k history (whole_run w.header (work_scripts w) history schedule.legal schedule.parts)
+    (λ c low. (schedule.parts c).done)))
+
+pub schedule_accepted : (w : Workload) (history : List Stamped) → KeepsLimits w → IsCorrect w → IsSchedule w history
+    → verdict w.header (log_of history) ≡ accepted (log_of history)
+schedule_accepted w history limits is schedule =
+    is_accepted w.header (work_scripts w) (keeping w limits is) history schedule.legal schedule.parts
+
+pub not_stuck : (w : Workload) → KeepsLimits w → IsCorrect w → GetsStuck (work_scripts w) w.turns → ⊥
+not_stuck w limits is stuck = never_stuck w.header (work_scripts w) (keeping w limits is) w.turns stuck
+
+-- 32 events for each operation of a multiset, and 16 for each of a cache
+multiset_sum : (h : Header) (ops : List Op) → h.subject ≡ Multiset → bounds_of h ops ≡ 32 * length ops
+multiset_sum h [] is = refl
+multiset_sum h (op ∷ ops) is = omega (arith, ap (λ s. bound_in s h.size op.method) is, multiset_sum h ops is)
+
+cache_sum : (h : Header) (ops : List Op) → h.subject ≡ Cache → bounds_of h ops ≡ 16 * length ops
+cache_sum h [] is = refl
+cache_sum h (op ∷ ops) is = omega (arith, ap (λ s. bound_in s h.size op.method) is, cache_sum h ops is)
+
+pub few_multiset_events : (w : Workload) (c : ℕ) → KeepsLimits w → w.header.subject ≡ Multiset → bounds_of w.header (ops_of c w.ops) ≤ 6400000
+few_multiset_events w c limits is = omega (arith, multiset_sum w.header (ops_of c w.ops) is, ops_are_few w c limits)
+
+pub few_cache_events : (w : Workload) (c : ℕ) → KeepsLimits w → w.header.subject ≡ Cache → bounds_of w.header (ops_of c w.ops) ≤ 3200000
+few_cache_events w c limits is = omega (arith, cache_sum w.header (ops_of c w.ops) is, ops_are_few w c limits)
+
+-- so 6,400,000 are enough for both
+pub few_events : (w : Workload) (c : ℕ) → KeepsLimits w → IsCorrectMultisetOrCache w → bounds_of w.header (ops_of c w.ops) ≤ 6400000
+few_events w c limits (inl is) = few_multiset_events w c limits is.subject
+few_events w c limits (inr is) = let few = few_cache_events w c limits is.subject in omega (arith, few)

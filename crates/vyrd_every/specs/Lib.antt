@@ -1,0 +1,11 @@
+-- What is claimed:
+pub mod Schedules
+-- How it is proved, in the order in which it reads best:
+pub mod Structures
+pub mod Guarded
+pub mod Hands
+pub mod Others
+pub mod RightScripts
+pub mod Between
+-- The third structure, with definitions of its own on the same plan:
+pub mod Trees

@@ -1,0 +1,51 @@
+-- A schedule of a workload, and the workloads whose every schedule is accepted.
+use Rattle.std.specs.Prelude.{◌≡◌, ◌⊎◌, Bool, true, List, None}
+use Rattle.std.specs.List.{AllByRecursion}
+use Rattle.vyrd_base.specs.declared.subject.Subject.TheVariants.{Multiset, Cache}
+use Rattle.vyrd_base.specs.declared.history.Stamped.{Stamped}
+use Rattle.vyrd_base.specs.declared.header.Header.{Header}
+use Rattle.vyrd_base.specs.declared.log.Kind.{Kind}
+use Rattle.vyrd_base.specs.declared.log.Entry.{Entry}
+use Rattle.vyrd_base.specs.Places.{places}
+use Rattle.vyrd_base.specs.Histories.{cells_of, is_legal}
+use Rattle.vyrd_base.specs.Amounts.{Amounts}
+use Rattle.vyrd_base.specs.Specification.{start}
+use Rattle.vyrd_base.specs.Commits.{commits, states_from}
+use Rattle.vyrd_base.specs.Faults.{fault_at}
+use Rattle.vyrd_memory.specs.declared.op.Variant.TheVariants.{Correct}
+use Rattle.vyrd_memory.specs.Runs.{PlayToTheEnd}
+use Rattle.vyrd_work.specs.Workloads.{Workload}
+use Rattle.vyrd_work.specs.WorkScripts.{work_scripts}
+
+-- A legal history in which each caller's part plays the caller's script to its end. The callers' events
+-- come in any order.
+pub record IsSchedule (w : Workload) (history : List Stamped) : Type 0 where
+  pub legal : is_legal (cells_of w.header) history ≡ true
+  pub parts : PlayToTheEnd (work_scripts w) history
+
+-- the structure is in its correct variant, whichever it is
+abbrev pub IsCorrect : Workload → Type 0
+IsCorrect w = w.variant ≡ Correct
+
+-- the structure is a multiset, in its correct variant
+pub record IsCorrectMultiset (w : Workload) : Type 0 where
+  pub subject : w.header.subject ≡ Multiset
+  pub variant : w.variant ≡ Correct
+
+-- the structure is a cache, in its correct variant
+pub record IsCorrectCache (w : Workload) : Type 0 where
+  pub subject : w.header.subject ≡ Cache
+  pub variant : w.variant ≡ Correct
+
+-- the structure is one of the two: those whose callers have few events, however long the workload is
+abbrev pub IsCorrectMultisetOrCache : Workload → Type 0
+IsCorrectMultisetOrCache w = IsCorrectMultiset w ⊎ IsCorrectCache w
+
+-- the states along the commits of a log that is well formed
+abbrev pub states_of : List Entry → List Amounts
+states_of entries = states_from start (commits entries)
+
+-- no place of a log whose entry is of this kind is a fault
+abbrev pub HasNoFault : (Kind → Bool) → Header → List Entry → Type 0
+HasNoFault is_kind h entries = AllByRecursion
+    (λ place. is_kind place.here.kind ≡ true → fault_at h (states_of entries) place ≡ None) (places entries)

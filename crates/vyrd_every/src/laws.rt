@@ -1,0 +1,58 @@
+//! Laws of the schedules of a correct structure: the multiset, the cache and the B-link tree. Each function
+//! does nothing: its contract is the law.
+
+ghost use Rattle.std.specs.Prelude.{◌≡◌, ◌≤◌, ℕ, false, List, None};
+ghost use Rattle.vyrd_base.specs.declared.history.Stamped.{Stamped};
+ghost use Rattle.vyrd_base.specs.declared.subject.Subject.TheVariants.{Cache, Multiset};
+ghost use Rattle.vyrd_base.specs.Places.{newest_first};
+ghost use Rattle.vyrd_base.specs.Front.{first_break};
+ghost use Rattle.vyrd_base.specs.Commits.{is_commit};
+ghost use Rattle.vyrd_base.specs.Histories.{log_of};
+ghost use Rattle.vyrd_base.specs.Verdicts.{accepted, is_call_open, is_return, verdict};
+ghost use Rattle.vyrd_memory.specs.Bounds.{bounds_of};
+ghost use Rattle.vyrd_memory.specs.Turns.{GetsStuck};
+ghost use Rattle.vyrd_work.specs.Workloads.{Workload};
+ghost use Rattle.vyrd_work.specs.WorkLimits.{KeepsLimits};
+ghost use Rattle.vyrd_work.specs.WorkScripts.{ops_of, work_scripts};
+ghost use Rattle.vyrd_every.specs.Schedules.{HasNoFault, IsCorrect, IsSchedule};
+
+/// The log of every schedule of a correct structure is well formed, and no execution is open at its end.
+pub fn schedules_are_well_formed()
+    ensures formed { (w : Workload) (history : List Stamped) → KeepsLimits w → IsCorrect w →
+        IsSchedule w history → first_break w.header (log_of history) ≡ None }
+    ensures closed { (w : Workload) (history : List Stamped) → KeepsLimits w → IsCorrect w →
+        IsSchedule w history → is_call_open w.header (newest_first (log_of history)) ≡ false }
+{}
+
+/// No commit in that log is a fault: each mutator's reply is allowed, and the words show the state after
+/// it.
+pub fn commits_are_right()
+    ensures { (w : Workload) (history : List Stamped) → KeepsLimits w → IsCorrect w →
+        IsSchedule w history → HasNoFault is_commit w.header (log_of history) }
+{}
+
+/// No observer's return in it is a fault: each answer is that of a state between the call and the return.
+pub fn returns_are_right()
+    ensures { (w : Workload) (history : List Stamped) → KeepsLimits w → IsCorrect w →
+        IsSchedule w history → HasNoFault is_return w.header (log_of history) }
+{}
+
+/// So every schedule of a correct structure is accepted.
+pub fn schedules_are_accepted()
+    ensures { (w : Workload) (history : List Stamped) → KeepsLimits w → IsCorrect w →
+        IsSchedule w history → verdict w.header (log_of history) ≡ accepted (log_of history) }
+{}
+
+/// The run by turns of a correct structure doesn't get stuck.
+pub fn turns_arent_stuck()
+    ensures { (w : Workload) → KeepsLimits w → IsCorrect w → GetsStuck (work_scripts w) w.turns → ⊥ }
+{}
+
+/// The operations of a caller of the multiset have at most 6,400,000 events, and those of a caller of the
+/// cache half as many. A tree's walk is longer where the tree is larger.
+pub fn bounds_are_few()
+    ensures of_multiset { (w : Workload) (c : ℕ) → KeepsLimits w → w.header.subject ≡ Multiset →
+        bounds_of w.header (ops_of c w.ops) ≤ 6400000 }
+    ensures of_cache { (w : Workload) (c : ℕ) → KeepsLimits w → w.header.subject ≡ Cache →
+        bounds_of w.header (ops_of c w.ops) ≤ 3200000 }
+{}
