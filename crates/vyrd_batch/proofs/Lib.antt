@@ -1,0 +1,7 @@
+pub mod LineFacts
+pub mod LogFacts
+pub mod AnswerFacts
+pub mod JudgedFacts
+pub mod SettledLaws
+pub mod Opened
+pub mod TextLaws

@@ -1,0 +1,95 @@
+//! Judging the logs of a batch side by side.
+
+ghost use Rattle.std.specs.Prelude.{◌≡◌, length, map, flat_map, IfOk};
+ghost use Rattle.std.specs.List.{AllByRecursion};
+ghost use Rattle.vyrd_base.specs.TextVerdicts.{text_verdict};
+ghost use Rattle.vyrd_batch.specs.Batches.{LiesWithin, bytes_of};
+ghost use Rattle.vyrd_batch.specs.BatchAnswers.{verdicts_of, most_lines};
+
+use crate::parts::{part_weight, parts_of};
+use crate::span::Span;
+use rayon::current_num_threads;
+use rayon::prelude::*;
+use std::alloc::{AllocError, Global};
+use std::thread::Threads;
+use vyrd_base::Verdict;
+use vyrd_check::verdict_of;
+
+/// How many lines a log may have.
+const MOST_LINES: u64 = 268_435_456;
+
+/// The verdicts about the bytes of each span as a whole input, in the order of the spans.
+///
+/// The spans are cut into parts of about the same weight, two for each processor, and the parts are judged on threads of their
+/// own. The bytes are read where they lie. The memory is that of the logs that are judged at one time. The only error is want
+/// of memory.
+pub fn judge_batch<R: Threads + Sync>(
+    rt: &R,
+    alloc: Global,
+    bytes: &[u8],
+    spans: &[Span],
+) -> Result<Vec<Verdict>, AllocError>
+    requires { AllByRecursion (LiesWithin (length bytes.now)) spans.now }
+    ensures { IfOk result (λ verdicts. verdicts.items ≡ verdicts_of (map (bytes_of bytes.now) spans.now)) }
+{
+    let processors = current_num_threads(rt);
+    let weight = part_weight(bytes.len(), spans.len(), processors.saturating_mul(2));
+    let parts = parts_of(alloc, weight, spans)?;
+    let judged = judge_parts(rt, alloc, bytes, &parts)?;
+    joined(alloc, &judged)
+}
+
+// The verdicts about the spans of each part.
+fn judge_parts<R: Threads + Sync>(
+    rt: &R,
+    alloc: Global,
+    bytes: &[u8],
+    parts: &[&[Span]],
+) -> Result<Vec<Vec<Verdict>>, AllocError>
+    requires { AllByRecursion (λ part. AllByRecursion (LiesWithin (length bytes.now)) part.now) parts.now }
+    ensures { IfOk result (λ judged. map (λ verdicts. verdicts.items) judged.items ≡ map (λ part. verdicts_of (map (bytes_of bytes.now) part.now)) parts.now) }
+{
+    // A part is worth a thread of its own, however few there are.
+    let judged: Result<Vec<Vec<Verdict>>, AllocError> = parts
+        .par_iter()
+        .with_min_len(1)
+        .map(
+            |part: &&[Span]| -> Result<Vec<Verdict>, AllocError>
+                requires { AllByRecursion (LiesWithin (length bytes.now)) part.now.now }
+                ensures { IfOk result (λ verdicts. verdicts.items ≡ verdicts_of (map (bytes_of bytes.entry.now) part.now.now)) }
+            { judge_part(alloc, bytes, part) },
+        )
+        .collect(rt, alloc)?;
+    judged
+}
+
+// The verdicts about the spans of a part, one after the other.
+fn judge_part(alloc: Global, bytes: &[u8], spans: &[Span]) -> Result<Vec<Verdict>, AllocError>
+    requires { AllByRecursion (LiesWithin (length bytes.now)) spans.now }
+    ensures { IfOk result (λ verdicts. verdicts.items ≡ verdicts_of (map (bytes_of bytes.now) spans.now)) }
+{
+    let mut verdicts = Vec::new(alloc);
+    for span in spans {
+        verdicts.push(judge_span(alloc, bytes, *span)?)?;
+    }
+    Ok(verdicts)
+}
+
+// The verdict about the bytes of a span.
+fn judge_span(alloc: Global, bytes: &[u8], span: Span) -> Result<Verdict, AllocError>
+    requires { LiesWithin (length bytes.now) span }
+    ensures { IfOk result (λ verdict. verdict ≡ text_verdict most_lines (bytes_of bytes.now span)) }
+{
+    verdict_of(alloc, MOST_LINES, &bytes[span.first..span.past])
+}
+
+// The verdicts of all parts, in their order.
+fn joined(alloc: Global, judged: &[Vec<Verdict>]) -> Result<Vec<Verdict>, AllocError>
+    ensures { IfOk result (λ verdicts. verdicts.items ≡ flat_map (λ part. part.items) judged.now) }
+{
+    let mut verdicts = Vec::new(alloc);
+    for part in judged {
+        verdicts.extend_from_slice(part)?;
+    }
+    Ok(verdicts)
+}

@@ -1,0 +1,24 @@
+//! Many logs in one text, judged side by side.
+//!
+//! The central calls are [`read_batch`], which finds where the logs stand in the bytes of a batch, and [`judge_batch`], which
+//! judges each of them as a whole input, on as many threads as there are processors. The verdicts come in the order of the
+//! logs, and each is that of its own bytes alone, whatever the threads do. What the bytes of a batch say stands in
+//! `specs/Batches`, and what is answered in `specs/BatchAnswers`.
+#![tactic(auto)]
+
+mod answer;
+mod fault;
+mod judging;
+pub mod laws;
+mod parts;
+mod reader;
+mod span;
+#[cfg(test)]
+mod tests;
+pub mod worked;
+
+pub use answer::{status_of, write_refusal, write_verdicts};
+pub use fault::BatchFault;
+pub use judging::judge_batch;
+pub use reader::read_batch;
+pub use span::Span;

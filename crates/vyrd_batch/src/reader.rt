@@ -1,0 +1,110 @@
+//! The reader of a batch's text.
+
+ghost use Rattle.std.specs.Prelude.{◌≡◌, ◌≤◌, ◌<◌, ◌+◌, ◌-◌, ◌^◌, ℕ, List, length, drop, Ok, Err, None, Some, IfOk, OnOk, MatchOption, ◌++◌, ◌∷◌, []};
+ghost use Rattle.std.specs.List.{AllByRecursion};
+ghost use Rattle.vyrd_batch.specs.Batches.{batch_reading, logs_from, log_at, log_word, size_in, most_logs, LiesWithin};
+ghost use Rattle.vyrd_batch.specs.declared.fault.BatchFault.TheVariants.{Refused};
+
+use crate::fault::BatchFault;
+use crate::span::Span;
+use std::alloc::{AllocError, Global};
+use vyrd_text::{after, is_word, read_u32, split_line};
+
+/// The most logs.
+const MOST_LOGS: usize = 10_000;
+
+/// The most bytes of a log: 16 MiB.
+const MOST_BYTES: usize = 16_777_216;
+
+/// Within how many bytes of the input the logs lie: 64 MiB.
+const LOGS_END_WITHIN: usize = 67_108_864;
+
+/// Where the logs stand in the bytes of a batch, in their order.
+///
+/// `Refused` comes exactly where the bytes are no batch, with the number of the first log that isn't framed, counted from 0.
+/// `Memory` may come at any time. The logs' own bytes aren't looked at. The memory is that of the spans.
+pub fn read_batch(alloc: Global, bytes: &[u8]) -> Result<Vec<Span>, BatchFault>
+    ensures spans { IfOk result (λ spans. batch_reading bytes.now ≡ Ok spans.items) }
+    ensures within { IfOk result (λ spans. AllByRecursion (LiesWithin (length bytes.now)) spans.items) }
+    ensures refused { (log : ℕ) → result ≡ Err (Refused log) → batch_reading bytes.now ≡ Err log }
+{
+    let Some((line, rest)) = split_line(bytes) else {
+        return Err(BatchFault::Refused { log: 0 });
+    };
+    if !is_word(line, b"batch") {
+        return Err(BatchFault::Refused { log: 0 });
+    }
+    read_logs(alloc, line.len() + 1, rest)
+}
+
+// Where the logs stand from a place of the input on, with these bytes from there on.
+fn read_logs(alloc: Global, first: usize, bytes: &[u8]) -> Result<Vec<Span>, BatchFault>
+    requires { first + length bytes.now < 2 ^ 63 }
+    ensures spans { IfOk result (λ spans. logs_from most_logs 0 first bytes.now ≡ Ok spans.items) }
+    ensures within { IfOk result (λ spans. AllByRecursion (LiesWithin (first + length bytes.now)) spans.items) }
+    ensures refused { (log : ℕ) → result ≡ Err (Refused log) → logs_from most_logs 0 first bytes.now ≡ Err log }
+{
+    let mut spans: Vec<Span> = Vec::new(alloc);
+    let mut place = first;
+    let mut rest = bytes;
+    while !is_word(rest, b"end\n") {
+        let log = spans.len();
+        if log == MOST_LOGS {
+            return Err(BatchFault::Refused { log: log as u64 });
+        }
+        let Some((span, next)) = log_at(place, rest) else {
+            return Err(BatchFault::Refused { log: log as u64 });
+        };
+        keep(span, &mut spans)?;
+        place = span.past;
+        rest = next;
+    }
+    Ok(spans)
+}
+
+// Appends a span.
+fn keep(span: Span, spans: &mut Vec<Span>) -> Result<(), AllocError>
+    ensures { OnOk result (spans.new.items ≡ spans.old.items ++ span ∷ []) }
+{
+    spans.push(span)?;
+    Ok(())
+}
+
+// Where the bytes of a log stand whose line begins at a place of the input, with these bytes from there on; and what stands
+// behind them.
+fn log_at(place: usize, bytes: &[u8]) -> Option<(Span, &[u8])>
+    requires { place + length bytes.now < 2 ^ 63 }
+    ensures { MatchOption result (log_at place bytes.now ≡ None)
+        (λ r. (log_at place bytes.now ≡ Some r.0) × (r.1.now ≡ drop (r.0.past - place) bytes.now)
+        × (place ≤ r.0.first) × (r.0.first ≤ r.0.past) × (r.0.past + length r.1.now ≡ place + length bytes.now)) }
+{
+    let (line, rest) = split_line(bytes)?;
+    let size = size_in(line)?;
+    let first = place + line.len() + 1;
+    if size > rest.len() || first + size > LOGS_END_WITHIN {
+        return None;
+    }
+    let (_, next) = rest.split_at(size);
+    let past = first + size;
+    Some((Span { first, past }, next))
+}
+
+// How many bytes the line before a log says, where it is such a line.
+fn size_in(line: &[u8]) -> Option<usize>
+    ensures { result ≡ size_in line.now }
+{
+    let digits = after(line, b"log ")?;
+    let size = read_u32(digits)?;
+    in_range(size)
+}
+
+// The size, where a log may have so many bytes.
+fn in_range(size: u32) -> Option<usize>
+    ensures { (line : List ℕ) → line ≡ log_word size → result ≡ size_in line }
+{
+    let size = size as usize;
+    if size > MOST_BYTES {
+        return None;
+    }
+    Some(size)
+}
