@@ -22,3 +22,4 @@ pub mod WalkLaws
 pub mod TextLaws
 pub mod PaddedLaws
 pub mod ShortLines
+pub mod SettledLaws

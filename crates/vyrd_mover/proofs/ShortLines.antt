@@ -58,7 +58,7 @@ short_did subject caller (Gave lock) low is = short_one caller lock (codes "gave
 short_did subject caller (Marked kind) low is = short_entry subject (record { caller = caller; kind = kind })
     (both_true (nat_lt caller (2 ^ 32)) (is_kind_of subject kind) low (first_true (is_kind_of subject kind) (not (is_write kind)) is))
 
-short_first : (h : Header) → length (history_header_line h.subject h.size h.callers) ≤ 64
+pub short_first : (h : Header) → length (history_header_line h.subject h.size h.callers) ≤ 64
 short_first h =
     omega (
       arith,
@@ -69,11 +69,14 @@ short_first h =
       length-append (decimal h.size) (32 ∷ decimal h.callers),
     )
 
+pub short_event : (subject : Subject) (e : Stamped) → is_event_of subject e ≡ true → length (event_line e) ≤ 64
+short_event subject e is = short_did subject e.caller e.did (first_true _ _ is) (second_true (nat_lt e.caller (2 ^ 32)) _ is)
+
 short_later : (subject : Subject) (es : List Stamped) → AllByRecursion (λ e. is_event_of subject e ≡ true) es
     → AllByRecursion (λ line. length line ≤ 64) (map event_line es ++ end_line ∷ [])
 short_later subject [] all = (omega arith, tt)
 short_later subject (e ∷ es) all =
-    (short_did subject e.caller e.did (first_true _ _ all.0) (second_true (nat_lt e.caller (2 ^ 32)) _ all.0), short_later subject es all.1)
+    (short_event subject e all.0, short_later subject es all.1)
 
 pub short_lines : (r : Recorded) → KeepsLimits r → AllByRecursion (λ line. length line ≤ 64) (history_lines r)
 short_lines r keeps = (short_first r.header, short_later r.header.subject r.history keeps.spelled)

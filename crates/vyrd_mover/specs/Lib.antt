@@ -15,3 +15,4 @@ pub mod HistorySpelled
 pub mod Remembering
 pub mod HistoryLimits
 pub mod BlocksText
+pub mod LongHistories

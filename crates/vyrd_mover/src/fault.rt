@@ -4,6 +4,8 @@ ghost use Rattle.std.specs.Prelude.{◌≡◌, ◌≤◌, ◌++◌, length, OnOk
 ghost use Rattle.vyrd_mover.specs.Refusals.{history_rule_text, history_refusal_text};
 
 use std::alloc::AllocError;
+use std::error::Error;
+use std::fmt;
 use vyrd_text::LineBuffer;
 
 /// A rule that a line of a history can break. Where a line breaks several, the first of them in
@@ -61,6 +63,17 @@ pub enum HistoryFault {
     /// Memory ran out. Nothing is said of the bytes.
     Memory,
 }
+
+impl fmt::Display for HistoryFault {
+    fn fmt<W: fmt::Write>(&self, f: &mut fmt::Formatter<W>) -> fmt::Result {
+        match self {
+            HistoryFault::Refused { line, rule } => write!(f, "line {line}: {rule:?}"),
+            HistoryFault::Memory => write!(f, "out of memory"),
+        }
+    }
+}
+
+impl Error for HistoryFault {}
 
 /// Appends the line that says which line of a history is bad and why, with its line feed. A refusal
 /// leaves `out` unchanged.

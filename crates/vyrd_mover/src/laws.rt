@@ -11,6 +11,7 @@ ghost use Rattle.vyrd_mover.specs.Gathering.{IsBlock, CanBeGathered};
 ghost use Rattle.vyrd_mover.specs.HistoryText.{Recorded, history_lines, history_text};
 ghost use Rattle.vyrd_mover.specs.HistoryReading.{history_reading};
 ghost use Rattle.vyrd_mover.specs.HistoryLimits.{KeepsLimits};
+ghost use Rattle.vyrd_mover.specs.LongHistories.{longest_history};
 
 /// Two neighbouring events of different callers may be exchanged where the first is a take, the
 /// second is a give, or one of them is a mark or an access of a race-free cell: the history stays
@@ -49,4 +50,9 @@ pub fn read_text_is_a_history()
 /// No line of a history that keeps the limits has more than 64 bytes, without its line feed.
 pub fn lines_are_short()
     ensures { (r : Recorded) → KeepsLimits r → AllByRecursion (λ line. length line ≤ 64) (history_lines r) }
+{}
+
+/// What 256 MiB and one byte more say doesn't change with bytes that follow them.
+pub fn long_histories_are_settled()
+    ensures { (bytes more : List ℕ) → longest_history ≤ length bytes → history_reading (bytes ++ more) ≡ history_reading bytes }
 {}
