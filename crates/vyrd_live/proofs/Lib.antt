@@ -7,3 +7,8 @@ pub mod EndingLaws
 pub mod WorkerLists
 pub mod FreshWorkers
 pub mod TakenLaws
+pub mod SendingLaws
+pub mod BesideLaws
+pub mod HistoryLaws
+pub mod TakenParts
+pub mod PlayLaws

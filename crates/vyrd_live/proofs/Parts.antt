@@ -1,7 +1,7 @@
 -- What each caller did in a history that was put together from lanes.
-use Rattle.std.proofs.Common.{◌≡◌, ◌≢◌, ℕ, suc, ◌≤◌, Bool, true, false, cond, List, [], ◌∷◌, map, Some, None, refl, ap, ◌∙◌, arith, ne_eqb}
+use Rattle.std.proofs.Common.{◌≡◌, ◌≢◌, ℕ, suc, ◌≤◌, Bool, true, false, cond, List, [], ◌∷◌, map, Some, None, refl, ap, ◌∙◌, arith, eq-eqb, ne_eqb}
 use Rattle.std.specs.Prelude.{◌==◌, slice_get}
-use Rattle.std.specs.List.{cons_option}
+use Rattle.std.specs.List.{All, cons_option}
 use Rattle.vyrd_base.specs.declared.history.Stamped.{Stamped}
 use Rattle.vyrd_base.specs.Places.{newest_first, newest_first_onto}
 use Rattle.vyrd_base.specs.Histories.{Cells, is_legal}
@@ -36,7 +36,7 @@ pub done_by-part : (c : ℕ) (history : List Stamped) → done_by c history ≡ 
 done_by-part c history = of_part c (newest_first history) ∙ ap (map (λ (e : Stamped). e.did)) (part_onto c [] history)
 
 -- a caller that no event has did nothing
-no_part : (c : ℕ) (es : List Stamped) → ((i : ℕ) (e : Stamped) → slice_get es i ≡ Some e → e.caller ≢ c) → part c es ≡ []
+pub no_part : (c : ℕ) (es : List Stamped) → ((i : ℕ) (e : Stamped) → slice_get es i ≡ Some e → e.caller ≢ c) → part c es ≡ []
 no_part c [] apart = refl
 no_part c (e ∷ es) apart = ap (λ b. cond b (e ∷ part c es) (part c es)) (ne_eqb e.caller c (apart 0 e refl))
     ∙ no_part c es (λ i x is. apart (suc i) x is)
@@ -45,3 +45,15 @@ pub nothing_done : (z : Cells) (c : ℕ) (history : List Stamped) → is_legal z
 nothing_done z c history legal out =
     done_by-part c history ∙ ap dids_of (no_part c history (λ i e is same. let low = (numbered z history legal i e is).1 in
     absurd (omega (arith, low))))
+
+-- events that are all of this caller
+pub part_all : (c : ℕ) (xs : List Stamped) → All (λ (e : Stamped). e.caller ≡ c) xs → part c xs ≡ xs
+part_all c [] own = refl
+part_all c (x ∷ xs) own = ap (λ (b : Bool). cond b (x ∷ part c xs) (part c xs)) (eq-eqb x.caller c (own 0 x (omega arith)))
+    ∙ ap (λ (l : List Stamped). x ∷ l) (part_all c xs (λ k d l. own (suc k) d (omega arith)))
+
+-- events that are none of this caller
+pub part_none : (c : ℕ) (xs : List Stamped) → All (λ (e : Stamped). e.caller ≢ c) xs → part c xs ≡ []
+part_none c [] apart = refl
+part_none c (x ∷ xs) apart = ap (λ (b : Bool). cond b (x ∷ part c xs) (part c xs)) (ne_eqb x.caller c (apart 0 x (omega arith)))
+    ∙ part_none c xs (λ k d l. apart (suc k) d (omega arith))

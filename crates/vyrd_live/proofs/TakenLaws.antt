@@ -1,6 +1,6 @@
 -- One event more that is taken in, and one more that is handed out.
-use Rattle.std.proofs.Common.{◌≡◌, ◌≢◌, ℕ, zero, suc, ◌+◌, ◌<◌, ◌≤◌, List, [], ◌∷◌, ◌++◌, Bool, true, false, cond, eqb, ltb, filter_map, Option, Some, None, refl, sym, ap, ◌∙◌, subst, arith, append-nil, eq-eqb, ne_eqb}
-use Rattle.std.specs.Prelude.{◌==◌, is_some, nat_lt, if◌then◌else◌, ◌&&◌, ◌||◌, not}
+use Rattle.std.proofs.Common.{◌≡◌, ◌≢◌, ℕ, zero, suc, ◌+◌, ◌<◌, ◌≤◌, List, [], ◌∷◌, ◌++◌, Bool, true, false, cond, ltb, filter_map, Option, Some, None, refl, sym, ap, ◌∙◌, subst, arith, eq-eqb, ne_eqb}
+use Rattle.std.specs.Prelude.{◌==◌, is_some, if◌then◌else◌, ◌&&◌, ◌||◌, not}
 use Rattle.std.specs.Option.{option_to_list}
 use Rattle.std.specs.List.{cons_option}
 use Rattle.std.proofs.lemmas.List.Elements.{filter_map-append}
@@ -10,9 +10,9 @@ use native.Mathlib.Decide.{ℕ_discrete, dec_lt}
 use Rattle.vyrd_base.specs.declared.log.Entry.{Entry}
 use Rattle.vyrd_base.specs.declared.history.Stamped.{Stamped}
 use Rattle.vyrd_base.specs.Histories.{logged, log_of}
-use Rattle.vyrd_relay.specs.Numbers.{Kept, held, has, or_else}
+use Rattle.vyrd_relay.specs.Numbers.{Kept, held, has}
 use Rattle.vyrd_judge.specs.Following.{JudgeView, HasFollowed}
-use Rattle.vyrd_live.specs.Taken.{numbered, in_order_below, VerifierView, has_failed, has_number, AreKept, is_in, IsTaking, IsJudging, HasTakenIn}
+use Rattle.vyrd_live.specs.Taken.{numbered, in_order_below, VerifierView, has_failed, has_number, AreKept, is_in, IsTaking, HasTakenIn}
 
 -- an event more at the end is found where none with its number was there
 pub numbered_new : (n : ℕ) (taken : List Stamped) (e : Stamped) → numbered n taken ≡ None → e.number ≡ n → numbered n (taken ++ e ∷ []) ≡ Some e

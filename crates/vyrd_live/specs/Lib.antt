@@ -5,3 +5,5 @@ pub mod Acts
 pub mod Working
 pub mod Workers
 pub mod Taken
+pub mod Sending
+pub mod Beside

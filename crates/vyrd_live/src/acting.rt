@@ -1,87 +1,71 @@
 //! One event of a caller, tried again for as long as another caller is at its cell.
 
-ghost use Rattle.std.specs.Prelude.{◌≡◌, ◌+◌, ◌<◌, ◌≤◌, ◌^◌};
-ghost use Rattle.vyrd_base.specs.declared.history.Did.TheVariants.{Read, Wrote, Took};
-ghost use Rattle.vyrd_trace.specs.Hands.{IsOf, with_one_more};
+ghost use Rattle.std.specs.Prelude.{◌≡◌, ◌<◌, IfSome, IfNone};
+ghost use Rattle.vyrd_trace.specs.Hands.{IsOf, with_look};
 ghost use Rattle.vyrd_live.specs.Acts.{MayAct, HasActed};
+ghost use Rattle.vyrd_live.specs.Sending.{HasSent};
 
+use crate::outbox::Outbox;
 use std::sync::Wait;
 use std::thread;
 use vyrd_memory::Act;
-use vyrd_trace::{Hand, Seen, Traced};
+use vyrd_relay::Relay;
+use vyrd_trace::{Hand, Traced};
 
 /// Does the act, and answers what it found: the value that was loaded, and 0 for any other act. It waits for as long as the act
-/// is busy.
-pub(crate) fn act<R: Wait>(rt: &R, traced: &Traced, hand: &mut Hand, act: Act) -> u64
+/// is busy, and sends what it can meanwhile.
+pub(crate) fn act<R: Wait>(
+    rt: &R,
+    traced: &Traced,
+    hand: &mut Hand,
+    act: Act,
+    relay: &Relay,
+    outbox: &mut Outbox,
+) -> u64
     requires hand { IsOf traced.now hand.old × (0 < hand.old.spare) }
     requires may { MayAct traced.now.plan hand.old act }
-    ensures { HasActed act result hand.old hand.new }
+    requires sent { HasSent relay.now outbox.old.sender outbox.old.place hand.old }
+    ensures acted { HasActed act result hand.old hand.new }
+    ensures sent { HasSent relay.now outbox.new.sender outbox.new.place hand.old }
+{
+    for _ in rt.forever() {
+        if let Some(answer) = try_act(traced, hand, act) {
+            return answer;
+        }
+        outbox.send(rt, relay, hand);
+        thread::yield_now();
+    }
+    unreachable!()
+}
+
+// Does the act, and answers what it found. `None` is for busy: nothing was done then.
+fn try_act(traced: &Traced, hand: &mut Hand, act: Act) -> Option<u64>
+    requires hand { IsOf traced.now hand.old × (0 < hand.old.spare) }
+    requires may { MayAct traced.now.plan hand.old act }
+    ensures acted { IfSome result (λ answer. HasActed act answer hand.old hand.new) }
+    ensures busy { IfNone result (hand.new ≡ with_look hand.old hand.new.look) }
 {
     match act {
-        Act::Load(cell) => load(rt, traced, hand, cell).value,
+        Act::Load(cell) => {
+            let seen = traced.load(hand, cell).ok()?;
+            Some(seen.value)
+        }
         Act::Store(cell, value) => {
-            store(rt, traced, hand, cell, value);
-            0
+            traced.store(hand, cell, value).ok()?;
+            Some(0)
         }
         Act::Take(lock) => {
-            take(rt, traced, hand, lock);
-            0
+            traced.take(hand, lock).ok()?;
+            Some(0)
         }
         Act::Give(lock) => {
             traced.give(hand, lock);
-            0
+            Some(0)
         }
         Act::Mark(kind) => {
             traced.mark(hand, kind);
-            0
+            Some(0)
         }
         Act::Done => unreachable!(),
     }
-}
-
-// Loads a cell, trying again while it is busy.
-fn load<R: Wait>(rt: &R, traced: &Traced, hand: &mut Hand, cell: u32) -> Seen
-    requires hand { IsOf traced.now hand.old × (0 < hand.old.spare) }
-    requires cell { cell < traced.now.plan.plain }
-    ensures event { hand.new ≡ with_one_more hand.old result.number (Read cell result.value) hand.new.look }
-    ensures value { result.value < 2 ^ 63 }
-{
-    for _ in rt.forever() {
-        if let Ok(seen) = traced.load(hand, cell) {
-            return seen;
-        }
-        thread::yield_now();
-    }
-    unreachable!()
-}
-
-// Stores a value in a cell, trying again while it is busy. Answers the event's number.
-fn store<R: Wait>(rt: &R, traced: &Traced, hand: &mut Hand, cell: u32, value: u64) -> u64
-    requires hand { IsOf traced.now hand.old × (0 < hand.old.spare) }
-    requires cell { cell < traced.now.plan.plain }
-    requires value { value < 2 ^ 63 }
-    ensures { hand.new ≡ with_one_more hand.old result (Wrote cell value) hand.new.look }
-{
-    for _ in rt.forever() {
-        if let Ok(number) = traced.store(hand, cell, value) {
-            return number;
-        }
-        thread::yield_now();
-    }
-    unreachable!()
-}
-
-// Takes a lock, trying again while it is busy. Answers the event's number.
-fn take<R: Wait>(rt: &R, traced: &Traced, hand: &mut Hand, lock: u32) -> u64
-    requires hand { IsOf traced.now hand.old × (0 < hand.old.spare) }
-    requires lock { (traced.now.plan.plain ≤ lock) × (lock < traced.now.plan.plain + traced.now.plan.locks) }
-    ensures { hand.new ≡ with_one_more hand.old result (Took lock) hand.new.look }
-{
-    for _ in rt.forever() {
-        if let Ok(number) = traced.take(hand, lock) {
-            return number;
-        }
-        thread::yield_now();
-    }
-    unreachable!()
 }

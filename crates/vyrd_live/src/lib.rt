@@ -4,19 +4,23 @@
 //! leave is one legal history in which each caller's part plays the caller's script. A [`Run`] has this history, the memory at
 //! the end and the verdict about the history's log. [`judged`] adds the verdict to a history of any run.
 //!
-//! A [`Verifier`] judges a history while its events come in, in whatever order.
+//! A [`Verifier`] judges a history while its events come in, in whatever order. A live run has one beside its workers: they send
+//! their events through a relay as far as it has room, and what didn't reach the verifier is taken in once they have ended.
 //!
 //! What a run promises stands in `specs/`: `LiveRuns` says what it leaves, and `Rooms` when a limit leaves room for an
-//! operation. No promise says that two threads ran at one time; tests with gates speak of that.
+//! operation. No promise says that two threads ran at one time, or that the verifier judged
+//! anything before the workers ended; tests with gates speak of that.
 #![tactic(auto)]
 
 mod acting;
 mod judging;
 mod live;
+mod outbox;
 mod run;
 #[cfg(test)]
 mod tests;
 mod verifier;
+mod watch;
 mod worker;
 mod workers;
 

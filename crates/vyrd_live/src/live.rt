@@ -4,13 +4,15 @@ ghost use Rattle.std.specs.Prelude.{◌≡◌, ◌<◌, ◌≤◌, true, map, If
 ghost use Rattle.std.specs.List.{All};
 ghost use Rattle.vyrd_base.specs.Places.{newest_first};
 ghost use Rattle.vyrd_base.specs.Histories.{cells_of, is_legal, log_of};
-ghost use Rattle.vyrd_base.specs.Verdicts.{verdict};
+ghost use Rattle.vyrd_base.specs.Verdicts.{accepted, verdict};
 ghost use Rattle.vyrd_memory.specs.Bounds.{bounds_of};
 ghost use Rattle.vyrd_memory.specs.Playing.{memory_after};
 ghost use Rattle.vyrd_memory.specs.Runs.{PlayToTheEnd};
 ghost use Rattle.vyrd_work.specs.Workloads.{workload_of};
 ghost use Rattle.vyrd_work.specs.WorkLimits.{KeepsLimits};
 ghost use Rattle.vyrd_work.specs.WorkScripts.{ops_of, work_scripts};
+ghost use Rattle.vyrd_every.specs.Schedules.{IsCorrect, IsCorrectMultisetOrCache};
+ghost use Rattle.vyrd_live.specs.declared.run.LiveFault.TheVariants.{Memory};
 ghost use Rattle.vyrd_live.specs.Workers.{IsWorkerOf, HavePlayed};
 ghost use Rattle.vyrd_live.specs.LiveRuns.{AllHadRoom, IsCause, IsTooLow};
 
@@ -33,8 +35,15 @@ use vyrd_work::{AnyMachine, Work, WorkMachine};
 /// no operation in hand and no lock held, and the run is `Spent` once the others have ended too. That doesn't come where the
 /// bounds of each caller's operations sum to at most `limit`. `Memory` may come at any time.
 ///
+/// A verifier takes in the events beside the callers, as far as they reach it, and the rest once all have ended. While the callers
+/// run it asks the gate before each event, as if it were one caller more, and the place is how many it has taken in. Where it has
+/// to be set aside, for want of memory or for a number that comes twice, the history is judged anew at the end.
+///
+/// A run of a correct structure is accepted, in whatever order its callers' events come. For each caller of a multiset or a cache
+/// 6,400,000 events are enough.
+///
 /// It may wait forever: where the gate never lets an event start, or where callers wait for locks that they hold crosswise. The
-/// history takes memory for each event, and judging it the time of `judge_log`.
+/// history takes memory for each event, and what is judged takes what [`Verifier`](crate::Verifier) takes.
 pub fn run_live<R: Threads + Wait + Sync, G: Gate>(
     rt: &R,
     alloc: Global,
@@ -51,6 +60,10 @@ pub fn run_live<R: Threads + Wait + Sync, G: Gate>(
     ensures room { IfOk result (λ run. AllHadRoom work.now.header limit run.history.items) }
     ensures cause { IfErr result (IsCause work.now.header limit (work_scripts (workload_of work.now))) }
     ensures too_low { IfErr result (IsTooLow (workload_of work.now) limit) }
+    ensures every_schedule { IsCorrect (workload_of work.now) →
+        IfOk result (λ run. run.verdict ≡ accepted (log_of run.history.items)) }
+    ensures never_spent { IsCorrectMultisetOrCache (workload_of work.now) → 6400000 ≤ limit →
+        IfErr result (λ fault. fault ≡ Memory) }
 {
     let Ok(played) = play::<R, G, AnyMachine>(rt, alloc, work, limit, gate) else {
         return Err(LiveFault::Memory);
@@ -59,9 +72,17 @@ pub fn run_live<R: Threads + Wait + Sync, G: Gate>(
         history,
         words,
         spent,
+        verdict,
     } = played;
     if let Some(caller) = spent {
         return Err(LiveFault::Spent(Overrun { caller, history }));
+    }
+    if let Some(verdict) = verdict {
+        return Ok(Run {
+            history,
+            words,
+            verdict,
+        });
     }
     match judged(alloc, work.header, history, words) {
         Ok(run) => Ok(run),
@@ -83,6 +104,7 @@ fn play<R: Threads + Wait + Sync, G: Gate, M: WorkMachine + Send>(
     ensures words { IfOk result (λ played. played.words.items ≡ memory_after work.now.header (newest_first played.history.items)) }
     ensures long { IfOk result (λ played. IfSome played.spent (λ caller. limit < bounds_of work.now.header (ops_of caller work.now.ops.items))) }
     ensures played { IfOk result (λ played. HavePlayed work.now.header limit (work_scripts (workload_of work.now)) played.history.items played.spent) }
+    ensures verdict { IfOk result (λ played. IfSome played.verdict (λ v. v ≡ verdict work.now.header (log_of played.history.items))) }
 {
     let header = &work.header;
     let (traced, hands) = Traced::new(
@@ -93,7 +115,7 @@ fn play<R: Threads + Wait + Sync, G: Gate, M: WorkMachine + Send>(
         limit,
     )?;
     let workers: Vec<Worker<M>> = workers_of(alloc, work, hands)?;
-    play_all(rt, alloc, traced, gate, workers)
+    play_all(rt, alloc, traced, gate, work.header, workers)
 }
 
 // The machine of each hand's caller, with the hand.

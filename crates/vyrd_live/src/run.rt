@@ -1,5 +1,7 @@
 //! What a live run leaves.
 
+use std::error::Error;
+use std::fmt;
 use vyrd_base::{Stamped, Verdict};
 
 /// What a run of a workload leaves.
@@ -30,3 +32,18 @@ pub enum LiveFault {
     /// There was no memory.
     Memory,
 }
+
+impl fmt::Display for LiveFault {
+    fn fmt<W: fmt::Write>(&self, f: &mut fmt::Formatter<W>) -> fmt::Result {
+        match self {
+            LiveFault::Spent(overrun) => write!(
+                f,
+                "caller {} has spent its events",
+                overrun.caller
+            ),
+            LiveFault::Memory => write!(f, "out of memory"),
+        }
+    }
+}
+
+impl Error for LiveFault {}

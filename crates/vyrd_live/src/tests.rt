@@ -215,6 +215,50 @@ fn four_callers_beside(rt: HostRuntime) -> Result<(), Fail> {
     Ok(())
 }
 
+// A gate that holds caller 0 at its ninth event until the verifier asked for its eighth. With one caller the verifier asks as
+// caller 1. The gate gives up after so many questions, and remembers it.
+#[derive(Drop)]
+struct Beside {
+    asked: AtomicU64,
+    seen: AtomicBool,
+    gave_up: AtomicBool,
+}
+
+impl Gate for Beside {
+    fn may_start(&self, caller: u32, place: u64) -> bool {
+        if self.asked.fetch_add(1, Ordering::SeqCst) >= PATIENCE {
+            self.gave_up.store(true, Ordering::SeqCst);
+            return true;
+        }
+        if caller == 1 && place == 7 {
+            self.seen.store(true, Ordering::SeqCst);
+        }
+        caller != 0 || place != 8 || self.seen.load(Ordering::SeqCst)
+    }
+}
+
+// Whoever begins to take in events once the workers have ended doesn't ask in time.
+#[test]
+fn verifier_beside_the_worker(rt: HostRuntime) -> Result<(), Fail> {
+    let text = b"work multiset 1 1 correct\nop 0 lookup 5\nop 0 lookup 5\nend\n";
+    let gate = Beside {
+        asked: AtomicU64::new(0),
+        seen: AtomicBool::new(false),
+        gave_up: AtomicBool::new(false),
+    };
+    let Some(Ok(run)) = run_text(&rt, rt.alloc(), text, 1000, &gate) else {
+        panic!(rt; "no run")
+    };
+    let accepted = Verdict::Accepted {
+        entries: 4,
+        commits: 0,
+        observers: 2,
+    };
+    assert_eq!(rt; run.verdict, accepted);
+    assert!(rt; !gate.gave_up.load(Ordering::SeqCst));
+    Ok(())
+}
+
 // A mark of caller 0.
 fn marked(number: u64, kind: Kind) -> Stamped
     ensures { result.number ≡ number }

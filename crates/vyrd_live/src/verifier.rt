@@ -17,6 +17,9 @@ use vyrd_base::{Header, Stamped, Verdict};
 use vyrd_judge::{AnyJudge, entry_of};
 use vyrd_relay::Reorder;
 
+// The numbers that a verifier takes in are below this one.
+const NUMBERS: u64 = 1 << 62;
+
 /// Judges a history while its events come in, in whatever order.
 ///
 /// It has judged the events with the numbers 0 to m - 1, where m is the least number that wasn't taken in, and doesn't keep them.
@@ -84,6 +87,23 @@ impl Verifier {
                 self.refused = Some(item.number);
                 Err(AllocError)
             }
+        }
+    }
+
+    /// Takes in an event where that may be done, and answers whether it was: the number has to be below 2^62 and new, and there has
+    /// to be memory.
+    pub(crate) fn try_take_in(&mut self, item: Stamped) -> bool
+        ensures taken { (taken : List Stamped) → HasTakenIn self.old taken → result ≡ true
+            → HasTakenIn self.new (taken ++ item ∷ []) }
+        ensures going { result ≡ true → has_failed self.new ≡ false }
+        ensures header { self.new.header ≡ self.old.header }
+    {
+        if item.number >= NUMBERS || self.had(item.number) {
+            return false;
+        }
+        match self.take_in(item) {
+            Ok(_) => true,
+            Err(AllocError) => false,
         }
     }
 

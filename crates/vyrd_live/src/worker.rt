@@ -10,12 +10,15 @@ ghost use Rattle.vyrd_live.specs.Rooms.{HasNoRoom};
 ghost use Rattle.vyrd_live.specs.Acts.{MayAct, HasActed};
 ghost use Rattle.vyrd_live.specs.Working.{HasRoomAhead};
 ghost use Rattle.vyrd_live.specs.Workers.{IsFresh, HasWorked};
+ghost use Rattle.vyrd_live.specs.Sending.{HasSent};
 
 use crate::acting::act;
+use crate::outbox::Outbox;
 use std::sync::Wait;
 use std::thread;
 use vyrd_base::Gate;
 use vyrd_memory::{Act, Machine};
+use vyrd_relay::Relay;
 use vyrd_trace::{Hand, Reserve, Traced};
 
 /// How a worker ended.
@@ -57,20 +60,41 @@ impl<M: Machine> Worker<M> {
     /// Plays the machine until all of its operations are done, or until the next one has no room.
     ///
     /// It asks the gate before each event. Before an operation it makes room for all of the operation's events, so that it stops
-    /// only between operations. It may wait forever: for the gate, or for a lock that nobody gives back.
-    pub(crate) fn work<R: Wait, G: Gate>(self, rt: &R, traced: &Traced, gate: &G) -> Stopped
-        requires { IsFresh M.header_of M.script traced.now self.machine self.hand }
-        ensures { HasWorked M.header_of M.script M.ahead traced.now self.machine self.hand result.hand result.ending }
+    /// only between operations. After each event, and while it waits, it sends what the relay has room for. It may wait forever:
+    /// for the gate, or for a lock that nobody gives back.
+    pub(crate) fn work<R: Wait, G: Gate>(
+        self,
+        rt: &R,
+        traced: &Traced,
+        gate: &G,
+        relay: &Relay,
+        outbox: Outbox,
+    ) -> (Stopped, Outbox)
+        requires fresh { IsFresh M.header_of M.script traced.now self.machine self.hand }
+        requires sent { HasSent relay.now outbox.sender outbox.place self.hand }
+        ensures worked { HasWorked M.header_of M.script M.ahead traced.now self.machine self.hand
+            result.0.hand result.0.ending }
+        ensures sent { HasSent relay.now result.1.sender result.1.place result.0.hand }
     {
         let mut worker = self;
-        let ending = worker.play(rt, traced, gate);
+        let mut outbox = outbox;
+        let ending = worker.play(rt, traced, gate, relay, &mut outbox);
         let Worker { machine: _, hand } = worker;
-        Stopped { hand, ending }
+        (Stopped { hand, ending }, outbox)
     }
 
-    fn play<R: Wait, G: Gate>(&mut self, rt: &R, traced: &Traced, gate: &G) -> Ending
-        requires { IsFresh M.header_of M.script traced.now self.old.machine self.old.hand }
-        ensures { HasWorked M.header_of M.script M.ahead traced.now self.old.machine self.old.hand self.new.hand result }
+    fn play<R: Wait, G: Gate>(
+        &mut self,
+        rt: &R,
+        traced: &Traced,
+        gate: &G,
+        relay: &Relay,
+        outbox: &mut Outbox,
+    ) -> Ending
+        requires fresh { IsFresh M.header_of M.script traced.now self.old.machine self.old.hand }
+        requires sent { HasSent relay.now outbox.old.sender outbox.old.place self.old.hand }
+        ensures worked { HasWorked M.header_of M.script M.ahead traced.now self.old.machine self.old.hand self.new.hand result }
+        ensures sent { HasSent relay.now outbox.new.sender outbox.new.place self.new.hand }
     {
         while self.machine.wants() != Act::Done {
             match self.make_room() {
@@ -78,7 +102,8 @@ impl<M: Machine> Worker<M> {
                 Err(Reserve::Spent) => return Ending::Spent,
                 Err(Reserve::Memory) => return Ending::Memory,
             }
-            self.make_event(rt, traced, gate);
+            self.make_event(rt, traced, gate, relay, outbox);
+            outbox.send(rt, relay, &self.hand);
         }
         Ending::Finished
     }
@@ -100,28 +125,41 @@ impl<M: Machine> Worker<M> {
     }
 
     // Makes the next event, once the gate lets it start.
-    fn make_event<R: Wait, G: Gate>(&mut self, rt: &R, traced: &Traced, gate: &G)
+    fn make_event<R: Wait, G: Gate>(
+        &mut self,
+        rt: &R,
+        traced: &Traced,
+        gate: &G,
+        relay: &Relay,
+        outbox: &mut Outbox,
+    )
         requires hand { IsOf traced.now self.old.hand × (0 < self.old.hand.spare) }
         requires may { MayAct traced.now.plan self.old.hand (next_act (M.script self.old.machine)) }
+        requires sent { HasSent relay.now outbox.old.sender outbox.old.place self.old.hand }
         ensures made { (answer : ℕ) × (M.script self.new.machine ≡ after_answer (M.script self.old.machine) answer)
             × HasActed (next_act (M.script self.old.machine)) answer self.old.hand self.new.hand }
         ensures header { M.header_of self.new.machine ≡ M.header_of self.old.machine }
         ensures falls { M.ahead self.new.machine < M.ahead self.old.machine }
+        ensures sent { HasSent relay.now outbox.new.sender outbox.new.place self.old.hand }
     {
         let wanted = self.machine.wants();
-        let place = self.hand.lane().len() as u64;
-        wait_for(rt, gate, self.hand.caller(), place);
-        let answer = act(rt, traced, &mut self.hand, wanted);
+        wait_for(rt, gate, &self.hand, relay, outbox);
+        let answer = act(rt, traced, &mut self.hand, wanted, relay, outbox);
         self.machine.took(answer);
     }
 }
 
-// Asks the gate until it lets the caller's next event start.
-fn wait_for<R: Wait, G: Gate>(rt: &R, gate: &G, caller: u32, place: u64) {
+// Asks the gate until it lets the caller's next event start, and sends meanwhile.
+fn wait_for<R: Wait, G: Gate>(rt: &R, gate: &G, hand: &Hand, relay: &Relay, outbox: &mut Outbox)
+    requires { HasSent relay.now outbox.old.sender outbox.old.place hand.now }
+    ensures { HasSent relay.now outbox.new.sender outbox.new.place hand.now }
+{
+    let place = hand.lane().len() as u64;
     for _ in rt.forever() {
-        if gate.may_start(caller, place) {
+        if gate.may_start(hand.caller(), place) {
             return;
         }
+        outbox.send(rt, relay, hand);
         thread::yield_now();
     }
     unreachable!()

@@ -1,22 +1,30 @@
-//! All workers of a live run, each in a thread of its own.
+//! All workers of a live run, each in a thread of its own, and the verifier beside them.
 
-ghost use Rattle.std.specs.Prelude.{◌≡◌, ◌<◌, ◌≤◌, ℕ, true, length, map, IfOk, IfSome, vec_len, slice_index_or};
+ghost use Rattle.std.specs.Prelude.{◌≡◌, ◌<◌, ◌≤◌, ℕ, true, List, [], ◌++◌, length, map, IfOk, IfSome, vec_len, slice_index_or};
 ghost use Rattle.std.specs.List.{All};
 ghost use Rattle.std.specs.Thread.{IsSync};
 ghost use Rattle.vyrd_base.specs.declared.header.Header.{Header};
-ghost use Rattle.vyrd_base.specs.Histories.{is_legal};
+ghost use Rattle.vyrd_base.specs.declared.history.Stamped.{Stamped};
+ghost use Rattle.vyrd_base.specs.Histories.{is_legal, log_of};
+ghost use Rattle.vyrd_base.specs.Verdicts.{verdict};
 ghost use Rattle.vyrd_trace.specs.Lanes.{cells_in, last_values};
 ghost use Rattle.vyrd_trace.specs.Hands.{AreAll};
 ghost use Rattle.vyrd_live.specs.Endings.{IsFirstSpent};
 ghost use Rattle.vyrd_live.specs.Workers.{IsFresh, HasWorked, HavePlayed, AreMadeFor};
+ghost use Rattle.vyrd_live.specs.Sending.{HasSent};
+ghost use Rattle.vyrd_live.specs.Beside.{HasWatched, IsSameReceiver, IsClosing, lanes_sent, counts_sent, AreOwn, AreRests};
 
+use crate::outbox::Outbox;
+use crate::watch::Watch;
 use crate::worker::{Ending, Stopped, Worker};
 use std::alloc::{AllocError, Global};
 use std::sync::Wait;
+use std::sync::atomic::{AtomicBool, Ordering};
 use std::thread;
-use std::thread::Threads;
-use vyrd_base::{Gate, Stamped};
+use std::thread::{Threads, join};
+use vyrd_base::{Gate, Header, Stamped, Verdict};
 use vyrd_memory::Machine;
+use vyrd_relay::{Relay, Sender};
 use vyrd_trace::{Hand, Traced};
 
 /// What all workers leave.
@@ -28,9 +36,15 @@ pub(crate) struct Played {
     pub(crate) words: Vec<u64>,
     /// The least caller whose next operation had no room, if there is one.
     pub(crate) spent: Option<u32>,
+    /// The verdict about the log of the history, where no caller is spent and the verifier wasn't set aside.
+    pub(crate) verdict: Option<Verdict>,
 }
 
-/// Plays all workers and closes their memory. The workers have all of its hands, in the order of their callers.
+// How many events may be on their way to the verifier at a time. A worker that finds the relay full goes on, and sends later.
+const RELAY_CAPACITY: u64 = 1024;
+
+/// Plays all workers and closes their memory. The workers have all of its hands, in the order of their callers. A verifier takes
+/// in beside them what they do.
 ///
 /// Each worker has a thread of its own. Where one can't be started, its worker is run by the thread that would have started it.
 /// The error is want of memory.
@@ -39,20 +53,31 @@ pub(crate) fn play_all<R: Threads + Wait + Sync, G: Gate, M: Machine + Send>(
     alloc: Global,
     traced: Traced,
     gate: &G,
+    header: Header,
     workers: Vec<Worker<M>>,
 ) -> Result<Played, AllocError>
     requires fresh { All (λ w. IsFresh M.header_of M.script traced w.machine w.hand) workers.items }
     requires hands { AreAll traced (map (λ w. w.hand) workers.items) }
     requires few { vec_len workers ≤ 64 }
+    requires callers { (header.callers ≡ traced.plan.callers) × (vec_len workers ≡ header.callers) × (1 ≤ header.callers) }
     ensures legal { IfOk result (λ played. is_legal (cells_in traced.plan) played.history.items ≡ true) }
     ensures words { IfOk result (λ played. played.words.items ≡ last_values traced.plan played.history.items) }
     ensures long { IfOk result (λ played. IfSome played.spent (λ caller. (w : _) → traced.plan.limit < M.ahead (slice_index_or workers.items caller w).machine)) }
     ensures played { IfOk result (λ played. (h : Header) → AreMadeFor h (map (λ w. M.header_of w.machine) workers.items)
         → HavePlayed h traced.plan.limit (map (λ w. M.script w.machine) workers.items) played.history.items played.spent) }
+    ensures verdict { IfOk result (λ played. IfSome played.verdict (λ v. v ≡ verdict header (log_of played.history.items))) }
 {
-    let stopped = work_all(rt, &traced, gate, workers)?;
+    let (relay, senders, receiver) = Relay::new(alloc, RELAY_CAPACITY, header.callers())?;
+    let jobs = jobs_of(alloc, &relay, workers, senders)?;
+    let watch = Watch::new(alloc, header, receiver)?;
+    let (done, watch) = beside(rt, &traced, gate, &relay, jobs, watch)?;
+    let (stopped, outboxes) = part_all(alloc, done)?;
     let spent = first_spent(&stopped)?;
     let hands = hands_of(alloc, stopped)?;
+    let verdict = match spent {
+        None => closing_verdict(rt, alloc, gate, &relay, outboxes, &hands, watch)?,
+        Some(_) => None,
+    };
     let Ok(closed) = traced.close(hands) else {
         return Err(AllocError);
     };
@@ -60,7 +85,90 @@ pub(crate) fn play_all<R: Threads + Wait + Sync, G: Gate, M: Machine + Send>(
         history: closed.history,
         words: closed.words,
         spent,
+        verdict,
     })
+}
+
+// Each worker with an outbox for its caller.
+fn jobs_of<M: Machine>(
+    alloc: Global,
+    relay: &Relay,
+    workers: Vec<Worker<M>>,
+    senders: Vec<Sender>,
+) -> Result<Vec<(Worker<M>, Outbox)>, AllocError>
+    requires fresh { All (λ w. w.hand.lane ≡ []) workers.items }
+    requires senders { All (λ s. (s.queue ≡ relay.now.queue) × (s.sent ≡ [])) senders.items }
+    requires callers { map (λ w. w.hand.caller) workers.items ≡ map (λ s. s.caller) senders.items }
+    ensures workers { IfOk result (λ jobs. map (λ j. j.0) jobs.items ≡ workers.items) }
+    ensures sent { IfOk result (λ jobs. All (λ j. HasSent relay.now j.1.sender j.1.place j.0.hand) jobs.items) }
+{
+    let mut jobs = Vec::with_capacity(alloc, workers.len())?;
+    let mut left = senders.into_iter();
+    for worker in workers {
+        let Some(sender) = left.next() else {
+            unreachable!()
+        };
+        jobs.push((
+            worker,
+            Outbox {
+                sender,
+                place: 0,
+                pause: 0,
+            },
+        ))?;
+    }
+    Ok(jobs)
+}
+
+// Plays the workers, while the verifier takes in what they do.
+fn beside<R: Threads + Wait + Sync, G: Gate, M: Machine + Send>(
+    rt: &R,
+    traced: &Traced,
+    gate: &G,
+    relay: &Relay,
+    jobs: Vec<(Worker<M>, Outbox)>,
+    watch: Watch,
+) -> Result<(Vec<(Stopped, Outbox)>, Watch), AllocError>
+    requires fresh { All (λ j. IsFresh M.header_of M.script traced.now j.0.machine j.0.hand) jobs.items }
+    requires sent { All (λ j. HasSent relay.now j.1.sender j.1.place j.0.hand) jobs.items }
+    requires receiver { watch.receiver.queue ≡ relay.now.queue }
+    ensures count { IfOk result (λ r. vec_len r.0 ≡ vec_len jobs) }
+    ensures each { IfOk result (λ r. (i : ℕ) (j : _) (d : _) → i < vec_len jobs → HasWorked M.header_of M.script M.ahead traced.now
+        (slice_index_or jobs.items i j).0.machine (slice_index_or jobs.items i j).0.hand
+        (slice_index_or r.0.items i d).0.hand (slice_index_or r.0.items i d).0.ending) }
+    ensures sent { IfOk result (λ r. All (λ d. HasSent relay.now d.1.sender d.1.place d.0.hand) r.0.items) }
+    ensures same { IfOk result (λ r. IsSameReceiver watch.receiver r.1.receiver) }
+    ensures watched { IfOk result (λ r. (h : Header) → HasWatched h watch watch.receiver.had
+        → HasWatched h r.1 r.1.receiver.had) }
+{
+    let ended = AtomicBool::new(false);
+    let over = &ended;
+    // Where no thread can be made the first closure is called last: the verifier then finds that the workers have ended. The
+    // other way round it would wait for them for ever.
+    let (watch, done) = join(
+        rt,
+        move || -> Watch
+            requires { watch.receiver.queue ≡ relay.now.queue }
+            ensures same { IsSameReceiver watch.receiver result.receiver }
+            ensures watched { (h : Header) → HasWatched h watch watch.receiver.had
+                → HasWatched h result result.receiver.had }
+        { watch.watched(rt, relay, gate, over) },
+        move || -> Result<Vec<(Stopped, Outbox)>, AllocError>
+            requires { All (λ j. IsFresh M.header_of M.script traced.now j.0.machine j.0.hand) jobs.items
+                × All (λ j. HasSent relay.now j.1.sender j.1.place j.0.hand) jobs.items }
+            ensures count { IfOk result (λ all. vec_len all ≡ vec_len jobs) }
+            ensures each { IfOk result (λ all. (i : ℕ) (j : _) (d : _) → i < vec_len jobs
+                → HasWorked M.header_of M.script M.ahead traced.entry.now
+                (slice_index_or jobs.items i j).0.machine (slice_index_or jobs.items i j).0.hand
+                (slice_index_or all.items i d).0.hand (slice_index_or all.items i d).0.ending) }
+            ensures sent { IfOk result (λ all. All (λ d. HasSent relay.entry.now d.1.sender d.1.place d.0.hand) all.items) }
+        {
+            let done = work_all(rt, traced, gate, relay, jobs);
+            over.store(true, Ordering::SeqCst);
+            done
+        },
+    );
+    Ok((done?, watch))
 }
 
 // Plays each worker in a thread of its own, and waits for all.
@@ -68,22 +176,48 @@ fn work_all<R: Threads + Wait + Sync, G: Gate, M: Machine + Send>(
     rt: &R,
     traced: &Traced,
     gate: &G,
-    workers: Vec<Worker<M>>,
-) -> Result<Vec<Stopped>, AllocError>
-    requires { All (λ w. IsFresh M.header_of M.script traced.now w.machine w.hand) workers.items }
-    ensures count { IfOk result (λ all. vec_len all ≡ vec_len workers) }
-    ensures each { IfOk result (λ all. (i : ℕ) (w : _) (s : _) → i < vec_len workers → HasWorked M.header_of M.script M.ahead traced.now
-        (slice_index_or workers.items i w).machine (slice_index_or workers.items i w).hand
-        (slice_index_or all.items i s).hand (slice_index_or all.items i s).ending) }
+    relay: &Relay,
+    jobs: Vec<(Worker<M>, Outbox)>,
+) -> Result<Vec<(Stopped, Outbox)>, AllocError>
+    requires fresh { All (λ j. IsFresh M.header_of M.script traced.now j.0.machine j.0.hand) jobs.items }
+    requires sent { All (λ j. HasSent relay.now j.1.sender j.1.place j.0.hand) jobs.items }
+    ensures count { IfOk result (λ all. vec_len all ≡ vec_len jobs) }
+    ensures each { IfOk result (λ all. (i : ℕ) (j : _) (d : _) → i < vec_len jobs → HasWorked M.header_of M.script M.ahead traced.now
+        (slice_index_or jobs.items i j).0.machine (slice_index_or jobs.items i j).0.hand
+        (slice_index_or all.items i d).0.hand (slice_index_or all.items i d).0.ending) }
+    ensures sent { IfOk result (λ all. All (λ d. HasSent relay.now d.1.sender d.1.place d.0.hand) all.items) }
 {
     thread::map_vec(
         rt,
-        workers,
-        &|worker: Worker<M>| -> Stopped
-            requires { IsSync G.row × IsFresh M.header_of M.script traced.now worker.machine worker.hand }
-            ensures { HasWorked M.header_of M.script M.ahead traced.entry.now worker.machine worker.hand result.hand result.ending }
-        { worker.work(rt, traced, gate) },
+        jobs,
+        &|job: (Worker<M>, Outbox)| -> (Stopped, Outbox)
+            requires { IsSync G.row × IsFresh M.header_of M.script traced.now job.0.machine job.0.hand
+                × HasSent relay.now job.1.sender job.1.place job.0.hand }
+            ensures worked { HasWorked M.header_of M.script M.ahead traced.entry.now job.0.machine job.0.hand
+                result.0.hand result.0.ending }
+            ensures sent { HasSent relay.entry.now result.1.sender result.1.place result.0.hand }
+        {
+            let (worker, outbox) = job;
+            worker.work(rt, traced, gate, relay, outbox)
+        },
     )
+}
+
+// What the workers left, and their outboxes.
+fn part_all(
+    alloc: Global,
+    done: Vec<(Stopped, Outbox)>,
+) -> Result<(Vec<Stopped>, Vec<Outbox>), AllocError>
+    ensures stopped { IfOk result (λ r. r.0.items ≡ map (λ d. d.0) done.items) }
+    ensures outboxes { IfOk result (λ r. r.1.items ≡ map (λ d. d.1) done.items) }
+{
+    let mut stopped = Vec::with_capacity(alloc, done.len())?;
+    let mut outboxes = Vec::with_capacity(alloc, done.len())?;
+    for (one, outbox) in done {
+        stopped.push(one)?;
+        outboxes.push(outbox)?;
+    }
+    Ok((stopped, outboxes))
 }
 
 // The least caller that stopped because its next operation had no room. It is an error where one stopped for want of memory.
@@ -110,4 +244,31 @@ fn hands_of(alloc: Global, stopped: Vec<Stopped>) -> Result<Vec<Hand>, AllocErro
         .into_iter()
         .map(|one| one.into_hand())
         .collect(alloc)
+}
+
+// Takes in what is left after the workers have ended, and answers the verdict where the verifier stands.
+fn closing_verdict<R: Wait, G: Gate>(
+    rt: &R,
+    alloc: Global,
+    gate: &G,
+    relay: &Relay,
+    outboxes: Vec<Outbox>,
+    hands: &[Hand],
+    watch: Watch,
+) -> Result<Option<Verdict>, AllocError>
+    requires receiver { watch.receiver.queue ≡ relay.now.queue }
+    requires settled { watch.receiver.settled ≡ [] }
+    requires senders { All (λ o. o.sender.queue ≡ relay.now.queue) outboxes.items }
+    requires count { length outboxes.items ≡ length hands.now }
+    requires own { AreOwn hands.now }
+    ensures { (h : Header) → HasWatched h watch watch.receiver.had → IfOk result (λ verdict. IfSome verdict (λ v.
+        (had : List Stamped) × (next : ℕ) × (more : List Stamped) × AreRests hands.now (counts_sent outboxes.items) more
+        × IsClosing h had next v watch.receiver.senders (lanes_sent outboxes.items) (had ++ more))) }
+{
+    let mut watch = watch;
+    let ended = AtomicBool::new(true);
+    let mut places = watch.settle(rt, alloc, relay, outboxes)?;
+    watch.watch(rt, relay, gate, &ended);
+    watch.take_rests(hands, &mut places);
+    Ok(watch.verdict())
 }

@@ -1,4 +1,4 @@
-use Rattle.std.proofs.Common.{sym, ◌∙◌}
+use Rattle.std.proofs.Common.{sym}
 use Rattle.vyrd_live.proofs.TakenLaws.{taking_after}
 use Rattle.vyrd_live.proofs.verifier.advance.Goals as goal
 

@@ -1,7 +1,7 @@
 use Rattle.std.proofs.Common.{◌≡◌, ◌≢◌, ◌∙◌, ℕ, None, Ok, Err, ap, sym, subst}
 use Rattle.std.specs.Prelude.{Result}
 use Rattle.std.specs.Result.{OnErr}
-use Rattle.vyrd_relay.specs.Numbers.{Kept, held, has}
+use Rattle.vyrd_relay.specs.Numbers.{Kept, held}
 use Rattle.vyrd_live.proofs.TakenLaws.{taking_with, has_with}
 use Rattle.vyrd_live.proofs.verifier.follow.Goals as goal
 

@@ -1,14 +1,12 @@
 -- The event was taken in with all whose turn it was, or else it alone is left out.
-use Rattle.std.proofs.Common.{◌≡◌, ◌≢◌, ◌∙◌, ◌++◌, [], ◌∷◌, List, Option, Some, None, true, false, refl, ap, sym, subst}
+use Rattle.std.proofs.Common.{◌≡◌, ◌∙◌, ◌++◌, [], ◌∷◌, List, Option, Some, None, false, refl, ap, sym, subst}
 use Rattle.std.specs.Prelude.{is_some}
 use Rattle.vyrd_base.specs.declared.header.Header.{Header}
 use Rattle.vyrd_base.specs.declared.history.Stamped.{Stamped}
 use Rattle.vyrd_base.specs.Histories.{log_of}
 use Rattle.vyrd_base.specs.Verdicts.{verdict_so_far}
-use Rattle.vyrd_judge.specs.Following.{JudgeView}
 use Rattle.vyrd_judge.proofs.OnlineLaws.{so_far_is_known}
-use Rattle.vyrd_relay.specs.Numbers.{Kept}
-use Rattle.vyrd_live.specs.Taken.{in_order_below, VerifierView, has_number, IsJudging, HasTakenIn}
+use Rattle.vyrd_live.specs.Taken.{in_order_below, VerifierView, has_number, HasTakenIn}
 use Rattle.vyrd_live.proofs.TakenLaws.{taken_more, taken_same}
 use Rattle.vyrd_live.proofs.verifier.Verifier.take_in.Goals as goal
 

@@ -9,6 +9,7 @@ use Rattle.vyrd_live.specs.Working.{dids_of, IsWorking, HasRoomAhead}
 use Rattle.vyrd_live.specs.Acts.{HasActed, MayAct}
 use Rattle.vyrd_live.proofs.RoomLaws.{room_for_one}
 use Rattle.vyrd_live.proofs.StandingLaws.{next_may}
+use Rattle.vyrd_live.proofs.SendingLaws.{sent_same, sent_before}
 use Rattle.vyrd_live.proofs.WorkLaws.{working_first, working_with_room, working_turn, same_hand, one_longer, worked_to_the_end}
 use Rattle.vyrd_live.proofs.worker.Worker.play.Given as given
 use Rattle.vyrd_live.proofs.worker.Worker.play.Goals as goal
@@ -16,15 +17,16 @@ use Rattle.vyrd_live.proofs.worker.Worker.play.Goals as goal
 pub loop-self-init : goal.loop-self-init
 loop-self-init g c = record {
   header = refl;
-  hand_of = c.requires.hand_of;
+  hand_of = c.requires.fresh.hand_of;
   caller = refl;
-  falls = let e = ap (λ (lane : List Stamped). length lane) c.requires.empty in omega (arith, e);
+  falls = let e = ap (λ (lane : List Stamped). length lane) c.requires.fresh.empty in omega (arith, e);
   working = working_first (g.M.Machine.header_of c.args.self.now.machine) (g.M.Machine.script c.args.self.now.machine) c.args.self.now.hand
-      c.requires.empty c.requires.between (g.met.M.Machine.is_sound c.args.self.now.machine);
+      c.requires.fresh.empty c.requires.fresh.between (g.met.M.Machine.is_sound c.args.self.now.machine);
+  sent = c.requires.sent;
 }
 
 -- the room that was made, and what the machine has played with it
-module _ (g : given.Over) (c : goal.After-make_event-arg-1 g) where
+module _ (g : given.Over) (c : goal.After-make_event-arg-in-loop-self-1 g) where
   goes : next_act (g.M.Machine.script c.loop-self.self.machine) ≢ Done
   goes = search rules
 
@@ -50,7 +52,7 @@ pub make_event-requires-clause-may : goal.make_event-requires-clause-may
 make_event-requires-clause-may g c κs within =
     subst (λ m. MayAct c.args.traced.now.plan c.make_room.new.self.hand (next_act (g.M.Machine.script m))) (sym c.in-Ok.ensures.machine)
     (next_may (g.M.Machine.header_of c.args.self.now.machine) c.args.traced.now.plan
-    (g.M.Machine.script c.loop-self.self.machine) c.make_room.new.self.hand c.requires.memory (goes g c) (working g c).stands)
+    (g.M.Machine.script c.loop-self.self.machine) c.make_room.new.self.hand c.requires.fresh.memory (goes g c) (working g c).stands)
 
 pub loop-self-preserved : goal.loop-self-preserved
 loop-self-preserved g c =
@@ -82,10 +84,25 @@ loop-self-preserved g c =
           (g.M.Machine.script c.make_event.new.self.machine)
           c.loop-self.self.hand c.make_room.new.self.hand c.make_event.new.self.hand
           (g.met.M.Machine.rests c.loop-self.self.machine) c.in-Ok.ensures.hand room made c.loop-self.invariant.working;
+      sent = c.send.ensures;
     }
 
-pub returns : goal.returns
-returns g c =
+pub make_event-requires-clause-sent : goal.make_event-requires-clause-sent
+make_event-requires-clause-sent g c κs within =
+    let hand = c.in-Ok.ensures.hand in
+    sent_same c.args.relay.now c.loop-self.outbox.sender c.loop-self.outbox.place c.loop-self.self.hand c.make_room.new.self.hand
+    (ap (λ (v : HandView). v.caller) hand) (ap (λ (v : HandView). v.lane) hand) c.loop-self.invariant.sent
+
+pub send-requires : goal.send-requires
+send-requires g c =
+    let machine = c.in-Ok.ensures.machine in
+    let made = subst (λ m. (answer : ℕ) × (g.M.Machine.script c.make_event.new.self.machine ≡ after_answer (g.M.Machine.script m) answer)
+    × HasActed (next_act (g.M.Machine.script m)) answer c.make_room.new.self.hand c.make_event.new.self.hand) machine c.make_event.ensures.made in
+    sent_before c.args.relay.now c.make_event.new.outbox.sender c.make_event.new.outbox.place (next_act (g.M.Machine.script c.loop-self.self.machine)) made.0
+    c.make_room.new.self.hand c.make_event.new.self.hand made.2 c.make_event.ensures.sent
+
+pub returns-clause-worked : goal.returns-clause-worked
+returns-clause-worked g c =
     let h = g.M.Machine.header_of c.args.self.now.machine in
     let w = c.loop-self.invariant.working in
     let done : next_act (g.M.Machine.script c.loop-self.self.machine) ≡ Done = search rules in record {

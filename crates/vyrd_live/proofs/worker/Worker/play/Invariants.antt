@@ -1,6 +1,7 @@
 use Rattle.std.proofs.Common.{◌≡◌, ◌+◌, ◌≤◌, length}
 use Rattle.vyrd_trace.specs.Hands.{IsOf}
 use Rattle.vyrd_live.specs.Working.{IsWorking}
+use Rattle.vyrd_live.specs.Sending.{HasSent}
 use Rattle.vyrd_live.proofs.worker.Worker.play.Given as goal
 
 abbrev pub invariant-loop-self : goal.invariant-loop-self
@@ -11,6 +12,7 @@ invariant-loop-self g l = record {
   falls : length l.self.hand.lane + g.M.Machine.ahead l.self.machine ≤ g.M.Machine.ahead l.initial.self.machine;
   working : IsWorking (g.M.Machine.header_of l.initial.self.machine) (g.M.Machine.script l.initial.self.machine)
       (g.M.Machine.script l.self.machine) l.self.hand;
+  sent : HasSent l.relay l.outbox.sender l.outbox.place l.self.hand;
 }
 
 abbrev pub decreases-loop-self : goal.decreases-loop-self

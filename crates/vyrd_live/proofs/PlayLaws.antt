@@ -1,0 +1,109 @@
+-- All workers with their senders, and the verdict beside them.
+use Rattle.std.proofs.Common.{◌≡◌, ℕ, ◌+◌, ◌<◌, List, [], ◌∷◌, ◌++◌, length, map, get_or, true, Option, Some, None, refl, sym, ap, ◌∙◌, subst, arith}
+use Rattle.std.specs.Prelude.{IfSome, slice_index_or}
+use Rattle.std.specs.List.{All}
+use Rattle.std.proofs.lemmas.List.{ext_get_or, get_or-map, length-map}
+use Rattle.vyrd_base.specs.declared.header.Header.{Header}
+use Rattle.vyrd_base.specs.declared.history.Stamped.{Stamped}
+use Rattle.vyrd_base.specs.declared.verdict.Verdict.{Verdict}
+use Rattle.vyrd_base.specs.Histories.{Cells, is_legal, log_of}
+use Rattle.vyrd_base.specs.Verdicts.{verdict}
+use Rattle.vyrd_memory.specs.Scripts.{Script}
+use Rattle.vyrd_base.specs.Parts.{part}
+use Rattle.vyrd_trace.specs.Hands.{TracedView, HandView, AreAll}
+use Rattle.vyrd_relay.specs.declared.known.Lane.{Lane}
+use Rattle.vyrd_relay.specs.Ends.{RelayView, SenderView, AreNew, lane_sent}
+use Rattle.vyrd_live.specs.declared.worker.Worker.{Worker}
+use Rattle.vyrd_live.specs.declared.worker.Stopped.{Stopped}
+use Rattle.vyrd_live.specs.declared.outbox.Outbox.{Outbox}
+use Rattle.vyrd_live.specs.Workers.{HasWorked}
+use Rattle.vyrd_live.specs.Beside.{IsClosing, AreRests, lanes_sent, counts_sent, hands_left, counts_left, lanes_left}
+use Rattle.vyrd_live.proofs.WorkerLists.{HaveWorked, element_of}
+use Rattle.vyrd_live.proofs.HistoryLaws.{history_is}
+use Rattle.vyrd_live.proofs.TakenParts.{Done, AllSent, parts_taken}
+
+-- a fact of all images is one of all
+pub of_images : {A B : Type 0} (f : A → B) (P : B → Type 0) (xs : List A) → All P (map f xs) → All (λ (x : A). P (f x)) xs
+of_images f P xs all k d l = subst P (get_or-map f xs k d (f d) l) (all k (f d) (omega (arith, length-map xs f)))
+
+pub map_twice : {A B C : Type 0} (f : A → B) (g : B → C) (xs : List A) → map g (map f xs) ≡ map (λ (x : A). g (f x)) xs
+map_twice f g [] = refl
+map_twice f g (x ∷ xs) = ap (λ ys. g (f x) ∷ ys) (map_twice f g xs)
+
+-- two lists that are equal begin with the same, and go on with the same
+pub same_first : (a b : ℕ) (xs ys : List ℕ) → a ∷ xs ≡ b ∷ ys → (a ≡ b) × (xs ≡ ys)
+same_first a b xs ys e = (cc, cc)
+
+-- the senders are those of the workers, one by one
+pub same_callers : {M : Type 0} (traced : TracedView) (relay : RelayView) (n : ℕ) (workers : List (Worker M)) (ends : List SenderView)
+    → AreAll traced (map (λ (w : Worker M). w.hand) workers) → length workers ≡ length ends → AreNew relay.queue n 0 ends
+    → map (λ (w : Worker M). w.hand.caller) workers ≡ map (λ (s : SenderView). s.caller) ends
+same_callers {M} traced relay n workers ends all count new =
+    let a = length-map workers (λ (w : Worker M). w.hand.caller) in
+    let b = length-map ends (λ (s : SenderView). s.caller) in
+    let l = length-map workers (λ (w : Worker M). w.hand) in
+    ext_get_or 0 (map (λ (w : Worker M). w.hand.caller) workers) (map (λ (s : SenderView). s.caller) ends) (a ∙ count ∙ sym b) (λ i low.
+    let here : i < length workers = omega (arith, low, a) in
+    let there : i < length ends = omega (arith, here, count) in
+    let w = element_of workers i here in
+    let s = element_of ends i there in
+    let first : 0 + i ≡ i = omega arith in
+    get_or-map (λ (w : Worker M). w.hand.caller) workers i w 0 here
+    ∙ sym (ap (λ (v : HandView). v.caller) (get_or-map (λ (w : Worker M). w.hand) workers i w w.hand here))
+    ∙ (all.1 i w.hand (omega (arith, here, l))).1 ∙ sym (ap (λ (s : SenderView). s.caller) (new i s there) ∙ first)
+    ∙ sym (get_or-map (λ (s : SenderView). s.caller) ends i s 0 there))
+
+-- each worker has worked, by what stands at its place
+worked_each : {M : Type 0} (header_of : M → Header) (script : M → Script) (ahead : M → ℕ) (traced : TracedView)
+    (jobs : List (Worker M × Outbox)) (done : List Done) → length done ≡ length jobs
+    → ((i : ℕ) (j : Worker M × Outbox) (d : Done) → i < length jobs → HasWorked header_of script ahead traced
+    (slice_index_or jobs i j).0.machine (slice_index_or jobs i j).0.hand (slice_index_or done i d).0.hand (slice_index_or done i d).0.ending)
+    → HaveWorked header_of script ahead traced (map (λ (j : Worker M × Outbox). j.0) jobs) (map (λ (d : Done). d.0) done)
+worked_each {M} header_of script ahead traced jobs done count each i w s low =
+    let l : i < length jobs = omega (arith, length-map jobs (λ (j : Worker M × Outbox). j.0)) in
+    let j = element_of jobs i l in
+    let d = element_of done i (omega (arith, l, count)) in
+    let a = get_or-map (λ (j : Worker M × Outbox). j.0) jobs i j w l in
+    let b = get_or-map (λ (d : Done). d.0) done i d s (omega (arith, l, count)) in
+    subst (λ (x : Worker M × Stopped). HasWorked header_of script ahead traced x.0.machine x.0.hand x.1.hand x.1.ending)
+    (λ k. (sym a k, sym b k)) (each i j d l)
+
+-- each worker has worked, by what its job left
+pub worked_all : {M : Type 0} (header_of : M → Header) (script : M → Script) (ahead : M → ℕ) (traced : TracedView) (workers : List (Worker M))
+    (jobs : List (Worker M × Outbox)) (done : List Done) (stopped : List Stopped) → map (λ (j : Worker M × Outbox). j.0) jobs ≡ workers
+    → stopped ≡ map (λ (d : Done). d.0) done → length done ≡ length jobs
+    → ((i : ℕ) (j : Worker M × Outbox) (d : Done) → i < length jobs → HasWorked header_of script ahead traced
+    (slice_index_or jobs i j).0.machine (slice_index_or jobs i j).0.hand (slice_index_or done i d).0.hand (slice_index_or done i d).0.ending)
+    → HaveWorked header_of script ahead traced workers stopped × (length stopped ≡ length workers)
+worked_all {M} header_of script ahead traced workers jobs done stopped are left count each = (
+  subst (λ (x : List (Worker M) × List Stopped). HaveWorked header_of script ahead traced x.0 x.1) (λ i. (are i, sym left i))
+      (worked_each header_of script ahead traced jobs done count each),
+  ap (λ (xs : List Stopped). length xs) left ∙ length-map done (λ (d : Done). d.0) ∙ count
+      ∙ sym (length-map jobs (λ (j : Worker M × Outbox). j.0)) ∙ ap (λ (xs : List (Worker M)). length xs) are,
+)
+
+-- the verdict at the end is that of the history's log
+pub beside_verdict : (relay : RelayView) (z : Cells) (h : Header) (done : List Done) (history : List Stamped) (hands : List HandView)
+    (outboxes : List Outbox) (senders : ℕ) (r : Option Verdict) → is_legal z history ≡ true → z.callers ≡ length done → senders ≡ length done
+    → hands ≡ hands_left done → outboxes ≡ map (λ (d : Done). d.1) done
+    → ((i : ℕ) (d : Done) → i < length done → (get_or done i d).0.hand.caller ≡ i) → AllSent relay done
+    → All (λ (hand : HandView). part hand.caller history ≡ hand.lane) hands
+    → IfSome r (λ v. (x : List Stamped) × (next : ℕ) × (more : List Stamped)
+    × AreRests hands (counts_sent outboxes) more × IsClosing h x next v senders (lanes_sent outboxes) (x ++ more))
+    → IfSome r (λ v. v ≡ verdict h (log_of history))
+beside_verdict relay z h done history hands outboxes senders None legal callers many are outs own sent parts is = tt
+beside_verdict relay z h done history hands outboxes senders (Some v) legal callers many are outs own sent parts is =
+    let lanes : lanes_sent outboxes ≡ lanes_left done = ap lanes_sent outs ∙ map_twice (λ (d : Done). d.1) (λ (o : Outbox). lane_sent o.sender) done in
+    let counts : counts_sent outboxes ≡ counts_left done = ap counts_sent outs ∙ map_twice (λ (d : Done). d.1) (λ (o : Outbox). length o.sender.sent) done in
+    let had = is.0 in
+    let next = is.1 in
+    let more = is.2 in
+    let rests = subst (λ (x : List HandView × List ℕ). AreRests x.0 x.1 more) (λ k. (are k, counts k)) is.3 in
+    let c : IsClosing h had next v (length done) (lanes_left done) (had ++ more) =
+    subst (λ (x : ℕ × List Lane). IsClosing h had next v x.0 x.1 (had ++ more)) (λ k. (many k, lanes k)) is.4 in
+    let each = of_images (λ (d : Done). d.0.hand) (λ (hand : HandView). part hand.caller history ≡ hand.lane) done
+    (subst (All (λ (hand : HandView). part hand.caller history ≡ hand.lane)) are parts) in
+    let all = parts_taken relay z done had more history legal callers own sent c.all c.theirs rests
+    (λ i d l. ap (λ (n : ℕ). part n history) (sym (own i d l)) ∙ each i d l) in
+    c.verdict_is ∙ ap (λ (xs : List Stamped). verdict h (log_of xs))
+    (history_is z history (had ++ more) legal all next c.gone c.missing)

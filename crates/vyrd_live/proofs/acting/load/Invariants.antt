@@ -1,7 +1,0 @@
--- Nothing has changed but what was found.
-use Rattle.std.proofs.Common.{◌≡◌}
-use Rattle.vyrd_trace.specs.Hands.{with_look}
-use Rattle.vyrd_live.proofs.acting.load.Given as goal
-
-abbrev pub invariant-loop : goal.invariant-loop
-invariant-loop g l = l.hand ≡ with_look l.initial.hand l.hand.look

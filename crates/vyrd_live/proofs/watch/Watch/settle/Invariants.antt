@@ -1,0 +1,15 @@
+use Rattle.std.proofs.Common.{◌≡◌, ◌++◌}
+use Rattle.std.specs.List.{All}
+use Rattle.vyrd_live.specs.Beside.{lanes_sent, counts_sent}
+use Rattle.vyrd_live.proofs.watch.Watch.settle.Given as goal
+
+abbrev pub invariant-loop-outbox : goal.invariant-loop-outbox
+invariant-loop-outbox g l = record {
+  left : All (λ o. o.sender.queue ≡ l.relay.queue) l.outbox-iterator.rest.items;
+  queue : l.self.receiver.queue ≡ l.initial.self.receiver.queue;
+  senders : l.self.receiver.senders ≡ l.initial.self.receiver.senders;
+  had : l.self.receiver.had ≡ l.initial.self.receiver.had;
+  verifier : (l.self.stands ≡ l.initial.self.stands) × (l.self.verifier ≡ l.initial.self.verifier);
+  settled : l.self.receiver.settled ≡ l.initial.self.receiver.settled ++ lanes_sent l.yielded;
+  counts : l.counts.items ≡ counts_sent l.yielded;
+}
