@@ -1,11 +1,11 @@
 -- The verdict that was reached is that of the whole input.
-use Rattle.std.proofs.Common.{◌≡◌, ℕ, ◌≤◌, List, [], ◌++◌, Option, Some, None, refl, ap, ◌∙◌, sym, inl, inr}
-use Rattle.std.specs.Prelude.{◌⊎◌, IfSome, option_map}
+use Rattle.std.proofs.Common.{◌≡◌, ℕ, ◌≤◌, List, ◌++◌, Option, Some, None, ap, ◌∙◌, sym, inl, inr}
+use Rattle.std.specs.Prelude.{◌⊎◌, IfSome}
 use Rattle.vyrd_base.specs.declared.verdict.Verdict.{Verdict}
 use Rattle.vyrd_base.specs.Devices.{IsAtEnd}
 use Rattle.vyrd_base.specs.TextVerdicts.{text_verdict, text_verdict_so_far}
 use Rattle.vyrd_base.proofs.ReadingGrows.{text_verdict_stands}
-use Rattle.vyrd_program.specs.Inputs.{IsTaken, IsVerdictOf}
+use Rattle.vyrd_program.specs.Inputs.{IsVerdictOf}
 use Rattle.vyrd_program.specs.Outputs.{status_of}
 use Rattle.vyrd_program.specs.Checks.{IsSettled}
 use Rattle.vyrd_program.specs.Progress.{IsReached}

@@ -7,3 +7,6 @@ pub mod BehindLaws
 pub mod WriteLaws
 pub mod FormLaws
 pub mod StepLaws
+pub mod EveryLaws
+pub mod MoversLaws
+pub mod BatchLaws

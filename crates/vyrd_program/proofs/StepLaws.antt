@@ -1,17 +1,22 @@
 -- What is known of the run of a workload that keeps its limits, and of the input that it was read from.
 use Rattle.std.proofs.Common.{◌≡◌, ℕ, true, not, ◌||◌, List, [], ◌∷◌, ◌++◌, length, Option, Some, None, refl, ap, ◌∙◌, sym, subst, arith, inl, inr, append-nil}
 use Rattle.std.specs.Prelude.{◌⊎◌, nat_lt, IfSome, MatchOption}
-use Rattle.std.specs.List.{AllByRecursion}
+use Rattle.std.specs.List.{AllByRecursion, cons_option}
 use Rattle.vyrd_base.specs.declared.header.Header.{Header}
 use Rattle.vyrd_base.specs.declared.log.Kind.{Kind}
 use Rattle.vyrd_base.specs.declared.log.Kind.TheVariants.{Call, Return, Write, Commit, BlockOpen, BlockClose, BlockCommit}
 use Rattle.vyrd_base.specs.declared.log.Entry.{Entry}
+use Rattle.vyrd_base.specs.declared.subject.Subject.{Subject}
+use Rattle.vyrd_base.specs.declared.history.Did.{Did}
+use Rattle.vyrd_base.specs.declared.history.Did.TheVariants.{Read, Wrote, Took, Gave, Marked}
+use Rattle.vyrd_base.specs.declared.history.Stamped.{Stamped}
 use Rattle.vyrd_base.specs.Subjects.{same_subject, subject_of, are_args, are_padded, arity_of, takes_chunk}
 use Rattle.vyrd_base.specs.Devices.{IsAtEnd}
-use Rattle.vyrd_base.specs.Histories.{cells_of, is_legal, log_of}
+use Rattle.vyrd_base.specs.Histories.{cells_of, is_legal, logged, log_of}
 use Rattle.vyrd_base.specs.Verdicts.{verdict}
 use Rattle.vyrd_base.proofs.TestLaws.{both_true, first_true, second_true}
-use Rattle.vyrd_text.specs.Written.{is_writable}
+use Rattle.vyrd_text.specs.Written.{is_padded, is_of_subject, is_writable}
+use Rattle.vyrd_mover.specs.Writable.{is_padded_did}
 use Rattle.vyrd_memory.specs.Runs.{is_call_of, PlayToTheEnd}
 use Rattle.vyrd_memory.proofs.LegalRuns.{run_is_legal, run_plays}
 use Rattle.vyrd_memory.proofs.RaceLaws.{only_races}
@@ -79,7 +84,7 @@ pub run_is_writable : (w : Workload) (run : Run) → KeepsLimits w → IsRunByTu
 run_is_writable w run limits is = log_is_writable w run limits (legal_run w run limits is) (played_run w run limits is)
 
 -- what was read of an input says what the whole input says
-pub reading_is_input : (before after : Option (List ℕ)) (bytes : List ℕ) → IsInputRead before after bytes
+pub reading_is_input : (before after : Option (List ℕ)) (bytes : List ℕ) → IsInputRead longest_input before after bytes
     → IfSome before (λ input. work_reading bytes ≡ work_reading input)
 reading_is_input before None bytes is = subst (λ before. IfSome before (λ input. work_reading bytes ≡ work_reading input)) (sym is.told) tt
 reading_is_input before (Some left) bytes is =
@@ -93,3 +98,21 @@ reading_is_input before (Some left) bytes is =
 pub of_match : {A : Type 0} (P : Type 0) (Q : A → Type 0) (o : Option A) (x : A) → o ≡ Some x → MatchOption o P Q → Q x
 of_match P Q None x e m = cc
 of_match P Q (Some y) x e m = let same : y ≡ x = cc in subst Q same m
+
+-- where the log of a history can be written, so can the history
+padded_event : (subject : Subject) (caller : ℕ) (did : Did) (log : List Entry)
+    → AllByRecursion (λ e. is_writable subject e ≡ true) (cons_option (logged caller did) log)
+    → (is_padded_did did ≡ true) × AllByRecursion (λ e. is_writable subject e ≡ true) log
+padded_event subject caller (Read cell value) log all = (refl, all)
+padded_event subject caller (Wrote cell value) log all = (refl, all.1)
+padded_event subject caller (Took lock) log all = (refl, all)
+padded_event subject caller (Gave lock) log all = (refl, all)
+padded_event subject caller (Marked kind) log all = (second_true (is_of_subject subject kind) (is_padded kind) all.0, all.1)
+
+pub history_is_padded : (subject : Subject) (history : List Stamped) → AllByRecursion (λ e. is_writable subject e ≡ true) (log_of history)
+    → AllByRecursion (λ e. is_padded_did e.did ≡ true) history
+unfolding log_of
+history_is_padded subject [] all = tt
+history_is_padded subject (e ∷ history) all =
+    let first = padded_event subject e.caller e.did (log_of history) all in
+    (first.0, history_is_padded subject history first.1)

@@ -1,31 +1,41 @@
 -- The words that the program takes.
-use Rattle.std.specs.Prelude.{Bool, true, false, ◌&&◌, ℕ, nat_le, List, [], ◌∷◌, map, codes, decimal, Option, Some, None, if◌then◌else◌}
+use Rattle.std.specs.Prelude.{Bool, ◌&&◌, ℕ, nat_le, List, [], ◌∷◌, map, codes, decimal, Option, Some, None, if◌then◌else◌}
+use Rattle.std.specs.Option.{option_and_then}
 use Rattle.std.specs.Str.{bytes_eq}
 use Rattle.std.specs.Borrow.{Bor}
 use Rattle.vyrd_base.specs.Lines.{number_of}
+use Rattle.vyrd_program.specs.declared.show.Show.{Show}
+use Rattle.vyrd_program.specs.declared.show.Show.TheVariants.{Verdict, Log, History}
 use Rattle.vyrd_program.specs.declared.form.Form.{Form}
-use Rattle.vyrd_program.specs.declared.form.Form.TheVariants.{Check, Step, Live, Gen}
+use Rattle.vyrd_program.specs.declared.form.Form.TheVariants.{Check, Step, Live, Gen, Movers, Batch}
 
--- one word: `check`, `step` or `run`
+-- one word: `check`, `step`, `run`, `movers` or `batch`
 abbrev pub one_word : List ℕ → Option Form
 one_word word = if bytes_eq word (codes "check") then Some Check
-    else (if bytes_eq word (codes "step") then Some (Step false)
-    else (if bytes_eq word (codes "run") then Some (Live false) else None))
+    else (if bytes_eq word (codes "step") then Some (Step Verdict)
+    else (if bytes_eq word (codes "run") then Some (Live Verdict)
+    else (if bytes_eq word (codes "movers") then Some Movers
+    else (if bytes_eq word (codes "batch") then Some Batch else None))))
 
 -- whether a word is the one spelling of a number from 1 to 200,000
 abbrev pub is_count : List ℕ → Bool
 is_count word = bytes_eq (decimal (number_of word)) word && nat_le 1 (number_of word) && nat_le (number_of word) 200000
 
--- `step` and `run` with the one option that they have
-abbrev pub logged_form : List ℕ → Option Form
-logged_form word = if bytes_eq word (codes "step") then Some (Step true)
-    else (if bytes_eq word (codes "run") then Some (Live true) else None)
+-- what an option asks for: `--log` or `--history`
+abbrev pub shown_by : List ℕ → Option Show
+shown_by option = if bytes_eq option (codes "--log") then Some Log
+    else (if bytes_eq option (codes "--history") then Some History else None)
 
--- two words: `step --log`, `run --log`, or `gen` with a number from 1 to 200,000
+-- `step` and `run` with what is to be shown
+abbrev pub shown_form : List ℕ → Show → Option Form
+shown_form word show = if bytes_eq word (codes "step") then Some (Step show)
+    else (if bytes_eq word (codes "run") then Some (Live show) else None)
+
+-- two words: `step` or `run` with an option, or `gen` with a number from 1 to 200,000
 abbrev pub two_words : List ℕ → List ℕ → Option Form
 two_words word other =
     if bytes_eq word (codes "gen") then (if is_count other then Some (Gen (number_of other)) else None)
-    else (if bytes_eq other (codes "--log") then logged_form word else None)
+    else option_and_then (shown_form word) (shown_by other)
 
 -- the form of the words, if they have one
 abbrev pub form_in : List (List ℕ) → Option Form

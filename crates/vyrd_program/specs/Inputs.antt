@@ -3,7 +3,6 @@ use Rattle.std.specs.Prelude.{◌≡◌, ◌⊎◌, ⊤, ℕ, ◌≤◌, List, �
 use Rattle.vyrd_base.specs.declared.verdict.Verdict.{Verdict}
 use Rattle.vyrd_base.specs.Devices.{IsAtEnd}
 use Rattle.vyrd_base.specs.TextVerdicts.{text_verdict}
-use Rattle.vyrd_work.specs.LongInputs.{longest_input}
 use Rattle.vyrd_program.specs.declared.reading.ReadFault.{ReadFault}
 use Rattle.vyrd_program.specs.declared.reading.ReadFault.TheVariants.{Failed, Memory}
 
@@ -22,18 +21,18 @@ abbrev pub IsTaken : Option (List ℕ) → List ℕ → Option (List ℕ) → Ty
 IsTaken before taken after = before ≡ option_map (λ left. taken ++ left) after
 
 -- These bytes were read of an input: all that there were, which the source has said, or as many as are read at most.
-pub record IsInputRead (before after : Option (List ℕ)) (bytes : List ℕ) : Type 0 where
+pub record IsInputRead (most : ℕ) (before after : Option (List ℕ)) (bytes : List ℕ) : Type 0 where
   pub told : IsTaken before bytes after
-  pub enough : IsAtEnd after ⊎ (length bytes ≡ longest_input)
-  pub few : length bytes ≤ longest_input
+  pub enough : IsAtEnd after ⊎ (length bytes ≡ most)
+  pub few : length bytes ≤ most
 
 -- The source has said its end, or as many bytes were taken of the input as are read at most, where they are told.
-abbrev pub IsInputTaken : Option (List ℕ) → Option (List ℕ) → Type 0
-IsInputTaken before after = IsAtEnd after ⊎ ((taken : List ℕ) × IsTaken before taken after × (length taken ≡ longest_input))
+abbrev pub IsInputTaken : ℕ → Option (List ℕ) → Option (List ℕ) → Type 0
+IsInputTaken most before after = IsAtEnd after ⊎ ((taken : List ℕ) × IsTaken before taken after × (length taken ≡ most))
 
 -- At most as many bytes were taken of an input as are read at most, where they are told.
-abbrev pub IsFewTaken : Option (List ℕ) → Option (List ℕ) → Type 0
-IsFewTaken before after = (taken : List ℕ) × IsTaken before taken after × (length taken ≤ longest_input)
+abbrev pub IsFewTaken : ℕ → Option (List ℕ) → Option (List ℕ) → Type 0
+IsFewTaken most before after = (taken : List ℕ) × IsTaken before taken after × (length taken ≤ most)
 
 -- the verdict is that of the whole input, where its bytes are told
 abbrev pub IsVerdictOf : ℕ → Option (List ℕ) → Verdict → Type 0

@@ -6,3 +6,6 @@ pub mod Checks
 pub mod Steps
 pub mod Lives
 pub mod Generated
+pub mod CorrectInputs
+pub mod Moved
+pub mod Batches

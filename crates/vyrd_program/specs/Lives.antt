@@ -1,19 +1,21 @@
 -- What `run` answers about an input: how the bytes are refused, that a caller's events are spent, or the verdict about the log
 -- of a live run.
-use Rattle.std.specs.Prelude.{◌≡◌, ◌≤◌, ◌⊎◌, ℕ, Bool, true, List, ◌++◌, length, Option, Some, None, Result, Ok, Err, IfSome, codes, decimal}
+use Rattle.std.specs.Prelude.{◌≡◌, ◌<◌, ◌≤◌, ◌⊎◌, ℕ, true, List, ◌++◌, length, Option, Some, None, Result, Ok, Err, IfSome, codes, decimal}
 use Rattle.vyrd_base.specs.Places.{newest_first}
 use Rattle.vyrd_base.specs.Histories.{cells_of, is_legal, log_of}
 use Rattle.vyrd_base.specs.Spelling.{ended_line}
 use Rattle.vyrd_base.specs.Verdicts.{verdict}
 use Rattle.vyrd_memory.specs.Playing.{memory_after}
+use Rattle.vyrd_memory.specs.Bounds.{bounds_of}
 use Rattle.vyrd_memory.specs.Runs.{PlayToTheEnd}
 use Rattle.vyrd_work.specs.Workloads.{Workload}
 use Rattle.vyrd_work.specs.WorkReading.{Refusal, work_reading}
-use Rattle.vyrd_work.specs.WorkScripts.{work_scripts}
+use Rattle.vyrd_work.specs.WorkScripts.{ops_of, work_scripts}
 use Rattle.vyrd_work.specs.Refusals.{refusal_text}
 use Rattle.vyrd_live.specs.declared.run.Run.{Run}
 use Rattle.vyrd_live.specs.declared.run.Overrun.{Overrun}
 use Rattle.vyrd_live.specs.LiveRuns.{AllHadRoom, IsOverrun}
+use Rattle.vyrd_program.specs.declared.show.Show.{Show}
 use Rattle.vyrd_program.specs.Outputs.{status_of, Appends, AppendsFront}
 use Rattle.vyrd_program.specs.Steps.{run_text}
 
@@ -34,44 +36,46 @@ pub record IsLiveRun (w : Workload) (run : Run) : Type 0 where
 abbrev pub spent_line : ℕ → List ℕ
 spent_line caller = ended_line (codes "events spent by caller " ++ decimal caller)
 
--- a run that came to its end, or one that the limit of events ended
-abbrev pub IsRunAnswer : Bool → Workload → ℕ → List ℕ → Option Run → Option Overrun → Type 0
-IsRunAnswer log w status text (Some run) None = (status ≡ status_of run.verdict) × (text ≡ run_text log w.header run) × IsLiveRun w run
-IsRunAnswer log w status text None (Some spent) = (status ≡ 9) × (text ≡ spent_line spent.caller)
+-- A run that came to its end, or one that the limit of events ended: it is lower than the sum of the bounds of that caller's
+-- operations.
+abbrev pub IsRunAnswer : Show → Workload → ℕ → List ℕ → Option Run → Option Overrun → Type 0
+IsRunAnswer show w status text (Some run) None = (status ≡ status_of run.verdict) × (text ≡ run_text show w.header run) × IsLiveRun w run
+IsRunAnswer show w status text None (Some spent) = (status ≡ 9) × (text ≡ spent_line spent.caller)
     × (is_legal (cells_of w.header) spent.history.items ≡ true) × IsOverrun w.header most_events (work_scripts w) spent.caller spent.history.items
-IsRunAnswer log w status text _ _ = ⊥
+    × (most_events < bounds_of w.header (ops_of spent.caller w.ops))
+IsRunAnswer show w status text _ _ = ⊥
 
 -- the status, the text and the run of the answer to what was read
-abbrev pub IsLiveAnswer : Bool → Result Workload Refusal → ℕ → List ℕ → Option Run → Option Overrun → Type 0
-IsLiveAnswer log (Err refusal) status text run spent = (status ≡ 7) × (text ≡ refusal_text refusal.line refusal.rule) × (run ≡ None) × (spent ≡ None)
-IsLiveAnswer log (Ok w) status text run spent = IsRunAnswer log w status text run spent
+abbrev pub IsLiveAnswer : Show → Result Workload Refusal → ℕ → List ℕ → Option Run → Option Overrun → Type 0
+IsLiveAnswer show (Err refusal) status text run spent = (status ≡ 7) × (text ≡ refusal_text refusal.line refusal.rule) × (run ≡ None) × (spent ≡ None)
+IsLiveAnswer show (Ok w) status text run spent = IsRunAnswer show w status text run spent
 
 -- The status, the text and the run of an answer to an input. Where its bytes are told, what was read is what they say.
-pub record AnswersLive (log : Bool) (input : Option (List ℕ)) (status : ℕ) (text : List ℕ) (run : Option Run) (spent : Option Overrun) : Type 0 where
+pub record AnswersLive (show : Show) (input : Option (List ℕ)) (status : ℕ) (text : List ℕ) (run : Option Run) (spent : Option Overrun) : Type 0 where
   pub work : Result Workload Refusal
   pub read : IfSome input (λ bytes. work ≡ work_reading bytes)
-  pub answer : IsLiveAnswer log work status text run spent
+  pub answer : IsLiveAnswer show work status text run spent
 
 -- the statuses with which a workload is answered
 abbrev pub IsLiveStatus : ℕ → Type 0
 IsLiveStatus status = (status ≤ 2) ⊎ (status ≡ 7) ⊎ (status ≡ 9)
 
 -- the sink has taken the text of that answer
-pub record IsLived (log : Bool) (input : Option (List ℕ)) (status : ℕ) (run : Option Run) (spent : Option Overrun)
+pub record IsLived (show : Show) (input : Option (List ℕ)) (status : ℕ) (run : Option Run) (spent : Option Overrun)
     (before after : Option (List ℕ)) : Type 0 where
   pub text : List ℕ
-  pub answers : AnswersLive log input status text run spent
+  pub answers : AnswersLive show input status text run spent
   pub written : Appends before after text
 
 -- the sink has taken some of the first bytes of it
-pub record IsLivedInPart (log : Bool) (input : Option (List ℕ)) (run : Option Run) (spent : Option Overrun)
+pub record IsLivedInPart (show : Show) (input : Option (List ℕ)) (run : Option Run) (spent : Option Overrun)
     (before after : Option (List ℕ)) : Type 0 where
   pub status : ℕ
   pub text : List ℕ
-  pub answers : AnswersLive log input status text run spent
+  pub answers : AnswersLive show input status text run spent
   pub written : AppendsFront before after text
 
 -- the sink has sure room for the text of any answer to the input
-abbrev pub HasRoomForLive : Bool → Option (List ℕ) → ℕ → Type 0
-HasRoomForLive log input room = (status : ℕ) (text : List ℕ) (run : Option Run) (spent : Option Overrun)
-    → AnswersLive log input status text run spent → length text ≤ room
+abbrev pub HasRoomForLive : Show → Option (List ℕ) → ℕ → Type 0
+HasRoomForLive show input room = (status : ℕ) (text : List ℕ) (run : Option Run) (spent : Option Overrun)
+    → AnswersLive show input status text run spent → length text ≤ room

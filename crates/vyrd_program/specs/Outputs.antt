@@ -20,4 +20,4 @@ status_of (Malformed line rule) = 2
 
 -- the line that says which words there are
 abbrev pub usage_line : List ℕ
-usage_line = codes "usage: vyrd check | step [--log] | run [--log] | gen N\n"
+usage_line = codes "usage: vyrd check | step [--log|--history] | run [--log|--history] | gen N | movers | batch\n"

@@ -1,5 +1,5 @@
 -- What `step` answers about an input: how the bytes are refused, that the run by turns gets stuck, or the verdict about its log.
-use Rattle.std.specs.Prelude.{◌≡◌, ◌≤◌, ◌⊎◌, ℕ, Bool, List, [], ◌++◌, length, Option, Some, None, Result, Ok, Err, IfSome, codes, if◌then◌else◌}
+use Rattle.std.specs.Prelude.{◌≡◌, ◌≤◌, ◌⊎◌, ℕ, List, ◌++◌, length, Option, Some, None, Result, Ok, Err, IfSome, codes}
 use Rattle.vyrd_base.specs.declared.header.Header.{Header}
 use Rattle.vyrd_base.specs.declared.verdict.Rule.{Rule}
 use Rattle.vyrd_base.specs.declared.verdict.Rule.TheVariants.{BlockRaced}
@@ -15,7 +15,10 @@ use Rattle.vyrd_work.specs.Workloads.{Workload}
 use Rattle.vyrd_work.specs.WorkReading.{Refusal, work_reading}
 use Rattle.vyrd_work.specs.WorkScripts.{work_scripts}
 use Rattle.vyrd_work.specs.Refusals.{refusal_text}
+use Rattle.vyrd_mover.specs.HistoryText.{history_text}
 use Rattle.vyrd_live.specs.declared.run.Run.{Run}
+use Rattle.vyrd_program.specs.declared.show.Show.{Show}
+use Rattle.vyrd_program.specs.declared.show.Show.TheVariants as shown
 use Rattle.vyrd_program.specs.Outputs.{status_of, Appends, AppendsFront}
 
 -- The run by turns of the workload ends with this history and these words, and this is the verdict about its log.
@@ -24,46 +27,48 @@ pub record IsRunByTurns (w : Workload) (run : Run) : Type 0 where
   pub words : run.words.items ≡ memory_after w.header (newest_first run.history.items)
   pub verdict_is : run.verdict ≡ verdict w.header (log_of run.history.items)
 
--- the log's text, where it is asked for, and then the verdict's line
-abbrev pub run_text : Bool → Header → Run → List ℕ
-run_text log h run = (if log then log_text h (log_of run.history.items) else []) ++ verdict_text run.verdict
+-- what is shown of a run: the verdict's line, or the log's text and then that line, or the history's text
+abbrev pub run_text : Show → Header → Run → List ℕ
+run_text shown.Verdict h run = verdict_text run.verdict
+run_text shown.Log h run = log_text h (log_of run.history.items) ++ verdict_text run.verdict
+run_text shown.History h run = history_text (record { header = h; history = run.history.items })
 
 -- the line of a run that gets stuck
 abbrev pub stuck_line : List ℕ
 stuck_line = codes "stuck\n"
 
 -- the status, the text and the run of the answer to what was read
-abbrev pub IsStepAnswer : Bool → Result Workload Refusal → ℕ → List ℕ → Option Run → Type 0
-IsStepAnswer log (Err refusal) status text run = (status ≡ 7) × (text ≡ refusal_text refusal.line refusal.rule) × (run ≡ None)
-IsStepAnswer log (Ok w) status text None = (status ≡ 8) × (text ≡ stuck_line) × GetsStuck (work_scripts w) w.turns
-IsStepAnswer log (Ok w) status text (Some run) = (status ≡ status_of run.verdict) × (text ≡ run_text log w.header run) × IsRunByTurns w run
+abbrev pub IsStepAnswer : Show → Result Workload Refusal → ℕ → List ℕ → Option Run → Type 0
+IsStepAnswer show (Err refusal) status text run = (status ≡ 7) × (text ≡ refusal_text refusal.line refusal.rule) × (run ≡ None)
+IsStepAnswer show (Ok w) status text None = (status ≡ 8) × (text ≡ stuck_line) × GetsStuck (work_scripts w) w.turns
+IsStepAnswer show (Ok w) status text (Some run) = (status ≡ status_of run.verdict) × (text ≡ run_text show w.header run) × IsRunByTurns w run
 
 -- The status, the text and the run of the answer to an input. Where its bytes are told, what was read is what they say.
-pub record AnswersInput (log : Bool) (input : Option (List ℕ)) (status : ℕ) (text : List ℕ) (run : Option Run) : Type 0 where
+pub record AnswersInput (show : Show) (input : Option (List ℕ)) (status : ℕ) (text : List ℕ) (run : Option Run) : Type 0 where
   pub work : Result Workload Refusal
   pub read : IfSome input (λ bytes. work ≡ work_reading bytes)
-  pub answer : IsStepAnswer log work status text run
+  pub answer : IsStepAnswer show work status text run
 
 -- the statuses with which a workload is answered
 abbrev pub IsStepStatus : ℕ → Type 0
 IsStepStatus status = (status ≤ 2) ⊎ (status ≡ 7) ⊎ (status ≡ 8)
 
 -- the sink has taken the text of that answer
-pub record IsStepped (log : Bool) (input : Option (List ℕ)) (status : ℕ) (run : Option Run) (before after : Option (List ℕ)) : Type 0 where
+pub record IsStepped (show : Show) (input : Option (List ℕ)) (status : ℕ) (run : Option Run) (before after : Option (List ℕ)) : Type 0 where
   pub text : List ℕ
-  pub answers : AnswersInput log input status text run
+  pub answers : AnswersInput show input status text run
   pub written : Appends before after text
 
 -- the sink has taken some of the first bytes of it
-pub record IsSteppedInPart (log : Bool) (input : Option (List ℕ)) (run : Option Run) (before after : Option (List ℕ)) : Type 0 where
+pub record IsSteppedInPart (show : Show) (input : Option (List ℕ)) (run : Option Run) (before after : Option (List ℕ)) : Type 0 where
   pub status : ℕ
   pub text : List ℕ
-  pub answers : AnswersInput log input status text run
+  pub answers : AnswersInput show input status text run
   pub written : AppendsFront before after text
 
 -- the sink has sure room for the text of any answer to the input
-abbrev pub HasRoomForStep : Bool → Option (List ℕ) → ℕ → Type 0
-HasRoomForStep log input room = (status : ℕ) (text : List ℕ) (run : Option Run) → AnswersInput log input status text run → length text ≤ room
+abbrev pub HasRoomForStep : Show → Option (List ℕ) → ℕ → Type 0
+HasRoomForStep show input room = (status : ℕ) (text : List ℕ) (run : Option Run) → AnswersInput show input status text run → length text ≤ room
 
 -- a verdict that names a rule names that of raced blocks
 abbrev pub NamesOnlyRaces : Run → Type 0

@@ -28,6 +28,12 @@ pub const STUCK: u8 = 8;
 /// The events of a caller of the live run are spent.
 pub const SPENT: u8 = 9;
 
+/// The history is refused.
+pub const HISTORY_REFUSED: u8 = 10;
+
+/// The batch is refused.
+pub const BATCH_REFUSED: u8 = 11;
+
 /// A status, the text that is written with it, and the run that it is about: one that came to its end, or one that the limit
 /// of events ended.
 #[derive(Debug, Drop)]

@@ -27,6 +27,7 @@ pub fn check<S: Source>(alloc: Global, max_lines: u64, source: &mut S) -> Answer
     ensures run { result.run ≡ None }
     ensures spent { result.spent ≡ None }
     ensures cause { result.status ≡ 4 → HasRisen (S.faults source.old) (S.faults source.new) }
+    ensures stopped { result.status ≡ 4 → S.rest source.new ≡ S.left_off source.new }
     ensures failures_alone { (S.faults source.new ≡ S.faults source.old) ⊎ (result.status ≡ 4) }
     ensures counted { S.faults source.old ≤ S.faults source.new }
     ensures sure { S.is_sure source.old ≡ true → S.faults source.new ≡ S.faults source.old }

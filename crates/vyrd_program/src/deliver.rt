@@ -10,6 +10,7 @@ use vyrd_base::{Failed, Sink};
 pub fn deliver<K: Sink>(sink: &mut K, text: &[u8]) -> Result<(), Failed>
     ensures all { OnOk result (Appends (K.taken sink.old) (K.taken sink.new) text.now) }
     ensures front { OnErr result (AppendsFront (K.taken sink.old) (K.taken sink.new) text.now) }
+    ensures stopped { OnErr result (K.taken sink.new ≡ K.left_off sink.new) }
     ensures cause { OnErr result (HasRisen (K.faults sink.old) (K.faults sink.new)) }
     ensures failures_alone { OnOk result (K.faults sink.new ≡ K.faults sink.old) }
     ensures counted { K.faults sink.old ≤ K.faults sink.new }

@@ -3,8 +3,9 @@
 ghost use Rattle.std.specs.Prelude.{◌≡◌, ◌≤◌, ℕ, List, decimal, if◌then◌else◌, Some, None};
 ghost use Rattle.vyrd_base.specs.Lines.{number_of};
 ghost use Rattle.vyrd_program.specs.declared.form.Form.TheVariants.{Gen};
-ghost use Rattle.vyrd_program.specs.Forms.{form_said, one_word, logged_form, two_words, is_count};
+ghost use Rattle.vyrd_program.specs.Forms.{form_said, one_word, shown_by, shown_form, two_words, is_count};
 
+use crate::show::Show;
 use vyrd_text::read_u32;
 
 /// The most operations that are generated.
@@ -15,12 +16,17 @@ const MOST_OPS: u32 = 200_000;
 pub enum Form {
     /// `check`: the verdict about a log.
     Check,
-    /// `step`: a workload is played by turns and judged. `--log` asks for the log before the verdict.
-    Step { log: bool },
-    /// `run`: a workload is played by callers on threads of their own and judged. `--log` asks for the log before the verdict.
-    Live { log: bool },
+    /// `step`: a workload is played by turns and judged. `--log` asks for the log before the verdict, `--history` for the
+    /// history in place of both.
+    Step { show: Show },
+    /// `run`: a workload is played by callers on threads of their own and judged. `--log` and `--history` ask for the same.
+    Live { show: Show },
     /// `gen N`: a workload of so many operations is generated, played by turns and judged.
     Gen { count: u32 },
+    /// `movers`: whether the commit blocks of a history are reducible.
+    Movers,
+    /// `batch`: the verdicts about the logs of a batch.
+    Batch,
 }
 
 /// The form of the words that stand after the program's name, if they have one.
@@ -42,8 +48,14 @@ fn one_word(word: &str) -> Option<Form>
 {
     match word {
         "check" => Some(Form::Check),
-        "step" => Some(Form::Step { log: false }),
-        "run" => Some(Form::Live { log: false }),
+        "step" => Some(Form::Step {
+            show: Show::Verdict,
+        }),
+        "run" => Some(Form::Live {
+            show: Show::Verdict,
+        }),
+        "movers" => Some(Form::Movers),
+        "batch" => Some(Form::Batch),
         _ => None,
     }
 }
@@ -56,19 +68,28 @@ fn two_words(word: &str, other: &str) -> Option<Form>
         let count = count_of(other)?;
         return Some(Form::Gen { count });
     }
-    if other == "--log" {
-        return logged_form(word);
-    }
-    None
+    let show = shown_by(other)?;
+    shown_form(word, show)
 }
 
-// The form of a word that asks for the log.
-fn logged_form(word: &str) -> Option<Form>
-    ensures { result ≡ logged_form word.now }
+// What an option asks for.
+fn shown_by(option: &str) -> Option<Show>
+    ensures { result ≡ shown_by option.now }
+{
+    match option {
+        "--log" => Some(Show::Log),
+        "--history" => Some(Show::History),
+        _ => None,
+    }
+}
+
+// The form of a word with an option.
+fn shown_form(word: &str, show: Show) -> Option<Form>
+    ensures { result ≡ shown_form word.now show }
 {
     match word {
-        "step" => Some(Form::Step { log: true }),
-        "run" => Some(Form::Live { log: true }),
+        "step" => Some(Form::Step { show }),
+        "run" => Some(Form::Live { show }),
         _ => None,
     }
 }

@@ -3,31 +3,38 @@
 ghost use Rattle.std.specs.Prelude.{◌≡◌, ◌+◌, ◌≤◌, ◌<◌, true, take, drop, vec_len, IfOk, OnOk, OnErr, Ok, Err};
 ghost use Rattle.vyrd_base.specs.Devices.{HasRisen, Gives, IsAtEnd};
 ghost use Rattle.vyrd_program.specs.Inputs.{IsInputRead, IsFewTaken, longest_read, UnlessFailed};
-ghost use Rattle.vyrd_work.specs.LongInputs.{longest_input};
 ghost use Rattle.vyrd_program.specs.declared.reading.ReadFault.TheVariants.{Failed};
 
 use crate::reading::{LONGEST_READ, ReadFault};
 use std::alloc::{AllocError, Global};
 use vyrd_base::Source;
 
-/// How many bytes of an input are read at most: 32 MiB, and one byte that shows that there are more.
-const LONGEST_INPUT: usize = 33_554_433;
+/// How many bytes of a workload are read at most: 32 MiB, and one byte that shows that there are more.
+pub(crate) const LONGEST_WORK: usize = 33_554_433;
 
-/// Reads to the source's end, or 33,554,433 bytes.
+/// How many bytes of a batch are read at most: 64 MiB, the last line of 4 bytes, and one byte that shows that there are more.
+pub(crate) const LONGEST_BATCH: usize = 67_108_869;
+
+/// Reads to the source's end, or so many bytes as `most`.
 ///
 /// Each read takes at most 65,536 bytes, straight into the vector. The time and the memory grow with the bytes.
-pub fn read_input<S: Source>(alloc: Global, source: &mut S) -> Result<Vec<u8>, ReadFault>
-    ensures read { IfOk result (λ bytes. IsInputRead (S.rest source.old) (S.rest source.new) bytes.items) }
-    ensures few { IsFewTaken (S.rest source.old) (S.rest source.new) }
+pub fn read_input<S: Source>(
+    alloc: Global,
+    most: usize,
+    source: &mut S,
+) -> Result<Vec<u8>, ReadFault>
+    ensures read { IfOk result (λ bytes. IsInputRead most (S.rest source.old) (S.rest source.new) bytes.items) }
+    ensures few { IsFewTaken most (S.rest source.old) (S.rest source.new) }
     ensures failed { result ≡ Err Failed → HasRisen (S.faults source.old) (S.faults source.new) }
+    ensures stopped { result ≡ Err Failed → S.rest source.new ≡ S.left_off source.new }
     ensures failures_alone { UnlessFailed result (S.faults source.new ≡ S.faults source.old) }
     ensures counted { S.faults source.old ≤ S.faults source.new }
     ensures sure { S.is_sure source.old ≡ true → S.faults source.new ≡ S.faults source.old }
 {
     let mut bytes = Vec::new(alloc);
     let mut count = 0;
-    while count < LONGEST_INPUT {
-        make_room(count, &mut bytes)?;
+    while count < most {
+        make_room(most, count, &mut bytes)?;
         let n = read_behind(count, &mut bytes, source)?;
         if n == 0 {
             break;
@@ -38,21 +45,21 @@ pub fn read_input<S: Source>(alloc: Global, source: &mut S) -> Result<Vec<u8>, R
     Ok(bytes)
 }
 
-// Makes room for a read behind the first bytes, so many as `count`, which stay.
-fn make_room(count: usize, bytes: &mut Vec<u8>) -> Result<(), AllocError>
+// Makes room for a read behind the first bytes, so many as `count`, which stay. There are `most` bytes at most.
+fn make_room(most: usize, count: usize, bytes: &mut Vec<u8>) -> Result<(), AllocError>
     requires within { count ≤ vec_len bytes.old }
-    requires few { count < longest_input }
-    requires high { vec_len bytes.old ≤ longest_input }
+    requires few { count < most }
+    requires high { vec_len bytes.old ≤ most }
     requires short { vec_len bytes.old ≤ count + longest_read }
     ensures room { OnOk result (count < vec_len bytes.new) }
     ensures front { take count bytes.new.items ≡ take count bytes.old.items }
-    ensures high { vec_len bytes.new ≤ longest_input }
+    ensures high { vec_len bytes.new ≤ most }
     ensures short { vec_len bytes.new ≤ count + longest_read }
 {
     if count < bytes.len() {
         return Ok(());
     }
-    let room = LONGEST_READ.min(LONGEST_INPUT - count);
+    let room = LONGEST_READ.min(most - count);
     bytes.resize(count + room, 0)
 }
 
@@ -70,6 +77,7 @@ fn read_behind<S: Source>(
     ensures front { take count bytes.new.items ≡ take count bytes.old.items }
     ensures len { vec_len bytes.new ≡ vec_len bytes.old }
     ensures failed { result ≡ Err Failed → HasRisen (S.faults source.old) (S.faults source.new) }
+    ensures stopped { result ≡ Err Failed → S.rest source.new ≡ S.left_off source.new }
     ensures failures_alone { UnlessFailed result (S.faults source.new ≡ S.faults source.old) }
     ensures counted { S.faults source.old ≤ S.faults source.new }
     ensures sure { S.is_sure source.old ≡ true → S.faults source.new ≡ S.faults source.old }

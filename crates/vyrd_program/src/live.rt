@@ -5,13 +5,15 @@ ghost use Rattle.vyrd_base.specs.Devices.{HasRisen};
 ghost use Rattle.vyrd_work.specs.Workloads.{workload_of};
 ghost use Rattle.vyrd_work.specs.WorkLimits.{KeepsLimits};
 ghost use Rattle.vyrd_work.specs.WorkReading.{work_reading};
+ghost use Rattle.vyrd_work.specs.LongInputs.{longest_input};
 ghost use Rattle.vyrd_program.specs.Inputs.{IsInputTaken, IsFewTaken};
 ghost use Rattle.vyrd_program.specs.Steps.{NamesOnlyRaces};
 ghost use Rattle.vyrd_program.specs.Lives.{AnswersLive, IsLiveAnswer, IsRunAnswer, IsLiveStatus};
 
 use crate::answer::{Answer, MEMORY, READ_FAULT};
-use crate::input::read_input;
+use crate::input::{LONGEST_WORK, read_input};
 use crate::reading::ReadFault;
+use crate::show::Show;
 use crate::telling::{overrun, refuse, tell};
 use std::alloc::{AllocError, Global};
 use std::sync::Wait;
@@ -23,28 +25,29 @@ use vyrd_work::{Work, WorkFault, read_work};
 /// How many events a caller may have.
 const MOST_EVENTS: u64 = 16_777_216;
 
-/// The answer to a workload: the verdict about a live run, with the log before it where that is asked for; or that it is
-/// refused, or that a caller's events are spent; or nothing after a failed read or want of memory.
+/// The answer to a workload: what is to be shown of a live run, with the status of the verdict about it; or that it is refused,
+/// or that a caller's events are spent; or nothing after a failed read or want of memory.
 pub fn live<R: Threads + Wait + Sync, S: Source, G: Gate>(
     rt: &R,
     alloc: Global,
-    log: bool,
+    show: Show,
     source: &mut S,
     gate: &G,
 ) -> Answer
     ensures statuses { IsLiveStatus result.status ⊎ (result.status ≡ 4) ⊎ (result.status ≡ 6) }
-    ensures answers { IsLiveStatus result.status → AnswersLive log (S.rest source.old) result.status result.text.items result.run result.spent }
+    ensures answers { IsLiveStatus result.status → AnswersLive show (S.rest source.old) result.status result.text.items result.run result.spent }
     ensures races { IfSome result.run NamesOnlyRaces }
-    ensures consumed { IsLiveStatus result.status → IsInputTaken (S.rest source.old) (S.rest source.new) }
-    ensures few { IsFewTaken (S.rest source.old) (S.rest source.new) }
+    ensures consumed { IsLiveStatus result.status → IsInputTaken longest_input (S.rest source.old) (S.rest source.new) }
+    ensures few { IsFewTaken longest_input (S.rest source.old) (S.rest source.new) }
     ensures silent { result.status ≡ 4 ⊎ result.status ≡ 6 → (result.text.items ≡ []) × (result.run ≡ None) × (result.spent ≡ None) }
     ensures cause { result.status ≡ 4 → HasRisen (S.faults source.old) (S.faults source.new) }
+    ensures stopped { result.status ≡ 4 → S.rest source.new ≡ S.left_off source.new }
     ensures failures_alone { (S.faults source.new ≡ S.faults source.old) ⊎ (result.status ≡ 4) }
     ensures counted { S.faults source.old ≤ S.faults source.new }
     ensures sure { S.is_sure source.old ≡ true → S.faults source.new ≡ S.faults source.old }
 {
-    match read_input(alloc, source) {
-        Ok(bytes) => match answer_to(rt, alloc, log, &bytes, gate) {
+    match read_input(alloc, LONGEST_WORK, source) {
+        Ok(bytes) => match answer_to(rt, alloc, show, &bytes, gate) {
             Ok(answer) => answer,
             Err(_) => Answer::silent(alloc, MEMORY),
         },
@@ -57,15 +60,15 @@ pub fn live<R: Threads + Wait + Sync, S: Source, G: Gate>(
 fn answer_to<R: Threads + Wait + Sync, G: Gate>(
     rt: &R,
     alloc: Global,
-    log: bool,
+    show: Show,
     bytes: &[u8],
     gate: &G,
 ) -> Result<Answer, AllocError>
-    ensures answer { IfOk result (λ answer. IsLiveAnswer log (work_reading bytes.now) answer.status answer.text.items answer.run answer.spent) }
+    ensures answer { IfOk result (λ answer. IsLiveAnswer show (work_reading bytes.now) answer.status answer.text.items answer.run answer.spent) }
     ensures races { IfOk result (λ answer. IfSome answer.run NamesOnlyRaces) }
 {
     match read_work(alloc, bytes) {
-        Ok(work) => play(rt, alloc, log, &work, gate),
+        Ok(work) => play(rt, alloc, show, &work, gate),
         Err(WorkFault::Refused { line, rule }) => refuse(alloc, line, rule),
         Err(WorkFault::Memory) => Err(AllocError),
     }
@@ -75,16 +78,16 @@ fn answer_to<R: Threads + Wait + Sync, G: Gate>(
 fn play<R: Threads + Wait + Sync, G: Gate>(
     rt: &R,
     alloc: Global,
-    log: bool,
+    show: Show,
     work: &Work,
     gate: &G,
 ) -> Result<Answer, AllocError>
     requires { KeepsLimits (workload_of work.now) }
-    ensures answer { IfOk result (λ answer. IsRunAnswer log (workload_of work.now) answer.status answer.text.items answer.run answer.spent) }
+    ensures answer { IfOk result (λ answer. IsRunAnswer show (workload_of work.now) answer.status answer.text.items answer.run answer.spent) }
     ensures races { IfOk result (λ answer. IfSome answer.run NamesOnlyRaces) }
 {
     match run_live(rt, alloc, work, MOST_EVENTS, gate) {
-        Ok(run) => tell(alloc, log, work.header, run),
+        Ok(run) => tell(alloc, show, work.header, run),
         Err(LiveFault::Spent(spent)) => overrun(alloc, spent),
         Err(LiveFault::Memory) => Err(AllocError),
     }

@@ -49,7 +49,7 @@ fn workloads_by_turns(rt: HostRuntime) -> Result<(), Fail> {
 }
 
 /// Worked workloads, with the answers that the definitions give.
-fn worked() -> [Row<'static>; 9] {
+fn worked() -> [Row<'static>; 13] {
     [
         Row {
             name: "write_behind_a_flush_by_turns",
@@ -106,6 +106,34 @@ fn worked() -> [Row<'static>; 9] {
             work: b"work tree 0 1 correct\nend\n",
             status: 7,
             answer: b"workload refused at line 1: bad header\n",
+        },
+        Row {
+            name: "history_of_an_insert",
+            words: &["step", "--history"],
+            work: b"work multiset 1 1 correct\nop 0 insert 5\nend\n",
+            status: 0,
+            answer: b"history multiset 1 1\n0 call insert 5\n0 took 8\n0 read 0 0\n0 wrote 1 5\n0 wrote 0 1\n0 gave 8\n0 took 8\n0 open\n0 wrote 0 2\n0 close commit\n0 gave 8\n0 return 1\nend\n",
+        },
+        Row {
+            name: "history_of_a_raced_block",
+            words: &["step", "--history"],
+            work: b"work multiset 1 2 broken\nop 0 insert 5\nop 1 insert 6\nturn 0 2\nturn 1 2\nturn 0 3\nend\n",
+            status: 2,
+            answer: b"history multiset 1 2\n0 call insert 5\n0 read 0 0\n1 call insert 6\n1 read 0 0\n0 wrote 1 5\n0 wrote 0 1\n0 took 8\n0 open\n1 wrote 1 6\n0 wrote 0 2\n1 wrote 0 1\n0 close commit\n0 gave 8\n1 took 8\n0 return 1\n1 open\n1 wrote 0 2\n1 close commit\n1 gave 8\n1 return 1\nend\n",
+        },
+        Row {
+            name: "no_history_of_a_stuck_run",
+            words: &["step", "--history"],
+            work: b"work multiset 2 2 broken\nop 0 insert_pair 0 1\nop 1 insert_pair 1 0\nturn 0 8\nturn 1 10\nend\n",
+            status: 8,
+            answer: b"stuck\n",
+        },
+        Row {
+            name: "no_history_of_a_refused_workload",
+            words: &["run", "--history"],
+            work: b"work cache 1 1 correct\nop 0 flush 1\nend\n",
+            status: 7,
+            answer: b"workload refused at line 2: argument out of range\n",
         },
         Row {
             name: "four_generated_operations",

@@ -46,6 +46,7 @@ pub fn read_verdict<S: Source>(
     ensures no_further { IsReadNoFurther max_lines (S.rest source.old) (S.rest source.new) }
     ensures unsettled { result ≡ Err Failed → IsUnsettled max_lines (S.rest source.old) (S.rest source.new) }
     ensures failed { result ≡ Err Failed → HasRisen (S.faults source.old) (S.faults source.new) }
+    ensures stopped { result ≡ Err Failed → S.rest source.new ≡ S.left_off source.new }
     ensures failures_alone { UnlessFailed result (S.faults source.new ≡ S.faults source.old) }
     ensures counted { S.faults source.old ≤ S.faults source.new }
     ensures sure { S.is_sure source.old ≡ true → S.faults source.new ≡ S.faults source.old }
@@ -69,6 +70,7 @@ fn read_on<S: Source>(
     ensures no_further { IsReadNoFurther checker.old.kept.reader.max_lines (S.rest source.old) (S.rest source.new) }
     ensures unsettled { result ≡ Err Failed → IsUnsettled checker.old.kept.reader.max_lines (S.rest source.old) (S.rest source.new) }
     ensures failed { result ≡ Err Failed → HasRisen (S.faults source.old) (S.faults source.new) }
+    ensures stopped { result ≡ Err Failed → S.rest source.new ≡ S.left_off source.new }
     ensures failures_alone { UnlessFailed result (S.faults source.new ≡ S.faults source.old) }
     ensures counted { S.faults source.old ≤ S.faults source.new }
     ensures sure { S.is_sure source.old ≡ true → S.faults source.new ≡ S.faults source.old }
@@ -104,6 +106,7 @@ fn read_piece<S: Source>(
         IsReadNoFurther max before (S.rest source.new) }
     ensures kept { result ≡ Err Failed → S.rest source.new ≡ S.rest source.old }
     ensures failed { result ≡ Err Failed → HasRisen (S.faults source.old) (S.faults source.new) }
+    ensures stopped { result ≡ Err Failed → S.rest source.new ≡ S.left_off source.new }
     ensures failures_alone { UnlessFailed result (S.faults source.new ≡ S.faults source.old) }
     ensures counted { S.faults source.old ≤ S.faults source.new }
     ensures sure { S.is_sure source.old ≡ true → S.faults source.new ≡ S.faults source.old }

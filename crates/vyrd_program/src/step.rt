@@ -3,35 +3,38 @@
 ghost use Rattle.std.specs.Prelude.{◌≡◌, ◌≤◌, ◌⊎◌, true, [], None, IfOk, IfSome};
 ghost use Rattle.vyrd_base.specs.Devices.{HasRisen};
 ghost use Rattle.vyrd_work.specs.WorkReading.{work_reading};
+ghost use Rattle.vyrd_work.specs.LongInputs.{longest_input};
 ghost use Rattle.vyrd_program.specs.Inputs.{IsInputTaken, IsFewTaken};
 ghost use Rattle.vyrd_program.specs.Steps.{AnswersInput, IsStepAnswer, IsStepStatus, NamesOnlyRaces};
 
 use crate::answer::{Answer, MEMORY, READ_FAULT};
 use crate::by_turns::play;
-use crate::input::read_input;
+use crate::input::{LONGEST_WORK, read_input};
 use crate::reading::ReadFault;
+use crate::show::Show;
 use crate::telling::{refuse, stuck, tell};
 use std::alloc::{AllocError, Global};
 use vyrd_base::Source;
 use vyrd_work::{AnyMachine, WorkFault, read_work};
 
-/// The answer to a workload: the verdict about its run by turns, with the log before it where that is asked for; or that it
-/// is refused, or gets stuck; or nothing after a failed read or want of memory.
-pub fn step<S: Source>(alloc: Global, log: bool, source: &mut S) -> Answer
+/// The answer to a workload: what is to be shown of its run by turns, with the status of the verdict about it; or that it is
+/// refused, or gets stuck; or nothing after a failed read or want of memory.
+pub fn step<S: Source>(alloc: Global, show: Show, source: &mut S) -> Answer
     ensures statuses { IsStepStatus result.status ⊎ (result.status ≡ 4) ⊎ (result.status ≡ 6) }
-    ensures answers { IsStepStatus result.status → AnswersInput log (S.rest source.old) result.status result.text.items result.run }
+    ensures answers { IsStepStatus result.status → AnswersInput show (S.rest source.old) result.status result.text.items result.run }
     ensures races { IfSome result.run NamesOnlyRaces }
-    ensures consumed { IsStepStatus result.status → IsInputTaken (S.rest source.old) (S.rest source.new) }
-    ensures few { IsFewTaken (S.rest source.old) (S.rest source.new) }
+    ensures consumed { IsStepStatus result.status → IsInputTaken longest_input (S.rest source.old) (S.rest source.new) }
+    ensures few { IsFewTaken longest_input (S.rest source.old) (S.rest source.new) }
     ensures silent { result.status ≡ 4 ⊎ result.status ≡ 6 → (result.text.items ≡ []) × (result.run ≡ None) }
     ensures spent { result.spent ≡ None }
     ensures cause { result.status ≡ 4 → HasRisen (S.faults source.old) (S.faults source.new) }
+    ensures stopped { result.status ≡ 4 → S.rest source.new ≡ S.left_off source.new }
     ensures failures_alone { (S.faults source.new ≡ S.faults source.old) ⊎ (result.status ≡ 4) }
     ensures counted { S.faults source.old ≤ S.faults source.new }
     ensures sure { S.is_sure source.old ≡ true → S.faults source.new ≡ S.faults source.old }
 {
-    match read_input(alloc, source) {
-        Ok(bytes) => match answer_to(alloc, log, &bytes) {
+    match read_input(alloc, LONGEST_WORK, source) {
+        Ok(bytes) => match answer_to(alloc, show, &bytes) {
             Ok(answer) => answer,
             Err(_) => Answer::silent(alloc, MEMORY),
         },
@@ -41,14 +44,14 @@ pub fn step<S: Source>(alloc: Global, log: bool, source: &mut S) -> Answer
 }
 
 // The answer to the bytes of a workload.
-fn answer_to(alloc: Global, log: bool, bytes: &[u8]) -> Result<Answer, AllocError>
-    ensures answer { IfOk result (λ answer. IsStepAnswer log (work_reading bytes.now) answer.status answer.text.items answer.run) }
+fn answer_to(alloc: Global, show: Show, bytes: &[u8]) -> Result<Answer, AllocError>
+    ensures answer { IfOk result (λ answer. IsStepAnswer show (work_reading bytes.now) answer.status answer.text.items answer.run) }
     ensures races { IfOk result (λ answer. IfSome answer.run NamesOnlyRaces) }
     ensures spent { IfOk result (λ answer. answer.spent ≡ None) }
 {
     match read_work(alloc, bytes) {
         Ok(work) => match play::<AnyMachine>(alloc, &work)? {
-            Some(run) => tell(alloc, log, work.header, run),
+            Some(run) => tell(alloc, show, work.header, run),
             None => stuck(alloc),
         },
         Err(WorkFault::Refused { line, rule }) => refuse(alloc, line, rule),

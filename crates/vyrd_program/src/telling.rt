@@ -12,27 +12,43 @@ ghost use Rattle.vyrd_program.specs.Lives.{spent_line};
 ghost use Rattle.vyrd_program.specs.Generated.{generated_line};
 
 use crate::answer::{Answer, REFUSED, SPENT, STUCK, status_of};
+use crate::show::Show;
 use std::alloc::{AllocError, Global};
 use vyrd_base::Header;
 use vyrd_judge::log_of;
 use vyrd_live::{Overrun, Run};
+use vyrd_mover::write_history;
 use vyrd_text::{LineBuffer, write_log, write_verdict};
 use vyrd_work::{WorkRule, write_refusal};
 
-/// The verdict about a run, after its log where that is asked for.
-pub fn tell(alloc: Global, log: bool, header: Header, run: Run) -> Result<Answer, AllocError>
+/// What is to be shown of a run, with the status of its verdict.
+pub fn tell(alloc: Global, show: Show, header: Header, run: Run) -> Result<Answer, AllocError>
     requires { AllByRecursion (λ e. is_writable header.subject e ≡ true) (log_of run.history.items) }
     ensures status { IfOk result (λ answer. answer.status ≡ status_of run.verdict) }
-    ensures text { IfOk result (λ answer. answer.text.items ≡ run_text log header run) }
+    ensures text { IfOk result (λ answer. answer.text.items ≡ run_text show header run) }
     ensures run { IfOk result (λ answer. answer.run ≡ Some run) }
     ensures spent { IfOk result (λ answer. answer.spent ≡ None) }
 {
+    let text = shown(alloc, show, header, &run)?;
+    Ok(told(text, run))
+}
+
+// What is to be shown of a run.
+fn shown(alloc: Global, show: Show, header: Header, run: &Run) -> Result<Vec<u8>, AllocError>
+    requires { AllByRecursion (λ e. is_writable header.subject e ≡ true) (log_of run.now.history.items) }
+    ensures { IfOk result (λ text. text.items ≡ run_text show header run.now) }
+{
     let mut text = Vec::new(alloc);
-    if log {
-        let entries = log_of(alloc, &run.history)?;
-        write_log(header, &entries, &mut text)?;
+    match show {
+        Show::Verdict => write_verdict(&run.verdict, &mut text)?,
+        Show::Log => {
+            let entries = log_of(alloc, &run.history)?;
+            write_log(header, &entries, &mut text)?;
+            write_verdict(&run.verdict, &mut text)?;
+        }
+        Show::History => write_history(header, &run.history, &mut text)?,
     }
-    judged(text, run)
+    Ok(text)
 }
 
 /// That a run by turns gets stuck.
@@ -97,24 +113,25 @@ pub fn generated(alloc: Global, count: u32, run: Run) -> Result<Answer, AllocErr
     ensures run { IfOk result (λ answer. answer.run ≡ Some run) }
     ensures spent { IfOk result (λ answer. answer.spent ≡ None) }
 {
-    judged(counts(alloc, count, run.history.len() as u64)?, run)
+    let mut text = counts(alloc, count, run.history.len() as u64)?;
+    write_verdict(&run.verdict, &mut text)?;
+    Ok(told(text, run))
 }
 
-// The verdict about a run, after this text.
-fn judged(mut text: Vec<u8>, run: Run) -> Result<Answer, AllocError>
-    ensures status { IfOk result (λ answer. answer.status ≡ status_of run.verdict) }
-    ensures text { IfOk result (λ answer. answer.text.items ≡ text.items ++ verdict_text run.verdict) }
-    ensures run { IfOk result (λ answer. answer.run ≡ Some run) }
-    ensures spent { IfOk result (λ answer. answer.spent ≡ None) }
+// This text about a run, with the status of its verdict.
+fn told(text: Vec<u8>, run: Run) -> Answer
+    ensures status { result.status ≡ status_of run.verdict }
+    ensures text { result.text.items ≡ text.items }
+    ensures run { result.run ≡ Some run }
+    ensures spent { result.spent ≡ None }
 {
-    write_verdict(&run.verdict, &mut text)?;
     let status = status_of(run.verdict);
-    Ok(Answer {
+    Answer {
         status,
         text,
         run: Some(run),
         spent: None,
-    })
+    }
 }
 
 // The line that says how many operations and events there are.

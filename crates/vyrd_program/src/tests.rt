@@ -140,7 +140,7 @@ fn write_that_fails(rt: HostRuntime) -> Result<(), Fail> {
 #[test]
 fn words_that_are_no_form(rt: HostRuntime) -> Result<(), Fail> {
     let alloc = rt.alloc();
-    let table: [&[&str]; 12] = [
+    let table: [&[&str]; 18] = [
         &[],
         &["check", "x"],
         &["--help"],
@@ -149,10 +149,16 @@ fn words_that_are_no_form(rt: HostRuntime) -> Result<(), Fail> {
         &[""],
         &["step", "--Log"],
         &["run", "--log", "x"],
+        &["step", "--log", "--history"],
+        &["check", "--history"],
+        &["gen", "--history"],
+        &["movers", "--log"],
+        &["mover"],
         &["gen"],
         &["gen", "0"],
         &["gen", "200001"],
         &["gen", "04"],
+        &["batch", "x"],
     ];
     let writes = Writes {
         most: ROOM,
@@ -162,7 +168,7 @@ fn words_that_are_no_form(rt: HostRuntime) -> Result<(), Fail> {
         name: "words",
         log: DELETED,
         status: 3,
-        answer: b"usage: vyrd check | step [--log] | run [--log] | gen N\n",
+        answer: b"usage: vyrd check | step [--log|--history] | run [--log|--history] | gen N | movers | batch\n",
     };
     for words in table {
         let mut source = MemorySource::new(alloc, row.log, 16, &[1])?;

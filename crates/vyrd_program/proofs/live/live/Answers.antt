@@ -10,6 +10,6 @@ returns-in-Ok-answer_to-clause-answers g c = λ answered.
     record {
       work = work_reading c.in-Ok.bytes.items;
       read = reading_is_input (g.S.Source.rest c.args.source.now) (g.S.Source.rest c.read_input.new.source) c.in-Ok.bytes.items c.in-Ok.ensures.read;
-      answer = subst (λ bytes. IsLiveAnswer c.args.log
+      answer = subst (λ bytes. IsLiveAnswer c.args.show
           (work_reading bytes) answer.status answer.text.items answer.run answer.spent) c.deref.ensures.value c.in-Ok-answer_to.ensures.answer;
     }

@@ -1,9 +1,13 @@
--- What was written in part of the answer to generated operations: the status of that answer isn't the one of a failed write.
-use Rattle.std.proofs.Common.{◌≡◌, ℕ, ◌∙◌, sym, subst, arith, inl, inr, Option, Some}
-use Rattle.std.specs.Prelude.{◌≢◌}
+-- What was written in part of the answer to generated operations: the status of that answer isn't the one of a failed write. And
+-- that a correct structure is accepted.
+use Rattle.std.proofs.Common.{◌≡◌, ℕ, ◌≤◌, ap, ◌∙◌, sym, subst, arith, inl, inr, Option, Some}
+use Rattle.std.specs.Prelude.{◌≢◌, ◌⊎◌}
 use Rattle.vyrd_program.specs.declared.form.Form.{Form}
 use Rattle.vyrd_program.specs.declared.form.Form.TheVariants.{Gen}
 use Rattle.vyrd_program.specs.Generated.{IsGenStatus, IsGenAnswer}
+use Rattle.vyrd_program.specs.Steps.{IsStepStatus}
+use Rattle.vyrd_program.specs.Lives.{IsLiveStatus}
+use Rattle.vyrd_program.proofs.EveryLaws.{step_is_accepted, live_is_accepted, live_has_room, gen_is_accepted, step_given, live_given, gen_given}
 use Rattle.vyrd_program.proofs.program.vyrd.Goals as goal
 
 same_count : (n m : ℕ) → ◌≡◌ {A = Form} (Gen n) (Gen m) → n ≡ m
@@ -33,3 +37,34 @@ returns-in-Some-Gen-clause-write_fault_gen g c = λ failed n is.
           (subst (λ n. IsGenAnswer n answer.status answer.text.items answer.run) same (c.answer_generated-answer.ensures.answer judged));
       written = c.give-in-Some-Gen.ensures.in_part failed other;
     }
+
+pub returns-in-Some-Step-clause-every_step : goal.returns-in-Some-Step-clause-every_step
+returns-in-Some-Step-clause-every_step g c = λ log is says judged.
+    let answer = c.step-answer.result in
+    let same = step_given c.give.result.status answer.status judged c.give.ensures.statuses in
+    same ∙ step_is_accepted c.in-Some-Step.show _ answer.status answer.text.items answer.run says (c.step-answer.ensures.answers (subst IsStepStatus same judged))
+
+pub returns-in-Some-Live-clause-every_run : goal.returns-in-Some-Live-clause-every_run
+returns-in-Some-Live-clause-every_run g c = λ show is says judged.
+    let answer = c.live-answer.result in
+    let same = live_given c.give-in-Some-Live.result.status answer.status judged c.give-in-Some-Live.ensures.statuses in
+    subst (λ n. (n ≡ 0) ⊎ (n ≡ 9)) (sym same)
+    (live_is_accepted c.in-Some-Live.show _ answer.status answer.text.items answer.run answer.spent says
+    (c.live-answer.ensures.answers (subst IsLiveStatus same judged)))
+
+pub returns-in-Some-Live-clause-run_has_room : goal.returns-in-Some-Live-clause-run_has_room
+returns-in-Some-Live-clause-run_has_room g c = λ show is says nine.
+    let answer = c.live-answer.result in
+    let judged : IsLiveStatus c.give-in-Some-Live.result.status = inr (inr nine) in
+    let same = live_given c.give-in-Some-Live.result.status answer.status judged c.give-in-Some-Live.ensures.statuses in
+    live_has_room c.in-Some-Live.show _ answer.status answer.text.items answer.run answer.spent says
+    (c.live-answer.ensures.answers (subst IsLiveStatus same judged)) (sym same ∙ nine)
+
+pub returns-in-Some-Gen-clause-every_gen : goal.returns-in-Some-Gen-clause-every_gen
+returns-in-Some-Gen-clause-every_gen g c = λ n is judged.
+    let answer = c.answer_generated-answer.result in
+    let same = gen_given c.give-in-Some-Gen.result.status answer.status judged c.give-in-Some-Gen.ensures.statuses in
+    same ∙ gen_is_accepted c.in-Some-Gen.count answer.status answer.text.items answer.run few (c.answer_generated-answer.ensures.answer (subst IsGenStatus same judged))
+  where
+    few : c.in-Some-Gen.count ≤ 200000
+    few = c.form_of.ensures.few c.in-Some-Gen.count (c.in-Some-Gen.is ∙ ap Some c.in-Some-Gen.field-0-is)

@@ -1,5 +1,4 @@
-use Rattle.std.proofs.Common.{refl, subst, ◌∙◌, arith}
-use Rattle.vyrd_program.specs.Progress.{IsReached}
+use Rattle.std.proofs.Common.{refl, ◌∙◌, arith}
 use Rattle.vyrd_program.proofs.PieceLaws.{checking_starts, rounds_end}
 use Rattle.vyrd_program.proofs.reading.read_on.Goals as goal
 

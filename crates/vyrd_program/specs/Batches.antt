@@ -1,0 +1,37 @@
+-- What `batch` answers about an input: at which log it is refused, or a line for each log's verdict.
+use Rattle.std.specs.Prelude.{◌≡◌, ◌≤◌, ◌⊎◌, ℕ, List, length, Option, Result, Ok, Err, IfSome}
+use Rattle.vyrd_batch.specs.Batches.{batch_logs}
+use Rattle.vyrd_batch.specs.BatchAnswers.{verdicts_of, batch_text, batch_status, refused_line}
+use Rattle.vyrd_program.specs.Outputs.{Appends, AppendsFront}
+
+-- the status and the text of the answer to what was read
+abbrev pub IsBatchAnswer : Result (List (List ℕ)) ℕ → ℕ → List ℕ → Type 0
+IsBatchAnswer (Err log) status text = (status ≡ 11) × (text ≡ refused_line log)
+IsBatchAnswer (Ok logs) status text = (status ≡ batch_status (verdicts_of logs)) × (text ≡ batch_text (verdicts_of logs))
+
+-- The status and the text of an answer to an input. Where its bytes are told, what was read is what they say.
+pub record AnswersBatch (input : Option (List ℕ)) (status : ℕ) (text : List ℕ) : Type 0 where
+  pub logs : Result (List (List ℕ)) ℕ
+  pub read : IfSome input (λ bytes. logs ≡ batch_logs bytes)
+  pub answer : IsBatchAnswer logs status text
+
+-- the statuses with which a batch is answered
+abbrev pub IsBatchStatus : ℕ → Type 0
+IsBatchStatus status = (status ≤ 2) ⊎ (status ≡ 11)
+
+-- the sink has taken the text of that answer
+pub record IsBatched (input : Option (List ℕ)) (status : ℕ) (before after : Option (List ℕ)) : Type 0 where
+  pub text : List ℕ
+  pub answers : AnswersBatch input status text
+  pub written : Appends before after text
+
+-- the sink has taken some of the first bytes of it
+pub record IsBatchedInPart (input before after : Option (List ℕ)) : Type 0 where
+  pub status : ℕ
+  pub text : List ℕ
+  pub answers : AnswersBatch input status text
+  pub written : AppendsFront before after text
+
+-- the sink has sure room for the text of any answer to the input
+abbrev pub HasRoomForBatch : Option (List ℕ) → ℕ → Type 0
+HasRoomForBatch input room = (status : ℕ) (text : List ℕ) → AnswersBatch input status text → length text ≤ room

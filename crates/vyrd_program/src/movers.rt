@@ -1,0 +1,109 @@
+//! What `movers` answers.
+
+ghost use Rattle.std.specs.Prelude.{◌≡◌, ◌≤◌, ◌⊎◌, true, [], Ok, None, IfOk};
+ghost use Rattle.vyrd_base.specs.Devices.{HasRisen};
+ghost use Rattle.vyrd_base.specs.Histories.{cells_of, is_legal};
+ghost use Rattle.vyrd_mover.specs.HistoryText.{recorded_of};
+ghost use Rattle.vyrd_mover.specs.HistoryReading.{history_reading};
+ghost use Rattle.vyrd_mover.specs.LongHistories.{longest_history};
+ghost use Rattle.vyrd_mover.specs.Refusals.{history_refusal_text};
+ghost use Rattle.vyrd_program.specs.Inputs.{IsInputTaken, IsFewTaken};
+ghost use Rattle.vyrd_program.specs.Moved.{AnswersMovers, IsMoversAnswer, IsMoversStatus, status_of_blocks};
+
+use crate::answer::{Answer, HISTORY_REFUSED, MEMORY, READ_FAULT};
+use crate::input::read_input;
+use crate::reading::ReadFault;
+use std::alloc::{AllocError, Global};
+use vyrd_base::Source;
+use vyrd_mover::{
+    Blocks, HistoryFault, HistoryRule, Past, check_blocks, read_history, write_blocks,
+    write_history_refusal,
+};
+
+/// How many bytes of a history are read at most: 256 MiB, and one byte that shows that there are more.
+const LONGEST_HISTORY: usize = 268_435_457;
+
+/// The answer to a history: whether its blocks are reducible, or the first that isn't; or that it is refused; or nothing after
+/// a failed read or want of memory.
+pub fn movers<S: Source>(alloc: Global, source: &mut S) -> Answer
+    ensures statuses { IsMoversStatus result.status ⊎ (result.status ≡ 4) ⊎ (result.status ≡ 6) }
+    ensures answers { IsMoversStatus result.status → AnswersMovers (S.rest source.old) result.status result.text.items }
+    ensures consumed { IsMoversStatus result.status → IsInputTaken longest_history (S.rest source.old) (S.rest source.new) }
+    ensures few { IsFewTaken longest_history (S.rest source.old) (S.rest source.new) }
+    ensures silent { result.status ≡ 4 ⊎ result.status ≡ 6 → result.text.items ≡ [] }
+    ensures run { result.run ≡ None }
+    ensures spent { result.spent ≡ None }
+    ensures cause { result.status ≡ 4 → HasRisen (S.faults source.old) (S.faults source.new) }
+    ensures stopped { result.status ≡ 4 → S.rest source.new ≡ S.left_off source.new }
+    ensures failures_alone { (S.faults source.new ≡ S.faults source.old) ⊎ (result.status ≡ 4) }
+    ensures counted { S.faults source.old ≤ S.faults source.new }
+    ensures sure { S.is_sure source.old ≡ true → S.faults source.new ≡ S.faults source.old }
+{
+    match read_input(alloc, LONGEST_HISTORY, source) {
+        Ok(bytes) => match answer_to(alloc, &bytes) {
+            Ok(answer) => answer,
+            Err(_) => Answer::silent(alloc, MEMORY),
+        },
+        Err(ReadFault::Failed) => Answer::silent(alloc, READ_FAULT),
+        Err(ReadFault::Memory) => Answer::silent(alloc, MEMORY),
+    }
+}
+
+// The answer to the bytes of a history.
+fn answer_to(alloc: Global, bytes: &[u8]) -> Result<Answer, AllocError>
+    ensures answer { IfOk result (λ answer. IsMoversAnswer (history_reading bytes.now) answer.status answer.text.items) }
+    ensures run { IfOk result (λ answer. answer.run ≡ None) }
+    ensures spent { IfOk result (λ answer. answer.spent ≡ None) }
+{
+    match read_history(alloc, bytes) {
+        Ok(past) => tell(alloc, &past),
+        Err(HistoryFault::Refused { line, rule }) => refuse(alloc, line, rule),
+        Err(HistoryFault::Memory) => Err(AllocError),
+    }
+}
+
+// What is said of the blocks of a history.
+fn tell(alloc: Global, past: &Past) -> Result<Answer, AllocError>
+    requires { is_legal (cells_of past.now.header) past.now.history.items ≡ true }
+    ensures answer { IfOk result (λ answer. IsMoversAnswer (Ok (recorded_of past.now)) answer.status answer.text.items) }
+    ensures run { IfOk result (λ answer. answer.run ≡ None) }
+    ensures spent { IfOk result (λ answer. answer.spent ≡ None) }
+{
+    let blocks = check_blocks(alloc, past.header, &past.history)?;
+    let mut text = Vec::new(alloc);
+    write_blocks(blocks, &mut text)?;
+    let status = status_of_blocks(blocks);
+    Ok(Answer {
+        status,
+        text,
+        run: None,
+        spent: None,
+    })
+}
+
+// The status that what is said of blocks ends with.
+fn status_of_blocks(blocks: Blocks) -> u8
+    ensures { result ≡ status_of_blocks blocks }
+{
+    match blocks {
+        Blocks::Reducible { .. } => 0,
+        Blocks::Broken { .. } => 1,
+    }
+}
+
+// That a history is refused.
+fn refuse(alloc: Global, line: u64, rule: HistoryRule) -> Result<Answer, AllocError>
+    ensures status { IfOk result (λ answer. answer.status ≡ 10) }
+    ensures text { IfOk result (λ answer. answer.text.items ≡ history_refusal_text line rule) }
+    ensures run { IfOk result (λ answer. answer.run ≡ None) }
+    ensures spent { IfOk result (λ answer. answer.spent ≡ None) }
+{
+    let mut text = Vec::new(alloc);
+    write_history_refusal(line, rule, &mut text)?;
+    Ok(Answer {
+        status: HISTORY_REFUSED,
+        text,
+        run: None,
+        spent: None,
+    })
+}
