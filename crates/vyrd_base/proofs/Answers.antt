@@ -1,8 +1,10 @@
 -- The laws that the contracts of `laws` state, a list for each function.
 use Rattle.vyrd_base.proofs.Fronts.{front-push}
 use Rattle.vyrd_base.proofs.VerdictLaws.{verdict_lasts, verdict_lasts_whole}
+use Rattle.vyrd_base.proofs.VersionLaws.{old_so_far, old_whole}
+use Rattle.vyrd_base.proofs.NoStart.{state_at_start-none}
 use Rattle.vyrd_base.proofs.ReadingLaws.{reading-log_text, text_verdict-log_text}
-use Rattle.vyrd_base.proofs.ReadingGrows.{text_verdict_lasts, text_verdict_stands}
+use Rattle.vyrd_base.proofs.TextLasts.{text_verdict_lasts, text_verdict_stands}
 use Rattle.vyrd_base.proofs.WordLaws.{words_after-write}
 use Rattle.vyrd_base.proofs.AmountLaws.{amount_of-with_amount, same_amounts}
 use Rattle.vyrd_base.proofs.HistoryLaws.{words-log_of}
@@ -11,6 +13,10 @@ use Rattle.vyrd_base.proofs.StopLaws.{text_verdict-by_stop, text_verdict-no_head
 pub ruleset front_laws = (front-push)
 
 pub ruleset verdict_laws = (verdict_lasts, verdict_lasts_whole)
+
+pub ruleset first_version_laws = (old_so_far, old_whole)
+
+pub ruleset start_laws = (state_at_start-none)
 
 pub ruleset word_laws = (words_after-write)
 

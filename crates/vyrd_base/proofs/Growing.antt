@@ -60,6 +60,17 @@ pub once_returned_stays : {B : Type 0} (f : Called → ℕ → Option B) (x y : 
     → once_returned f x ≡ Some b → once_returned f y ≡ Some b
 once_returned_stays f x y b grows e = ap (λ o. with_reply f o y.reply) grows.called ∙ with_reply_stays f x.called x.reply y.reply b grows.reply e
 
+-- what was given had a reply
+with_reply_replied : {B : Type 0} (f : Called → ℕ → Option B) (called : Option Called) (reply : Option ℕ) (b : B)
+    → with_reply f called reply ≡ Some b → (r : ℕ) × (reply ≡ Some r)
+with_reply_replied f None reply b e = cc
+with_reply_replied f (Some x) None b e = cc
+with_reply_replied f (Some x) (Some r) b e = (r, refl)
+
+pub once_returned_replied : {B : Type 0} (f : Called → ℕ → Option B) (x : Committed) (b : B) → once_returned f x ≡ Some b
+    → (r : ℕ) × (x.reply ≡ Some r)
+once_returned_replied f x b e = with_reply_replied f x.called x.reply b e
+
 -- where one thing was given, nothing changes any more
 with_reply_decided : {B C : Type 0} (f : Called → ℕ → Option B) (g : Called → ℕ
     → Option C) (called : Option Called) (reply later_reply : Option ℕ) (b : B)

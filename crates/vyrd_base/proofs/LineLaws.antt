@@ -1,8 +1,9 @@
 -- What a line spells is read back from it.
-use Rattle.std.proofs.Common.{◌≡◌, ℕ, suc, zero, ◌<◌, ◌^◌, Bool, true, false, cond, not, ◌&&◌, ◌||◌, List, [], ◌∷◌, ◌++◌, map, take, Some, None, refl, ap, ◌∙◌, sym, arith}
-use Rattle.std.specs.Prelude.{◌==◌, nat_lt, decimal}
+use Rattle.std.proofs.Common.{◌≡◌, ℕ, suc, zero, ◌<◌, ◌^◌, Bool, true, false, cond, not, ◌&&◌, ◌||◌, List, [], ◌∷◌, ◌++◌, map, take, Option, Some, None, refl, ap, ◌∙◌, sym, arith}
+use Rattle.std.specs.Prelude.{◌==◌, nat_lt, codes, decimal}
 use Rattle.std.specs.Option.{option_map, option_and_then}
 use Rattle.std.specs.List.{list_all}
+use Rattle.std.specs.Char.{digit_value}
 use Rattle.std.specs.Str.{bytes_eq}
 use Rattle.std.proofs.lemmas.Bool.Decides.{nat_tests}
 use Rattle.std.proofs.lemmas.Slice.Eq.{bytes_eq-Decides}
@@ -14,11 +15,12 @@ use Rattle.vyrd_base.specs.declared.subject.Args.{Args}
 use Rattle.vyrd_base.specs.declared.log.Kind.{Kind}
 use Rattle.vyrd_base.specs.declared.log.Kind.TheVariants.{Call, Return, Write, Commit, BlockOpen, BlockClose, BlockCommit}
 use Rattle.vyrd_base.specs.declared.log.Entry.{Entry}
+use Rattle.vyrd_base.specs.declared.log.StartWord.{StartWord}
 use Rattle.vyrd_base.specs.Subjects.{arity_of, are_padded, subject_of, same_subject}
-use Rattle.vyrd_base.specs.Spelling.{spaced, method_name, arg_fields, kind_fields, entry_line, end_line, is_kind_of, is_entry_of}
-use Rattle.vyrd_base.specs.Lines.{fields_of, number_of, args_from, guessed_kind, guessed_entry, entry_in}
+use Rattle.vyrd_base.specs.Spelling.{spaced, method_name, arg_fields, kind_fields, start_line, entry_line, end_line, is_kind_of, is_entry_of}
+use Rattle.vyrd_base.specs.Lines.{fields_of, number_of, args_from, guessed_kind, guessed_entry, entry_in, guessed_start, start_in}
 use Rattle.vyrd_base.proofs.SplitLaws.{lacks, all_lack, split-join, lacks-join, decimal_lacks, no_space, no_line_feed, number_of_decimal, bytes_same}
-use Rattle.vyrd_base.proofs.TestLaws.{both_true, first_true, second_true, same_of}
+use Rattle.vyrd_base.proofs.TestLaws.{both_true, first_true, second_true, same_of, is_same}
 
 pub below_32 : (n : ℕ) → nat_lt n (2 ^ 32) ≡ true → n < 2 ^ 64
 below_32 n e = grind (arith, nat_tests)
@@ -199,3 +201,95 @@ entry_line_isnt_end e = by_test (bytes_eq (entry_line e) end_line) refl
         let line = kind_spaced (decimal e.caller) e.kind in
         ap (lacks 32) (sym ((bytes_eq-Decides (entry_line e) end_line).0 same)) ∙ ap (lacks 32) line.1 ∙ spaced_isnt_end (decimal e.caller) line.0
     by_test false same = refl
+
+-- whether the numbers of a starting word are in the text's ranges
+abbrev pub is_start : StartWord → Bool
+is_start s = nat_lt s.word (2 ^ 32) && nat_lt s.value (2 ^ 64)
+
+-- the fields of its line after the first
+abbrev pub start_numbers : StartWord → List (List ℕ)
+start_numbers s = decimal s.word ∷ decimal s.value ∷ []
+
+pub plain_start : (s : StartWord) → is_start s ≡ true → list_all is_plain_field (codes "start" ∷ start_numbers s) ≡ true
+plain_start s is =
+    both_true _ _ (plain_number s.word (below_32 s.word (first_true _ _ is)))
+    (both_true _ _ (plain_number s.value (below_64 s.value (second_true (nat_lt s.word (2 ^ 32)) _ is))) refl)
+
+-- a starting word's line is one line
+pub start_line_whole : (s : StartWord) → is_start s ≡ true → lacks 10 (start_line s) ≡ true
+start_line_whole s is =
+    lacks-join 10 32 (codes "start") (start_numbers s) refl (plain_line_feeds (codes "start" ∷ start_numbers s) (plain_start s is))
+
+-- a starting word is read back from its line
+pub start_in-start_line : (s : StartWord) → is_start s ≡ true → start_in (start_line s) ≡ Some s
+unfolding start_in
+start_in-start_line s is =
+    let fields : fields_of (start_line s) ≡ codes "start" ∷ start_numbers s =
+    split-join 32 (codes "start") (start_numbers s) (plain_spaces (codes "start" ∷ start_numbers s) (plain_start s is)) in
+    let guess : guessed_start (fields_of (start_line s)) ≡ Some s =
+    ap guessed_start fields
+    ∙ (λ i. Some (record {
+      word = number_of_decimal s.word (below_32 s.word (first_true _ _ is)) i;
+      value = number_of_decimal s.value (below_64 s.value (second_true (nat_lt s.word (2 ^ 32)) _ is)) i;
+    })) in
+    ap (option_and_then (λ x. cond (is_start x && bytes_eq (start_line x) (start_line s)) (Some x) None)) guess
+    ∙ ap (λ b. cond b (Some s) None) (both_true _ _ is (bytes_same (start_line s)))
+
+-- a starting word that is read is spelled by the line, and its numbers are in the text's ranges
+pub start_in_sound : (line : List ℕ) (s : StartWord) → start_in line ≡ Some s → (line ≡ start_line s) × (is_start s ≡ true)
+unfolding start_in
+start_in_sound line s found = by_guess (guessed_start (fields_of line)) found
+  where
+    checked : (x : StartWord) (b : Bool) → (is_start x && bytes_eq (start_line x) line) ≡ b → cond b (Some x) None ≡ Some s
+        → (line ≡ start_line s) × (is_start s ≡ true)
+    checked x false t f = cc
+    checked x true t f =
+        let same : x ≡ s = cc in
+        let spelled = (bytes_eq-Decides (start_line x) line).0 (second_true (is_start x) _ t) in
+        (sym spelled ∙ ap start_line same, ap is_start (sym same) ∙ first_true _ _ t)
+
+    by_guess : (o : Option StartWord) → option_and_then (λ x. cond (is_start x && bytes_eq (start_line x) line) (Some x) None) o ≡ Some s
+        → (line ≡ start_line s) × (is_start s ≡ true)
+    by_guess None f = cc
+    by_guess (Some x) f = checked x (is_start x && bytes_eq (start_line x) line) refl f
+
+-- what begins with a number doesn't begin with the letter s
+number_first : (digits rest more : List ℕ) → lacks 115 digits ≡ true → digits ++ 32 ∷ rest ≡ 115 ∷ more → ⊥
+number_first [] rest more e same =
+    let head : 32 ≡ 115 = ap first same in
+    omega (arith, head)
+  where
+    first : List ℕ → ℕ
+    first [] = zero
+    first (x ∷ xs) = x
+number_first (x ∷ digits) rest more e same =
+    let head : x ≡ 115 = ap first same in
+    absurd (isnt_both (x == 115) (is_same x 115 head) (first_true _ _ e))
+  where
+    first : List ℕ → ℕ
+    first [] = zero
+    first (y ∷ xs) = y
+
+    isnt_both : (b : Bool) → b ≡ true → not b ≡ true → ⊥
+    isnt_both true e f = cc
+    isnt_both false e f = cc
+
+no_letter : ¬ (digit_value 115 < 10)
+no_letter = λ h. omega arith
+
+-- an entry's line spells no starting word
+pub start_in-entry_line : (subject : Subject) (e : Entry) → is_entry_of subject e ≡ true → start_in (entry_line e) ≡ None
+start_in-entry_line subject e is = by_found (start_in (entry_line e)) refl
+  where
+    by_found : (o : Option StartWord) → start_in (entry_line e) ≡ o → o ≡ None
+    by_found None found = refl
+    by_found (Some s) found =
+        let line = kind_spaced (decimal e.caller) e.kind in
+        absurd (number_first (decimal e.caller) line.0 _
+        (decimal_lacks 115 e.caller no_letter (below_32 e.caller (first_true _ _ is)))
+        (sym line.1 ∙ (start_in_sound (entry_line e) s found).0))
+
+-- nor does the line `end`
+pub start_in-end_line : start_in end_line ≡ None
+unfolding start_in
+start_in-end_line = refl

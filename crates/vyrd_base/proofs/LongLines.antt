@@ -14,10 +14,12 @@ use Rattle.vyrd_base.specs.declared.subject.Method.{Method}
 use Rattle.vyrd_base.specs.declared.log.Kind.{Kind}
 use Rattle.vyrd_base.specs.declared.log.Kind.TheVariants.{Call, Return, Write, Commit, BlockOpen, BlockClose, BlockCommit}
 use Rattle.vyrd_base.specs.declared.log.Entry.{Entry}
+use Rattle.vyrd_base.specs.declared.log.StartWord.{StartWord}
 use Rattle.vyrd_base.specs.Limits.{is_sized}
 use Rattle.vyrd_base.specs.Subjects.{arity_of, are_padded, subject_of, same_subject}
-use Rattle.vyrd_base.specs.Spelling.{method_name, subject_name, header_line, kind_fields, entry_line, end_line, is_kind_of, is_entry_of}
-use Rattle.vyrd_base.specs.Lines.{fields_of, number_of, guessed_entry, entry_in, subject_called, header_of, header_spelled, header_from, header_in}
+use Rattle.vyrd_base.specs.Spelling.{method_name, subject_name, header_line, kind_fields, start_line, entry_line, end_line, is_kind_of, is_entry_of}
+use Rattle.vyrd_base.specs.Lines.{fields_of, number_of, guessed_entry, entry_in, start_in, subject_called, header_of, header_spelled, header_from, header_in}
+use Rattle.vyrd_base.proofs.LineLaws.{is_start, start_numbers, start_in_sound}
 use Rattle.vyrd_base.proofs.TestLaws.{first_true, second_true}
 use Rattle.vyrd_base.proofs.SubjectLaws.{short_subject}
 
@@ -106,6 +108,24 @@ long_entry subject line long = by_guess (guessed_entry subject (fields_of line))
     by_guess : (o : Option Entry) → option_and_then (λ e. cond (is_entry_of subject e && bytes_eq (entry_line e) line) (Some e) None) o ≡ None
     by_guess None = refl
     by_guess (Some e) = checked e (is_entry_of subject e && bytes_eq (entry_line e) line) refl
+
+-- a starting word's line has at most 64 bytes
+pub short_start : (s : StartWord) → is_start s ≡ true → length (start_line s) ≤ 64
+short_start s is =
+    let word = short_32 s.word (first_true _ _ is) in
+    let value = short_64 s.value (second_true (nat_lt s.word (2 ^ 32)) _ is) in
+    omega (arith, length-join 32 (codes "start" ∷ start_numbers s), word, value)
+
+-- a longer line is no starting word
+pub long_start : (line : List ℕ) → 64 < length line → start_in line ≡ None
+long_start line long = by_found (start_in line) refl
+  where
+    by_found : (o : Option StartWord) → start_in line ≡ o → o ≡ None
+    by_found None found = refl
+    by_found (Some s) found =
+        let sound = start_in_sound line s found in
+        let short = short_start s sound.1 in
+        absurd (omega (arith, ap length sound.0, short))
 
 -- nor is it the line `end`
 pub long_isnt_end : (line : List ℕ) → 64 < length line → bytes_eq line end_line ≡ false

@@ -1,27 +1,23 @@
 -- What longer bytes say: what was read stays read, and a fault of text that is known stays.
 use Rattle.std.proofs.Common.{◌≡◌, ℕ, ◌+◌, ◌<◌, ◌≤◌, Bool, true, false, cond, ◌&&◌, ◌||◌, List, [], ◌∷◌, ◌++◌, length, Option, Some, None, Result, Ok, Err, refl, ap, subst, ◌∙◌, sym, arith, length-append}
-use Rattle.std.specs.Prelude.{◌==◌, nat_lt, unwrap_or, option_map, option_and_then}
-use Rattle.std.specs.Option.{option_or}
+use Rattle.std.specs.Prelude.{◌==◌, nat_lt}
 use Rattle.std.specs.List.{slice_split, onto_first}
 use Rattle.std.specs.Str.{bytes_eq}
 use Rattle.std.proofs.lemmas.Bool.Decides.{nat_tests}
-use Rattle.std.proofs.lemmas.Option.{option_and_then_some}
 use Rattle.std.proofs.Math.Bool.{and-false}
 use Rattle.vyrd_base.specs.declared.header.Header.{Header}
 use Rattle.vyrd_base.specs.declared.subject.Subject.{Subject}
 use Rattle.vyrd_base.specs.declared.log.Entry.{Entry}
+use Rattle.vyrd_base.specs.declared.log.StartWord.{StartWord}
 use Rattle.vyrd_base.specs.declared.verdict.Rule.{Rule}
 use Rattle.vyrd_base.specs.declared.verdict.Rule.TheVariants.{TooManyLines, AfterEnd, BadHeader, BadEntry, NoLineFeed, NoEnd}
-use Rattle.vyrd_base.specs.declared.verdict.Verdict.{Verdict}
-use Rattle.vyrd_base.specs.declared.verdict.Verdict.TheVariants.{Malformed}
 use Rattle.vyrd_base.specs.Shape.{◌breaks◌, first_broken}
 use Rattle.vyrd_base.specs.Spelling.{end_line}
-use Rattle.vyrd_base.specs.Lines.{entry_in, header_in}
-use Rattle.vyrd_base.specs.Reading.{Reading, TextFault, Input, has_any, stopped, ended, unfinished_rule, after_end_rule, entry_before, lines_read, header_before, text_read, reading}
-use Rattle.vyrd_base.specs.Verdicts.{verdict_so_far, end_verdict, accepted}
-use Rattle.vyrd_base.specs.TextVerdicts.{entries_verdict, known_verdict, text_verdict, text_verdict_so_far}
-use Rattle.vyrd_base.proofs.LongLines.{long_entry, long_isnt_end, long_header}
-use Rattle.vyrd_base.proofs.VerdictLaws.{verdict_lasts}
+use Rattle.vyrd_base.specs.Starts.{start_rule}
+use Rattle.vyrd_base.specs.Lines.{start_in, entry_in, header_in}
+use Rattle.vyrd_base.specs.Reading.{Reading, TextFault, Input, has_any, stopped, ended, unfinished_rule, after_end_rule, entry_before, lines_read, start_before, starts_read, body_read, header_before, text_read, reading}
+use Rattle.vyrd_base.proofs.LongLines.{long_entry, long_start, long_isnt_end, long_header}
+use Rattle.vyrd_base.proofs.ReadingLaws.{no_start_line, one_start_line}
 use Rattle.vyrd_base.proofs.TestLaws.{below_of, is_below}
 
 -- parts of which the last one goes on, and after which further ones may come
@@ -69,32 +65,67 @@ split_longer p (x ∷ xs) ys =
       | false ↦ longer_onto x (slice_split p xs) (slice_split p (xs ++ ys)) rest
     ]
 
--- What more bytes leave: all, where a fault is known; the entries and perhaps further ones; all entries, where `end` was read.
+-- What more bytes leave: all, where a fault is known; what was read and perhaps more; all entries, where `end` was read; and all
+-- starting words, once there is an entry or `end`.
 pub record Grown (old new : Reading) : Type 0 where
   pub fault : (f : TextFault) → old.fault ≡ Some f → new ≡ old
   pub entries : old.fault ≡ None → (more : List Entry) × (new.entries ≡ old.entries ++ more)
   pub ended : old.fault ≡ None → old.ended ≡ true → (new.entries ≡ old.entries) × (new.ended ≡ true)
+  pub starting : old.fault ≡ None → (more : List StartWord) × (new.starting ≡ old.starting ++ more)
+  pub begun : old.fault ≡ None → (has_any old.entries || old.ended) ≡ true → new.starting ≡ old.starting
 
 no_more : {A : Type 0} (xs : List A) → xs ≡ xs ++ []
 no_more [] = refl
 no_more (x ∷ xs) = ap (λ ys. x ∷ ys) (no_more xs)
 
 same_grown : (r : Reading) → Grown r r
-same_grown r = record { fault = λ f e. refl; entries = λ e. ([], no_more r.entries); ended = λ e is. (refl, is) }
+same_grown r = record {
+  fault = λ f e. refl;
+  entries = λ e. ([], no_more r.entries);
+  ended = λ e is. (refl, is);
+  starting = λ e. ([], no_more r.starting);
+  begun = λ e is. refl;
+}
 
--- one more entry before both
-entry_grown : (n : ℕ) (o : Option Entry) (old new : Reading) → Grown old new → Grown (entry_before n o old) (entry_before n o new)
-entry_grown n None old new g = same_grown (stopped n (Some BadEntry))
-entry_grown n (Some e) old new g = record {
+-- one more entry before both, with the same starting words
+entry_grown : (n : ℕ) (o : Option Entry) (old new : Reading) → new.starting ≡ old.starting → Grown old new
+    → Grown (entry_before n o old) (entry_before n o new)
+entry_grown n None old new same g = same_grown (stopped n (Some BadEntry))
+entry_grown n (Some e) old new same g = record {
   fault = λ f is. ap (entry_before n (Some e)) (g.fault f is);
   entries = λ none. let more = g.entries none in (more.0, ap (λ es. e ∷ es) more.1);
   ended = λ none is. let done = g.ended none is in (ap (λ es. e ∷ es) done.0, done.1);
+  starting = g.starting;
+  begun = λ none is. same;
+}
+
+-- one more starting word before both, or the rule that it breaks
+start_grown : (n : ℕ) (o : Option Rule) (s : StartWord) (old new : Reading) → Grown old new → Grown (start_before n o s old) (start_before n o s new)
+start_grown n (Some rule) s old new g = same_grown (stopped n (Some rule))
+start_grown n None s old new g = record {
+  fault = λ f is. ap (start_before n None s) (g.fault f is);
+  entries = g.entries;
+  ended = g.ended;
+  starting = λ none. let more = g.starting none in (more.0, ap (λ ss. s ∷ ss) more.1);
+  begun = λ none is. ap (λ ss. s ∷ ss) (g.begun none is);
 }
 
 -- a reading that stopped with nothing read
 stopped_grown : (n : ℕ) (o : Option Rule) (new : Reading) → ((rule : Rule) → o ≡ Some rule → new ≡ stopped n o) → Grown (stopped n o) new
-stopped_grown n None new same = record { fault = λ f e. cc; entries = λ none. (new.entries, refl); ended = λ none is. cc }
-stopped_grown n (Some rule) new same = record { fault = λ f e. same rule refl; entries = λ none. cc; ended = λ none is. cc }
+stopped_grown n None new same = record {
+  fault = λ f e. cc;
+  entries = λ none. (new.entries, refl);
+  ended = λ none is. cc;
+  starting = λ none. (new.starting, refl);
+  begun = λ none is. cc;
+}
+stopped_grown n (Some rule) new same = record {
+  fault = λ f e. same rule refl;
+  entries = λ none. cc;
+  ended = λ none is. cc;
+  starting = λ none. cc;
+  begun = λ none is. cc;
+}
 
 -- bytes that may go on, and bytes that are the whole input or may go on
 abbrev pub so_far : ℕ → Input
@@ -210,8 +241,35 @@ line_grown n false true end end' onward onward' g h = g
 line_grown n false false end end' onward onward' g h = h
 
 end_grown : (n : ℕ) (o o' : Option Rule) → ((rule : Rule) → o ≡ Some rule → o' ≡ Some rule) → Grown (ended n o) (ended n o')
-end_grown n None o' stays = record { fault = λ f e. cc; entries = λ none. ([], refl); ended = λ none is. (refl, refl) }
-end_grown n (Some rule) o' stays = record { fault = λ f e. ap (ended n) (stays rule refl); entries = λ none. cc; ended = λ none is. cc }
+end_grown n None o' stays = record {
+  fault = λ f e. cc;
+  entries = λ none. ([], refl);
+  ended = λ none is. (refl, refl);
+  starting = λ none. ([], refl);
+  begun = λ none is. refl;
+}
+end_grown n (Some rule) o' stays = record {
+  fault = λ f e. ap (ended n) (stays rule refl);
+  entries = λ none. cc;
+  ended = λ none is. cc;
+  starting = λ none. cc;
+  begun = λ none is. cc;
+}
+
+-- entries and `end` come without starting words
+pub no_starting : (input : Input) (subject : Subject) (n : ℕ) (lines : List (List ℕ)) → (lines_read input subject n lines).starting ≡ []
+no_starting input subject n [] = refl
+no_starting input subject n (rest ∷ []) = refl
+no_starting input subject n (line ∷ next ∷ lines) =
+    by_tests (nat_lt input.max_lines n) (bytes_eq line end_line) (entry_in subject line) (no_starting input subject (n + 1) (next ∷ lines))
+  where
+    by_tests : (past is_end : Bool) (o : Option Entry) → (lines_read input subject (n + 1) (next ∷ lines)).starting ≡ []
+        → (cond past (stopped n (Some TooManyLines)) (cond is_end (ended (n + 1) (after_end_rule input (n + 1) next lines))
+        (entry_before n o (lines_read input subject (n + 1) (next ∷ lines))))).starting ≡ []
+    by_tests true is_end o e = refl
+    by_tests false true o e = refl
+    by_tests false false None e = refl
+    by_tests false false (Some x) e = e
 
 no_parts : (p : List ℕ) (ps : List (List ℕ)) → Longer (p ∷ ps) [] → ⊥
 no_parts p [] h = h
@@ -244,7 +302,82 @@ lines_grow max whole subject n (p ∷ next ∷ ps) (q ∷ q2 ∷ qs) h =
     (λ rule e. after_end_stays max (n + 1) whole next ps q2 qs rule h.1 e))
     (entry_grown n (entry_in subject p) (lines_read (so_far max) subject (n + 1) (next ∷ ps))
     (lines_read (input_of max whole) subject (n + 1) (q2 ∷ qs))
+    (no_starting (input_of max whole) subject (n + 1) (q2 ∷ qs) ∙ sym (no_starting (so_far max) subject (n + 1) (next ∷ ps)))
     (lines_grow max whole subject (n + 1) (next ∷ ps) (q2 ∷ qs) h.1)))
+
+-- an unfinished line that is bad already stays bad where starting words may stand
+finished_start : (max n : ℕ) (whole : Bool) (h : Header) (last : Option StartWord) (rule : Rule) (rest more next : List ℕ) (lines : List (List ℕ))
+    → Known max n BadEntry rule rest
+    → starts_read (input_of max whole) h last n ((rest ++ more) ∷ next ∷ lines) ≡ stopped n (Some rule)
+finished_start max n whole h last rule rest more next lines known = by_line (start_in (rest ++ more)) refl known
+  where
+    by_line : (o : Option StartWord) → start_in (rest ++ more) ≡ o → Known max n BadEntry rule rest
+        → starts_read (input_of max whole) h last n ((rest ++ more) ∷ next ∷ lines) ≡ stopped n (Some rule)
+    by_line None e k = no_start_line (input_of max whole) h last n (rest ++ more) next lines e
+        ∙ finished_stays max n whole h.subject rule rest more next lines k
+    by_line (Some s) e (past some limit is) =
+        one_start_line (input_of max whole) h last n (rest ++ more) next lines s e
+        ∙ ap (λ b. cond b (stopped n (Some TooManyLines))
+        (start_before n (start_rule h last s) s (starts_read (input_of max whole) h (Some s) (n + 1) (next ∷ lines)))) limit
+        ∙ ap (λ r. stopped n (Some r)) (sym is)
+    by_line (Some s) e (long many limit is) =
+        let longer : 64 < length (rest ++ more) = omega (arith, length-append rest more) in
+        absurd (none_is_some (sym (long_start (rest ++ more) longer) ∙ e))
+      where
+        none_is_some : {s : StartWord} → None ≡ Some s → ⊥
+        none_is_some e = cc
+
+-- the lines that more bytes make, where starting words may stand
+pub starts_grow : (max : ℕ) (whole : Bool) (h : Header) (last : Option StartWord) (n : ℕ) (ps qs : List (List ℕ)) → Longer ps qs
+    → Grown (starts_read (so_far max) h last n ps) (starts_read (input_of max whole) h last n qs)
+starts_grow max whole h last n [] qs l = absurd l
+starts_grow max whole h last n (rest ∷ []) [] l = absurd l
+starts_grow max whole h last n (rest ∷ []) (q ∷ []) l = lines_grow max whole h.subject n (rest ∷ []) (q ∷ []) l
+starts_grow max whole h last n (rest ∷ []) (q ∷ next ∷ qs) l =
+    subst (λ line. Grown (stopped n (unfinished_rule (so_far max) n BadEntry rest))
+    (starts_read (input_of max whole) h last n (line ∷ next ∷ qs))) (sym l.1)
+    (stopped_grown n (unfinished_rule (so_far max) n BadEntry rest) (starts_read (input_of max whole) h last n ((rest ++ l.0) ∷ next ∷ qs))
+    (λ rule e. finished_start max n whole h last rule rest l.0 next qs (unfinished_known max n BadEntry rule rest e) ∙ ap (stopped n) (sym e)))
+starts_grow max whole h last n (p ∷ next ∷ ps) [] l = absurd l
+starts_grow max whole h last n (p ∷ next ∷ ps) (q ∷ []) l = absurd (no_parts next ps l.1)
+starts_grow max whole h last n (p ∷ next ∷ ps) (q ∷ q2 ∷ qs) l =
+    subst (λ line. Grown (starts_read (so_far max) h last n (p ∷ next ∷ ps)) (starts_read (input_of max whole) h last n (line ∷ q2 ∷ qs))) (sym l.0)
+    (by_line (start_in p) (λ s. starts_grow max whole h (Some s) (n + 1) (next ∷ ps) (q2 ∷ qs) l.1))
+  where
+    by_limit : (s : StartWord) (b : Bool)
+        → Grown (starts_read (so_far max) h (Some s) (n + 1) (next ∷ ps)) (starts_read (input_of max whole) h (Some s) (n + 1) (q2 ∷ qs))
+        → Grown (cond b (stopped n (Some TooManyLines))
+        (start_before n (start_rule h last s) s (starts_read (so_far max) h (Some s) (n + 1) (next ∷ ps))))
+        (cond b (stopped n (Some TooManyLines))
+        (start_before n (start_rule h last s) s (starts_read (input_of max whole) h (Some s) (n + 1) (q2 ∷ qs))))
+    by_limit s true g = same_grown (stopped n (Some TooManyLines))
+    by_limit s false g = start_grown n (start_rule h last s) s (starts_read (so_far max) h (Some s) (n + 1) (next ∷ ps))
+        (starts_read (input_of max whole) h (Some s) (n + 1) (q2 ∷ qs)) g
+
+    by_line : (o : Option StartWord)
+        → ((s : StartWord) → Grown (starts_read (so_far max) h (Some s) (n + 1) (next ∷ ps)) (starts_read (input_of max whole) h (Some s) (n + 1) (q2 ∷ qs)))
+        → Grown (elim o as (λ _. Reading) [
+          | None ↦ lines_read (so_far max) h.subject n (p ∷ next ∷ ps)
+          | Some s ↦ cond (nat_lt max n) (stopped n (Some TooManyLines))
+              (start_before n (start_rule h last s) s (starts_read (so_far max) h (Some s) (n + 1) (next ∷ ps)))
+        ])
+        (elim o as (λ _. Reading) [
+          | None ↦ lines_read (input_of max whole) h.subject n (p ∷ q2 ∷ qs)
+          | Some s ↦ cond (nat_lt max n) (stopped n (Some TooManyLines))
+              (start_before n (start_rule h last s) s (starts_read (input_of max whole) h (Some s) (n + 1) (q2 ∷ qs)))
+        ])
+    by_line None onward = lines_grow max whole h.subject n (p ∷ next ∷ ps) (p ∷ q2 ∷ qs) (refl, l.1)
+    by_line (Some s) onward = by_limit s (nat_lt max n) (onward s)
+
+-- the lines after the header
+pub body_grow : (max : ℕ) (whole : Bool) (h : Header) (ps qs : List (List ℕ)) → Longer ps qs
+    → Grown (body_read (so_far max) h ps) (body_read (input_of max whole) h qs)
+body_grow max whole h ps qs l = by_version (h.version == 2)
+  where
+    by_version : (b : Bool) → Grown (cond b (starts_read (so_far max) h None 2 ps) (lines_read (so_far max) h.subject 2 ps))
+        (cond b (starts_read (input_of max whole) h None 2 qs) (lines_read (input_of max whole) h.subject 2 qs))
+    by_version true = starts_grow max whole h None 2 ps qs l
+    by_version false = lines_grow max whole h.subject 2 ps qs l
 
 -- the same, with the header
 pub record TextGrown (old new : Reading) : Type 0 where
@@ -253,7 +386,13 @@ pub record TextGrown (old new : Reading) : Type 0 where
 
 header_grown : (h : Header) (old new : Reading) → Grown old new → TextGrown (header_before h old) (header_before h new)
 header_grown h old new g = record {
-  grown = record { fault = λ f e. ap (header_before h) (g.fault f e); entries = g.entries; ended = g.ended };
+  grown = record {
+    fault = λ f e. ap (header_before h) (g.fault f e);
+    entries = g.entries;
+    ended = g.ended;
+    starting = g.starting;
+    begun = g.begun;
+  };
   header = λ x e. e;
 }
 
@@ -270,7 +409,7 @@ finished_header max whole rule rest more next lines low (long many limit is) =
     let longer : 64 < length (rest ++ more) = omega (arith, length-append rest more) in
     ap (λ r. elim r as (λ _. Reading) [
       | Ok h ↦ header_before h
-          (lines_read (input_of max whole) h.subject 2 (next ∷ lines))
+          (body_read (input_of max whole) h (next ∷ lines))
       | Err x ↦ stopped 1 (Some x)
     ]) (long_header (rest ++ more) longer)
     ∙ ap (λ r. stopped 1 (Some r)) (sym is)
@@ -298,16 +437,16 @@ text_grow max whole (p ∷ next ∷ ps) (q ∷ q2 ∷ qs) low h =
     by_header : (r : Result Header Rule)
         → TextGrown (elim r as (λ _. Reading) [
           | Ok x ↦ header_before x
-              (lines_read (so_far max) x.subject 2 (next ∷ ps))
+              (body_read (so_far max) x (next ∷ ps))
           | Err rule ↦ stopped 1 (Some rule)
         ])
         (elim r as (λ _. Reading) [
           | Ok x ↦ header_before x
-              (lines_read (input_of max whole) x.subject 2 (q2 ∷ qs))
+              (body_read (input_of max whole) x (q2 ∷ qs))
           | Err rule ↦ stopped 1 (Some rule)
         ])
-    by_header (Ok x) = header_grown x (lines_read (so_far max) x.subject 2 (next ∷ ps))
-        (lines_read (input_of max whole) x.subject 2 (q2 ∷ qs)) (lines_grow max whole x.subject 2 (next ∷ ps) (q2 ∷ qs) h.1)
+    by_header (Ok x) = header_grown x (body_read (so_far max) x (next ∷ ps))
+        (body_read (input_of max whole) x (q2 ∷ qs)) (body_grow max whole x (next ∷ ps) (q2 ∷ qs) h.1)
     by_header (Err rule) = record { grown = same_grown (stopped 1 (Some rule)); header = λ x e. e }
 
 -- what longer bytes say, as bytes that may go on or as the whole input
@@ -316,53 +455,3 @@ pub reading_grows : (max : ℕ) (whole : Bool) (bytes more : List ℕ) → 1 ≤
 unfolding reading
 reading_grows max whole bytes more low =
     text_grow max whole (slice_split (λ b. b == 10) bytes) (slice_split (λ b. b == 10) (bytes ++ more)) low (split_longer (λ b. b == 10) bytes more)
-
-or_known : {A : Type 0} (o : Option A) (a : A) → option_or o None ≡ Some a → o ≡ Some a
-or_known None a e = cc
-or_known (Some x) a e = e
-
--- what is wrong already stays wrong
-known_stays : (old new : Reading) (v : Verdict) → TextGrown old new → known_verdict old ≡ Some v → known_verdict new ≡ Some v
-known_stays old new v g found = by_fault old.fault refl
-  where
-    by_fault : (o : Option TextFault) → old.fault ≡ o → known_verdict new ≡ Some v
-    by_fault (Some f) e = ap known_verdict (g.grown.fault f e) ∙ found
-    by_fault None e = option_and_then_some (entries_verdict old) old.header v
-        (or_known (option_and_then (entries_verdict old) old.header) v
-        (sym (ap (λ o. option_or (option_and_then (entries_verdict old) old.header)
-        (option_map (λ fault. Malformed fault.line fault.rule) o)) e) ∙ found))
-        (λ h has wrong.
-        ap (λ o. option_or (option_and_then (entries_verdict new) o)
-        (option_map (λ fault. Malformed fault.line fault.rule) new.fault)) (g.header h has)
-        ∙ ap (λ o. option_or o (option_map (λ fault. Malformed fault.line fault.rule) new.fault))
-        (by_entries h (verdict_so_far h old.entries) refl wrong))
-      where
-        at_end : (h : Header) (b : Bool) → old.ended ≡ b → cond b (end_verdict h old.entries) None ≡ Some v
-            → verdict_so_far h old.entries ≡ None → entries_verdict new h ≡ Some v
-        at_end h false is w none = cc
-        at_end h true is w none =
-            let done = g.grown.ended e is in
-            (λ i. option_or (verdict_so_far h (done.0 i)) (cond (done.1 i) (end_verdict h (done.0 i)) None))
-            ∙ ap (λ o. option_or o (end_verdict h old.entries)) none ∙ w
-
-        by_entries : (h : Header) (o : Option Verdict) → verdict_so_far h old.entries ≡ o
-            → option_or o (cond old.ended (end_verdict h old.entries) None) ≡ Some v → entries_verdict new h ≡ Some v
-        by_entries h None none w = at_end h old.ended refl w none
-        by_entries h (Some x) has w =
-            let more = g.grown.entries e in
-            ap (λ o. option_or o (cond new.ended (end_verdict h new.entries) None)) (ap (verdict_so_far h) more.1
-            ∙ verdict_lasts h old.entries more.0 x has) ∙ w
-
--- a verdict about bytes that stands stands for all longer bytes
-pub text_verdict_lasts : (max : ℕ) (bytes more : List ℕ) (v : Verdict) → 1 ≤ max → text_verdict_so_far max bytes ≡ Some v
-    → text_verdict_so_far max (bytes ++ more) ≡ Some v
-unfolding text_verdict_so_far
-text_verdict_lasts max bytes more v low found = known_stays (reading (so_far max) bytes) (reading (so_far max) (bytes ++ more)) v
-    (reading_grows max false bytes more low) found
-
-pub text_verdict_stands : (max : ℕ) (bytes more : List ℕ) (v : Verdict) → 1 ≤ max → text_verdict_so_far max bytes ≡ Some v
-    → text_verdict max (bytes ++ more) ≡ v
-unfolding text_verdict_so_far text_verdict
-text_verdict_stands max bytes more v low found =
-    ap (λ o. unwrap_or o (accepted (reading (input_of max true) (bytes ++ more)).entries))
-    (known_stays (reading (so_far max) bytes) (reading (input_of max true) (bytes ++ more)) v (reading_grows max true bytes more low) found)

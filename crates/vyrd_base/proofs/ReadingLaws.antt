@@ -1,24 +1,29 @@
 -- The text of a log is read as that log.
-use Rattle.std.proofs.Common.{◌≡◌, ℕ, ◌+◌, ◌<◌, ◌≤◌, ◌^◌, Bool, true, false, cond, ◌&&◌, List, [], ◌∷◌, ◌++◌, map, length, Some, None, Ok, Err, refl, ap, ◌∙◌, arith, append_assoc}
+use Rattle.std.proofs.Common.{◌≡◌, ℕ, zero, suc, ◌+◌, ◌<◌, ◌≤◌, ◌^◌, Bool, true, false, cond, not, ◌&&◌, ◌||◌, List, [], ◌∷◌, ◌++◌, map, length, Option, Some, None, Ok, Err, refl, ap, ◌∙◌, sym, arith, append_assoc}
 use Rattle.std.specs.Prelude.{◌==◌, nat_lt, nat_le, codes, decimal, flat_map, ok_or}
 use Rattle.std.specs.Option.{option_or, unwrap_or}
 use Rattle.std.specs.List.{list_all, slice_split, AllByRecursion}
 use Rattle.std.specs.Str.{bytes_eq}
+use Rattle.std.proofs.lemmas.Bool.{not-true}
 use Rattle.std.proofs.lemmas.Bool.Decides.{nat_tests}
 use Rattle.std.proofs.Math.Bool.{Bool-set}
 use Rattle.vyrd_base.specs.declared.header.Header.{Header}
 use Rattle.vyrd_base.specs.declared.subject.Subject.{Subject}
+use Rattle.vyrd_base.specs.declared.subject.Subject.TheVariants.{Multiset, Cache, Tree}
 use Rattle.vyrd_base.specs.declared.log.Entry.{Entry}
-use Rattle.vyrd_base.specs.declared.verdict.Rule.TheVariants.{TooManyLines, UnknownVersion, BadHeader}
+use Rattle.vyrd_base.specs.declared.log.StartWord.{StartWord}
+use Rattle.vyrd_base.specs.declared.verdict.Rule.TheVariants.{TooManyLines, StartRange, StartOrder, UnknownVersion, BadHeader}
+use Rattle.vyrd_base.specs.Layout.{plain_words, plain_words_of}
 use Rattle.vyrd_base.specs.Limits.{is_within, is_sized, is_known_version}
-use Rattle.vyrd_base.specs.Spelling.{ended_line, entry_line, end_line, header_line, subject_name, log_text, is_entry_of}
-use Rattle.vyrd_base.specs.Lines.{entry_in, header_in, fields_of, header_spelled, header_from, header_if, header_of}
-use Rattle.vyrd_base.specs.Reading.{Reading, Input, stopped, ended, after_end_rule, entry_before, lines_read, header_before, text_read, reading}
+use Rattle.vyrd_base.specs.Starts.{is_out_of_range, is_out_of_order, start_rule, do_follow, may_start}
+use Rattle.vyrd_base.specs.Spelling.{ended_line, start_line, entry_line, end_line, header_line, subject_name, log_text, is_entry_of}
+use Rattle.vyrd_base.specs.Lines.{start_in, entry_in, header_in, fields_of, header_spelled, header_from, header_if, header_of}
+use Rattle.vyrd_base.specs.Reading.{Reading, Input, stopped, ended, after_end_rule, entry_before, lines_read, start_before, starts_read, body_read, header_before, text_read, reading}
 use Rattle.vyrd_base.specs.Verdicts.{verdict_so_far, end_verdict, accepted, verdict}
 use Rattle.vyrd_base.specs.TextVerdicts.{known_verdict, text_verdict}
 use Rattle.vyrd_base.proofs.SplitLaws.{lacks, split_at, split-join, lacks-join, number_of_decimal, bytes_same}
-use Rattle.vyrd_base.proofs.LineLaws.{is_plain_field, plain_number, plain_spaces, plain_line_feeds, entry_line_whole, entry_in-entry_line, entry_line_isnt_end}
-use Rattle.vyrd_base.proofs.TestLaws.{both_true, first_true, second_true}
+use Rattle.vyrd_base.proofs.LineLaws.{is_plain_field, plain_number, plain_spaces, plain_line_feeds, entry_line_whole, entry_in-entry_line, entry_line_isnt_end, is_start, start_line_whole, start_in-start_line, start_in-entry_line, start_in-end_line}
+use Rattle.vyrd_base.proofs.TestLaws.{both_true, first_true, second_true, neither_true, above_of, at_most_of, is_below}
 use Rattle.vyrd_base.proofs.SubjectLaws.{plain_subject, subject_read}
 use Rattle.vyrd_base.proofs.ListLaws.{or_none}
 
@@ -26,12 +31,24 @@ use Rattle.vyrd_base.proofs.ListLaws.{or_none}
 abbrev pub AllOf : Subject → List Entry → Type 0
 AllOf subject entries = AllByRecursion (λ e. is_entry_of subject e ≡ true) entries
 
--- these entries and then `end`
-abbrev pub complete : List Entry → Reading
-complete entries = record { header = None; entries = entries; ended = true; fault = None }
+-- these starting words and entries, and then `end`
+abbrev pub complete : List StartWord → List Entry → Reading
+complete starting entries = record { header = None; starting = starting; entries = entries; ended = true; fault = None }
 
 abbrev pub tail_lines : List Entry → List (List ℕ)
 tail_lines entries = map entry_line entries ++ end_line ∷ [] ∷ []
+
+-- the lines after the header
+abbrev pub body_lines : List StartWord → List Entry → List (List ℕ)
+body_lines starting entries = map start_line starting ++ tail_lines entries
+
+-- they are more than one
+pub two_lines : (starting : List StartWord) (entries : List Entry)
+    → (line : List ℕ) × (next : List ℕ) × (lines : List (List ℕ)) × (body_lines starting entries ≡ line ∷ next ∷ lines)
+two_lines [] [] = (_, _, _, refl)
+two_lines [] (e ∷ []) = (_, _, _, refl)
+two_lines [] (e ∷ next ∷ entries) = (_, _, _, refl)
+two_lines (s ∷ starting) entries = let rest = two_lines starting entries in (start_line s, rest.0, rest.1 ∷ rest.2, ap (λ ls. start_line s ∷ ls) rest.3)
 
 within_lines : (n max : ℕ) → n ≤ max → nat_lt max n ≡ false
 within_lines n max h = grind (arith, nat_tests)
@@ -50,35 +67,176 @@ module _ (input : Input) (subject : Subject) where
 
   -- the lines of entries and of `end`
   pub tail_read : (n : ℕ) (entries : List Entry) → n + length entries ≤ input.max_lines → AllOf subject entries
-      → lines_read input subject n (tail_lines entries) ≡ complete entries
-  tail_read n [] within all = ap (λ b. cond b (stopped n (Some TooManyLines)) (complete [])) (within_lines n input.max_lines (omega arith))
+      → lines_read input subject n (tail_lines entries) ≡ complete [] entries
+  tail_read n [] within all = ap (λ b. cond b (stopped n (Some TooManyLines)) (complete [] [])) (within_lines n input.max_lines (omega arith))
   tail_read n (e ∷ []) within all =
       one_line n e end_line ([] ∷ []) (omega arith) all.0 ∙ ap (entry_before n (Some e)) (tail_read (n + 1) [] (omega arith) all.1)
   tail_read n (e ∷ next ∷ entries) within all =
       one_line n e (entry_line next) (tail_lines entries) (omega arith) all.0
       ∙ ap (entry_before n (Some e)) (tail_read (n + 1) (next ∷ entries) (omega arith) all.1)
 
--- the text of entries and of `end` comes apart into their lines
+-- the plain words of a header have numbers of 32 bits
+few_words : (subject : Subject) (size : ℕ) → size ≤ 1024 → plain_words_of subject size ≤ 2 ^ 32
+few_words Multiset size h = omega arith
+few_words Cache size h = omega arith
+few_words Tree size h = omega arith
+
+low_size : (h : Header) → h.size ≤ 1024
+low_size h = at_most_of h.size 1024 (second_true (nat_le 1 h.size) _ (first_true _ _ (first_true _ _ (second_true (is_known_version h.version) _ h.within))))
+
+below_then : (word words : ℕ) → nat_le words word ≡ false → words ≤ 2 ^ 32 → nat_lt word (2 ^ 32) ≡ true
+below_then word words e h = is_below word (2 ^ 32) (let low = above_of words word e in omega arith)
+
+value_then : (value : ℕ) → nat_le (2 ^ 63) value ≡ false → nat_lt value (2 ^ 64) ≡ true
+value_then value e = is_below value (2 ^ 64) (let low = above_of (2 ^ 63) value e in omega arith)
+
+-- the numbers of a starting word in range have a spelling
+pub spelled_start : (h : Header) (s : StartWord) → is_out_of_range h s ≡ false → is_start s ≡ true
+spelled_start h s e =
+    let first = neither_true (nat_le (plain_words h) s.word || s.value == 0) (nat_le (2 ^ 63) s.value) e in
+    let word = neither_true (nat_le (plain_words h) s.word) (s.value == 0) first.0 in
+    both_true _ _ (below_then s.word (plain_words h) word.0 (few_words h.subject h.size (low_size h))) (value_then s.value first.1)
+
+-- a starting word that follows the last one
+pub record DoesFollow (h : Header) (last : Option StartWord) (s : StartWord) : Type 0 where
+  pub in_range : is_out_of_range h s ≡ false
+  pub in_order : is_out_of_order last s ≡ false
+
+pub first_follows : (h : Header) (last : Option StartWord) (s : StartWord) (starting : List StartWord)
+    → do_follow h last (s ∷ starting) ≡ true → DoesFollow h last s
+first_follows h last s starting e =
+    let kept = neither_true (is_out_of_range h s) (is_out_of_order last s) (not-true _ (first_true _ _ e)) in
+    record { in_range = kept.0; in_order = kept.1 }
+
+pub no_start_rule : (h : Header) (last : Option StartWord) (s : StartWord) → DoesFollow h last s → start_rule h last s ≡ None
+no_start_rule h last s is =
+    ap (λ b. cond b (Some StartRange) (cond (is_out_of_order last s) (Some StartOrder) None)) is.in_range
+    ∙ ap (λ b. cond b (Some StartOrder) None) is.in_order
+
+module _ (input : Input) (h : Header) where
+  -- a line that spells no starting word ends them
+  pub no_start_line : (last : Option StartWord) (n : ℕ) (line next : List ℕ) (lines : List (List ℕ)) → start_in line ≡ None
+      → starts_read input h last n (line ∷ next ∷ lines) ≡ lines_read input h.subject n (line ∷ next ∷ lines)
+  no_start_line last n line next lines none =
+      ap (λ o. elim o as (λ _. Reading) [
+        | None ↦ lines_read input h.subject n (line ∷ next ∷ lines)
+        | Some s ↦ cond (nat_lt input.max_lines n) (stopped n (Some TooManyLines))
+            (start_before n (start_rule h last s) s (starts_read input h (Some s) (n + 1) (next ∷ lines)))
+      ]) none
+
+  -- one line that spells a starting word
+  pub one_start_line : (last : Option StartWord) (n : ℕ) (line next : List ℕ) (lines : List (List ℕ)) (s : StartWord) → start_in line ≡ Some s
+      → starts_read input h last n (line ∷ next ∷ lines) ≡ cond (nat_lt input.max_lines n) (stopped n (Some TooManyLines))
+      (start_before n (start_rule h last s) s (starts_read input h (Some s) (n + 1) (next ∷ lines)))
+  one_start_line last n line next lines s is =
+      ap (λ o. elim o as (λ _. Reading) [
+        | None ↦ lines_read input h.subject n (line ∷ next ∷ lines)
+        | Some x ↦ cond (nat_lt input.max_lines n) (stopped n (Some TooManyLines))
+            (start_before n (start_rule h last x) x (starts_read input h (Some x) (n + 1) (next ∷ lines)))
+      ]) is
+
+  -- the lines of entries and of `end`, where starting words may stand
+  tail_started : (last : Option StartWord) (n : ℕ) (entries : List Entry) → n + length entries ≤ input.max_lines → AllOf h.subject entries
+      → starts_read input h last n (tail_lines entries) ≡ complete [] entries
+  tail_started last n [] within all =
+      no_start_line last n end_line [] [] start_in-end_line ∙ tail_read input h.subject n [] within all
+  tail_started last n (e ∷ []) within all =
+      no_start_line last n (entry_line e) end_line ([] ∷ []) (start_in-entry_line h.subject e all.0)
+      ∙ tail_read input h.subject n (e ∷ []) within all
+  tail_started last n (e ∷ next ∷ entries) within all =
+      no_start_line last n (entry_line e) (entry_line next) (tail_lines entries) (start_in-entry_line h.subject e all.0)
+      ∙ tail_read input h.subject n (e ∷ next ∷ entries) within all
+
+  -- the lines of starting words, of entries and of `end`
+  starts_tail : (last : Option StartWord) (n : ℕ) (starting : List StartWord) (entries : List Entry)
+      → n + length starting + length entries ≤ input.max_lines → do_follow h last starting ≡ true → AllOf h.subject entries
+      → starts_read input h last n (body_lines starting entries) ≡ complete starting entries
+  starts_tail last n [] entries within follow all = tail_started last n entries (omega arith) all
+  starts_tail last n (s ∷ starting) entries within follow all =
+      let is = first_follows h last s starting follow in
+      let rest = two_lines starting entries in
+      let onward : starts_read input h (Some s) (n + 1) (rest.0 ∷ rest.1 ∷ rest.2) ≡ complete starting entries =
+      ap (starts_read input h (Some s) (n + 1)) (sym rest.3)
+      ∙ starts_tail (Some s) (n + 1) starting entries (omega arith) (second_true (not (is_out_of_range h s || is_out_of_order last s)) _ follow) all in
+      ap (λ ls. starts_read input h last n (start_line s ∷ ls)) rest.3
+      ∙ one_start_line last n (start_line s) rest.0 (rest.1 ∷ rest.2) s (start_in-start_line s (spelled_start h s is.in_range))
+      ∙ ap (λ b. cond b (stopped n (Some TooManyLines))
+      (start_before n (start_rule h last s) s (starts_read input h (Some s) (n + 1) (rest.0 ∷ rest.1 ∷ rest.2))))
+      (within_lines n input.max_lines (omega arith))
+      ∙ ap (λ o. start_before n o s (starts_read input h (Some s) (n + 1) (rest.0 ∷ rest.1 ∷ rest.2))) (no_start_rule h last s is)
+      ∙ ap (start_before n None s) onward
+
+  -- the lines after the header, with the starting words that its version allows
+  pub body_tail : (starting : List StartWord) (entries : List Entry) → length starting + length entries + 2 ≤ input.max_lines
+      → may_start h starting ≡ true → AllOf h.subject entries → body_read input h (body_lines starting entries) ≡ complete starting entries
+  body_tail [] entries within may all = by_version (h.version == 2)
+    where
+      by_version : (b : Bool) → cond b (starts_read input h None 2 (tail_lines entries)) (lines_read input h.subject 2 (tail_lines entries))
+          ≡ complete [] entries
+      by_version true = tail_started None 2 entries (omega arith) all
+      by_version false = tail_read input h.subject 2 entries (omega arith) all
+  body_tail (s ∷ starting) entries within may all =
+      ap (λ b. cond b (starts_read input h None 2 (body_lines (s ∷ starting) entries))
+      (lines_read input h.subject 2 (body_lines (s ∷ starting) entries))) (first_true _ _ may)
+      ∙ starts_tail None 2 (s ∷ starting) entries (omega arith) (second_true (h.version == 2) _ may) all
+
+-- a line with its line feed before more
+pub regrouped : (line rest more : List ℕ) → (ended_line line ++ rest) ++ more ≡ line ++ 10 ∷ (rest ++ more)
+regrouped line rest more = append_assoc (ended_line line) rest more ∙ append_assoc line (10 ∷ []) (rest ++ more)
+
+-- the text of entries and of `end`
+abbrev pub tail_text : List Entry → List ℕ
+tail_text entries = flat_map (λ e. ended_line (entry_line e)) entries ++ ended_line end_line
+
+-- it comes apart into their lines
 pub split_tail : (subject : Subject) (entries : List Entry) → AllOf subject entries
-    → slice_split (λ b. b == 10) (flat_map (λ e. ended_line (entry_line e)) entries ++ ended_line end_line) ≡ tail_lines entries
+    → slice_split (λ b. b == 10) (tail_text entries) ≡ tail_lines entries
 split_tail subject [] all = refl
 split_tail subject (e ∷ entries) all =
-    let more = flat_map (λ x. ended_line (entry_line x)) entries ++ ended_line end_line in
-    let regrouped : (ended_line (entry_line e) ++ flat_map (λ x. ended_line (entry_line x)) entries) ++ ended_line end_line
-    ≡ entry_line e ++ 10 ∷ more =
-    append_assoc (ended_line (entry_line e)) (flat_map (λ x. ended_line (entry_line x)) entries) (ended_line end_line)
-    ∙ append_assoc (entry_line e) (10 ∷ []) more in
-    ap (slice_split (λ b. b == 10)) regrouped ∙ split_at 10 (entry_line e) more (entry_line_whole subject e all.0)
+    ap (slice_split (λ b. b == 10)) (regrouped (entry_line e) (flat_map (λ x. ended_line (entry_line x)) entries) (ended_line end_line))
+    ∙ split_at 10 (entry_line e) (tail_text entries) (entry_line_whole subject e all.0)
     ∙ ap (λ rest. entry_line e ∷ rest) (split_tail subject entries all.1)
 
-pub known_version : (n : ℕ) → is_known_version n ≡ true → n ≡ 1
-known_version n e = grind (arith, nat_tests)
+-- the text after the header's line
+abbrev pub body_text : List StartWord → List Entry → List ℕ
+body_text starting entries = flat_map (λ s. ended_line (start_line s)) starting ++ tail_text entries
+
+split_starts : (h : Header) (last : Option StartWord) (starting : List StartWord) (entries : List Entry) → do_follow h last starting ≡ true
+    → AllOf h.subject entries → slice_split (λ b. b == 10) (body_text starting entries) ≡ body_lines starting entries
+split_starts h last [] entries follow all = split_tail h.subject entries all
+split_starts h last (s ∷ starting) entries follow all =
+    let is = first_follows h last s starting follow in
+    ap (slice_split (λ b. b == 10)) (regrouped (start_line s) (flat_map (λ x. ended_line (start_line x)) starting) (tail_text entries))
+    ∙ split_at 10 (start_line s) (body_text starting entries) (start_line_whole s (spelled_start h s is.in_range))
+    ∙ ap (λ rest. start_line s ∷ rest)
+    (split_starts h (Some s) starting entries (second_true (not (is_out_of_range h s || is_out_of_order last s)) _ follow) all)
+
+-- the text of a log as its header's line and what stands after it
+pub log_text_parts : (line : List ℕ) (starting : List StartWord) (entries : List Entry)
+    → ((ended_line line ++ flat_map (λ s. ended_line (start_line s)) starting) ++ flat_map (λ e. ended_line (entry_line e)) entries)
+    ++ ended_line end_line ≡ line ++ 10 ∷ body_text starting entries
+log_text_parts line starting entries =
+    let starts = flat_map (λ s. ended_line (start_line s)) starting in
+    let rest = flat_map (λ e. ended_line (entry_line e)) entries in
+    append_assoc (ended_line line ++ starts) rest (ended_line end_line) ∙ append_assoc (ended_line line) starts (tail_text entries)
+    ∙ append_assoc line (10 ∷ []) (body_text starting entries)
+
+pub split_body : (h : Header) (starting : List StartWord) (entries : List Entry) → may_start h starting ≡ true
+    → AllOf h.subject entries → slice_split (λ b. b == 10) (body_text starting entries) ≡ body_lines starting entries
+split_body h [] entries may all = split_tail h.subject entries all
+split_body h (s ∷ starting) entries may all = split_starts h None (s ∷ starting) entries (second_true (h.version == 2) _ may) all
+
+pub known_version : (n : ℕ) → is_known_version n ≡ true → n ≤ 2
+known_version zero e = omega arith
+known_version (suc zero) e = omega arith
+known_version (suc (suc zero)) e = omega arith
+known_version (suc (suc (suc n))) e = cc
 
 small_number : (n most : ℕ) → most < 2 ^ 32 → nat_le n most ≡ true → n < 2 ^ 64
 small_number n most m e = grind (arith, nat_tests)
 
-version_fits : (n : ℕ) → n ≡ 1 → nat_lt n (2 ^ 32) ≡ true
-version_fits n e = ap (λ m. nat_lt m (2 ^ 32)) e
+version_fits : (n : ℕ) → n ≤ 2 → nat_lt n (2 ^ 32) ≡ true
+version_fits n h = is_below n (2 ^ 32) (omega arith)
 
 -- limits that were tested give the header
 header_if_within : (version : ℕ) (subject : Subject) (size callers : ℕ) (w : is_within version size callers
@@ -96,21 +254,21 @@ header_in-header_line h =
     ∙ (λ i. header_spelled line (number_of_decimal h.version small_version i) (subject_read h.subject i)
     (number_of_decimal h.size small_size i) (number_of_decimal h.callers small_callers i))
     ∙ ap (λ b. cond b (ok_or (header_of h.version h.subject h.size h.callers) UnknownVersion) (Err BadHeader))
-    (both_true _ _ (both_true _ _ (version_fits h.version is_1) sized) (bytes_same line))
+    (both_true _ _ (both_true _ _ (version_fits h.version low) sized) (bytes_same line))
     ∙ ap (λ o. ok_or o UnknownVersion)
     (header_if_within h.version h.subject h.size h.callers h.within (is_within h.version h.size h.callers) refl h.within)
   where
     line : List ℕ
     line = header_line h.version h.subject h.size h.callers
 
-    is_1 : h.version ≡ 1
-    is_1 = known_version h.version (first_true _ _ h.within)
+    low : h.version ≤ 2
+    low = known_version h.version (first_true _ _ h.within)
 
     sized : is_sized h.size h.callers ≡ true
     sized = second_true (is_known_version h.version) _ h.within
 
     small_version : h.version < 2 ^ 64
-    small_version = rw is_1 (omega arith)
+    small_version = omega (arith, low)
 
     small_size : h.size < 2 ^ 64
     small_size = small_number h.size 1024 (omega arith) (second_true (nat_le 1 h.size) _ (first_true _ _ (first_true _ _ sized)))
@@ -140,7 +298,7 @@ header_lacks h = lacks-join 10 32 (codes "vyrd") (decimal h.version ∷ subject_
     sized = second_true (is_known_version h.version) _ h.within
 
     small_version : h.version < 2 ^ 64
-    small_version = rw (known_version h.version (first_true _ _ h.within)) (omega arith)
+    small_version = omega (arith, known_version h.version (first_true _ _ h.within))
 
     small_size : h.size < 2 ^ 64
     small_size = small_number h.size 1024 (omega arith) (second_true (nat_le 1 h.size) _ (first_true _ _ (first_true _ _ sized)))
@@ -149,48 +307,41 @@ header_lacks h = lacks-join 10 32 (codes "vyrd") (decimal h.version ∷ subject_
     small_callers = small_number h.callers 64 (omega arith) (second_true (nat_le 1 h.size && nat_le h.size 1024 && nat_le 1 h.callers) _ sized)
 
 -- the whole text of a log, with `end` and no fault
-abbrev pub whole : Header → List Entry → Reading
-whole h entries = record { header = Some h; entries = entries; ended = true; fault = None }
+abbrev pub whole : Header → List StartWord → List Entry → Reading
+whole h starting entries = record { header = Some h; starting = starting; entries = entries; ended = true; fault = None }
 
--- a header's line before the lines of entries and of `end`
-lines_of_log : (input : Input) (h : Header) (entries : List Entry) → length entries + 2 ≤ input.max_lines → AllOf h.subject entries
-    → text_read input (header_line h.version h.subject h.size h.callers ∷ tail_lines entries) ≡ whole h entries
-lines_of_log input h entries within all = by_entries entries within all
-  where
-    after_header : (next : List ℕ) (lines : List (List ℕ))
-        → text_read input (header_line h.version h.subject h.size h.callers ∷ next ∷ lines)
-        ≡ header_before h (lines_read input h.subject 2 (next ∷ lines))
-    after_header next lines = ap (λ r. elim r as
-        (λ _. Reading) [
-          | Ok g ↦ header_before g (lines_read input g.subject 2 (next ∷ lines))
-          | Err rule ↦ stopped 1
-              (Some rule)
-        ]) (header_in-header_line h)
-
-    by_entries : (es : List Entry) → length es + 2 ≤ input.max_lines → AllOf h.subject es
-        → text_read input (header_line h.version h.subject h.size h.callers ∷ tail_lines es) ≡ whole h es
-    by_entries [] within' all' = after_header end_line ([] ∷ []) ∙ ap (header_before h) (tail_read input h.subject 2 [] (omega arith) all')
-    by_entries (e ∷ es) within' all' = after_header (entry_line e) (tail_lines es)
-        ∙ ap (header_before h) (tail_read input h.subject 2 (e ∷ es) (omega arith) all')
+-- a header's line before the lines of starting words, of entries and of `end`
+lines_of_log : (input : Input) (h : Header) (starting : List StartWord) (entries : List Entry)
+    → length starting + length entries + 2 ≤ input.max_lines → may_start h starting ≡ true → AllOf h.subject entries
+    → text_read input (header_line h.version h.subject h.size h.callers ∷ body_lines starting entries) ≡ whole h starting entries
+lines_of_log input h starting entries within may all =
+    let rest = two_lines starting entries in
+    ap (λ ls. text_read input (header_line h.version h.subject h.size h.callers ∷ ls)) rest.3
+    ∙ ap (λ r. elim r as (λ _. Reading) [
+      | Ok g ↦ header_before g (body_read input g (rest.0 ∷ rest.1 ∷ rest.2))
+      | Err rule ↦ stopped 1 (Some rule)
+    ]) (header_in-header_line h)
+    ∙ ap (λ ls. header_before h (body_read input h ls)) (sym rest.3)
+    ∙ ap (header_before h) (body_tail input h starting entries within may all)
 
 -- the text of a log is read as that log
-pub reading-log_text : (input : Input) (h : Header) (entries : List Entry) → length entries + 2 ≤ input.max_lines → AllOf h.subject entries
-    → reading input (log_text h entries) ≡ whole h entries
+pub reading-log_text : (input : Input) (h : Header) (starting : List StartWord) (entries : List Entry)
+    → length starting + length entries + 2 ≤ input.max_lines → may_start h starting ≡ true → AllOf h.subject entries
+    → reading input (log_text h starting entries) ≡ whole h starting entries
 unfolding reading log_text
-reading-log_text input h entries within all =
+reading-log_text input h starting entries within may all =
     let line = header_line h.version h.subject h.size h.callers in
-    let more = flat_map (λ e. ended_line (entry_line e)) entries ++ ended_line end_line in
-    let regrouped : (ended_line line ++ flat_map (λ e. ended_line (entry_line e)) entries) ++ ended_line end_line ≡ line ++ 10 ∷ more =
-    append_assoc (ended_line line) (flat_map (λ e. ended_line (entry_line e)) entries) (ended_line end_line) ∙ append_assoc line (10 ∷ []) more in
-    ap (λ bytes. text_read input (slice_split (λ b. b == 10) bytes)) regrouped
-    ∙ ap (text_read input) (split_at 10 line more (header_lacks h) ∙ ap (λ rest. line ∷ rest) (split_tail h.subject entries all))
-    ∙ lines_of_log input h entries within all
+    ap (λ bytes. text_read input (slice_split (λ b. b == 10) bytes)) (log_text_parts line starting entries)
+    ∙ ap (text_read input) (split_at 10 line (body_text starting entries) (header_lacks h)
+    ∙ ap (λ rest. line ∷ rest) (split_body h starting entries may all))
+    ∙ lines_of_log input h starting entries within may all
 
 -- the verdict about the text of a log is the verdict about the log
-pub text_verdict-log_text : (max : ℕ) (h : Header) (entries : List Entry) → length entries + 2 ≤ max → AllOf h.subject entries
-    → text_verdict max (log_text h entries) ≡ verdict h entries
+pub text_verdict-log_text : (max : ℕ) (h : Header) (starting : List StartWord) (entries : List Entry)
+    → length starting + length entries + 2 ≤ max → may_start h starting ≡ true → AllOf h.subject entries
+    → text_verdict max (log_text h starting entries) ≡ verdict h starting entries
 unfolding text_verdict verdict
-text_verdict-log_text max h entries within all =
+text_verdict-log_text max h starting entries within may all =
     ap (λ read. unwrap_or (known_verdict read) (accepted read.entries))
-    (reading-log_text (record { max_lines = max; is_whole = true }) h entries within all)
-    ∙ ap (λ o. unwrap_or o (accepted entries)) (or_none (option_or (verdict_so_far h entries) (end_verdict h entries)))
+    (reading-log_text (record { max_lines = max; is_whole = true }) h starting entries within may all)
+    ∙ ap (λ o. unwrap_or o (accepted entries)) (or_none (option_or (verdict_so_far h starting entries) (end_verdict h starting entries)))

@@ -11,9 +11,10 @@ use Rattle.vyrd_base.specs.declared.log.Kind.TheVariants.{Call, Return, Write, C
 use Rattle.vyrd_base.specs.declared.log.Entry.{Entry}
 use Rattle.vyrd_base.specs.Places.{first_answer, numbers_from, newest_first_onto, newest_first}
 use Rattle.vyrd_base.specs.Callers.{by_caller, open_or_close, has_block, write_or_open, holds_word, open_call, call_or_return}
-use Rattle.vyrd_base.specs.Shape.{Check, first_broken, checks_at, broken_rule}
+use Rattle.vyrd_base.specs.Shape.{Check, first_broken, checks_at, broken_rule, is_held_by_other}
 use Rattle.vyrd_base.specs.Front.{first_break}
-use Rattle.vyrd_base.specs.Words.{with_write, block_writes, given_to, effects_at, effects, value_after}
+use Rattle.vyrd_base.specs.Words.{with_write, block_writes, given_to, is_passed}
+use Rattle.vyrd_base.specs.FirstVersion.{old_effects_at, old_effects, old_value_after}
 use Rattle.vyrd_base.specs.Verdicts.{is_call_open}
 use Rattle.vyrd_base.proofs.PlaceLaws.{first_answer-append}
 use Rattle.vyrd_base.proofs.Fronts.{break_after}
@@ -59,7 +60,7 @@ or_false_left : (a b : Bool) → (a || b) ≡ false → a ≡ false
 or_false_left true b e = e
 or_false_left false b e = refl
 
-or_false_right : (a b : Bool) → (a || b) ≡ false → b ≡ false
+pub or_false_right : (a b : Bool) → (a || b) ≡ false → b ≡ false
 or_false_right true b e = cc
 or_false_right false b e = e
 
@@ -81,14 +82,15 @@ pub record WriteKept (h : Header) (c word : ℕ) (earlier : List Entry) : Type 0
   pub caller : c < h.callers
   pub free : (d : ℕ) → d < h.callers → (d == c) ≡ false → holds_word d word earlier ≡ false
 
-write_kept : (h : Header) (c word value : ℕ) (earlier : List Entry) → broken_rule h earlier (entry c (Write word value)) ≡ None
+pub write_kept : (h : Header) (c word value : ℕ) (earlier : List Entry) → broken_rule h earlier (entry c (Write word value)) ≡ None
     → WriteKept h c word earlier
 write_kept h c word value earlier e =
     let kept = all_kept (checks_at h earlier (entry c (Write word value))) e in
     record {
       caller = above_of h.callers c kept.0;
       free = λ d low other. held_false (d == c) (holds_word d word earlier)
-          (none_of (λ x. not (x == c) && holds_word x word earlier) 0 h.callers d kept.1.1.1.1.0 (omega arith) (omega arith)) other;
+          (none_of (λ x. not (x == c) && holds_word x word earlier) 0 h.callers d
+          (or_false_left (is_held_by_other h c word earlier) (is_passed c word earlier) kept.1.1.1.1.0) (omega arith) (omega arith)) other;
     }
 
 pub open_kept : (h : Header) (c : ℕ) (earlier : List Entry) → broken_rule h earlier (entry c BlockOpen) ≡ None → has_block c earlier ≡ false
@@ -110,7 +112,7 @@ last_logged w earlier = unwrap_or (first_answer (λ e. logged_value w e.kind) ea
 
 -- A word that no open block has written has the value logged last, and in a block that has written it that value stands last.
 pub record Sound (h : Header) (w : ℕ) (earlier : List Entry) : Type 0 where
-  pub free : ((d : ℕ) → d < h.callers → holds_word d w earlier ≡ false) → value_after (effects earlier) w ≡ last_logged w earlier
+  pub free : ((d : ℕ) → d < h.callers → holds_word d w earlier ≡ false) → old_value_after (old_effects earlier) w ≡ last_logged w earlier
   pub held : (d : ℕ) → d < h.callers → holds_word d w earlier ≡ true → block_value d w earlier ≡ Some (last_logged w earlier)
 
 -- another caller's entry leaves alone what this caller holds and has written
@@ -129,13 +131,13 @@ record Quiet (w c : ℕ) (kind : Kind) (earlier : List Entry) : Type 0 where
   edge : open_or_close kind ≡ None
   word : write_or_open w kind ≡ None
   writes : with_write true kind (block_writes c earlier) ≡ block_writes c earlier
-  effect : effects_at earlier c kind ≡ []
+  effect : old_effects_at earlier c kind ≡ []
   logged : logged_value w kind ≡ None
 
 quiet_sound : (h : Header) (w c : ℕ) (kind : Kind) (earlier : List Entry) → Quiet w c kind earlier → Sound h w earlier
     → Sound h w (entry c kind ∷ earlier)
 quiet_sound h w c kind earlier quiet sound = record {
-  free = λ none. ap (λ ws. value_after (ws ++ effects earlier) w) quiet.effect ∙ sound.free (λ d low. sym (holds d) ∙ none d low) ∙ sym last;
+  free = λ none. ap (λ ws. old_value_after (ws ++ old_effects earlier) w) quiet.effect ∙ sound.free (λ d low. sym (holds d) ∙ none d low) ∙ sym last;
   held = λ d low holding. value d ∙ sound.held d low (sym (holds d) ∙ holding) ∙ ap Some (sym last);
 }
   where
@@ -159,7 +161,7 @@ outside_holds true b e = cc
 outside_holds false b e = refl
 
 -- after its own open or close a caller holds no word
-own_edge : (c w : ℕ) (kind : Kind) (earlier : List Entry) (opens : Bool) → open_or_close kind ≡ Some opens
+pub own_edge : (c w : ℕ) (kind : Kind) (earlier : List Entry) (opens : Bool) → open_or_close kind ≡ Some opens
     → (opens ≡ true → write_or_open w kind ≡ Some false) → holds_word c w (entry c kind ∷ earlier) ≡ false
 own_edge c w kind earlier true edge word =
     ap (λ o. unwrap_or o false && wrote c w (entry c kind ∷ earlier)) (own_answer c open_or_close kind earlier
@@ -186,7 +188,7 @@ open_sound h w c earlier outside sound = record {
 
 record Closes (w c : ℕ) (kind : Kind) (earlier : List Entry) : Type 0 where
   edge : open_or_close kind ≡ Some false
-  effect : effects_at earlier c kind ≡ block_writes c earlier
+  effect : old_effects_at earlier c kind ≡ block_writes c earlier
   logged : logged_value w kind ≡ None
 
 some_of : {A : Type 0} (o : Option A) → false ≡ is_some o → o ≡ None
@@ -209,26 +211,26 @@ close_sound h w c kind earlier low_c inside closes sound = record {
     last : last_logged w (entry c kind ∷ earlier) ≡ last_logged w earlier
     last = ap (λ o. unwrap_or (option_or o (first_answer (λ e. logged_value w e.kind) earlier)) 0) closes.logged
 
-    new_value : value_after (effects (entry c kind ∷ earlier)) w
-        ≡ unwrap_or (option_or (block_value c w earlier) (first_answer (given_to w) (effects earlier))) 0
-    new_value = ap (λ ws. value_after (ws ++ effects earlier) w) closes.effect
-        ∙ ap (λ o. unwrap_or o 0) (first_answer-append (given_to w) (block_writes c earlier) (effects earlier))
+    new_value : old_value_after (old_effects (entry c kind ∷ earlier)) w
+        ≡ unwrap_or (option_or (block_value c w earlier) (first_answer (given_to w) (old_effects earlier))) 0
+    new_value = ap (λ ws. old_value_after (ws ++ old_effects earlier) w) closes.effect
+        ∙ ap (λ o. unwrap_or o 0) (first_answer-append (given_to w) (block_writes c earlier) (old_effects earlier))
 
     -- as the block is open, a word is held where the block has a value for it
     is_held : holds_word c w earlier ≡ is_some (block_value c w earlier)
     is_held = ap (λ b. b && wrote c w earlier) inside ∙ wrote_is c w earlier inside
 
     by_held : ((d : ℕ) → d < h.callers → holds_word d w (entry c kind ∷ earlier) ≡ false) → (b : Bool) → holds_word c w earlier ≡ b
-        → unwrap_or (option_or (block_value c w earlier) (first_answer (given_to w) (effects earlier))) 0 ≡ last_logged w earlier
-    by_held none true holding = ap (λ o. unwrap_or (option_or o (first_answer (given_to w) (effects earlier))) 0) (sound.held c low_c holding)
+        → unwrap_or (option_or (block_value c w earlier) (first_answer (given_to w) (old_effects earlier))) 0 ≡ last_logged w earlier
+    by_held none true holding = ap (λ o. unwrap_or (option_or o (first_answer (given_to w) (old_effects earlier))) 0) (sound.held c low_c holding)
     by_held none false free_c =
-        ap (λ o. unwrap_or (option_or o (first_answer (given_to w) (effects earlier))) 0) (some_of (block_value c w earlier) (sym free_c ∙ is_held))
+        ap (λ o. unwrap_or (option_or o (first_answer (given_to w) (old_effects earlier))) 0) (some_of (block_value c w earlier) (sym free_c ∙ is_held))
         ∙ sound.free (λ d low. by_same c d
         (λ same. subst (λ x. holds_word x w earlier ≡ false) same free_c)
         (λ other. sym (holds_other d c w kind earlier other) ∙ none d low))
 
 -- what a write of another word leaves alone
-other_write : (d c w word value : ℕ) (earlier : List Entry) → (word == w) ≡ false
+pub other_write : (d c w word value : ℕ) (earlier : List Entry) → (word == w) ≡ false
     → holds_word d w (entry c (Write word value) ∷ earlier) ≡ holds_word d w earlier
 other_write d c w word value earlier other =
     let block = no_answer d c open_or_close (Write word value) earlier refl in
@@ -242,7 +244,7 @@ other_value d c w word value earlier other = by_same c d
     (own_value c w (Write word value) earlier ∙ ap (λ b. option_or (cond b (Some value) None) (block_value c w earlier)) other))
     (value_other d c w (Write word value) earlier)
 
-skipped : (w word value : ℕ) (writes : List (ℕ × ℕ)) → (word == w) ≡ false → value_after ((word, value) ∷ writes) w ≡ value_after writes w
+skipped : (w word value : ℕ) (writes : List (ℕ × ℕ)) → (word == w) ≡ false → old_value_after ((word, value) ∷ writes) w ≡ old_value_after writes w
 skipped w word value writes other = ap (λ b. unwrap_or (option_or (cond b (Some value) None) (first_answer (given_to w) writes)) 0) other
 
 -- a write of another word
@@ -257,9 +259,9 @@ write_other_sound h w c word value earlier other sound = record {
     last : last_logged w (entry c (Write word value) ∷ earlier) ≡ last_logged w earlier
     last = ap (λ b. unwrap_or (option_or (cond b (Some value) None) (first_answer (λ e. logged_value w e.kind) earlier)) 0) other
 
-    effect : (b : Bool) → value_after (cond b [] ((word, value) ∷ []) ++ effects earlier) w ≡ value_after (effects earlier) w
+    effect : (b : Bool) → old_value_after (cond b [] ((word, value) ∷ []) ++ old_effects earlier) w ≡ old_value_after (old_effects earlier) w
     effect true = refl
-    effect false = skipped w word value (effects earlier) other
+    effect false = skipped w word value (old_effects earlier) other
 
 -- a write of the word, in a block or not
 write_own_sound : (h : Header) (w c value : ℕ) (earlier : List Entry) → WriteKept h c w earlier → Sound h w (entry c (Write w value) ∷ earlier)
@@ -288,8 +290,8 @@ write_own_sound h w c value earlier kept = by_block (has_block c earlier) refl
           (λ other. absurd (never (not_held d low other) holding));
     }
     by_block false outside = record {
-      free = λ none. ap (λ b. value_after (cond b [] ((w, value) ∷ []) ++ effects earlier) w) outside
-          ∙ ap (λ b. unwrap_or (option_or (cond b (Some value) None) (first_answer (given_to w) (effects earlier))) 0) (same_number w) ∙ sym last;
+      free = λ none. ap (λ b. old_value_after (cond b [] ((w, value) ∷ []) ++ old_effects earlier) w) outside
+          ∙ ap (λ b. unwrap_or (option_or (cond b (Some value) None) (first_answer (given_to w) (old_effects earlier))) 0) (same_number w) ∙ sym last;
       held = λ d low holding. by_same c d
           (λ same. absurd (never (subst (λ x. holds_word x w (entry c (Write w value) ∷ earlier)
           ≡ false) same (ap (λ b. b && wrote c w (entry c (Write w value) ∷ earlier)) (own_block_is ∙ outside))) holding))
@@ -369,7 +371,7 @@ block_in_call h c (e ∷ earlier) wf = step (block_in_call h c earlier wf.1)
 
 -- with no call open, each word has the value logged last
 pub words_at_rest : (h : Header) (w : ℕ) (earlier : List Entry) → WellFormed h earlier → is_call_open h earlier ≡ false
-    → value_after (effects earlier) w ≡ last_logged w earlier
+    → old_value_after (old_effects earlier) w ≡ last_logged w earlier
 words_at_rest h w earlier wf rest = (well_formed_sound h w earlier wf).free (λ d low.
     outside_holds (has_block d earlier) (wrote d w earlier)
     (no_block d (has_block d earlier) refl (none_of (λ c. is_some (open_call c earlier)) 0 h.callers d rest (omega arith) (omega arith))))

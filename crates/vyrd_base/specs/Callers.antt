@@ -1,5 +1,5 @@
 -- What a caller is in the middle of at a place of a log: an open execution, an open block, an execution that has committed,
--- and the words that its open block has written. The entries before the place are given the nearest first, so each is the
+-- a commit inside the open block, and the words that the block has written. The entries before the place are given the nearest first, so each is the
 -- answer of the first entry that has one.
 use Rattle.std.specs.Prelude.{ℕ, Bool, true, false, ◌&&◌, ◌==◌, List, [], ◌∷◌, Option, Some, None, unwrap_or, if◌then◌else◌}
 use Rattle.std.specs.Option.{option_flatten}
@@ -51,6 +51,16 @@ commit_or_call _ = None
 -- whether a commit of the caller stands between its call and here
 abbrev pub has_committed : ℕ → List Entry → Bool
 has_committed c earlier = unwrap_or (first_answer (by_caller c commit_or_call) earlier) false
+
+-- a lone commit, back to the open
+abbrev pub commit_or_open : Kind → Option Bool
+commit_or_open Commit = Some true
+commit_or_open BlockOpen = Some false
+commit_or_open _ = None
+
+-- whether the caller has an open block with a lone commit in it
+abbrev pub has_inner_commit : ℕ → List Entry → Bool
+has_inner_commit c earlier = has_block c earlier && unwrap_or (first_answer (by_caller c commit_or_open) earlier) false
 
 -- a write to the word, back to the open
 abbrev pub write_or_open : ℕ → Kind → Option Bool

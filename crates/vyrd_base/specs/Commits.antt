@@ -61,6 +61,11 @@ abbrev pub states_from : Amounts → List Committed → List Amounts
 states_from state [] = state ∷ []
 states_from state (x ∷ xs) = state ∷ (elim (state_after state x) [ None ↦ [] | Some next ↦ states_from next xs ])
 
+-- The states along the commits of a front, from the state at the start on: none, where the starting words stand for no state.
+abbrev pub states_of : Option Amounts → List Entry → List Amounts
+states_of None front = []
+states_of (Some start) front = states_from start (commits front)
+
 -- how many commits stand among these entries
 abbrev pub commit_count : List Entry → ℕ
 commit_count entries = count_by (λ e. is_commit e.kind) entries

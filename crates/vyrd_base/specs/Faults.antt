@@ -1,13 +1,14 @@
 -- The faults of commits and of observers' returns, at a place of a front whose states are given. A commit is judged once its
 -- execution has returned and the state before it is known. An observer's return is judged once the state at it is known: its
 -- reply has to be the answer of some state from its call to its return.
-use Rattle.std.specs.Prelude.{ℕ, ◌+◌, ◌==◌, not, ◌||◌, List, ◌∷◌, Option, Some, None, option_map, option_and_then, slice_get, take, drop, if◌then◌else◌}
+use Rattle.std.specs.Prelude.{ℕ, ◌+◌, ◌==◌, not, ◌||◌, List, Option, Some, None, option_map, option_and_then, slice_get, take, drop, if◌then◌else◌}
 use Rattle.std.specs.List.{list_any}
 use Rattle.std.specs.Option.{option_and}
 use Rattle.vyrd_base.specs.declared.header.Header.{Header}
 use Rattle.vyrd_base.specs.declared.log.Kind.{Kind}
 use Rattle.vyrd_base.specs.declared.log.Kind.TheVariants.{Return, Commit, BlockCommit}
 use Rattle.vyrd_base.specs.declared.log.Entry.{Entry}
+use Rattle.vyrd_base.specs.declared.log.StartWord.{StartWord}
 use Rattle.vyrd_base.specs.declared.verdict.Why.{Why}
 use Rattle.vyrd_base.specs.declared.verdict.Why.TheVariants.{Reply, View, Observer}
 use Rattle.vyrd_base.specs.Places.{Place}
@@ -15,7 +16,7 @@ use Rattle.vyrd_base.specs.Callers.{Called, open_call, entries_before_call}
 use Rattle.vyrd_base.specs.Subjects.{is_observer}
 use Rattle.vyrd_base.specs.Amounts.{Amounts, first_difference}
 use Rattle.vyrd_base.specs.Specification.{next_state, answer_in}
-use Rattle.vyrd_base.specs.Words.{words_after}
+use Rattle.vyrd_base.specs.Words.{words_at}
 use Rattle.vyrd_base.specs.Views.{view_of_words}
 use Rattle.vyrd_base.specs.Commits.{Committed, committed_at, once_returned, commit_count}
 
@@ -47,18 +48,18 @@ return_fault states c earlier reply = option_and (slice_get states (commit_count
     (option_and_then (observer_fault (states_since_call states c earlier) reply) (open_call c earlier))
 
 -- the fault of the commit at a place, whose view is that of the words after all effects up to it
-abbrev pub fault_of_commit : Header → List Amounts → Place Entry → Option Why
-fault_of_commit h states place = option_and_then
-    (commit_fault (view_of_words h (words_after h (place.here ∷ place.earlier))) (committed_at place))
+abbrev pub fault_of_commit : Header → List StartWord → List Amounts → Place Entry → Option Why
+fault_of_commit h starting states place = option_and_then
+    (commit_fault (view_of_words h (words_at h starting place)) (committed_at place))
     (slice_get states (commit_count place.earlier))
 
 -- commits and returns can be faults, and no other entry is one
-abbrev pub fault_of_kind : Header → List Amounts → Place Entry → Kind → Option Why
-fault_of_kind h states place Commit = fault_of_commit h states place
-fault_of_kind h states place BlockCommit = fault_of_commit h states place
-fault_of_kind h states place (Return reply) = return_fault states place.here.caller place.earlier reply
-fault_of_kind h states place _ = None
+abbrev pub fault_of_kind : Header → List StartWord → List Amounts → Place Entry → Kind → Option Why
+fault_of_kind h starting states place Commit = fault_of_commit h starting states place
+fault_of_kind h starting states place BlockCommit = fault_of_commit h starting states place
+fault_of_kind h starting states place (Return reply) = return_fault states place.here.caller place.earlier reply
+fault_of_kind h starting states place _ = None
 
 -- the fault at a place of a front
-unfoldable pub fault_at : Header → List Amounts → Place Entry → Option Why
-fault_at h states place = fault_of_kind h states place place.here.kind
+unfoldable pub fault_at : Header → List StartWord → List Amounts → Place Entry → Option Why
+fault_at h starting states place = fault_of_kind h starting states place place.here.kind

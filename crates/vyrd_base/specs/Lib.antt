@@ -4,9 +4,9 @@ pub mod Places
 pub mod Subjects
 pub mod Layout
 pub mod Callers
+pub mod Words
 pub mod Shape
 pub mod Front
-pub mod Words
 pub mod Amounts
 pub mod Formed
 pub mod Tables
@@ -27,3 +27,6 @@ pub mod Histories
 pub mod Parts
 pub mod Trees
 pub mod Standing
+pub mod Starts
+pub mod FirstVersion
+pub mod Added

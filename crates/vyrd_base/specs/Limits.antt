@@ -1,9 +1,11 @@
--- The limits of a header: version 1, a size from 1 to 1,024, and from 1 to 64 callers.
-use Rattle.std.specs.Prelude.{ℕ, Bool, ◌&&◌, ◌==◌, nat_le}
+-- The limits of a header: version 1 or 2, a size from 1 to 1,024, and from 1 to 64 callers.
+use Rattle.std.specs.Prelude.{ℕ, zero, suc, Bool, true, false, ◌&&◌, nat_le}
 
--- the one version that there is
+-- the two versions that there are
 abbrev pub is_known_version : ℕ → Bool
-is_known_version version = version == 1
+is_known_version (suc zero) = true
+is_known_version (suc (suc zero)) = true
+is_known_version version = false
 
 -- whether the size is from 1 to 1,024, and the callers are from 1 to 64
 abbrev pub is_sized : ℕ → ℕ → Bool

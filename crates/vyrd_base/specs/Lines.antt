@@ -12,10 +12,11 @@ use Rattle.vyrd_base.specs.declared.subject.Args.{Args}
 use Rattle.vyrd_base.specs.declared.log.Kind.{Kind}
 use Rattle.vyrd_base.specs.declared.log.Kind.TheVariants.{Call, Return, Write, Commit, BlockOpen, BlockClose, BlockCommit}
 use Rattle.vyrd_base.specs.declared.log.Entry.{Entry}
+use Rattle.vyrd_base.specs.declared.log.StartWord.{StartWord}
 use Rattle.vyrd_base.specs.declared.verdict.Rule.{Rule}
 use Rattle.vyrd_base.specs.declared.verdict.Rule.TheVariants.{BadHeader, UnknownVersion}
 use Rattle.vyrd_base.specs.Limits.{is_sized, is_within}
-use Rattle.vyrd_base.specs.Spelling.{subject_name, method_name, header_line, entry_line, is_entry_of}
+use Rattle.vyrd_base.specs.Spelling.{subject_name, method_name, header_line, start_line, entry_line, is_entry_of}
 
 -- the parts between spaces
 abbrev pub fields_of : List ℕ → List (List ℕ)
@@ -64,6 +65,18 @@ unfoldable pub entry_in : Subject → List ℕ → Option Entry
 entry_in subject line = option_and_then
     (λ e. if is_entry_of subject e && bytes_eq (entry_line e) line then Some e else None)
     (guessed_entry subject (fields_of line))
+
+-- a guess at a starting word: its number and its value, after one more field
+abbrev pub guessed_start : List (List ℕ) → Option StartWord
+guessed_start (name ∷ word ∷ value ∷ more) = Some (record { word = number_of word; value = number_of value })
+guessed_start _ = None
+
+-- The starting word that the line spells, with a number of 32 bits and a value of 64. Whether they are in range and in order is
+-- another rule.
+unfoldable pub start_in : List ℕ → Option StartWord
+start_in line = option_and_then
+    (λ s. if nat_lt s.word (2 ^ 32) && nat_lt s.value (2 ^ 64) && bytes_eq (start_line s) line then Some s else None)
+    (guessed_start (fields_of line))
 
 -- the subject of that name
 abbrev pub subject_called : List ℕ → Option Subject

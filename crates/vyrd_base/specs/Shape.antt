@@ -12,6 +12,7 @@ use Rattle.vyrd_base.specs.declared.verdict.Rule.TheVariants.{CallerRange, Metho
 use Rattle.vyrd_base.specs.Places.{numbers_below}
 use Rattle.vyrd_base.specs.Callers.{open_call, has_block, has_committed, holds_word}
 use Rattle.vyrd_base.specs.Layout.{plain_words}
+use Rattle.vyrd_base.specs.Words.{is_passed}
 use Rattle.vyrd_base.specs.Subjects.{is_observer, same_subject, subject_of, are_args}
 
 -- a rule with whether it is broken
@@ -36,7 +37,11 @@ is_observing c earlier = option_map_or (λ called. is_observer called.method) (o
 abbrev pub is_held_by_other : Header → ℕ → ℕ → List Entry → Bool
 is_held_by_other h c w earlier = list_any (λ d. not (d == c) && holds_word d w earlier) (numbers_below h.callers)
 
--- the rules for an entry of the caller, in their order
+-- whether the caller may not write the word: another caller's open block has written it, or it is passed
+abbrev pub is_raced : Header → ℕ → ℕ → List Entry → Bool
+is_raced h c w earlier = is_held_by_other h c w earlier || is_passed c w earlier
+
+-- The rules for an entry of the caller, in their order. A lone commit may stand inside a block from version 2 on.
 abbrev pub checks_of : Header → List Entry → ℕ → Kind → List Check
 checks_of h earlier c (Call method args) =
     (not (same_subject (subject_of method) h.subject) breaks MethodOther)
@@ -50,12 +55,12 @@ checks_of h earlier c (Write word value) =
     (is_none (open_call c earlier) breaks NoCall)
     ∷ (nat_le (plain_words h) word breaks WordRange)
     ∷ (nat_le (2 ^ 63) value breaks ValueRange)
-    ∷ (is_held_by_other h c word earlier breaks BlockRaced) ∷ []
+    ∷ (is_raced h c word earlier breaks BlockRaced) ∷ []
 checks_of h earlier c Commit =
     (is_none (open_call c earlier) breaks NoCall)
     ∷ (is_observing c earlier breaks ObserverCommit)
     ∷ (has_committed c earlier breaks SecondCommit)
-    ∷ (has_block c earlier breaks CommitInBlock) ∷ []
+    ∷ (h.version == 1 && has_block c earlier breaks CommitInBlock) ∷ []
 checks_of h earlier c BlockOpen =
     (is_none (open_call c earlier) breaks NoCall)
     ∷ (has_block c earlier breaks BlockInBlock) ∷ []

@@ -11,6 +11,7 @@ use Rattle.vyrd_base.specs.declared.subject.Args.{Args}
 use Rattle.vyrd_base.specs.declared.log.Kind.{Kind}
 use Rattle.vyrd_base.specs.declared.log.Kind.TheVariants.{Call, Return, Write, Commit, BlockOpen, BlockClose, BlockCommit}
 use Rattle.vyrd_base.specs.declared.log.Entry.{Entry}
+use Rattle.vyrd_base.specs.declared.log.StartWord.{StartWord}
 use Rattle.vyrd_base.specs.Subjects.{arity_of, are_padded, subject_of, same_subject}
 
 -- fields with a space between each two
@@ -60,6 +61,10 @@ kind_fields BlockOpen = codes "open" ∷ []
 kind_fields BlockClose = codes "close" ∷ []
 kind_fields BlockCommit = codes "close" ∷ codes "commit" ∷ []
 
+-- a line of a starting word: its number and its value
+abbrev pub start_line : StartWord → List ℕ
+start_line s = spaced (codes "start" ∷ decimal s.word ∷ decimal s.value ∷ [])
+
 -- a later line: the caller's number, and what it did
 abbrev pub entry_line : Entry → List ℕ
 entry_line e = spaced (decimal e.caller ∷ kind_fields e.kind)
@@ -68,9 +73,10 @@ entry_line e = spaced (decimal e.caller ∷ kind_fields e.kind)
 abbrev pub end_line : List ℕ
 end_line = codes "end"
 
--- the text of a whole log
-unfoldable pub log_text : Header → List Entry → List ℕ
-log_text h entries = ended_line (header_line h.version h.subject h.size h.callers)
+-- the text of a whole log: the header, the starting words, the entries and `end`
+unfoldable pub log_text : Header → List StartWord → List Entry → List ℕ
+log_text h starting entries = ended_line (header_line h.version h.subject h.size h.callers)
+    ++ flat_map (λ s. ended_line (start_line s)) starting
     ++ flat_map (λ e. ended_line (entry_line e)) entries ++ ended_line end_line
 
 -- whether the numbers of a kind are in the text's ranges, the method is of the subject, and arguments that it doesn't have are 0

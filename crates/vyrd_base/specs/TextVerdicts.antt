@@ -1,5 +1,5 @@
--- The verdict about the bytes of a log, and what is known of it so far. What is wrong with the entries that were read comes
--- before the fault of the text, since these entries stand on earlier lines. `max_lines` is the reader's limit, at least 1.
+-- The verdict about the bytes of a log, and what is known of it so far. What is wrong with the starting words and entries that were
+-- read comes before the fault of the text, since these stand on earlier lines. `max_lines` is the reader's limit, at least 1.
 use Rattle.std.specs.Prelude.{ℕ, true, false, List, Option, None, option_map, option_and_then, unwrap_or, if◌then◌else◌}
 use Rattle.std.specs.Option.{option_or, option_map_or}
 use Rattle.vyrd_base.specs.declared.header.Header.{Header}
@@ -11,9 +11,10 @@ use Rattle.vyrd_base.specs.Reading.{Reading, reading}
 use Rattle.vyrd_base.specs.VerdictText.{verdict_text}
 use Rattle.vyrd_base.specs.Verdicts.{verdict_so_far, end_verdict, accepted}
 
--- what is wrong with the entries that were read, and with their end where `end` was read
+-- what is wrong with the starting words and entries that were read, and with their end where `end` was read
 abbrev pub entries_verdict : Reading → Header → Option Verdict
-entries_verdict read h = option_or (verdict_so_far h read.entries) (if read.ended then end_verdict h read.entries else None)
+entries_verdict read h = option_or (verdict_so_far h read.starting read.entries)
+    (if read.ended then end_verdict h read.starting read.entries else None)
 
 -- what is wrong with what was read: its entries come before its text
 abbrev pub known_verdict : Reading → Option Verdict

@@ -1,7 +1,7 @@
 -- The one line that a verdict is written as.
 use Rattle.std.specs.Prelude.{ℕ, List, ◌++◌, codes, decimal}
 use Rattle.vyrd_base.specs.declared.verdict.Rule.{Rule}
-use Rattle.vyrd_base.specs.declared.verdict.Rule.TheVariants.{TooManyLines, AfterEnd, BadHeader, UnknownVersion, BadEntry, NoLineFeed, NoEnd, CallerRange, MethodOther, ArgumentRange, CallInCall, NoCall, ReturnInBlock, NoCommit, WordRange, ValueRange, BlockRaced, ObserverCommit, SecondCommit, CommitInBlock, BlockInBlock, NoBlock, CallOpen}
+use Rattle.vyrd_base.specs.declared.verdict.Rule.TheVariants.{TooManyLines, AfterEnd, BadHeader, UnknownVersion, BadEntry, StartRange, StartOrder, NoLineFeed, NoEnd, StartState, CallerRange, MethodOther, ArgumentRange, CallInCall, NoCall, ReturnInBlock, NoCommit, WordRange, ValueRange, BlockRaced, ObserverCommit, SecondCommit, CommitInBlock, BlockInBlock, NoBlock, CallOpen}
 use Rattle.vyrd_base.specs.declared.verdict.Why.{Why}
 use Rattle.vyrd_base.specs.declared.verdict.Why.TheVariants.{Reply, View, Observer}
 use Rattle.vyrd_base.specs.declared.verdict.Verdict.{Verdict}
@@ -15,8 +15,11 @@ rule_text AfterEnd = codes "text after end"
 rule_text BadHeader = codes "bad header"
 rule_text UnknownVersion = codes "unknown version"
 rule_text BadEntry = codes "bad entry"
+rule_text StartRange = codes "start out of range"
+rule_text StartOrder = codes "start word not rising"
 rule_text NoLineFeed = codes "no line feed"
 rule_text NoEnd = codes "no end"
+rule_text StartState = codes "start stands for no state"
 rule_text CallerRange = codes "caller out of range"
 rule_text MethodOther = codes "method of another subject"
 rule_text ArgumentRange = codes "argument out of range"

@@ -1,6 +1,7 @@
--- The verdict about a log, and what is known of it so far. The first that applies is the verdict: the first fault of the
--- well-formed front, the first entry that isn't well formed, an execution that is open at the end; else the log is accepted.
-use Rattle.std.specs.Prelude.{ℕ, Bool, true, false, ◌+◌, ◌&&◌, ◌==◌, None, if◌then◌else◌, List, length, Option, is_some, option_map, unwrap_or, count_by}
+-- The verdict about a log, and what is known of it so far. The first that applies is the verdict: starting words that stand for
+-- no state, the first fault of the well-formed front, the first entry that isn't well formed, an execution that is open at the
+-- end; else the log is accepted.
+use Rattle.std.specs.Prelude.{ℕ, Bool, true, false, ◌+◌, ◌&&◌, ◌==◌, None, if◌then◌else◌, List, [], ◌∷◌, length, Option, is_some, is_none, option_map, unwrap_or, count_by}
 use Rattle.std.specs.Option.{option_or}
 use Rattle.std.specs.Bool.{then_some}
 use Rattle.std.specs.List.{list_any}
@@ -8,7 +9,8 @@ use Rattle.vyrd_base.specs.declared.header.Header.{Header}
 use Rattle.vyrd_base.specs.declared.log.Kind.{Kind}
 use Rattle.vyrd_base.specs.declared.log.Kind.TheVariants.{Return}
 use Rattle.vyrd_base.specs.declared.log.Entry.{Entry}
-use Rattle.vyrd_base.specs.declared.verdict.Rule.TheVariants.{CallOpen}
+use Rattle.vyrd_base.specs.declared.log.StartWord.{StartWord}
+use Rattle.vyrd_base.specs.declared.verdict.Rule.TheVariants.{StartState, CallOpen}
 use Rattle.vyrd_base.specs.declared.verdict.Stop.{Stop}
 use Rattle.vyrd_base.specs.declared.verdict.Stop.TheVariants.{End, Text}
 use Rattle.vyrd_base.specs.declared.verdict.Verdict.{Verdict}
@@ -18,38 +20,54 @@ use Rattle.vyrd_base.specs.Callers.{open_call}
 use Rattle.vyrd_base.specs.Shape.{is_observing}
 use Rattle.vyrd_base.specs.Front.{front, first_break}
 use Rattle.vyrd_base.specs.Amounts.{Amounts}
-use Rattle.vyrd_base.specs.Specification.{start}
-use Rattle.vyrd_base.specs.Commits.{commits, states_from, commit_count}
+use Rattle.vyrd_base.specs.Starts.{state_at_start}
+use Rattle.vyrd_base.specs.Commits.{states_of, commit_count}
 use Rattle.vyrd_base.specs.Faults.{fault_at}
 
--- the line of an entry: the header stands on line 1
-abbrev pub line_of : ℕ → ℕ
-line_of position = position + 2
+-- the line of an entry: the header stands on line 1, and then the starting words
+abbrev pub line_of : List StartWord → ℕ → ℕ
+line_of starting position = length starting + position + 2
 
 -- the fault at a place of a front whose states are given, with its line
-abbrev pub violation_at : Header → List Amounts → Place Entry → Option Verdict
-violation_at h states place = option_map (Violation (line_of (position_of place))) (fault_at h states place)
+abbrev pub violation_at : Header → List StartWord → List Amounts → Place Entry → Option Verdict
+violation_at h starting states place =
+    option_map (Violation (line_of starting (position_of place))) (fault_at h starting states place)
+
+-- the states along a front, from that of the starting words on
+abbrev pub states_along : Header → List StartWord → List Entry → List Amounts
+states_along h starting well_formed = states_of (state_at_start h starting) well_formed
 
 -- the first fault of a front, with its line
-unfoldable pub first_fault : Header → List Entry → Option Verdict
-first_fault h well_formed =
-    first_answer (violation_at h (states_from start (commits well_formed))) (places well_formed)
+unfoldable pub first_fault : Header → List StartWord → List Entry → Option Verdict
+first_fault h starting well_formed =
+    first_answer (violation_at h starting (states_along h starting well_formed)) (places well_formed)
 
 -- the first break of shape, with its line
-unfoldable pub shape_verdict : Header → List Entry → Option Verdict
-shape_verdict h entries = option_map (Malformed (line_of (length (front h entries)))) (first_break h entries)
+unfoldable pub shape_verdict : Header → List StartWord → List Entry → Option Verdict
+shape_verdict h starting entries = option_map (Malformed (line_of starting (length (front h entries)))) (first_break h entries)
 
--- the verdict that stands already: the first fault in the front, or else the break after it
-unfoldable pub verdict_so_far : Header → List Entry → Option Verdict
-verdict_so_far h entries = option_or (first_fault h (front h entries)) (shape_verdict h entries)
+-- the verdict about starting words that stand for no state, on the line of the first of them
+abbrev pub start_verdict : Header → List StartWord → Option Verdict
+start_verdict h starting = then_some (is_none (state_at_start h starting)) (Malformed 2 StartState)
+
+-- what is wrong with the starting words, which counts once there is an entry
+abbrev pub begun_verdict : Header → List StartWord → List Entry → Option Verdict
+begun_verdict h starting [] = None
+begun_verdict h starting (e ∷ entries) = start_verdict h starting
+
+-- the verdict that stands already: about the starting words, or the first fault in the front, or else the break after it
+unfoldable pub verdict_so_far : Header → List StartWord → List Entry → Option Verdict
+verdict_so_far h starting entries = option_or (begun_verdict h starting entries)
+    (option_or (first_fault h starting (front h entries)) (shape_verdict h starting entries))
 
 -- whether some execution is open after these entries, given the newest first
 abbrev pub is_call_open : Header → List Entry → Bool
 is_call_open h earlier = list_any (λ c. is_some (open_call c earlier)) (numbers_below h.callers)
 
--- the verdict where `end` stands after the entries while a call is open
-unfoldable pub end_verdict : Header → List Entry → Option Verdict
-end_verdict h entries = then_some (is_call_open h (newest_first entries)) (Malformed (line_of (length entries)) CallOpen)
+-- the verdict where `end` stands after the entries: about the starting words, or an open call
+unfoldable pub end_verdict : Header → List StartWord → List Entry → Option Verdict
+end_verdict h starting entries = option_or (start_verdict h starting)
+    (then_some (is_call_open h (newest_first entries)) (Malformed (line_of starting (length entries)) CallOpen))
 
 -- whether an entry ends an execution
 abbrev pub is_return : Kind → Bool
@@ -66,14 +84,15 @@ unfoldable pub accepted : List Entry → Verdict
 accepted entries = Accepted (length entries) (commit_count entries) (observer_count entries)
 
 -- the verdict about a whole log, which `end` follows
-unfoldable pub verdict : Header → List Entry → Verdict
-verdict h entries =
-    unwrap_or (option_or (verdict_so_far h entries) (end_verdict h entries)) (accepted entries)
+unfoldable pub verdict : Header → List StartWord → List Entry → Verdict
+verdict h starting entries =
+    unwrap_or (option_or (verdict_so_far h starting entries) (end_verdict h starting entries)) (accepted entries)
 
 -- The verdict where the text of the log stops so after the entries. A rule of text that is broken two lines after the last
 -- entry is broken behind an `end`.
-unfoldable pub verdict_at : Header → List Entry → Stop → Verdict
-verdict_at h entries End = verdict h entries
-verdict_at h entries (Text line rule) = unwrap_or
-    (option_or (verdict_so_far h entries) (if line == length entries + 3 then end_verdict h entries else None))
+unfoldable pub verdict_at : Header → List StartWord → List Entry → Stop → Verdict
+verdict_at h starting entries End = verdict h starting entries
+verdict_at h starting entries (Text line rule) = unwrap_or
+    (option_or (verdict_so_far h starting entries)
+    (if line == line_of starting (length entries) + 1 then end_verdict h starting entries else None))
     (Malformed line rule)

@@ -17,8 +17,9 @@ pub struct Header {
 }
 
 impl Header {
-    /// The header with these numbers, where they are within the limits: the version is 1, the size is from 1 to 1,024, and
+    /// The header with these numbers, where they are within the limits: the version is 1 or 2, the size is from 1 to 1,024, and
     /// there are 1 to 64 callers.
+    #[tactic(auto, using(crate::proofs::VersionNumbers::known_versions))]
     pub fn new(version: u32, subject: Subject, size: u32, callers: u32) -> Option<Header>
         ensures within { IsSome result ↔ IsTrue (is_within version size callers) }
         ensures version { IfSome result (λ h. h.version ≡ version) }
@@ -26,7 +27,12 @@ impl Header {
         ensures size { IfSome result (λ h. h.size ≡ size) }
         ensures callers { IfSome result (λ h. h.callers ≡ callers) }
     {
-        if version == 1 && 1 <= size && size <= 1024 && 1 <= callers && callers <= 64 {
+        if (version == 1 || version == 2)
+            && 1 <= size
+            && size <= 1024
+            && 1 <= callers
+            && callers <= 64
+        {
             Some(Header {
                 version,
                 subject,
@@ -38,7 +44,7 @@ impl Header {
         }
     }
 
-    /// The version of the log's rules, which is 1.
+    /// The version of the log's rules: 1, or 2 where a lone commit may stand inside a block and starting words are given.
     pub fn version(&self) -> u32
         ensures { result ≡ self.now.version }
     {

@@ -4,6 +4,7 @@ ghost use Rattle.std.specs.Prelude.{◌≢◌, ◌≡◌, ◌+◌, ◌≤◌, �
 ghost use Rattle.std.specs.Option.{option_or};
 ghost use Rattle.vyrd_base.specs.declared.header.Header.{Header};
 ghost use Rattle.vyrd_base.specs.declared.log.Entry.{Entry};
+ghost use Rattle.vyrd_base.specs.declared.log.StartWord.{StartWord};
 ghost use Rattle.vyrd_base.specs.declared.log.Kind.TheVariants.{Write};
 ghost use Rattle.vyrd_base.specs.declared.verdict.Verdict.{Verdict};
 ghost use Rattle.vyrd_base.specs.declared.verdict.Verdict.TheVariants.{Malformed};
@@ -21,6 +22,9 @@ ghost use Rattle.vyrd_base.specs.Amounts.{Amounts, IsAmounts, amount_of, with_am
 ghost use Rattle.vyrd_base.specs.declared.history.Stamped.{Stamped};
 ghost use Rattle.vyrd_base.specs.TextVerdicts.{text_verdict, text_verdict_so_far, stop_of};
 ghost use Rattle.vyrd_base.specs.Verdicts.{verdict_so_far, verdict, verdict_at, is_call_open};
+ghost use Rattle.vyrd_base.specs.Starts.{may_start, state_at_start};
+ghost use Rattle.vyrd_base.specs.Specification.{start};
+ghost use Rattle.vyrd_base.specs.FirstVersion.{old_verdict_so_far, old_verdict};
 
 /// One more entry is in the front where no rule is broken before it and it breaks none itself.
 #[tactic(auto, using(crate::proofs::Answers::front_laws))]
@@ -32,28 +36,43 @@ pub fn front_grows()
 /// A verdict that stands stands for good.
 #[tactic(auto, using(crate::proofs::Answers::verdict_laws))]
 pub fn verdict_lasts()
-    ensures so_far { (h : Header) (es more : List Entry) (v : Verdict) →
-        verdict_so_far h es ≡ Some v → verdict_so_far h (es ++ more) ≡ Some v }
-    ensures whole { (h : Header) (es more : List Entry) (v : Verdict) →
-        verdict_so_far h es ≡ Some v → verdict h (es ++ more) ≡ v }
+    ensures so_far { (h : Header) (starting : List StartWord) (es more : List Entry) (v : Verdict) →
+        verdict_so_far h starting es ≡ Some v → verdict_so_far h starting (es ++ more) ≡ Some v }
+    ensures whole { (h : Header) (starting : List StartWord) (es more : List Entry) (v : Verdict) →
+        verdict_so_far h starting es ≡ Some v → verdict h starting (es ++ more) ≡ v }
+{}
+
+/// A log of version 1 keeps the verdict that it had while there was no other version.
+#[tactic(auto, using(crate::proofs::Answers::first_version_laws))]
+pub fn first_version_keeps_its_verdicts()
+    ensures so_far { (h : Header) (es : List Entry) → h.version ≡ 1 → verdict_so_far h [] es ≡ old_verdict_so_far h es }
+    ensures whole { (h : Header) (es : List Entry) → h.version ≡ 1 → verdict h [] es ≡ old_verdict h es }
+{}
+
+/// Without starting words the specification starts empty.
+#[tactic(auto, using(crate::proofs::Answers::start_laws))]
+pub fn starts_empty()
+    ensures { (h : Header) → state_at_start h [] ≡ Some start }
 {}
 
 /// A write outside a block changes its own word alone.
 #[tactic(auto, using(crate::proofs::Answers::word_laws))]
 pub fn write_changes_its_word()
-    ensures { (h : Header) (earlier : List Entry) (c w v : ℕ) → has_block c earlier ≡ false → w < plain_words h →
-        words_after h (record { caller = c; kind = Write w v } ∷ earlier) ≡ slice_set (words_after h earlier) w v }
+    ensures { (h : Header) (starting : List StartWord) (earlier : List Entry) (c w v : ℕ) → has_block c earlier ≡ false → w < plain_words h →
+        words_after h starting (record { caller = c; kind = Write w v } ∷ earlier) ≡ slice_set (words_after h starting earlier) w v }
 {}
 
 /// The text of a log is read as that log, and has its verdict.
 #[tactic(auto, using(crate::proofs::Answers::text_laws))]
 pub fn text_is_read()
-    ensures read { (input : Input) (h : Header) (es : List Entry) →
-        length es + 2 ≤ input.max_lines → AllByRecursion (λ e. is_entry_of h.subject e ≡ true) es →
-        reading input (log_text h es) ≡ record { header = Some h; entries = es; ended = true; fault = None } }
-    ensures judged { (max : ℕ) (h : Header) (es : List Entry) →
-        length es + 2 ≤ max → AllByRecursion (λ e. is_entry_of h.subject e ≡ true) es →
-        text_verdict max (log_text h es) ≡ verdict h es }
+    ensures read { (input : Input) (h : Header) (starting : List StartWord) (es : List Entry) →
+        length starting + length es + 2 ≤ input.max_lines → may_start h starting ≡ true →
+        AllByRecursion (λ e. is_entry_of h.subject e ≡ true) es →
+        reading input (log_text h starting es) ≡ record { header = Some h; starting = starting; entries = es; ended = true; fault = None } }
+    ensures judged { (max : ℕ) (h : Header) (starting : List StartWord) (es : List Entry) →
+        length starting + length es + 2 ≤ max → may_start h starting ≡ true →
+        AllByRecursion (λ e. is_entry_of h.subject e ≡ true) es →
+        text_verdict max (log_text h starting es) ≡ verdict h starting es }
 {}
 
 /// The words that the log of a legal history leaves are the words of the history, once every call has returned.
@@ -61,7 +80,7 @@ pub fn text_is_read()
 pub fn words_of_a_history()
     ensures { (h : Header) (history : List Stamped) → is_legal (cells_of h) history ≡ true → first_break h (log_of history) ≡ None →
         is_call_open h (newest_first (log_of history)) ≡ false →
-        words_after h (newest_first (log_of history)) ≡ words_of_history h history }
+        words_after h [] (newest_first (log_of history)) ≡ words_of_history h history }
 {}
 
 /// Amounts by key behave as a map in which a key that isn't there has the amount 0.
@@ -87,7 +106,8 @@ pub fn text_verdict_lasts()
 pub fn verdict_by_its_stop()
     ensures headed { (max : ℕ) (bytes : List ℕ) (h : Header) →
         (reading (record { max_lines = max; is_whole = true }) bytes).header ≡ Some h →
-        text_verdict max bytes ≡ verdict_at h (reading (record { max_lines = max; is_whole = true }) bytes).entries
+        text_verdict max bytes ≡ verdict_at h (reading (record { max_lines = max; is_whole = true }) bytes).starting
+        (reading (record { max_lines = max; is_whole = true }) bytes).entries
         (stop_of (reading (record { max_lines = max; is_whole = true }) bytes)) }
     ensures headless { (max : ℕ) (bytes : List ℕ) (fault : TextFault) →
         (reading (record { max_lines = max; is_whole = true }) bytes).header ≡ None →
@@ -98,7 +118,8 @@ pub fn verdict_by_its_stop()
 /// What is read to its `end` without a fault is the text of a log.
 pub fn read_text_is_a_log()
     ensures { (input : Input) (bytes : List ℕ) → (reading input bytes).ended ≡ true → (reading input bytes).fault ≡ None →
-        (h : Header) × ((reading input bytes).header ≡ Some h) × (bytes ≡ log_text h (reading input bytes).entries)
+        (h : Header) × ((reading input bytes).header ≡ Some h) × (may_start h (reading input bytes).starting ≡ true)
+        × (bytes ≡ log_text h (reading input bytes).starting (reading input bytes).entries)
         × AllByRecursion (λ e. is_entry_of h.subject e ≡ true) (reading input bytes).entries }
 {}
 

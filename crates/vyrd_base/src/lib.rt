@@ -1,14 +1,14 @@
 //! The plain data of a log and of its verdict, the devices at the program's edge, and every definition of judging.
 //!
 //! A log tells of a concurrent run: who called what, which words were written, and where each call took effect. A log is
-//! a `Header` and a list of entries, and the central type is `Entry`: one caller and what it did. The answer about a log
-//! is a `Verdict`. The crate decides nothing itself. It says, once and for all other crates, which verdict a log has,
+//! a `Header`, in version 2 words that aren't 0 at the start, and a list of entries, and the central type is `Entry`: one
+//! caller and what it did. The answer about a log is a `Verdict`. The crate decides nothing itself. It says, once and for all other crates, which verdict a log has,
 //! and its own calls meet the same definitions: a header's numbers, amounts by key, and what devices give and take.
 //!
 //! What stands in `src/`:
 //!
 //! - `Header`, `Subject`, `Method`, `Args`: what is watched, and what may be called;
-//! - `Entry`, `Kind`: the lines of a log; `Stamped`, `Did`: the events of a run, of which a log shows a part;
+//! - `Entry`, `Kind`, `StartWord`: the lines of a log; `Stamped`, `Did`: the events of a run, of which a log shows a part;
 //! - `Verdict`, `Rule`, `Why`, `Stop`: the answer, and how a text stops;
 //! - `View`: what a state or the words show, as amounts by key, to be read; `AmountMap` and `AmountTable`: such amounts, to be
 //!   looked up and changed, in an ordered map or in a flat table;
@@ -18,13 +18,15 @@
 //! What stands in `specs/`, one file a notion: the limits of a header (`Limits`, `Subjects`, `Layout`), the places of a
 //! list (`Places`), what a caller is in the middle of (`Callers`), the rules of shape and the well-formed front (`Shape`,
 //! `Front`), the words (`Words`), what they show (`Views`, `TreeView`, `Amounts`), amounts in a table (`Tables`), the
-//! specification (`Specification`), commit order and its states (`Commits`), the faults (`Faults`), the verdict (`Verdicts`), the text of a log and what
-//! its bytes say (`Spelling`, `Lines`, `Reading`), the verdict about bytes and its line (`TextVerdicts`, `VerdictText`),
-//! histories (`Histories`), words that represent a state (`Standing`, `Trees`), and devices (`Devices`).
+//! specification (`Specification`), the words and the state at the start (`Starts`), commit order and its states
+//! (`Commits`), the faults (`Faults`), the verdict (`Verdicts`), the verdict as it was while version 1 was the only one
+//! (`FirstVersion`), the text of a log and what its bytes say (`Spelling`, `Lines`, `Reading`), the verdict about bytes
+//! and its line (`TextVerdicts`, `VerdictText`), histories (`Histories`), words that represent a state (`Standing`,
+//! `Trees`), and devices (`Devices`).
 //!
 //! A definition alone claims nothing. So each law of the definitions is a clause of an empty function in `laws`, and
-//! small cases are worked out in `worked`, as lists of entries, and in `worked_text`, from the bytes of a log to the
-//! bytes of the answer.
+//! small cases are worked out in `worked`, as lists of entries, and in `worked_text`, and for version 2 in
+//! `worked_second`, from the bytes of a log to the bytes of the answer.
 #![tactic(auto)]
 
 mod amount_map;
@@ -44,6 +46,7 @@ mod tests;
 mod verdict;
 mod view;
 pub mod worked;
+pub mod worked_second;
 pub mod worked_text;
 
 pub use amount_map::AmountMap;
@@ -51,7 +54,7 @@ pub use amount_table::AmountTable;
 pub use device::{Failed, Gate, OpenGate, Sink, Source};
 pub use header::Header;
 pub use history::{Did, Stamped};
-pub use log::{Entry, Kind};
+pub use log::{Entry, Kind, StartWord};
 pub use memory_sink::MemorySink;
 pub use memory_source::MemorySource;
 pub use streams::{StdSink, StdSource};

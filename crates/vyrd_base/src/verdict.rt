@@ -10,14 +10,21 @@ pub enum Rule {
     AfterEnd,
     /// Text: line 1 isn't the spelling of a header.
     BadHeader,
-    /// Text: line 1 spells a header whose version isn't 1.
+    /// Text: line 1 spells a header whose version is neither 1 nor 2.
     UnknownVersion,
-    /// Text: a later line spells neither an entry of the subject nor `end`.
+    /// Text: a later line spells neither an entry of the subject nor `end`, nor a starting word where one may stand: right
+    /// after the header or another starting word, in version 2.
     BadEntry,
+    /// Text: a starting word isn't below the number of plain words, or its value is 0 or isn't below 2^63.
+    StartRange,
+    /// Text: a starting word isn't greater than the one before it.
+    StartOrder,
     /// Text: the input ends inside this line.
     NoLineFeed,
     /// Text: the input ends after a line feed, and no `end` was read. The line is the one after the last.
     NoEnd,
+    /// The starting words stand for no state of the specification. The line is 2, where the first of them stands.
+    StartState,
     /// The caller isn't below the header's callers.
     CallerRange,
     /// A call's method isn't of the header's subject.
@@ -36,13 +43,14 @@ pub enum Rule {
     WordRange,
     /// A written value isn't below 2^63.
     ValueRange,
-    /// A write to a word that an open block of another caller has written.
+    /// A write to a word that an open block of another caller has written, or on which a write of another caller took effect
+    /// after the commit inside the writer's open block.
     BlockRaced,
     /// An observer commits.
     ObserverCommit,
     /// The execution has its commit already.
     SecondCommit,
-    /// A lone commit while the caller has an open block.
+    /// A lone commit while the caller has an open block, in version 1.
     CommitInBlock,
     /// A block begins while the caller has an open block.
     BlockInBlock,
@@ -63,12 +71,13 @@ pub enum Why {
     Observer(u64),
 }
 
-/// The answer about a log: its first fault, else its first broken rule, else that it is accepted.
+/// The answer about a log: starting words that stand for no state, or its first fault, or its first
+/// broken rule, in this order; or that it is accepted.
 #[derive(Clone, Copy, Debug, PartialEq, Eq)]
 pub enum Verdict {
     /// The log keeps the rules, and its run does what the specification allows.
     Accepted {
-        /// All entries, without the header and `end`.
+        /// All entries, without the header, the starting words and `end`.
         entries: u64,
         /// The commits, lone ones and those of blocks.
         commits: u64,
@@ -91,11 +100,12 @@ pub enum Verdict {
     },
 }
 
-/// How the text of a log stops after its entries.
+/// How the text of a log stops after its starting words and entries.
 #[derive(Clone, Copy, Debug, PartialEq, Eq)]
 pub enum Stop {
     /// `end` stands after them, and nothing follows it.
     End,
-    /// A rule of text is broken on this line. Where there are n entries, line n + 3 comes after an `end` on line n + 2.
+    /// A rule of text is broken on this line. With s starting words and n entries line s + n + 3 comes after an `end` on line
+    /// s + n + 2.
     Text { line: u64, rule: Rule },
 }

@@ -67,7 +67,7 @@ pub fn malformed_texts()
         ≡ codes "malformed at line 3: word out of range\n" }
     ensures too_many_callers { answer_to 268435456 (codes "vyrd 1 multiset 1 65\nend\n")
         ≡ codes "malformed at line 1: bad header\n" }
-    ensures version { answer_to 268435456 (codes "vyrd 2 multiset 1 1\nend\n")
+    ensures version { answer_to 268435456 (codes "vyrd 3 multiset 1 1\nend\n")
         ≡ codes "malformed at line 1: unknown version\n" }
     ensures caller { answer_to 268435456 (codes "vyrd 1 multiset 1 1\n1 call insert 5\nend\n")
         ≡ codes "malformed at line 2: caller out of range\n" }

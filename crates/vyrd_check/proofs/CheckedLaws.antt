@@ -1,11 +1,11 @@
 -- What a checker answers, by what it keeps.
-use Rattle.std.proofs.Common.{◌≡◌, ℕ, true, List, [], ◌∷◌, ◌++◌, length, append_assoc, Option, Some, None, refl, ap, subst, ◌∙◌, sym, append-nil, ◌+◌, arith}
+use Rattle.std.proofs.Common.{◌≡◌, ℕ, true, List, [], ◌∷◌, ◌++◌, length, append_assoc, Option, Some, None, refl, ap, subst, ◌∙◌, sym, append-nil, arith}
 use Rattle.std.specs.Prelude.{◌==◌, is_some}
 use Rattle.std.proofs.lemmas.Bool.Decides.{nat_tests}
 use Rattle.vyrd_base.specs.declared.verdict.Verdict.{Verdict}
 use Rattle.vyrd_base.specs.TextVerdicts.{text_verdict, text_verdict_so_far}
-use Rattle.vyrd_base.proofs.ReadingGrows.{text_verdict_lasts, text_verdict_stands}
-use Rattle.vyrd_check.specs.Checking.{IsLimit, Kept, IsUndecided, CheckerState, FollowsBy, HasChecked}
+use Rattle.vyrd_base.proofs.TextLasts.{text_verdict_lasts, text_verdict_stands}
+use Rattle.vyrd_check.specs.Checking.{IsLimit, IsUndecided, CheckerState, FollowsBy, HasChecked}
 
 -- the verdict that is kept is that of the bytes so far
 pub so_far_is : (c : CheckerState) (bytes : List ℕ) → HasChecked c bytes → c.so_far ≡ text_verdict_so_far c.kept.reader.max_lines bytes

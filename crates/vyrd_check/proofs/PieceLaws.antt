@@ -1,58 +1,213 @@
 -- How what is kept goes on with a piece of the text.
-use Rattle.std.proofs.Common.{◌≡◌, ℕ, ◌+◌, ◌≤◌, ◌^◌, List, [], ◌++◌, length, Option, Some, None, Result, Ok, Err, IfOk, OnOk, refl, ap, subst, ◌∙◌, sym, arith, length-append}
-use Rattle.std.proofs.Math.Logic.{∥∥₁_elim}
+use Rattle.std.proofs.Common.{◌≡◌, ◌≤◌, Bool, true, false, cond, ◌||◌, List, [], ◌∷◌, ◌++◌, length, Option, Some, None, refl, ap, subst, ◌∙◌, sym, arith, length-append}
+use Rattle.std.specs.Prelude.{option_and_then, is_none}
+use Rattle.std.specs.Bool.{then_some}
+use Rattle.std.specs.Option.{option_or}
 use Rattle.vyrd_base.specs.declared.header.Header.{Header}
 use Rattle.vyrd_base.specs.declared.log.Entry.{Entry}
-use Rattle.vyrd_base.specs.declared.verdict.Verdict.{Verdict}
-use Rattle.vyrd_base.specs.TextVerdicts.{text_verdict_so_far}
-use Rattle.vyrd_base.proofs.ReadingGrows.{reading_grows, text_verdict_lasts}
-use Rattle.vyrd_base.specs.Reading.{reading}
+use Rattle.vyrd_base.specs.declared.log.StartWord.{StartWord}
+use Rattle.vyrd_base.specs.declared.verdict.Rule.TheVariants.{StartState, CallOpen}
+use Rattle.vyrd_base.specs.declared.verdict.Verdict.TheVariants.{Malformed}
+use Rattle.vyrd_base.specs.Places.{newest_first}
+use Rattle.vyrd_base.specs.Front.{front}
+use Rattle.vyrd_base.specs.Starts.{state_at_start}
+use Rattle.vyrd_base.specs.Reading.{Reading, has_any, reading}
+use Rattle.vyrd_base.specs.Verdicts.{line_of, first_fault, shape_verdict, verdict_so_far, is_call_open, end_verdict}
+use Rattle.vyrd_base.specs.TextVerdicts.{entries_verdict, text_verdict_so_far}
+use Rattle.vyrd_base.proofs.ReadingGrows.{TextGrown}
+use Rattle.vyrd_base.proofs.TextLasts.{nothing_so_far}
 use Rattle.vyrd_text.specs.Readers.{ReaderState, HasRead}
 use Rattle.vyrd_judge.specs.Following.{JudgeView, HasFollowed}
 use Rattle.vyrd_judge.proofs.OnlineLaws.{faultless_of}
-use Rattle.vyrd_check.specs.LogReadings.{read_so_far}
-use Rattle.vyrd_check.specs.Checking.{IsJudging, IsBegun, HasRoom, Kept, IsUndecided, CheckerState, FollowsBy, HasChecked}
-use Rattle.vyrd_check.proofs.ReadingFacts.{entries_few, headless_empty}
+use Rattle.vyrd_check.specs.Checking.{wrong_in, has_begun, IsJudging, IsBefore, IsReady, HasRoom, IsMade, IsBegun, IsUndecided}
 
 -- a judge without a verdict has counted the entries that it has followed
-pub counted : (j : JudgeView) (log : List Entry) → j.so_far ≡ None → HasFollowed j log → j.kept.entries ≡ length log
-counted j log none f = (faultless_of none f).taken_in.entries
+pub counted : (j : JudgeView) (starting : List StartWord) (log : List Entry) → j.so_far ≡ None
+    → HasFollowed j starting log
+    → j.kept.entries ≡ length log
+counted j starting log none f = (faultless_of none f).taken_in.entries
 
-same_header : {a b : Header} → Some a ≡ Some b → a ≡ b
-same_header e = cc
+-- more entries after some
+any_more : (xs more : List Entry) → has_any xs ≡ true → has_any (xs ++ more) ≡ true
+any_more [] more e = cc
+any_more (x ∷ xs) more e = refl
 
--- once a header may have been read, the judge has followed the entries from before
-pub judging_begins : (before after : Option JudgeView) (old_header new_header : Option Header) (log : List Entry)
-    → IsJudging before old_header log → ((h : Header) → old_header ≡ Some h → new_header ≡ Some h) → (old_header ≡ None → log ≡ [])
-    → IsBegun new_header before after → IsJudging after new_header log
-judging_begins before after old_header None log judging stays empty begun = by_before before judging begun
+either_true : (a b : Bool) → a ≡ true → (a || b) ≡ true
+either_true true b e = refl
+either_true false b e = cc
+
+second_also : (a b : Bool) → b ≡ true → (a || b) ≡ true
+second_also true b e = refl
+second_also false b e = e
+
+-- what has begun goes on
+pub begun_on : (old new : Reading) → TextGrown old new → old.fault ≡ None → has_begun old ≡ true
+    → has_begun new ≡ true
+begun_on old new g none begun = by_end old.ended refl begun
   where
-    by_before : (b : Option JudgeView) → IsJudging b old_header log → after ≡ b → IsJudging after None log
-    by_before None none same = subst (λ o. IsJudging o None log) (sym same) refl
-    by_before (Some j) is same = absurd (never (stays j.kept.header is.0))
+    by_end : (b : Bool) → old.ended ≡ b → (has_any old.entries || b) ≡ true → has_begun new ≡ true
+    by_end true e f = second_also (has_any new.entries) new.ended (g.grown.ended none e).1
+    by_end false e f = by_entries (has_any old.entries) refl f
       where
-        never : None ≡ Some j.kept.header → ⊥
+        by_entries : (a : Bool) → has_any old.entries ≡ a → (a || false) ≡ true
+            → has_begun new ≡ true
+        by_entries false is h = cc
+        by_entries true is h =
+            let more = g.grown.entries none in
+            either_true (has_any new.entries) new.ended
+            (ap has_any more.1 ∙ any_more old.entries more.0 is)
+
+-- Once an entry or `end` may have been read, the judge has followed the entries from before.
+pub judge_before : (before after : Option JudgeView) (old new : Reading) (more : List Entry)
+    → IsJudging before old → TextGrown old new
+    → old.fault ≡ None → (new.header ≡ None → has_begun new ≡ false)
+    → new.entries ≡ old.entries ++ more
+    → IsBegun (has_any more || new.ended) new.header new.starting before after
+    → IsBefore after new old.entries
+judge_before (Some j) after old new more judging g none headed all begun =
+    let now = begun_on old new g none judging.begun in
+    let same : new.starting ≡ old.starting = g.grown.begun none judging.begun in
+    subst (λ o. IsBefore o new old.entries) (sym begun) (record {
+      header = g.header j.kept.header judging.header;
+      followed = subst (λ ss. HasFollowed j ss old.entries) (sym same) judging.followed;
+      so_far = judging.so_far;
+      begun = now;
+    })
+judge_before None after old new more judging g none headed all begun =
+    by_test (has_any more || new.ended) refl begun
+  where
+    same : has_begun new ≡ (has_any more || new.ended)
+    same = ap (λ es. has_any es || new.ended) (all ∙ ap (λ es. es ++ more) judging.0)
+
+    by_made : (h : Header) (o : Option JudgeView) → new.header ≡ Some h → has_begun new ≡ true
+        → IsMade h new.starting o → IsBefore o new old.entries
+    by_made h None has now made = (judging.0, λ f. (h, has, made))
+    by_made h (Some j) has now made = record {
+      header = has ∙ ap Some (sym made.0);
+      followed = subst (HasFollowed j new.starting) (sym judging.0) made.1;
+      so_far = made.2;
+      begun = now;
+    }
+
+    by_header : (o : Option Header) → new.header ≡ o → has_begun new ≡ true
+        → IsBegun true o new.starting None after → IsBefore after new old.entries
+    by_header None has now b = absurd (never (sym (headed has) ∙ now))
+      where
+        never : false ≡ true → ⊥
         never e = cc
-judging_begins (Some j) after old_header (Some h) log judging stays empty begun =
-    subst (λ o. IsJudging o (Some h) log) (sym begun) (stays j.kept.header judging.0, judging.1, judging.2)
-judging_begins None None old_header (Some h) log judging stays empty begun = absurd begun
-judging_begins None (Some j) old_header (Some h) log judging stays empty begun =
-    (ap Some (sym begun.0), subst (HasFollowed j) (sym (empty judging)) begun.1, begun.2)
+    by_header (Some h) has now b = by_made h after has now b
+
+    by_test : (b : Bool) → (has_any more || new.ended) ≡ b
+        → IsBegun b new.header new.starting None after → IsBefore after new old.entries
+    by_test false e b = subst (λ o. IsBefore o new old.entries) (sym b) (judging.0, λ f. cc)
+    by_test true e b = by_header new.header refl (same ∙ e) b
 
 -- there is room for the entries of a log that keeps the limit of lines
-pub has_room : (judge : Option JudgeView) (header : Option Header) (log entries : List Entry) → IsJudging judge header log
+pub has_room : (judge : Option JudgeView) (read : Reading) (log entries : List Entry)
+    → IsBefore judge read log
     → length (log ++ entries) ≤ 268435456 → HasRoom judge entries
-has_room None header log entries judging few = tt
-has_room (Some j) header log entries judging few = omega (arith, counted j log judging.2 judging.1, length-append log entries, few)
+has_room None read log entries before few = tt
+has_room (Some j) read log entries before few =
+    let kept = counted j read.starting log before.so_far before.followed in
+    omega (arith, kept, length-append log entries, few)
 
--- a judge that has followed further entries without a verdict
-pub judging_on : {E : Type 0} (r : Result (Option Verdict) E) (old new : JudgeView) (header : Option Header) (log : List Entry)
-    → header ≡ Some old.kept.header → new.kept.header ≡ old.kept.header → OnOk r (HasFollowed new log)
-    → IfOk r (λ v. v ≡ None → new.so_far ≡ None) → IfOk r (λ v. v ≡ None → IsJudging (Some new) header log)
-judging_on (Ok v) old new header log has same followed so_far = λ none. (has ∙ ap Some (sym same), followed, so_far none)
-judging_on (Err e) old new header log has same followed so_far = tt
+-- what is wrong with what was read, by the judge's header
+pub wrong_by : (j : JudgeView) (read : Reading) (log more : List Entry) (done : Bool)
+    → IsReady (Some j) read log more done
+    → wrong_in read ≡ option_or (verdict_so_far j.kept.header read.starting (log ++ more))
+    (cond done (end_verdict j.kept.header read.starting (log ++ more)) None)
+wrong_by j read log more done ready =
+    ap (option_and_then (entries_verdict read)) ready.before.header
+    ∙ (λ i. option_or (verdict_so_far j.kept.header read.starting (ready.entries i))
+    (cond (ready.ended i) (end_verdict j.kept.header read.starting (ready.entries i)) None))
+
+-- a judge that has followed the last entries, with no verdict
+pub judging_on : (old new : JudgeView) (read : Reading) (log more : List Entry) (done : Bool)
+    → IsReady (Some old) read log more done
+    → new.kept.header ≡ old.kept.header → HasFollowed new read.starting (log ++ more)
+    → new.so_far ≡ None → IsJudging (Some new) read
+judging_on old new read log more done ready same followed none = record {
+  header = ready.before.header ∙ ap Some (sym same);
+  followed = subst (HasFollowed new read.starting) (sym ready.entries) followed;
+  so_far = none;
+  begun = ready.before.begun;
+}
+
+-- Where the starting words stand for no state, that is what is wrong once an entry or `end` was
+-- read.
+start_wrong : (h : Header) (starting : List StartWord) (entries : List Entry) (done : Bool)
+    → is_none (state_at_start h starting) ≡ true
+    → (has_any entries || done) ≡ true
+    → option_or (verdict_so_far h starting entries) (cond done (end_verdict h starting entries) None)
+    ≡ Some (Malformed 2 StartState)
+unfolding verdict_so_far end_verdict
+start_wrong h starting [] false stands begun = cc
+start_wrong h starting [] true stands begun =
+    ap (λ o. option_or o (end_verdict h starting [])) (nothing_so_far h starting)
+    ∙ ap (λ b. option_or (then_some b (Malformed 2 StartState))
+    (then_some (is_call_open h (newest_first []))
+    (Malformed (line_of starting (length {A = Entry} [])) CallOpen))) stands
+start_wrong h starting (e ∷ entries) done stands begun =
+    ap (λ b. option_or (option_or (then_some b (Malformed 2 StartState))
+    (option_or (first_fault h starting (front h (e ∷ entries)))
+    (shape_verdict h starting (e ∷ entries))))
+    (cond done (end_verdict h starting (e ∷ entries)) None)) stands
+
+-- nothing was read
+unread : (entries : List Entry) (done : Bool) → (has_any entries || done) ≡ false
+    → (entries ≡ []) × (done ≡ false)
+unread [] done e = (refl, e)
+unread (x ∷ entries) done e = cc
+
+-- without a judge all that was read since is the last entries
+only_last : (read : Reading) (log more : List Entry) (done : Bool) → IsReady None read log more done
+    → has_begun read ≡ (has_any more || done)
+only_last read log more done ready =
+    λ i. has_any ((ready.entries ∙ ap (λ es. es ++ more) ready.before.0) i) || ready.ended i
+
+-- where nothing was read nothing is wrong
+nothing_wrong : (read : Reading) → has_begun read ≡ false → wrong_in read ≡ None
+nothing_wrong read e =
+    let none = unread read.entries read.ended e in
+    ap (λ f. option_and_then f read.header)
+    (λ i. λ h. option_or (verdict_so_far h read.starting (none.0 i))
+    (cond (none.1 i) (end_verdict h read.starting (none.0 i)) None))
+    ∙ by_header read.header
+  where
+    by_header : (o : Option Header)
+        → option_and_then (λ h. option_or (verdict_so_far h read.starting []) None) o ≡ None
+    by_header None = refl
+    by_header (Some h) = ap (λ o. option_or o None) (nothing_so_far h read.starting)
+
+-- what is wrong where there is no judge
+pub wrong_without : (read : Reading) (log more : List Entry) (done : Bool)
+    → IsReady None read log more done
+    → then_some (has_any more || done) (Malformed 2 StartState) ≡ wrong_in read
+wrong_without read log more done ready = by_test (has_any more || done) refl
+  where
+    same : has_begun read ≡ (has_any more || done)
+    same = only_last read log more done ready
+
+    by_test : (b : Bool) → (has_any more || done) ≡ b
+        → then_some b (Malformed 2 StartState) ≡ wrong_in read
+    by_test false e = sym (nothing_wrong read (same ∙ e))
+    by_test true e =
+        let begun = same ∙ e in
+        let stands = ready.before.1 begun in
+        sym (ap (option_and_then (entries_verdict read)) stands.1
+        ∙ start_wrong stands.0 read.starting read.entries read.ended stands.2 begun)
+
+pub still_without : (read : Reading) (log more : List Entry) (done : Bool)
+    → IsReady None read log more done
+    → then_some (has_any more || done) (Malformed 2 StartState) ≡ None → IsJudging None read
+still_without read log more done ready none = by_test (has_any more || done) refl none
+  where
+    by_test : (b : Bool) → (has_any more || done) ≡ b → then_some b (Malformed 2 StartState) ≡ None
+        → IsJudging None read
+    by_test false e f = unread read.entries read.ended (only_last read log more done ready ∙ e)
+    by_test true e f = cc
 
 -- before the first byte
 pub undecided_first : (reader : ReaderState) → HasRead reader [] → IsUndecided (record { reader = reader; judge = None }) []
 unfolding reading text_verdict_so_far
-undecided_first reader read = record { read = read; judging = refl; nothing = refl }
+undecided_first reader read = record { read = read; judging = (refl, refl); nothing = refl }

@@ -1,5 +1,5 @@
 -- How many entries a reading has, and what is wrong with them.
-use Rattle.std.proofs.Common.{◌≡◌, ℕ, ◌+◌, ◌-◌, ◌≤◌, Bool, true, false, cond, List, [], ◌∷◌, length, Option, Some, None, Result, Ok, Err, refl, ap, ◌∙◌, sym, arith}
+use Rattle.std.proofs.Common.{◌≡◌, ℕ, ◌+◌, ◌≤◌, Bool, true, false, cond, List, [], ◌∷◌, length, Option, Some, None, Result, Ok, Err, refl, ap, ◌∙◌, sym, arith}
 use Rattle.std.specs.Prelude.{◌==◌, nat_lt, unwrap_or, option_map, option_and_then}
 use Rattle.std.specs.Option.{option_or}
 use Rattle.std.specs.List.{slice_split}
@@ -7,23 +7,24 @@ use Rattle.std.specs.Str.{bytes_eq}
 use Rattle.vyrd_base.specs.declared.header.Header.{Header}
 use Rattle.vyrd_base.specs.declared.subject.Subject.{Subject}
 use Rattle.vyrd_base.specs.declared.log.Entry.{Entry}
+use Rattle.vyrd_base.specs.declared.log.StartWord.{StartWord}
 use Rattle.vyrd_base.specs.declared.verdict.Rule.{Rule}
-use Rattle.vyrd_base.specs.declared.verdict.Rule.TheVariants.{TooManyLines, BadEntry}
+use Rattle.vyrd_base.specs.declared.verdict.Rule.TheVariants.{TooManyLines}
 use Rattle.vyrd_base.specs.declared.verdict.Verdict.{Verdict}
 use Rattle.vyrd_base.specs.declared.verdict.Verdict.TheVariants.{Malformed}
 use Rattle.vyrd_base.specs.Spelling.{end_line}
-use Rattle.vyrd_base.specs.Lines.{entry_in, header_in}
-use Rattle.vyrd_base.specs.Reading.{Reading, TextFault, stopped, ended, after_end_rule, entry_before, lines_read, header_before, text_read, reading}
-use Rattle.vyrd_base.specs.TextVerdicts.{entries_verdict, known_verdict, text_verdict, text_verdict_so_far}
+use Rattle.vyrd_base.specs.Starts.{start_rule}
+use Rattle.vyrd_base.specs.Lines.{start_in, entry_in, header_in}
+use Rattle.vyrd_base.specs.Reading.{Reading, TextFault, stopped, ended, after_end_rule, entry_before, lines_read, start_before, starts_read, body_read, header_before, text_read, reading}
+use Rattle.vyrd_base.specs.TextVerdicts.{entries_verdict, text_verdict, text_verdict_so_far}
 use Rattle.vyrd_base.specs.Verdicts.{verdict_so_far, end_verdict, accepted, verdict}
 use Rattle.vyrd_base.proofs.ReadingGrows.{so_far}
-use Rattle.vyrd_base.proofs.StopLaws.{headless_has_fault}
 use Rattle.vyrd_base.proofs.TestLaws.{not_below_of}
 use Rattle.vyrd_check.specs.LogReadings.{read_so_far, read_whole}
-use Rattle.vyrd_check.specs.Checking.{wrong_entries}
+use Rattle.vyrd_check.specs.Checking.{wrong_in, has_begun}
 use Rattle.vyrd_check.proofs.WholeFacts.{whole_same}
 
--- a line of entries from line n on gives no more entries than there may be lines
+-- lines from line n on give no more entries than there may be lines
 lines_few : (max : ℕ) (subject : Subject) (n : ℕ) (lines : List (List ℕ)) → n ≤ max + 1
     → length (lines_read (so_far max) subject n lines).entries + n ≤ max + 1
 lines_few max subject n [] within = omega (arith, within)
@@ -46,6 +47,51 @@ lines_few max subject n (line ∷ next ∷ lines) within =
     by_tests onward false true p = omega (arith, within)
     by_tests onward false false p = by_entry onward (not_below_of max n p) (entry_in subject line)
 
+-- the same, where starting words may stand
+starts_few : (max : ℕ) (h : Header) (last : Option StartWord) (n : ℕ) (lines : List (List ℕ))
+    → n ≤ max + 1
+    → length (starts_read (so_far max) h last n lines).entries + n ≤ max + 1
+starts_few max h last n [] within = omega (arith, within)
+starts_few max h last n (rest ∷ []) within = omega (arith, within)
+starts_few max h last n (line ∷ next ∷ lines) within =
+    by_line (λ s low. starts_few max h (Some s) (n + 1) (next ∷ lines) low) (start_in line)
+  where
+    after : StartWord → Reading
+    after s = starts_read (so_far max) h (Some s) (n + 1) (next ∷ lines)
+
+    Rest : StartWord → Type 0
+    Rest s = n + 1 ≤ max + 1 → length (after s).entries + (n + 1) ≤ max + 1
+
+    by_rule : (s : StartWord) → Rest s → n ≤ max → (o : Option Rule)
+        → length (start_before n o s (after s)).entries + n ≤ max + 1
+    by_rule s onward low None = omega (arith, onward (omega (arith, low)))
+    by_rule s onward low (Some rule) = omega (arith, within)
+
+    by_limit : (s : StartWord) → Rest s → (past : Bool) → nat_lt max n ≡ past
+        → length (cond past (stopped n (Some TooManyLines))
+        (start_before n (start_rule h last s) s (after s))).entries + n ≤ max + 1
+    by_limit s onward true p = omega (arith, within)
+    by_limit s onward false p = by_rule s onward (not_below_of max n p) (start_rule h last s)
+
+    by_line : ((s : StartWord) → Rest s) → (o : Option StartWord)
+        → length (elim o as (λ _. Reading) [
+          | None ↦ lines_read (so_far max) h.subject n (line ∷ next ∷ lines)
+          | Some s ↦ cond (nat_lt max n) (stopped n (Some TooManyLines))
+              (start_before n (start_rule h last s) s (after s))
+        ]).entries + n ≤ max + 1
+    by_line onward None = lines_few max h.subject n (line ∷ next ∷ lines) within
+    by_line onward (Some s) = by_limit s (onward s) (nat_lt max n) refl
+
+body_few : (max : ℕ) (h : Header) (lines : List (List ℕ)) → 1 ≤ max
+    → length (body_read (so_far max) h lines).entries ≤ max
+body_few max h lines low = by_version (h.version == 2)
+  where
+    by_version : (b : Bool)
+        → length (cond b (starts_read (so_far max) h None 2 lines)
+        (lines_read (so_far max) h.subject 2 lines)).entries ≤ max
+    by_version true = omega (arith, starts_few max h None 2 lines (omega (arith, low)))
+    by_version false = omega (arith, lines_few max h.subject 2 lines (omega (arith, low)))
+
 parts_few : (max : ℕ) (parts : List (List ℕ)) → 1 ≤ max → length (text_read (so_far max) parts).entries ≤ max
 parts_few max [] low = omega arith
 parts_few max (rest ∷ []) low = omega arith
@@ -53,41 +99,41 @@ parts_few max (line ∷ next ∷ lines) low = by_header (header_in line)
   where
     by_header : (r : Result Header Rule)
         → length (elim r as (λ _. Reading) [
-          | Ok h ↦ header_before h
-              (lines_read (so_far max) h.subject 2 (next ∷ lines))
+          | Ok h ↦ header_before h (body_read (so_far max) h (next ∷ lines))
           | Err rule ↦ stopped 1 (Some rule)
         ]).entries ≤ max
-    by_header (Ok h) = omega (arith, lines_few max h.subject 2 (next ∷ lines) (omega (arith, low)))
+    by_header (Ok h) = body_few max h (next ∷ lines) low
     by_header (Err rule) = omega arith
 
 pub entries_few : (max : ℕ) (bytes : List ℕ) → 1 ≤ max → length (read_so_far max bytes).entries ≤ max
 unfolding reading
 entries_few max bytes low = parts_few max (slice_split (λ b. b == 10) bytes) low
 
-headless_parts : (max : ℕ) (parts : List (List ℕ)) → (text_read (so_far max) parts).header ≡ None → (text_read (so_far max) parts).entries ≡ []
+headless_parts : (max : ℕ) (parts : List (List ℕ)) → (text_read (so_far max) parts).header ≡ None
+    → has_begun (text_read (so_far max) parts) ≡ false
 headless_parts max [] none = refl
 headless_parts max (rest ∷ []) none = refl
 headless_parts max (line ∷ next ∷ lines) none = by_header (header_in line) none
   where
     read_by : Result Header Rule → Reading
     read_by r = elim r as (λ _. Reading) [
-      | Ok h ↦ header_before h
-          (lines_read (so_far max) h.subject 2 (next ∷ lines))
+      | Ok h ↦ header_before h (body_read (so_far max) h (next ∷ lines))
       | Err rule ↦ stopped 1 (Some rule)
     ]
 
-    by_header : (r : Result Header Rule) → (read_by r).header ≡ None → (read_by r).entries ≡ []
+    by_header : (r : Result Header Rule) → (read_by r).header ≡ None → has_begun (read_by r) ≡ false
     by_header (Ok h) e = cc
     by_header (Err rule) e = refl
 
--- without a header there is no entry
-pub headless_empty : (max : ℕ) (bytes : List ℕ) → (read_so_far max bytes).header ≡ None → (read_so_far max bytes).entries ≡ []
+-- without a header there is neither an entry nor `end`
+pub headless_empty : (max : ℕ) (bytes : List ℕ) → (read_so_far max bytes).header ≡ None
+    → has_begun (read_so_far max bytes) ≡ false
 unfolding reading
 headless_empty max bytes none = headless_parts max (slice_split (λ b. b == 10) bytes) none
 
--- what is known of bytes is what is wrong with their entries, or else their fault of text
+-- what is known of bytes is what is wrong with what was read, or else their fault of text
 pub known_so_far : (max : ℕ) (bytes : List ℕ) (wrong fault : Option Verdict)
-    → wrong ≡ wrong_entries (read_so_far max bytes).header (read_so_far max bytes).ended (read_so_far max bytes).entries
+    → wrong ≡ wrong_in (read_so_far max bytes)
     → fault ≡ option_map (λ fault. Malformed fault.line fault.rule) (read_so_far max bytes).fault
     → option_or wrong fault ≡ text_verdict_so_far max bytes
 unfolding text_verdict_so_far
@@ -103,7 +149,7 @@ second_none (Some x) b e = cc
 
 -- what is wrong with the entries of bytes about which nothing is known
 entries_right : (max : ℕ) (bytes : List ℕ) → text_verdict_so_far max bytes ≡ None
-    → option_and_then (entries_verdict (read_so_far max bytes)) (read_so_far max bytes).header ≡ None
+    → wrong_in (read_so_far max bytes) ≡ None
 unfolding text_verdict_so_far
 entries_right max bytes nothing = first_none _ _ nothing
 
@@ -113,15 +159,29 @@ header_right : (max : ℕ) (bytes : List ℕ) (h : Header) → text_verdict_so_f
 header_right max bytes h nothing has =
     sym (ap (option_and_then (entries_verdict (read_so_far max bytes))) has) ∙ entries_right max bytes nothing
 
+-- no fault of text is known
+pub text_right : (max : ℕ) (bytes : List ℕ) → text_verdict_so_far max bytes ≡ None
+    → (read_so_far max bytes).fault ≡ None
+unfolding text_verdict_so_far
+text_right max bytes nothing = by_fault (read_so_far max bytes).fault (second_none _ _ nothing)
+  where
+    by_fault : (o : Option TextFault)
+        → option_map (λ fault. Malformed fault.line fault.rule) o ≡ None → o ≡ None
+    by_fault None e = refl
+    by_fault (Some fault) e = cc
+
 -- where `end` was read and nothing is wrong, the log is accepted
 pub ended_right : (max : ℕ) (bytes : List ℕ) (h : Header) → text_verdict_so_far max bytes ≡ None → (read_so_far max bytes).header ≡ Some h
-    → (read_so_far max bytes).ended ≡ true → verdict h (read_so_far max bytes).entries ≡ accepted (read_so_far max bytes).entries
+    → (read_so_far max bytes).ended ≡ true
+    → verdict h (read_so_far max bytes).starting (read_so_far max bytes).entries
+    ≡ accepted (read_so_far max bytes).entries
 unfolding verdict
 ended_right max bytes h nothing has done =
     let r = read_so_far max bytes in
     let wrong = header_right max bytes h nothing has in
-    let none : option_or (verdict_so_far h r.entries) (end_verdict h r.entries) ≡ None =
-    ap (λ b. option_or (verdict_so_far h r.entries) (cond b (end_verdict h r.entries) None)) (sym done) ∙ wrong in
+    let none : option_or (verdict_so_far h r.starting r.entries) (end_verdict h r.starting r.entries) ≡ None =
+    ap (λ b. option_or (verdict_so_far h r.starting r.entries)
+    (cond b (end_verdict h r.starting r.entries) None)) (sym done) ∙ wrong in
     ap (λ o. unwrap_or o (accepted r.entries)) none
 
 -- Where nothing is known of the bytes, the verdict about them as the whole input is their fault of text, or else acceptance.
@@ -134,8 +194,11 @@ whole_right max bytes nothing =
     let w = read_whole max bytes in
     let same = whole_same max bytes in
     let right = entries_right max bytes nothing in
-    let wrong_is : option_and_then (entries_verdict w) w.header ≡ None =
-    (λ i. wrong_entries (sym same.header i) (sym same.ended i) (sym same.entries i)) ∙ right in
+    let wrong_is : wrong_in w ≡ None =
+    (λ i. option_and_then (λ h.
+    option_or (verdict_so_far h (sym same.starting i) (sym same.entries i))
+    (cond (sym same.ended i) (end_verdict h (sym same.starting i) (sym same.entries i)) None))
+    (sym same.header i)) ∙ right in
     (λ i. unwrap_or (option_or (wrong_is i) (option_map (λ fault. Malformed fault.line fault.rule) w.fault)) (accepted (sym same.entries i)))
 
 pub whole_faulty : (max : ℕ) (bytes : List ℕ) (line : ℕ) (rule : Rule) → text_verdict_so_far max bytes ≡ None
@@ -146,17 +209,17 @@ whole_faulty max bytes line rule nothing fault =
 
 pub whole_accepted : (max : ℕ) (bytes : List ℕ) (h : Header) → text_verdict_so_far max bytes ≡ None
     → (read_whole max bytes).fault ≡ None → (read_whole max bytes).ended ≡ true → (read_so_far max bytes).header ≡ Some h
-    → verdict h (read_so_far max bytes).entries ≡ text_verdict max bytes
+    → verdict h (read_so_far max bytes).starting (read_so_far max bytes).entries
+    ≡ text_verdict max bytes
 whole_accepted max bytes h nothing fault done has =
     ended_right max bytes h nothing has ((whole_same max bytes).ended ∙ done)
     ∙ sym (whole_right max bytes nothing
     ∙ ap (λ o. unwrap_or (option_map (λ fault. Malformed fault.line fault.rule) o) (accepted (read_so_far max bytes).entries)) fault)
 
--- without a header there is a fault of text
-pub headless_faulty : (max : ℕ) (bytes : List ℕ) → (read_so_far max bytes).header ≡ None → (read_whole max bytes).fault ≡ None → ⊥
-headless_faulty max bytes none fault =
-    let found = headless_has_fault max bytes (sym (whole_same max bytes).header ∙ none) in
-    never (sym fault ∙ found.1)
+-- where `end` isn't read so far, it isn't in the whole input either
+pub not_ended : (max : ℕ) (bytes : List ℕ) → (read_so_far max bytes).ended ≡ false
+    → (read_whole max bytes).ended ≡ true → ⊥
+not_ended max bytes none done = never (sym none ∙ (whole_same max bytes).ended ∙ done)
   where
-    never : {f : TextFault} → None ≡ Some f → ⊥
+    never : false ≡ true → ⊥
     never e = cc

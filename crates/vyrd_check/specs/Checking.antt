@@ -1,11 +1,12 @@
 -- What a checker keeps, and the bytes that it stands for.
-use Rattle.std.specs.Prelude.{◌≡◌, ◌≤◌, ◌+◌, ◌^◌, ℕ, Bool, false, List, [], length, Option, Some, None, option_and_then, if◌then◌else◌}
-use Rattle.std.specs.Option.{option_or}
+use Rattle.std.specs.Prelude.{◌≡◌, ◌≤◌, ◌+◌, ◌^◌, ℕ, Bool, true, false, ◌||◌, List, [], ◌++◌, length, Option, Some, None, option_and_then, is_none}
 use Rattle.vyrd_base.specs.declared.header.Header.{Header}
 use Rattle.vyrd_base.specs.declared.log.Entry.{Entry}
+use Rattle.vyrd_base.specs.declared.log.StartWord.{StartWord}
 use Rattle.vyrd_base.specs.declared.verdict.Verdict.{Verdict}
-use Rattle.vyrd_base.specs.Verdicts.{verdict_so_far, end_verdict}
-use Rattle.vyrd_base.specs.TextVerdicts.{text_verdict_so_far}
+use Rattle.vyrd_base.specs.Starts.{state_at_start}
+use Rattle.vyrd_base.specs.Reading.{Reading, has_any}
+use Rattle.vyrd_base.specs.TextVerdicts.{entries_verdict, text_verdict_so_far}
 use Rattle.vyrd_text.specs.Readers.{ReaderState, HasRead}
 use Rattle.vyrd_judge.specs.Following.{JudgeView, HasFollowed}
 use Rattle.vyrd_check.specs.LogReadings.{read_so_far}
@@ -15,27 +16,64 @@ pub record IsLimit (max : ℕ) : Type 0 where
   pub low : 1 ≤ max
   pub high : max ≤ 268435456
 
--- what is wrong with entries, and with their end where `end` was read
-abbrev pub wrong_entries : Option Header → Bool → List Entry → Option Verdict
-wrong_entries header ended log =
-    option_and_then (λ h. option_or (verdict_so_far h log) (if ended then end_verdict h log else None)) header
+-- what is wrong with the starting words and entries that were read, and with their end where
+-- `end` was read
+abbrev pub wrong_in : Reading → Option Verdict
+wrong_in read = option_and_then (entries_verdict read) read.header
 
--- The judge has followed the entries of a log, and nothing is wrong with them. There is one as soon as there is a header.
-abbrev pub IsJudging : Option JudgeView → Option Header → List Entry → Type 0
-IsJudging None header log = header ≡ None
-IsJudging (Some j) header log = (header ≡ Some j.kept.header) × HasFollowed j log × (j.so_far ≡ None)
+-- whether an entry or `end` was read: then no starting word comes any more
+abbrev pub has_begun : Reading → Bool
+has_begun read = has_any read.entries || read.ended
+
+-- a judge with no verdict that has followed these entries of what was read
+pub record IsAt (j : JudgeView) (read : Reading) (log : List Entry) : Type 0 where
+  pub header : read.header ≡ Some j.kept.header
+  pub followed : HasFollowed j read.starting log
+  pub so_far : j.so_far ≡ None
+  pub begun : has_begun read ≡ true
+
+-- The judge has followed what was read, and nothing is wrong with it. There is none before an entry
+-- or `end` was read.
+abbrev pub IsJudging : Option JudgeView → Reading → Type 0
+IsJudging None read = (read.entries ≡ []) × (read.ended ≡ false)
+IsJudging (Some j) read = IsAt j read read.entries
+
+-- the starting words that were read stand for no state
+abbrev pub StandsForNone : Reading → Type 0
+StandsForNone read =
+    (h : Header) × (read.header ≡ Some h) × (is_none (state_at_start h read.starting) ≡ true)
+
+-- The judge that has followed the entries from before. Where there is none, no entry came before,
+-- and the starting words stand for no state if an entry or `end` was read.
+abbrev pub IsBefore : Option JudgeView → Reading → List Entry → Type 0
+IsBefore None read log = (log ≡ []) × (has_begun read ≡ true → StandsForNone read)
+IsBefore (Some j) read log = IsAt j read log
+
+-- The judge is ready for the last entries of what was read, and for `end` if it was read.
+pub record IsReady (judge : Option JudgeView) (read : Reading) (log more : List Entry) (done : Bool)
+    : Type 0 where
+  pub before : IsBefore judge read log
+  pub entries : read.entries ≡ log ++ more
+  pub ended : read.ended ≡ done
 
 -- the judge can count further entries
 abbrev pub HasRoom : Option JudgeView → List Entry → Type 0
 HasRoom None entries = Unit {0}
 HasRoom (Some j) entries = j.kept.entries + length entries ≤ 2 ^ 62
 
--- The judge once a header may be there: one that has followed no entry where there was none before.
-abbrev pub IsBegun : Option Header → Option JudgeView → Option JudgeView → Type 0
-IsBegun None before after = after ≡ before
-IsBegun (Some h) (Some j) after = after ≡ Some j
-IsBegun (Some h) None None = ⊥
-IsBegun (Some h) None (Some j) = (j.kept.header ≡ h) × HasFollowed j [] × (j.so_far ≡ None)
+-- the judge that was made where the starting words stand for a state: it has followed no entry
+abbrev pub IsMade : Header → List StartWord → Option JudgeView → Type 0
+IsMade h starting None = is_none (state_at_start h starting) ≡ true
+IsMade h starting (Some j) = (j.kept.header ≡ h) × HasFollowed j starting [] × (j.so_far ≡ None)
+
+-- The judge before and after a piece, in which an entry or `end` was read or not: a new one where
+-- there was none.
+abbrev pub IsBegun
+    : Bool → Option Header → List StartWord → Option JudgeView → Option JudgeView → Type 0
+IsBegun begun header starting (Some j) after = after ≡ Some j
+IsBegun false header starting None after = after ≡ None
+IsBegun true None starting None after = after ≡ None
+IsBegun true (Some h) starting None after = IsMade h starting after
 
 -- what reads the text and judges its entries
 pub record Kept : Type 0 where
@@ -45,7 +83,7 @@ pub record Kept : Type 0 where
 -- Nothing is wrong with the bytes so far, and what is kept stands for them.
 pub record IsUndecided (k : Kept) (bytes : List ℕ) : Type 0 where
   pub read : HasRead k.reader bytes
-  pub judging : IsJudging k.judge (read_so_far k.reader.max_lines bytes).header (read_so_far k.reader.max_lines bytes).entries
+  pub judging : IsJudging k.judge (read_so_far k.reader.max_lines bytes)
   pub nothing : text_verdict_so_far k.reader.max_lines bytes ≡ None
 
 -- what is kept stands for some bytes

@@ -15,9 +15,9 @@ const LONGEST_PART: usize = 8_192;
 
 /// Follows the bytes of a log, which may come in pieces of any size, and knows the verdict as soon as there is one.
 ///
-/// It keeps at most one unfinished line, room for the entries of at most 8,192 bytes, and what
-/// [`AnyJudge`](vyrd_judge::AnyJudge) keeps. The time grows with the bytes. Once `feed` has
-/// found no memory, it and `finish` say so from then on.
+/// It keeps at most one unfinished line, the starting words, room for the entries of at most 8,192
+/// bytes, and what [`AnyJudge`](vyrd_judge::AnyJudge) keeps. The time grows with the bytes. Once
+/// `feed` has found no memory, it and `finish` say so from then on.
 pub struct Checker {
     text: TextJudge,
     so_far: Option<Verdict>,

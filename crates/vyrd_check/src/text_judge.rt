@@ -1,24 +1,34 @@
 //! A reader of a log's text, and the judge of what it reads.
 
-ghost use Rattle.std.specs.Prelude.{◌≡◌, ◌++◌, ◌+◌, ◌^◌, ◌≤◌, ℕ, List, [], length, Option, Some, None, IfOk, OnOk, option_map};
+ghost use Rattle.std.specs.Prelude.{◌≡◌, ◌++◌, ◌+◌, ◌^◌, ◌≤◌, ◌||◌, ℕ, true, Bool, List, [], length, Option, Some, None, IfOk, OnOk, option_map};
+ghost use Rattle.std.specs.Bool.{then_some};
 ghost use Rattle.vyrd_base.specs.declared.header.Header.{Header};
 ghost use Rattle.vyrd_base.specs.declared.log.Entry.{Entry};
+ghost use Rattle.vyrd_base.specs.declared.log.StartWord.{StartWord};
+ghost use Rattle.vyrd_base.specs.declared.verdict.Rule.TheVariants.{StartState};
 ghost use Rattle.vyrd_base.specs.declared.verdict.Verdict.TheVariants.{Malformed};
+ghost use Rattle.vyrd_base.specs.Starts.{may_start};
+ghost use Rattle.vyrd_base.specs.Reading.{Reading, has_any};
 ghost use Rattle.vyrd_base.specs.Verdicts.{verdict_so_far, end_verdict};
 ghost use Rattle.vyrd_base.specs.TextVerdicts.{text_verdict_so_far, text_verdict};
 ghost use Rattle.vyrd_text.specs.Readers.{HasRead};
 ghost use Rattle.vyrd_text.specs.Answered.{IsGrownBy};
 ghost use Rattle.vyrd_judge.specs.Following.{HasFollowed};
 ghost use Rattle.vyrd_check.specs.LogReadings.{read_so_far};
-ghost use Rattle.vyrd_check.specs.Checking.{IsLimit, IsJudging, IsBegun, HasRoom, IsUndecided, IsSomewhere, wrong_entries};
+ghost use Rattle.vyrd_check.specs.Checking.{IsLimit, IsReady, IsJudging, IsBegun, HasRoom, IsUndecided, IsSomewhere, wrong_in};
 
 use std::alloc::{AllocError, Global};
 use std::marker::Model;
-use vyrd_base::{Entry, Header, Verdict};
+use vyrd_base::{Entry, Rule, Verdict};
 use vyrd_judge::AnyJudge;
 use vyrd_text::{LogReader, TextFault};
 
-/// Reads the text of a log piece by piece, and judges the entries of each piece. They are forgotten at the next.
+/// The line of the first starting word: the header stands on the line before.
+const FIRST_START_LINE: u64 = 2;
+
+/// Reads the text of a log piece by piece, and judges the entries of each piece. They are forgotten
+/// at the next. The judge is made at the first entry or at `end`, for until then more starting words
+/// may come.
 #[derive(Drop)]
 pub(crate) struct TextJudge {
     alloc: Global,
@@ -44,7 +54,7 @@ impl TextJudge {
     {
         TextJudge {
             alloc,
-            reader: LogReader::new(max_lines),
+            reader: LogReader::new(alloc, max_lines),
             judge: None,
             entries: Vec::new(alloc),
         }
@@ -62,7 +72,7 @@ impl TextJudge {
     {
         self.entries.clear();
         let fault = read(&mut self.reader, piece, &mut self.entries)?;
-        begin(self.alloc, self.reader.header(), &mut self.judge)?;
+        begin(self.alloc, &self.reader, &self.entries, &mut self.judge)?;
         let wrong = judge_entries(&mut self.judge, &self.entries, self.reader.ended())?;
         Ok(wrong.or(fault))
     }
@@ -108,20 +118,33 @@ fn read(
     }
 }
 
-// Makes the judge, where the header is known and there is none.
+// Whether an entry of the last piece or `end` was read: then no starting word comes any more.
+fn has_begun(entries: &[Entry], ended: bool) -> bool
+    ensures { result ≡ (has_any entries.now || ended) }
+{
+    ended || !entries.is_empty()
+}
+
+// Makes the judge once an entry or `end` was read, where there is none. There is none either where
+// the starting words stand for no state.
 fn begin(
     alloc: Global,
-    header: Option<Header>,
+    reader: &LogReader,
+    entries: &[Entry],
     judge: &mut Option<AnyJudge>,
 ) -> Result<(), AllocError>
-    ensures { OnOk result (IsBegun header judge.old judge.new) }
+    requires may_start { (h : Header) → reader.now.header ≡ Some h →
+        may_start h reader.now.start ≡ true }
+    ensures { OnOk result (IsBegun (has_any entries.now || reader.now.ended)
+        reader.now.header reader.now.start judge.old judge.new) }
 {
-    let Some(header) = header else {
+    if judge.is_some() || !has_begun(entries, reader.ended()) {
+        return Ok(());
+    }
+    let Some(header) = reader.header() else {
         return Ok(());
     };
-    if judge.is_none() {
-        *judge = Some(AnyJudge::new(alloc, header)?);
-    }
+    *judge = AnyJudge::start_from(alloc, header, reader.start())?;
     Ok(())
 }
 
@@ -132,14 +155,29 @@ fn judge_entries(
     ended: bool,
 ) -> Result<Option<Verdict>, AllocError>
     requires { HasRoom judge.old entries.now }
-    ensures answer { (header : Option Header) (log : List Entry) → IsJudging judge.old header log →
-        IfOk result (λ v. v ≡ wrong_entries header ended (log ++ entries.now)) }
-    ensures judging { (header : Option Header) (log : List Entry) → IsJudging judge.old header log →
-        IfOk result (λ v. v ≡ None → IsJudging judge.new header (log ++ entries.now)) }
+    ensures answer { (read : Reading) (log : List Entry) →
+        IsReady judge.old read log entries.now ended → IfOk result (λ v. v ≡ wrong_in read) }
+    ensures judging { (read : Reading) (log : List Entry) →
+        IsReady judge.old read log entries.now ended →
+        IfOk result (λ v. v ≡ None → IsJudging judge.new read) }
 {
     match judge {
         Some(judge) => follow(judge, entries, ended),
-        None => Ok(None),
+        None => Ok(wrong_start(entries, ended)),
+    }
+}
+
+// What is wrong where there is no judge: the starting words, once an entry or `end` was read.
+fn wrong_start(entries: &[Entry], ended: bool) -> Option<Verdict>
+    ensures { result ≡ then_some (has_any entries.now || ended) (Malformed 2 StartState) }
+{
+    if has_begun(entries, ended) {
+        Some(Verdict::Malformed {
+            line: FIRST_START_LINE,
+            rule: Rule::StartState,
+        })
+    } else {
+        None
     }
 }
 
@@ -150,11 +188,11 @@ fn follow(
     ended: bool,
 ) -> Result<Option<Verdict>, AllocError>
     requires few { judge.old.kept.entries + length entries.now ≤ 2 ^ 62 }
-    ensures answer { (log : List Entry) → HasFollowed judge.old log →
-        IfOk result (λ v. v ≡ wrong_entries (Some judge.old.kept.header) ended (log ++ entries.now)) }
-    ensures followed { (log : List Entry) → HasFollowed judge.old log → OnOk result (HasFollowed judge.new (log ++ entries.now)) }
-    ensures so_far { IfOk result (λ v. v ≡ None → judge.new.so_far ≡ None) }
-    ensures header { judge.new.kept.header ≡ judge.old.kept.header }
+    ensures answer { (read : Reading) (log : List Entry) →
+        IsReady (Some judge.old) read log entries.now ended → IfOk result (λ v. v ≡ wrong_in read) }
+    ensures judging { (read : Reading) (log : List Entry) →
+        IsReady (Some judge.old) read log entries.now ended →
+        IfOk result (λ v. v ≡ None → IsJudging (Some judge.new) read) }
 {
     if let Some(verdict) = judge.follow(entries)? {
         return Ok(Some(verdict));
@@ -164,8 +202,9 @@ fn follow(
 
 // What is wrong where `end` stands after the entries, given that nothing is wrong with them.
 fn open_call(judge: &AnyJudge) -> Result<Option<Verdict>, AllocError>
-    ensures { (log : List Entry) → HasFollowed judge.now log → verdict_so_far judge.now.kept.header log ≡ None →
-        IfOk result (λ v. v ≡ end_verdict judge.now.kept.header log) }
+    ensures { (starting : List StartWord) (log : List Entry) → HasFollowed judge.now starting log →
+        verdict_so_far judge.now.kept.header starting log ≡ None →
+        IfOk result (λ v. v ≡ end_verdict judge.now.kept.header starting log) }
 {
     match judge.finish()? {
         Verdict::Accepted { .. } => Ok(None),

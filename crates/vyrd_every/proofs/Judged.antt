@@ -13,7 +13,10 @@ use Rattle.vyrd_base.specs.Callers.{Called, open_call, entries_before_call}
 use Rattle.vyrd_base.specs.Subjects.{is_observer}
 use Rattle.vyrd_base.specs.Amounts.{Amounts, amount_of, keys_of, least, first_difference}
 use Rattle.vyrd_base.specs.Specification.{next_state, answer_in}
-use Rattle.vyrd_base.specs.Words.{words_after}
+use Rattle.vyrd_base.specs.Words.{words_at}
+use Rattle.vyrd_base.specs.FirstVersion.{old_words_after}
+use Rattle.vyrd_base.proofs.ShadowLaws.{WellFormed}
+use Rattle.vyrd_base.proofs.VersionWords.{first_words_at}
 use Rattle.vyrd_base.specs.Views.{view_of_words}
 use Rattle.vyrd_base.specs.Commits.{Committed, next_reply, committed_at, once_returned, state_after, states_from, commit_count}
 use Rattle.vyrd_base.specs.Faults.{commit_fault, states_since_call, observer_fault, return_fault, fault_of_commit}
@@ -46,20 +49,21 @@ state_here : (passed later : List Amounts) (state : Amounts) (n : ℕ) → lengt
 state_here passed later state n e = slice_get_seam passed (state ∷ later) n e
 
 -- a commit after which the words show the next state is no fault
-pub commit_is_right : (h : Header) (passed later : List Amounts) (state next : Amounts) (place : Place Entry) (called : Called) (reply : ℕ)
-    → view_of_words h (words_after h (place.here ∷ place.earlier)) ≡ next → length passed ≡ commit_count place.earlier
+pub commit_is_right : (h : Header) → h.version ≡ 1 → (passed later : List Amounts) (state next : Amounts) (place : Place Entry) (called : Called) (reply : ℕ)
+    → WellFormed h (place.here ∷ place.earlier) → view_of_words h (old_words_after h (place.here ∷ place.earlier)) ≡ next
+    → length passed ≡ commit_count place.earlier
     → open_call place.here.caller place.earlier ≡ Some called → next_reply place.here.caller place.later ≡ Some reply
     → next_state called.method called.args reply state ≡ Some next
-    → fault_of_commit h (passed ++ state ∷ later) place ≡ None
-commit_is_right h passed later state next place called reply shows count call returns allowed =
+    → fault_of_commit h [] (passed ++ state ∷ later) place ≡ None
+commit_is_right h one passed later state next place called reply wf shows count call returns allowed =
     ap (option_and_then (commit_fault shown (committed_at place))) (state_here passed later state (commit_count place.earlier) count)
     ∙ (λ i. commit_fault shown (record { caller = place.here.caller; called = call i; reply = returns i }) state)
     ∙ ap (λ o. elim o [ None ↦ Some (Reply reply) | Some after ↦ option_map View (first_difference shown after) ]) allowed
-    ∙ ap (λ s. option_map View (first_difference s next)) shows
+    ∙ ap (λ s. option_map View (first_difference s next)) (ap (view_of_words h) (first_words_at h place one wf) ∙ shows)
     ∙ ap (option_map View) (no_difference next)
   where
     shown : Amounts
-    shown = view_of_words h (words_after h (place.here ∷ place.earlier))
+    shown = view_of_words h (words_at h [] place)
 
 -- and the states go on with the next one
 pub state_goes_on : (passed : List Amounts) (state next : Amounts) (x : Committed) (xs : List Committed) (called : Called) (reply : ℕ)

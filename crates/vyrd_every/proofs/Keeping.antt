@@ -7,7 +7,7 @@ use Rattle.vyrd_base.specs.declared.history.Stamped.{Stamped}
 use Rattle.vyrd_base.specs.Amounts.{Amounts}
 use Rattle.vyrd_base.specs.Specification.{start}
 use Rattle.vyrd_base.specs.Commits.{commit_count}
-use Rattle.vyrd_base.specs.Words.{words_after}
+use Rattle.vyrd_base.specs.FirstVersion.{old_words_after}
 use Rattle.vyrd_base.specs.Views.{view_of_words}
 use Rattle.vyrd_base.proofs.ShadowLaws.{WellFormed}
 use Rattle.vyrd_memory.specs.declared.act.Act.TheVariants.{Take}
@@ -39,7 +39,7 @@ pub record Keeping (h : Header) (scripts : List Script) : Type 1 where
   pub kept : (earlier : List Stamped) (passed : List Amounts) (state : Amounts) → Holds earlier passed state → WellFormed h (log_in earlier)
   pub count : (earlier : List Stamped) (passed : List Amounts) (state : Amounts) → Holds earlier passed state → length passed ≡ commit_count (log_in earlier)
   pub view : (earlier : List Stamped) (passed : List Amounts) (state : Amounts) → IsRun h scripts earlier → Holds earlier passed state
-      → view_of_words h (words_after h (log_in earlier)) ≡ state
+      → view_of_words h (old_words_after h (log_in earlier)) ≡ state
   -- who takes a lock holds only lower ones, and who is done holds none
   pub upward : (earlier : List Stamped) (passed : List Amounts) (state : Amounts) → IsRun h scripts earlier → Holds earlier passed state
       → (c : ℕ) → c < h.callers → (lock : ℕ) → act_of scripts c earlier ≡ Take lock

@@ -1,8 +1,8 @@
 -- What one more event makes of what the log says.
-use Rattle.std.proofs.Common.{◌≡◌, ℕ, ◌<◌, Bool, true, false, cond, not, ◌&&◌, List, [], ◌∷◌, ◌++◌, Some, None, refl, ap, ◌∙◌, sym, arith}
+use Rattle.std.proofs.Common.{◌≡◌, ℕ, ◌<◌, Bool, true, false, cond, not, ◌&&◌, ◌||◌, List, [], ◌∷◌, ◌++◌, Some, None, refl, ap, ◌∙◌, sym, arith}
 use Rattle.std.specs.Prelude.{◌==◌, unwrap_or}
 use Rattle.std.specs.Option.{option_or, option_flatten}
-use Rattle.std.specs.List.{cons_option}
+use Rattle.std.specs.List.{list_any, cons_option}
 use Rattle.std.proofs.lemmas.Bool.Decides.{nat_tests}
 use Rattle.vyrd_base.specs.declared.header.Header.{Header}
 use Rattle.vyrd_base.specs.declared.log.Kind.{Kind}
@@ -13,11 +13,13 @@ use Rattle.vyrd_base.specs.declared.history.Did.TheVariants.{Read, Wrote, Took, 
 use Rattle.vyrd_base.specs.declared.verdict.Rule.TheVariants.{BlockRaced}
 use Rattle.vyrd_base.specs.Places.{first_answer}
 use Rattle.vyrd_base.specs.Callers.{call_or_return, open_call, has_block, holds_word}
-use Rattle.vyrd_base.specs.Shape.{Check, first_broken, checks_at, broken_rule, is_held_by_other}
-use Rattle.vyrd_base.specs.Words.{block_writes, given_to, effects, value_after}
+use Rattle.vyrd_base.specs.Shape.{Check, first_broken, checks_at, broken_rule, is_held_by_other, is_raced}
+use Rattle.vyrd_base.specs.Words.{block_writes, given_to, effects_of_others}
+use Rattle.vyrd_base.specs.FirstVersion.{old_effects, old_value_after}
 use Rattle.vyrd_base.specs.Histories.{logged}
 use Rattle.vyrd_base.proofs.BlockLaws.{entry, own_answer, other_answer, own_writes, other_writes}
-use Rattle.vyrd_base.proofs.ShadowLaws.{holds_other}
+use Rattle.vyrd_base.proofs.ShadowLaws.{WellFormed, holds_other}
+use Rattle.vyrd_base.proofs.VersionWords.{no_inner_commit}
 use Rattle.vyrd_memory.specs.Alone.{with_cell}
 use Rattle.vyrd_memory.specs.Soundness.{Standing}
 use Rattle.vyrd_memory.proofs.Standings.{act_of_event}
@@ -29,7 +31,7 @@ use Rattle.vyrd_every.specs.RightScripts.{Reaches}
 use Rattle.vyrd_every.proofs.Acts.{never}
 
 -- one more effect
-pub one_more : (word value : ℕ) (writes : List (ℕ × ℕ)) (w : ℕ) → value_after ((word, value) ∷ writes) w ≡ with_cell (λ q. value_after writes q) word value w
+pub one_more : (word value : ℕ) (writes : List (ℕ × ℕ)) (w : ℕ) → old_value_after ((word, value) ∷ writes) w ≡ with_cell (λ q. old_value_after writes q) word value w
 one_more word value writes w = by_place (word == w) refl
   where
     flip : (a b : ℕ) (t : Bool) → (a == b) ≡ t → (b == a) ≡ t
@@ -37,11 +39,11 @@ one_more word value writes w = by_place (word == w) refl
     flip a b false e = grind (arith, nat_tests)
 
     by_place : (b : Bool) → (word == w) ≡ b → unwrap_or (option_or (cond b (Some value) None) (first_answer (given_to w) writes)) 0
-        ≡ cond (w == word) value (value_after writes w)
-    by_place true e = ap (λ t. cond t value (value_after writes w)) (sym (flip word w true e))
-    by_place false e = ap (λ t. cond t value (value_after writes w)) (sym (flip word w false e))
+        ≡ cond (w == word) value (old_value_after writes w)
+    by_place true e = ap (λ t. cond t value (old_value_after writes w)) (sym (flip word w true e))
+    by_place false e = ap (λ t. cond t value (old_value_after writes w)) (sym (flip word w false e))
 
-pub more : (writes others : List (ℕ × ℕ)) → (λ w. value_after (writes ++ others) w) ≡ written writes (λ w. value_after others w)
+pub more : (writes others : List (ℕ × ℕ)) → (λ w. old_value_after (writes ++ others) w) ≡ written writes (λ w. old_value_after others w)
 more [] others = refl
 more ((word, value) ∷ writes) others =
     (λ i w. one_more word value (writes ++ others) w i) ∙ ap (λ m. with_cell m word value) (more writes others)
@@ -54,20 +56,20 @@ shown_step S c (Read cell value) s k log block pending reaches = refl
 shown_step S c (Took lock) s k log block pending reaches = refl
 shown_step S c (Gave lock) s k log block pending reaches = refl
 shown_step S c (Wrote cell value) s k log block pending reaches =
-    ap (λ b. (λ w. value_after (cond b [] ((cell, value) ∷ []) ++ effects log) w)) block ∙ by_block s.in_block
+    ap (λ b. (λ w. old_value_after (cond b [] ((cell, value) ∷ []) ++ old_effects log) w)) block ∙ by_block s.in_block
   where
-    by_block : (b : Bool) → (λ w. value_after (cond b [] ((cell, value) ∷ []) ++ effects log) w) ≡ cond b (shown_by log) (with_cell (shown_by log) cell value)
+    by_block : (b : Bool) → (λ w. old_value_after (cond b [] ((cell, value) ∷ []) ++ old_effects log) w) ≡ cond b (shown_by log) (with_cell (shown_by log) cell value)
     by_block true = refl
-    by_block false = λ i w. one_more cell value (effects log) w i
+    by_block false = λ i w. one_more cell value (old_effects log) w i
 shown_step S c (Marked (Call method args)) s k log block pending reaches = refl
 shown_step S c (Marked (Return reply)) s k log block pending reaches = refl
 shown_step S c (Marked (Write word value)) s k log block pending reaches = absurd reaches
 shown_step S c (Marked Commit) s k log block pending reaches = refl
 shown_step S c (Marked BlockOpen) s k log block pending reaches = refl
 shown_step S c (Marked BlockClose) s k log block pending reaches =
-    more (block_writes c log) (effects log) ∙ ap (λ ws. written ws (shown_by log)) (sym pending)
+    more (block_writes c log) (old_effects log) ∙ ap (λ ws. written ws (shown_by log)) (sym pending)
 shown_step S c (Marked BlockCommit) s k log block pending reaches =
-    more (block_writes c log) (effects log) ∙ ap (λ ws. written ws (shown_by log)) (sym pending)
+    more (block_writes c log) (old_effects log) ∙ ap (λ ws. written ws (shown_by log)) (sym pending)
 
 -- the writes since the last open
 pub pending_step : (c : ℕ) (did : Did) (log : List Entry) → block_writes c (cons_option (logged c did) log) ≡ pending_after (act_of_event did) (block_writes c log)
@@ -136,10 +138,13 @@ none_raced (check ∷ checks) un only = by_test check.broken refl (none_raced ch
     by_test true e rest only = absurd (un.0 e (only.raced check.rule refl))
     by_test false e rest only = rest only
 
-pub write_unraced : (h : Header) (c word value : ℕ) (log : List Entry) → is_held_by_other h c word log ≡ false
+-- in version 1 a word that nobody else's block has written may be written
+pub write_unraced : (h : Header) (c word value : ℕ) (log : List Entry) → h.version ≡ 1 → WellFormed h log → is_held_by_other h c word log ≡ false
     → OnlyRaced (broken_rule h log (entry c (Write word value))) → broken_rule h log (entry c (Write word value)) ≡ None
-write_unraced h c word value log free only =
-    none_raced (checks_at h log (entry c (Write word value))) (λ b e. cc, (λ b e. cc, (λ b e. cc, (λ b e. cc, (λ b e. never free b, tt))))) only
+write_unraced h c word value log one wf free only =
+    let unraced : is_raced h c word log ≡ false =
+    (λ i. free i || (no_inner_commit h c log one wf i && list_any (λ write. write.0 == word) (effects_of_others c log []))) in
+    none_raced (checks_at h log (entry c (Write word value))) (λ b e. cc, (λ b e. cc, (λ b e. cc, (λ b e. cc, (λ b e. never unraced b, tt))))) only
 
 -- a mark that is no write
 abbrev pub IsNoWrite : Kind → Type 0

@@ -140,7 +140,7 @@ kept_step S scripts earlier hands passed state c (Read cell value) is sound run 
 kept_step S scripts earlier hands passed state c (Took lock) is sound run holds low may agree reaches = holds.kept
 kept_step S scripts earlier hands passed state c (Gave lock) is sound run holds low may agree reaches = holds.kept
 kept_step S scripts earlier hands passed state c (Wrote cell value) is sound run holds low may agree reaches = (
-  write_unraced S.header c cell value (log_in earlier)
+  write_unraced S.header c cell value (log_in earlier) is.version holds.kept
       (held_by_none S.header c cell (log_in earlier) (λ d low_d apart.
       free_word S scripts earlier hands passed state c d cell is sound run holds low low_d apart reaches))
       (write_kept S.header c cell value (standing_in (part_of c earlier)) (log_in earlier) low may agree),

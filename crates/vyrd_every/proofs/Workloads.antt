@@ -18,7 +18,7 @@ use Rattle.vyrd_base.specs.Front.{first_break}
 use Rattle.vyrd_base.specs.Amounts.{Amounts}
 use Rattle.vyrd_base.specs.Faults.{fault_at}
 use Rattle.vyrd_base.specs.Histories.{log_of}
-use Rattle.vyrd_base.specs.Verdicts.{line_of, violation_at, first_fault, is_call_open, accepted, verdict}
+use Rattle.vyrd_base.specs.Verdicts.{line_of, violation_at, states_along, first_fault, is_call_open, accepted, verdict}
 use Rattle.vyrd_base.proofs.TestLaws.{first_true, second_true}
 use Rattle.vyrd_memory.specs.declared.op.Op.{Op}
 use Rattle.vyrd_memory.specs.Bounds.{bound_in, bounds_of}
@@ -34,7 +34,7 @@ use Rattle.vyrd_work.specs.WorkLimits.{KeepsLimits}
 use Rattle.vyrd_work.specs.WorkScripts.{procedure_in, ops_of, work_script, work_scripts}
 use Rattle.vyrd_work.proofs.ScriptLaws.{ops_are_few, ops_are_callable}
 use Rattle.vyrd_work.proofs.SoundScripts.{script_at, scripts_sound}
-use Rattle.vyrd_every.specs.Schedules.{IsCorrect, IsCorrectMultiset, IsCorrectCache, IsCorrectMultisetOrCache, IsSchedule, states_of}
+use Rattle.vyrd_every.specs.Schedules.{IsCorrect, IsCorrectMultiset, IsCorrectCache, IsCorrectMultisetOrCache, IsSchedule}
 use Rattle.vyrd_every.specs.Structures.{Structure}
 use Rattle.vyrd_every.specs.Hands.{empty_hand}
 use Rattle.vyrd_every.specs.RightScripts.{DoesRight, IsRight, AreRight}
@@ -72,7 +72,7 @@ script_right S w procedure c now same low callable each =
 -- so do the scripts of a workload of the correct multiset, and of the correct cache
 multisets_right : (w : Workload) → KeepsLimits w → IsCorrectMultiset w → AreRight (multiset w.header) (work_scripts w)
 multisets_right w limits is = record {
-  fits = multiset_fits w.header is.subject;
+  fits = multiset_fits w.header limits.version is.subject;
   sound = scripts_sound w limits;
   right = λ c low now. script_right (multiset w.header) w (multiset_procedure w.header Correct) c now
       (λ i. procedure_in (is.subject i) w.header (is.variant i)) low (ops_are_callable w c limits)
@@ -81,7 +81,7 @@ multisets_right w limits is = record {
 
 caches_right : (w : Workload) → KeepsLimits w → IsCorrectCache w → AreRight (cache w.header) (work_scripts w)
 caches_right w limits is = record {
-  fits = cache_fits w.header is.subject;
+  fits = cache_fits w.header limits.version is.subject;
   sound = scripts_sound w limits;
   right = λ c low now. script_right (cache w.header) w (cache_procedure w.header Correct) c now
       (λ i. procedure_in (is.subject i) w.header (is.variant i)) low (ops_are_callable w c limits)
@@ -97,6 +97,7 @@ some_size h = at_least (first_true _ _ (first_true _ _ (first_true _ _ (second_t
 
 trees_right : (w : Workload) → KeepsLimits w → IsCorrectTree w → Keeping w.header (work_scripts w)
 trees_right w limits is = tree_keeping w.header (work_scripts w) (record {
+  version = limits.version;
   subject = is.subject;
   some = some_size w.header;
   sound = scripts_sound w limits;
@@ -113,32 +114,32 @@ keeping w limits is = by_subject w.header.subject refl
     by_subject Tree e = trees_right w limits (record { subject = e; variant = is })
 
 -- there is no first fault
-none_first : (h : Header) (scripts : List Script) (k : Keeping h scripts) (history : List Stamped) → IsRun h scripts (newest_first history)
+none_first : (h : Header) → h.version ≡ 1 → (scripts : List Script) (k : Keeping h scripts) (history : List Stamped) → IsRun h scripts (newest_first history)
     → AreDone h scripts (newest_first history)
-    → first_answer (violation_at h (states_of (log_of history))) (places (log_of history)) ≡ None
+    → first_answer (violation_at h [] (states_along h [] (log_of history))) (places (log_of history)) ≡ None
 unfolding first_fault
-none_first h scripts k history run done =
-    sym (ap (λ es. first_answer (violation_at h (states_of es)) (places es)) (all_front h scripts k history run))
-    ∙ no_fault h scripts k history run done
+none_first h one scripts k history run done =
+    sym (ap (λ es. first_answer (violation_at h [] (states_along h [] es)) (places es)) (all_front h scripts k history run))
+    ∙ no_fault h one scripts k history run done
 
 -- no place is a fault
 no_why : (line : ℕ) (o : Option Why) → option_map (Violation line) o ≡ None → o ≡ None
 no_why line None e = refl
 no_why line (Some why) e = cc
 
-each_right : (h : Header) (states : List Amounts) (ps : List (Place Entry)) → first_answer (violation_at h states) ps ≡ None
-    → AllByRecursion (λ place. fault_at h states place ≡ None) ps
+each_right : (h : Header) (states : List Amounts) (ps : List (Place Entry)) → first_answer (violation_at h [] states) ps ≡ None
+    → AllByRecursion (λ place. fault_at h [] states place ≡ None) ps
 each_right h states [] e = tt
 each_right h states (place ∷ ps) e =
-    let parts = both_none (violation_at h states place) (first_answer (violation_at h states) ps) e in
-    (no_why (line_of (position_of place)) (fault_at h states place) parts.0, each_right h states ps parts.1)
+    let parts = both_none (violation_at h [] states place) (first_answer (violation_at h [] states) ps) e in
+    (no_why (line_of [] (position_of place)) (fault_at h [] states place) parts.0, each_right h states ps parts.1)
   where
     both_none : {A : Type 0} (a b : Option A) → option_or a b ≡ None → (a ≡ None) × (b ≡ None)
     both_none None b e = (refl, e)
     both_none (Some a) b e = cc
 
-pub where_kind : (h : Header) (states : List Amounts) (test : Kind → Bool) (ps : List (Place Entry)) → AllByRecursion (λ place. fault_at h states place ≡ None) ps
-    → AllByRecursion (λ place. test place.here.kind ≡ true → fault_at h states place ≡ None) ps
+pub where_kind : (h : Header) (states : List Amounts) (test : Kind → Bool) (ps : List (Place Entry)) → AllByRecursion (λ place. fault_at h [] states place ≡ None) ps
+    → AllByRecursion (λ place. test place.here.kind ≡ true → fault_at h [] states place ≡ None) ps
 where_kind h states test [] all = tt
 where_kind h states test (place ∷ ps) all = (λ e. all.0, where_kind h states test ps all.1)
 
@@ -150,18 +151,18 @@ pub closed : (w : Workload) (history : List Stamped) → Keeping w.header (work_
     → is_call_open w.header (newest_first (log_of history)) ≡ false
 closed w history k schedule = none_open_at_end w.header (work_scripts w) k history schedule.legal schedule.parts
 
-pub kinds_right : (w : Workload) (history : List Stamped) (test : Kind → Bool) → Keeping w.header (work_scripts w) → IsSchedule w history
-    → AllByRecursion (λ place. test place.here.kind ≡ true → fault_at w.header (states_of (log_of history)) place ≡ None) (places (log_of history))
-kinds_right w history test k schedule =
-    where_kind w.header (states_of (log_of history)) test (places (log_of history))
-    (each_right w.header (states_of (log_of history)) (places (log_of history))
-    (none_first w.header (work_scripts w) k history (whole_run w.header (work_scripts w) history schedule.legal schedule.parts)
+pub kinds_right : (w : Workload) (history : List Stamped) (test : Kind → Bool) → w.header.version ≡ 1 → Keeping w.header (work_scripts w) → IsSchedule w history
+    → AllByRecursion (λ place. test place.here.kind ≡ true → fault_at w.header [] (states_along w.header [] (log_of history)) place ≡ None) (places (log_of history))
+kinds_right w history test one k schedule =
+    where_kind w.header (states_along w.header [] (log_of history)) test (places (log_of history))
+    (each_right w.header (states_along w.header [] (log_of history)) (places (log_of history))
+    (none_first w.header one (work_scripts w) k history (whole_run w.header (work_scripts w) history schedule.legal schedule.parts)
     (λ c low. (schedule.parts c).done)))
 
 pub schedule_accepted : (w : Workload) (history : List Stamped) → KeepsLimits w → IsCorrect w → IsSchedule w history
-    → verdict w.header (log_of history) ≡ accepted (log_of history)
+    → verdict w.header [] (log_of history) ≡ accepted (log_of history)
 schedule_accepted w history limits is schedule =
-    is_accepted w.header (work_scripts w) (keeping w limits is) history schedule.legal schedule.parts
+    is_accepted w.header limits.version (work_scripts w) (keeping w limits is) history schedule.legal schedule.parts
 
 pub not_stuck : (w : Workload) → KeepsLimits w → IsCorrect w → GetsStuck (work_scripts w) w.turns → ⊥
 not_stuck w limits is stuck = never_stuck w.header (work_scripts w) (keeping w limits is) w.turns stuck

@@ -1,5 +1,5 @@
 -- A schedule of a workload, and the workloads whose every schedule is accepted.
-use Rattle.std.specs.Prelude.{◌≡◌, ◌⊎◌, Bool, true, List, None}
+use Rattle.std.specs.Prelude.{◌≡◌, ◌⊎◌, Bool, true, List, [], None}
 use Rattle.std.specs.List.{AllByRecursion}
 use Rattle.vyrd_base.specs.declared.subject.Subject.TheVariants.{Multiset, Cache}
 use Rattle.vyrd_base.specs.declared.history.Stamped.{Stamped}
@@ -8,10 +8,8 @@ use Rattle.vyrd_base.specs.declared.log.Kind.{Kind}
 use Rattle.vyrd_base.specs.declared.log.Entry.{Entry}
 use Rattle.vyrd_base.specs.Places.{places}
 use Rattle.vyrd_base.specs.Histories.{cells_of, is_legal}
-use Rattle.vyrd_base.specs.Amounts.{Amounts}
-use Rattle.vyrd_base.specs.Specification.{start}
-use Rattle.vyrd_base.specs.Commits.{commits, states_from}
 use Rattle.vyrd_base.specs.Faults.{fault_at}
+use Rattle.vyrd_base.specs.Verdicts.{states_along}
 use Rattle.vyrd_memory.specs.declared.op.Variant.TheVariants.{Correct}
 use Rattle.vyrd_memory.specs.Runs.{PlayToTheEnd}
 use Rattle.vyrd_work.specs.Workloads.{Workload}
@@ -41,11 +39,7 @@ pub record IsCorrectCache (w : Workload) : Type 0 where
 abbrev pub IsCorrectMultisetOrCache : Workload → Type 0
 IsCorrectMultisetOrCache w = IsCorrectMultiset w ⊎ IsCorrectCache w
 
--- the states along the commits of a log that is well formed
-abbrev pub states_of : List Entry → List Amounts
-states_of entries = states_from start (commits entries)
-
 -- no place of a log whose entry is of this kind is a fault
 abbrev pub HasNoFault : (Kind → Bool) → Header → List Entry → Type 0
 HasNoFault is_kind h entries = AllByRecursion
-    (λ place. is_kind place.here.kind ≡ true → fault_at h (states_of entries) place ≡ None) (places entries)
+    (λ place. is_kind place.here.kind ≡ true → fault_at h [] (states_along h [] entries) place ≡ None) (places entries)

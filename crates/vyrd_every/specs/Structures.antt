@@ -11,14 +11,14 @@ use Rattle.vyrd_base.specs.declared.log.Entry.{Entry}
 use Rattle.vyrd_base.specs.Layout.{plain_words}
 use Rattle.vyrd_base.specs.Amounts.{Amounts}
 use Rattle.vyrd_base.specs.Specification.{start}
-use Rattle.vyrd_base.specs.Words.{effects, value_after, words_after}
+use Rattle.vyrd_base.specs.FirstVersion.{old_effects, old_value_after, old_words_after}
 use Rattle.vyrd_base.specs.Views.{view_of_words}
 use Rattle.vyrd_base.specs.Histories.{cells_of, is_lock}
 use Rattle.vyrd_memory.specs.Alone.{Memory}
 
 -- the memory that a log shows, where the newest entry stands first
 abbrev pub shown_by : List Entry → Memory
-shown_by log = λ w. value_after (effects log) w
+shown_by log = λ w. old_value_after (old_effects log) w
 
 -- a structure of a header
 pub record Structure : Type 1 where
@@ -41,11 +41,12 @@ pub record Structure : Type 1 where
   pub stays : (a b : Memory) (slot : ℕ) → Same a b slot → Reserved a slot → Reserved b slot
   pub apart : (a : Memory) (slot : ℕ) → Free a slot → Reserved a slot → ⊥
 
--- The structure fits its header: guarded words are plain, their guards are locks, the memory of no
+-- The structure fits its header: its logs are of version 1, guarded words are plain, their guards are locks, the memory of no
 -- entries stands for the first state, and where the memory that a log shows stands for a state, that
 -- state is the view of the words.
 pub record Fits (S : Structure) : Type 0 where
+  pub version : S.header.version ≡ 1
   pub plain : (cell : ℕ) → cell < S.words → cell < plain_words S.header
   pub locks : (cell : ℕ) → cell < S.words → is_lock (cells_of S.header) (S.guard cell) ≡ true
   pub begins : S.Stands (shown_by []) start
-  pub view : (log : List Entry) (state : Amounts) → S.Stands (shown_by log) state → view_of_words S.header (words_after S.header log) ≡ state
+  pub view : (log : List Entry) (state : Amounts) → S.Stands (shown_by log) state → view_of_words S.header (old_words_after S.header log) ≡ state

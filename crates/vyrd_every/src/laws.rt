@@ -1,7 +1,7 @@
 //! Laws of the schedules of a correct structure: the multiset, the cache and the B-link tree. Each function
 //! does nothing: its contract is the law.
 
-ghost use Rattle.std.specs.Prelude.{◌≡◌, ◌≤◌, ℕ, false, List, None};
+ghost use Rattle.std.specs.Prelude.{◌≡◌, ◌≤◌, ℕ, false, List, [], None};
 ghost use Rattle.vyrd_base.specs.declared.history.Stamped.{Stamped};
 ghost use Rattle.vyrd_base.specs.declared.subject.Subject.TheVariants.{Cache, Multiset};
 ghost use Rattle.vyrd_base.specs.Places.{newest_first};
@@ -40,7 +40,7 @@ pub fn returns_are_right()
 /// So every schedule of a correct structure is accepted.
 pub fn schedules_are_accepted()
     ensures { (w : Workload) (history : List Stamped) → KeepsLimits w → IsCorrect w →
-        IsSchedule w history → verdict w.header (log_of history) ≡ accepted (log_of history) }
+        IsSchedule w history → verdict w.header [] (log_of history) ≡ accepted (log_of history) }
 {}
 
 /// The run by turns of a correct structure doesn't get stuck.

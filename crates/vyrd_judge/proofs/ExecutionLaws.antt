@@ -68,7 +68,7 @@ window-quiet states c e earlier quiet before =
     ∙ ap (λ n. drop (commit_count (entries_before_call c earlier)) (take (n + 1) states)) (count-quiet e earlier quiet)
 
 -- one element at the end of a part of a list
-take_one_more : {A : Type 0} (xs : List A) (n : ℕ) (x : A) → slice_get xs n ≡ Some x → take (n + 1) xs ≡ take n xs ++ x ∷ []
+pub take_one_more : {A : Type 0} (xs : List A) (n : ℕ) (x : A) → slice_get xs n ≡ Some x → take (n + 1) xs ≡ take n xs ++ x ∷ []
 take_one_more xs n x here =
     take_more xs n x (slice_get_within xs n x here) ∙ ap (λ y. take n xs ++ y ∷ []) (get_or_from_slice_get xs n x x here)
 

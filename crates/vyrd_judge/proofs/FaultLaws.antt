@@ -1,5 +1,5 @@
 -- What the entry at a place leads to, by what is kept there.
-use Rattle.std.proofs.Common.{◌≡◌, ℕ, ◌+◌, Bool, true, false, cond, ◌&&◌, ◌||◌, not, List, [], ◌∷◌, take, drop, set, Option, Some, None, Result, slice_get, refl, ap, subst, ◌∙◌, sym}
+use Rattle.std.proofs.Common.{◌≡◌, ◌⊎◌, inl, inr, ℕ, ◌+◌, Bool, true, false, cond, ◌&&◌, ◌||◌, not, List, [], ◌∷◌, take, drop, set, Option, Some, None, Result, slice_get, refl, ap, subst, ◌∙◌, sym}
 use Rattle.std.specs.Prelude.{◌==◌, option_map, option_and_then}
 use Rattle.std.specs.Option.{option_and}
 use Rattle.std.specs.List.{list_any}
@@ -8,26 +8,29 @@ use Rattle.vyrd_base.specs.declared.header.Header.{Header}
 use Rattle.vyrd_base.specs.declared.subject.Method.{Method}
 use Rattle.vyrd_base.specs.declared.subject.Args.{Args}
 use Rattle.vyrd_base.specs.declared.log.Kind.{Kind}
-use Rattle.vyrd_base.specs.declared.log.Kind.TheVariants.{Call, Return, Write, Commit, BlockOpen, BlockClose, BlockCommit}
+use Rattle.vyrd_base.specs.declared.log.Kind.TheVariants.{Call, Return, Write, BlockOpen, BlockClose}
 use Rattle.vyrd_base.specs.declared.log.Entry.{Entry}
+use Rattle.vyrd_base.specs.declared.log.StartWord.{StartWord}
 use Rattle.vyrd_base.specs.declared.verdict.Why.{Why}
 use Rattle.vyrd_base.specs.declared.verdict.Why.TheVariants.{Reply, View, Observer}
 use Rattle.vyrd_base.specs.Places.{Place, newest_first}
-use Rattle.vyrd_base.specs.Callers.{Called, open_call, call_or_return, is_call}
+use Rattle.vyrd_base.specs.Callers.{Called, open_call}
 use Rattle.vyrd_base.specs.Subjects.{is_observer}
 use Rattle.vyrd_base.specs.Amounts.{Amounts, first_difference}
 use Rattle.vyrd_base.specs.Specification.{next_state, answer_in}
-use Rattle.vyrd_base.specs.Words.{words_after}
+use Rattle.vyrd_base.specs.Words.{words_at}
 use Rattle.vyrd_base.specs.Views.{view_of_words}
-use Rattle.vyrd_base.specs.Commits.{is_commit, returned, next_reply, committed_at, commits_after, once_returned, state_after}
+use Rattle.vyrd_base.specs.Commits.{returned, next_reply, committed_at, commits_after, once_returned, state_after}
 use Rattle.vyrd_base.specs.Faults.{step_fault, commit_fault, fault_of_commit, states_since_call, observer_fault, fault_at}
+use Rattle.vyrd_base.specs.Verdicts.{states_along}
 use Rattle.vyrd_base.proofs.BlockLaws.{entry, own_answer}
 use Rattle.vyrd_judge.specs.declared.execution.Execution.{Execution}
 use Rattle.vyrd_judge.specs.declared.outcome.Outcome.{Outcome}
 use Rattle.vyrd_judge.specs.declared.outcome.Outcome.TheVariants.{Goes, Faults, Ends}
 use Rattle.vyrd_judge.specs.Executions.{is_reply, answers, begun, IsExecution}
-use Rattle.vyrd_judge.specs.Standing.{Stands, states_of}
+use Rattle.vyrd_judge.specs.Standing.{Stands}
 use Rattle.vyrd_judge.specs.Outcomes.{CommitGives, PlaceGives, return_outcome, place_of}
+use Rattle.vyrd_judge.proofs.CommitLaws.{Commits, alone, with_block, commits_is, commits_inside, commits_unreturned, commits_uncalled, fault_of_commit_kind}
 use Rattle.vyrd_judge.proofs.ExecutionLaws.{next_reply-quiet}
 use Rattle.vyrd_judge.proofs.KeptFacts.{commit_kept, block_commit_runs}
 use Rattle.vyrd_judge.proofs.StepLaws.{IsAt, Leads, call_allowed, called_is, leads_for, if_ok}
@@ -47,52 +50,24 @@ once_kept f h states c kind earlier later x unreturned is =
     ∙ ap (option_and_then (f (called_in x))) (sym (is.reply ∙ next_reply-quiet c c kind later unreturned))
 
 -- the fault of a commit where the state before it is known
-commit_fault_here : (h : Header) (states : List Amounts) (c : ℕ) (kind : Kind) (earlier later : List Entry) (state : Amounts)
+commit_fault_here : (h : Header) (starting : List StartWord) (states : List Amounts) (c : ℕ) (kind : Kind) (earlier later : List Entry) (state : Amounts)
     (executions : List (Option Execution)) (x : Execution) → returned kind ≡ None
     → Stands h states earlier (entry c kind ∷ later) state executions → IsExecution h states c earlier (entry c kind ∷ later) x
-    → fault_of_commit h states (place_of (entry c kind) earlier later)
-    ≡ option_and_then (λ reply. step_fault (view_of_words h (words_after h (entry c kind ∷ earlier))) (called_in x) reply state) x.reply
-commit_fault_here h states c kind earlier later state executions x unreturned s is =
-    let shown = view_of_words h (words_after h (entry c kind ∷ earlier)) in
+    → fault_of_commit h starting states (place_of (entry c kind) earlier later)
+    ≡ option_and_then (λ reply. step_fault (view_of_words h (words_at h starting (place_of (entry c kind) earlier later))) (called_in x) reply state) x.reply
+commit_fault_here h starting states c kind earlier later state executions x unreturned s is =
+    let shown = view_of_words h (words_at h starting (place_of (entry c kind) earlier later)) in
     ap (option_and_then (commit_fault shown (committed_at (place_of (entry c kind) earlier later))))
     (state_here states earlier state (commits_after earlier (entry c kind ∷ later)) s.going)
     ∙ once_kept (λ called reply. step_fault shown called reply state) h states c kind earlier later x unreturned is
 
--- a kind of entry that commits
-pub data Commits : Kind → Type 0 where
-  alone : Commits Commit
-  with_block : Commits BlockCommit
-
-pub commits_is : (kind : Kind) → Commits kind → is_commit kind ≡ true
-commits_is _ alone = refl
-commits_is _ with_block = refl
-
-pub commits_inside : (kind : Kind) → Commits kind → call_or_return kind ≡ None
-commits_inside _ alone = refl
-commits_inside _ with_block = refl
-
-pub commits_unreturned : (kind : Kind) → Commits kind → returned kind ≡ None
-commits_unreturned _ alone = refl
-commits_unreturned _ with_block = refl
-
-pub commits_uncalled : (kind : Kind) → Commits kind → is_call kind ≡ false
-commits_uncalled _ alone = refl
-commits_uncalled _ with_block = refl
-
-pub fault_of_commit_kind : (h : Header) (states : List Amounts) (c : ℕ) (kind : Kind) (earlier later : List Entry) → Commits kind
-    → fault_at h states (place_of (entry c kind) earlier later)
-    ≡ fault_of_commit h states (place_of (entry c kind) earlier later)
-unfolding fault_at
-fault_of_commit_kind h states c _ earlier later alone = refl
-fault_of_commit_kind h states c _ earlier later with_block = refl
-
 -- what a commit leads to, by what its execution and the words show
-commit_gives : (h : Header) (states : List Amounts) (c : ℕ) (kind : Kind) (earlier later : List Entry) (state next : Amounts)
+commit_gives : (h : Header) (starting : List StartWord) (states : List Amounts) (c : ℕ) (kind : Kind) (earlier later : List Entry) (state next : Amounts)
     (executions new : List (Option Execution)) (x : Execution) (shown : Amounts) (o : Outcome)
     → Commits kind → Stands h states earlier (entry c kind ∷ later) state executions → IsExecution h states c earlier (entry c kind ∷ later) x
-    → shown ≡ view_of_words h (words_after h (entry c kind ∷ earlier)) → CommitGives shown x state next executions new o
-    → PlaceGives h states (place_of (entry c kind) earlier later) next new o
-commit_gives h states c kind earlier later state next executions new x shown o commits s is shows gives = by_outcome o gives
+    → shown ≡ view_of_words h (words_at h starting (place_of (entry c kind) earlier later)) → CommitGives shown x state next executions new o
+    → PlaceGives h starting states (place_of (entry c kind) earlier later) next new o
+commit_gives h starting states c kind earlier later state next executions new x shown o commits s is shows gives = by_outcome o gives
   where
     place : Place Entry
     place = place_of (entry c kind) earlier later
@@ -103,9 +78,9 @@ commit_gives h states c kind earlier later state next executions new x shown o c
     next_by : ℕ → Option Amounts
     next_by reply = next_state x.method x.args reply state
 
-    fault : fault_at h states place ≡ option_and_then fault_by x.reply
-    fault = fault_of_commit_kind h states c kind earlier later commits
-        ∙ commit_fault_here h states c kind earlier later state executions x (commits_unreturned kind commits) s is
+    fault : fault_at h starting states place ≡ option_and_then fault_by x.reply
+    fault = fault_of_commit_kind h starting states c kind earlier later commits
+        ∙ commit_fault_here h starting states c kind earlier later state executions x (commits_unreturned kind commits) s is
         ∙ ap (λ v. option_and_then (λ reply. step_fault v (called_in x) reply state) x.reply) (sym shows)
 
     after : state_after state (committed_at place) ≡ option_and_then next_by x.reply
@@ -113,7 +88,7 @@ commit_gives h states c kind earlier later state next executions new x shown o c
         once_kept (λ called reply. next_state called.method called.args reply state) h states c kind earlier later x
         (commits_unreturned kind commits) is
 
-    by_outcome : (o' : Outcome) → CommitGives shown x state next executions new o' → PlaceGives h states place next new o'
+    by_outcome : (o' : Outcome) → CommitGives shown x state next executions new o' → PlaceGives h starting states place next new o'
     by_outcome Goes g = (
       fault ∙ ap (option_and_then fault_by) g.returned
           ∙ ap (λ n. elim n as (λ _. Option Why) [ None ↦ Some (Reply g.reply) | Some a ↦ option_map View (first_difference shown a) ]) g.next
@@ -134,13 +109,13 @@ same_any p q [] same = refl
 same_any p q (x ∷ xs) same = ap (λ b. b || list_any p xs) (same x) ∙ ap (λ b. q x || b) (same_any p q xs same)
 
 -- what a return leads to
-return_gives : (h : Header) (states : List Amounts) (c reply : ℕ) (earlier later : List Entry) (state : Amounts)
+return_gives : (h : Header) (starting : List StartWord) (states : List Amounts) (c reply : ℕ) (earlier later : List Entry) (state : Amounts)
     (executions : List (Option Execution)) (x : Execution)
     → Stands h states earlier (entry c (Return reply) ∷ later) state executions
     → IsExecution h states c earlier (entry c (Return reply) ∷ later) x
-    → PlaceGives h states (place_of (entry c (Return reply)) earlier later) state (set executions c None) (return_outcome x reply)
+    → PlaceGives h starting states (place_of (entry c (Return reply)) earlier later) state (set executions c None) (return_outcome x reply)
 unfolding fault_at
-return_gives h states c reply earlier later state executions x s is = by_test (is_observer x.method && not x.is_answered) fault
+return_gives h starting states c reply earlier later state executions x s is = by_test (is_observer x.method && not x.is_answered) fault
   where
     place : Place Entry
     place = place_of (entry c (Return reply)) earlier later
@@ -151,7 +126,7 @@ return_gives h states c reply earlier later state executions x s is = by_test (i
     window : List Amounts
     window = states_since_call states c earlier
 
-    by_window : fault_at h states place ≡ observer_fault window reply (called_in x)
+    by_window : fault_at h starting states place ≡ observer_fault window reply (called_in x)
     by_window =
         ap (λ o. option_and o (option_and_then (observer_fault window reply) (open_call c earlier)))
         (state_here states earlier state (commits_after earlier (entry c (Return reply) ∷ later)) s.going)
@@ -172,21 +147,21 @@ return_gives h states c reply earlier later state executions x s is = by_test (i
     by_method false mutates = refl
     by_method true observes = ap (λ a. cond a None (Some (Observer reply))) (answered observes) ∙ turned x.is_answered
 
-    fault : fault_at h states place ≡ cond (is_observer x.method && not x.is_answered) (Some (Observer reply)) None
+    fault : fault_at h starting states place ≡ cond (is_observer x.method && not x.is_answered) (Some (Observer reply)) None
     fault = by_window ∙ by_method (is_observer x.method) refl
 
-    by_test : (b : Bool) → fault_at h states place ≡ cond b (Some (Observer reply)) None
-        → PlaceGives h states place state (set executions c None) (cond b (Faults (Observer reply)) Goes)
+    by_test : (b : Bool) → fault_at h starting states place ≡ cond b (Some (Observer reply)) None
+        → PlaceGives h starting states place state (set executions c None) (cond b (Faults (Observer reply)) Goes)
     by_test true faulty = faulty
     by_test false faultless = (faultless, stands_return h states c reply earlier later state executions s)
 
 -- What the entry at a place leads to, kind by kind.
 pub return_leads : {h : Header} {front : List Entry} {at c reply : ℕ} {state : Amounts} {executions : List (Option Execution)} {x : Execution}
     → IsAt h front at (entry c (Return reply)) state executions
-    → IsExecution h (states_of front) c (newest_first (take at front)) (entry c (Return reply) ∷ drop (at + 1) front) x
+    → IsExecution h (states_along h [] front) c (newest_first (take at front)) (entry c (Return reply) ∷ drop (at + 1) front) x
     → Leads h front at (entry c (Return reply)) state (set executions c None) (return_outcome x reply)
 return_leads {h} {front} {at} {c} {reply} {state} {executions} {x} here is = record {
-  to = return_gives h (states_of front) c reply (newest_first (take at front)) (drop (at + 1) front) state executions x here.stands is;
+  to = return_gives h [] (states_along h [] front) c reply (newest_first (take at front)) (drop (at + 1) front) state executions x here.stands is;
 }
 
 pub call_leads : {h : Header} {front : List Entry} {at c : ℕ} {method : Method} {args : Args} {reply : Option ℕ} {state : Amounts}
@@ -197,42 +172,37 @@ unfolding fault_at
 call_leads {h} {front} {at} {c} {method} {args} {reply} {state} {executions} here replies = record {
   to = (
     refl,
-    stands_call h (states_of front) c method args (newest_first (take at front)) (drop (at + 1) front) state executions
+    stands_call h (states_along h [] front) c method args (newest_first (take at front)) (drop (at + 1) front) state executions
         (begun method args reply state) refl refl replies refl (call_allowed here) here.stands,
   );
 }
 
-pub write_leads : {h : Header} {front : List Entry} {at c word value : ℕ} {state : Amounts} {executions : List (Option Execution)}
-    → IsAt h front at (entry c (Write word value)) state executions → Leads h front at (entry c (Write word value)) state executions Goes
-unfolding fault_at
-write_leads {h} {front} {at} {c} {word} {value} {state} {executions} here = record {
-  to = (
-    refl,
-    stands_inside h (states_of front) c (Write word value) (newest_first (take at front)) (drop (at + 1) front) state executions
-        refl refl refl refl here.stands,
-  );
-}
+-- a kind of entry that stands in an execution and isn't judged
+pub data Quiet : Kind → Type 0 where
+  writes : (word value : ℕ) → Quiet (Write word value)
+  opens : Quiet BlockOpen
+  closes : Quiet BlockClose
 
-pub open_leads : {h : Header} {front : List Entry} {at c : ℕ} {state : Amounts} {executions : List (Option Execution)}
-    → IsAt h front at (entry c BlockOpen) state executions → Leads h front at (entry c BlockOpen) state executions Goes
-unfolding fault_at
-open_leads {h} {front} {at} {c} {state} {executions} here = record {
-  to = (
-    refl,
-    stands_inside h (states_of front) c BlockOpen (newest_first (take at front)) (drop (at + 1) front) state executions
-        refl refl refl refl here.stands,
-  );
-}
+pub quiet_by : {kind : Kind} → ((word : ℕ) × (value : ℕ) × (kind ≡ Write word value)) ⊎ ((kind ≡ BlockOpen) ⊎ (kind ≡ BlockClose)) → Quiet kind
+quiet_by (inl write) = subst Quiet (sym write.2) (writes write.0 write.1)
+quiet_by (inr (inl is)) = subst Quiet (sym is) opens
+quiet_by (inr (inr is)) = subst Quiet (sym is) closes
 
-pub close_leads : {h : Header} {front : List Entry} {at c : ℕ} {state : Amounts} {executions : List (Option Execution)}
-    → IsAt h front at (entry c BlockClose) state executions → Leads h front at (entry c BlockClose) state executions Goes
+quiet_gives : (h : Header) (starting : List StartWord) (states : List Amounts) (c : ℕ) (kind : Kind) (earlier later : List Entry) (state : Amounts)
+    (executions : List (Option Execution)) → Quiet kind → Stands h states earlier (entry c kind ∷ later) state executions
+    → PlaceGives h starting states (place_of (entry c kind) earlier later) state executions Goes
 unfolding fault_at
-close_leads {h} {front} {at} {c} {state} {executions} here = record {
-  to = (
-    refl,
-    stands_inside h (states_of front) c BlockClose (newest_first (take at front)) (drop (at + 1) front) state executions
-        refl refl refl refl here.stands,
-  );
+quiet_gives h starting states c _ earlier later state executions (writes word value) s =
+    (refl, stands_inside h states c (Write word value) earlier later state executions refl refl refl refl s)
+quiet_gives h starting states c _ earlier later state executions opens s =
+    (refl, stands_inside h states c BlockOpen earlier later state executions refl refl refl refl s)
+quiet_gives h starting states c _ earlier later state executions closes s =
+    (refl, stands_inside h states c BlockClose earlier later state executions refl refl refl refl s)
+
+pub quiet_leads : {h : Header} {front : List Entry} {at c : ℕ} {kind : Kind} {state : Amounts} {executions : List (Option Execution)}
+    → Quiet kind → IsAt h front at (entry c kind) state executions → Leads h front at (entry c kind) state executions Goes
+quiet_leads {h} {front} {at} {c} {kind} {state} {executions} quiet here = record {
+  to = quiet_gives h [] (states_along h [] front) c kind (newest_first (take at front)) (drop (at + 1) front) state executions quiet here.stands;
 }
 
 -- a commit stands in a mutator's execution
@@ -252,19 +222,19 @@ commit_mutates commits here x is =
 pub commit_leads : {E : Type 0} {h : Header} {front : List Entry} {at c : ℕ} {kind : Kind} {e : Entry} {state : Amounts}
     {executions : List (Option Execution)} {x : Execution} (r : Result Outcome E) (next : Amounts) (new : List (Option Execution)) → Commits kind
     → IsAt h front at (entry c kind) state executions
-    → IsExecution h (states_of front) c (newest_first (take at front)) (entry c kind ∷ drop (at + 1) front) x → entry c kind ≡ e
-    → IfOk r (CommitGives (view_of_words h (words_after h (entry c kind ∷ newest_first (take at front)))) x state next executions new)
-    → IfOk r (PlaceGives h (states_of front) (place_of e (newest_first (take at front)) (drop (at + 1) front)) next new)
+    → IsExecution h (states_along h [] front) c (newest_first (take at front)) (entry c kind ∷ drop (at + 1) front) x → entry c kind ≡ e
+    → IfOk r (CommitGives (view_of_words h (words_at h [] (place_of (entry c kind) (newest_first (take at front)) (drop (at + 1) front)))) x state next executions new)
+    → IfOk r (PlaceGives h [] (states_along h [] front) (place_of e (newest_first (take at front)) (drop (at + 1) front)) next new)
 commit_leads {E} {h} {front} {at} {c} {kind} {e} {state} {executions} {x} r next new commits here is same gives =
     if_ok (CommitGives shown x state next executions new)
-    (PlaceGives h (states_of front) (place_of e (newest_first (take at front)) (drop (at + 1) front)) next new) r
+    (PlaceGives h [] (states_along h [] front) (place_of e (newest_first (take at front)) (drop (at + 1) front)) next new) r
     (λ o given. (leads o given).to) gives
   where
     shown : Amounts
-    shown = view_of_words h (words_after h (entry c kind ∷ newest_first (take at front)))
+    shown = view_of_words h (words_at h [] (place_of (entry c kind) (newest_first (take at front)) (drop (at + 1) front)))
 
     leads : (o : Outcome) → CommitGives shown x state next executions new o → Leads h front at e next new o
     leads o given = leads_for {d = entry c kind} same (record {
-      to = commit_gives h (states_of front) c kind (newest_first (take at front)) (drop (at + 1) front) state next executions new x shown o
+      to = commit_gives h [] (states_along h [] front) c kind (newest_first (take at front)) (drop (at + 1) front) state next executions new x shown o
           commits here.stands is refl given;
     })

@@ -2,7 +2,6 @@
 use Rattle.std.proofs.Common.{◌≡◌, ℕ, suc, ◌+◌, ◌<◌, ◌≤◌, ◌^◌, Bool, true, false, cond, ◌&&◌, List, [], ◌∷◌, ◌++◌, map, length, Option, Some, None, refl, ap, subst, ◌∙◌, sym, arith}
 use Rattle.std.specs.Prelude.{count_by, option_map, Result, Ok, Err}
 use Rattle.std.specs.Result.{MatchResult, is_err}
-use Rattle.std.specs.Option.{option_or}
 use Rattle.std.specs.List.{cons_option}
 use Rattle.std.proofs.lemmas.List.{length_push}
 use Rattle.std.proofs.lemmas.List.Sums.{sum_by-cons}
@@ -11,6 +10,7 @@ use Rattle.std.proofs.Math.Bool.{Bool-set}
 use Rattle.vyrd_base.specs.declared.header.Header.{Header}
 use Rattle.vyrd_base.specs.declared.log.Kind.{Kind}
 use Rattle.vyrd_base.specs.declared.log.Entry.{Entry}
+use Rattle.vyrd_base.specs.declared.log.StartWord.{StartWord}
 use Rattle.vyrd_base.specs.declared.verdict.Rule.{Rule}
 use Rattle.vyrd_base.specs.declared.verdict.Verdict.{Verdict}
 use Rattle.vyrd_base.specs.declared.verdict.Verdict.TheVariants.{Malformed, Accepted}
@@ -18,42 +18,50 @@ use Rattle.vyrd_base.specs.declared.verdict.Rule.TheVariants.{CallOpen}
 use Rattle.vyrd_base.specs.Places.{Place, places_after, places, newest_first_onto, newest_first}
 use Rattle.vyrd_base.specs.Callers.{Called}
 use Rattle.vyrd_base.specs.Shape.{broken_rule, is_observing}
-use Rattle.vyrd_base.specs.Front.{front, first_break}
-use Rattle.vyrd_base.specs.Specification.{start}
-use Rattle.vyrd_base.specs.Commits.{commits, is_commit}
-use Rattle.vyrd_base.specs.Verdicts.{is_return, first_fault, shape_verdict, verdict_so_far, verdict_at, verdict, accepted, is_call_open}
+use Rattle.vyrd_base.specs.Front.{first_break}
+use Rattle.vyrd_base.specs.Amounts.{Amounts}
+use Rattle.vyrd_base.specs.Starts.{words_at_start, state_at_start}
+use Rattle.vyrd_base.specs.Commits.{commits, is_commit, commit_count, states_of}
+use Rattle.vyrd_base.specs.Verdicts.{is_return, first_fault, start_verdict, verdict_so_far, verdict_at, verdict, accepted, is_call_open}
 use Rattle.vyrd_base.proofs.PlaceLaws.{newest_first-push}
-use Rattle.vyrd_base.proofs.ShadowLaws.{caller_kept}
+use Rattle.vyrd_base.proofs.Lasting.{commit_count-cons}
+use Rattle.vyrd_base.proofs.ShadowLaws.{caller_kept, well_formed-first_break}
 use Rattle.vyrd_base.proofs.TestLaws.{below_of, is_below}
 use Rattle.vyrd_shape.specs.Following.{Kept as ShapeKept, HasFollowed as ShapeFollows}
-use Rattle.vyrd_shadow.specs.Following.{HasFollowed as ShadowFollows}
 use Rattle.vyrd_judge.specs.declared.waiting.Waiting.{Waiting}
 use Rattle.vyrd_judge.specs.HasWords.{HasWords, HasTaken, Keeps, MayFollow}
 use Rattle.vyrd_judge.specs.Outcomes.{place_of}
 use Rattle.vyrd_judge.specs.Watching.{Seen}
 use Rattle.vyrd_judge.specs.declared.waiting.Event.{Event}
-use Rattle.vyrd_judge.specs.Waiting.{replied, event_of, waiting_of, waiting_at, cut_at}
+use Rattle.vyrd_judge.specs.Cuts.{first_with}
+use Rattle.vyrd_judge.specs.Effects.{parts_behind}
+use Rattle.vyrd_judge.specs.Waiting.{replied, event_of, waiting_of, waiting_at}
 use Rattle.vyrd_judge.specs.Reached.{AreObservers, AreCurrent}
 use Rattle.vyrd_judge.specs.Queued.{HasQueued, HasTakenUp, MayQueue}
 use Rattle.vyrd_judge.specs.Judged.{Judged, MayJudge}
 use Rattle.vyrd_judge.specs.declared.outcome.Advance.TheVariants.{Stops}
 use Rattle.vyrd_judge.specs.Following.{Kept, HasTakenIn, IsFaultless, IsSomewhere, MayCatchUp, AdvanceGives}
-use Rattle.vyrd_judge.proofs.FrontLaws.{kept-push, front_whole, front_at_break, break_at_break, nothing_broken}
-use Rattle.vyrd_judge.proofs.VerdictFacts.{so_far_break, at_end_open, at_end_accepted}
+use Rattle.vyrd_judge.proofs.StepLaws.{length-newest_first_onto}
+use Rattle.vyrd_judge.proofs.FrontLaws.{kept-push, front_at_break, break_at_break, nothing_broken}
+use Rattle.vyrd_judge.proofs.VerdictFacts.{sound_start, so_far_kept, so_far_break, at_end_open, at_end_accepted}
 use Rattle.vyrd_judge.proofs.JudgedLaws.{judged_more, judged_head, judged_all}
 
 -- before the first entry
-pub judged_nothing : (h : Header) (watches : List Seen) → AreObservers h watches → AreCurrent start watches → Judged h [] start 0 watches [] []
+pub judged_nothing : (h : Header) (starting : List StartWord) (state : Amounts) (watches : List Seen) (first : List ℕ)
+    → state_at_start h starting ≡ Some state → first ≡ words_at_start h starting → AreObservers h watches → AreCurrent state watches
+    → Judged h starting [] state 0 watches [] first []
 unfolding commits first_fault
-judged_nothing h watches closed current = record {
+judged_nothing h starting state watches first begins words closed current = record {
   earlier = [];
   later = [];
   whole = refl;
   kept = refl;
   queued = refl;
-  cut = refl;
+  parts = (words, tt);
+  settled = λ more. refl;
+  ended = λ c inner. absurd (apart inner);
   reached = λ more. record {
-    going = refl;
+    going = ap (λ o. states_of o more) begins;
     allowed = λ c called is. absurd (no_some is);
     watched = λ c called low is observes. absurd (no_some is);
   };
@@ -66,21 +74,24 @@ judged_nothing h watches closed current = record {
     no_some : {called : Called} → None ≡ Some called → ⊥
     no_some e = cc
 
+    apart : false ≡ true → ⊥
+    apart e = cc
+
 -- nothing of a log that is kept waits, or something waits first
-pub none_waits : {k : Kept} {log : List Entry} → HasTakenIn k log → k.waiting ≡ [] → first_fault k.header log ≡ None
-none_waits {k} {log} t empty = judged_all k.header log k.state k.made k.watches k.views.cuts
-    (subst (λ q. Judged k.header log k.state k.made k.watches q k.views.cuts) empty t.judged)
+pub none_waits : {k : Kept} {starting : List StartWord} {log : List Entry} → HasTakenIn k starting log → k.waiting ≡ [] → first_fault k.header starting log ≡ None
+none_waits {k} {starting} {log} t empty = judged_all k.header starting log k.state k.made k.watches k.views.first k.views.since
+    (subst (λ q. Judged k.header starting log k.state k.made k.watches q k.views.first k.views.since) empty t.judged)
 
-pub first_judged : {k : Kept} {log : List Entry} (x : Waiting) (xs : List Waiting) → HasTakenIn k log → k.waiting ≡ x ∷ xs
-    → Judged k.header log k.state k.made k.watches (x ∷ xs) k.views.cuts
-first_judged {k} {log} x xs t is = subst (λ q. Judged k.header log k.state k.made k.watches q k.views.cuts) is t.judged
+pub first_judged : {k : Kept} {starting : List StartWord} {log : List Entry} (x : Waiting) (xs : List Waiting) → HasTakenIn k starting log → k.waiting ≡ x ∷ xs
+    → Judged k.header starting log k.state k.made k.watches (x ∷ xs) k.views.first k.views.since
+first_judged {k} {starting} {log} x xs t is = subst (λ q. Judged k.header starting log k.state k.made k.watches q k.views.first k.views.since) is t.judged
 
-pub may_judge : {k : Kept} (x : Waiting) (xs : List Waiting) → k.waiting ≡ x ∷ xs → MayCatchUp k → MayJudge k.header k.state k.made k.watches x k.views.cuts
-may_judge {k} x xs is may = ∥∥₁_map may (λ s. (s.0, xs, first_judged x xs s.1 is, s.2))
+pub may_judge : {k : Kept} (x : Waiting) (xs : List Waiting) → k.waiting ≡ x ∷ xs → MayCatchUp k → MayJudge k.header k.state k.made k.watches x k.views.first k.views.since
+may_judge {k} x xs is may = ∥∥₁_map may (λ s. (s.0, s.1, xs, first_judged x xs s.2 is, s.3))
 
 pub few_taken : {k : Kept} (x : Waiting) (xs : List Waiting) → k.waiting ≡ x ∷ xs → MayCatchUp k → k.taken + 1 < 2 ^ 64
 few_taken {k} x xs is may = below_of _ _ (∥∥₁_elim may (Bool-set _ _) (λ s.
-    let low : k.taken + 1 < 2 ^ 64 = omega (arith, s.1.queued.count, ap length is, long [] s.0, s.2) in is_below (k.taken + 1) (2 ^ 64) low))
+    let low : k.taken + 1 < 2 ^ 64 = omega (arith, s.2.queued.count, ap length is, long [] s.1, s.3) in is_below (k.taken + 1) (2 ^ 64) low))
   where
     long : (earlier xs : List Entry) → length (newest_first_onto earlier xs) ≡ length earlier + length xs
     long earlier [] = omega arith
@@ -94,42 +105,43 @@ position_is p x is = by_event (event_of p p.here.kind) is
     by_event None e = cc
     by_event (Some event) e = cc
 
-pub few_position : {k : Kept} (x : Waiting) (xs : List Waiting) → k.waiting ≡ x ∷ xs → MayCatchUp k → x.position + 2 < 2 ^ 64
-few_position {k} x xs is may = below_of _ _ (∥∥₁_elim may (Bool-set _ _) (λ s.
-    let at = judged_head k.header s.0 k.state k.made k.watches x xs k.views.cuts (first_judged x xs s.1 is) in
-    let low : x.position + 2 < 2 ^ 64 = omega (
+pub few_position : {k : Kept} (x : Waiting) (xs : List Waiting) → k.waiting ≡ x ∷ xs → MayCatchUp k → k.started ≤ 2 ^ 32
+    → k.started + x.position + 2 < 2 ^ 64
+few_position {k} x xs is may short = below_of _ _ (∥∥₁_elim may (Bool-set _ _) (λ s.
+    let at = judged_head k.header s.0 s.1 k.state k.made k.watches x xs k.views.first k.views.since (first_judged x xs s.2 is) in
+    let low : k.started + x.position + 2 < 2 ^ 64 = omega (
       arith,
+      short,
       position_is (place_of at.here at.earlier at.later) x at.is,
       long (at.here ∷ at.earlier) at.later,
-      long [] s.0,
+      long [] s.1,
       ap length at.whole,
-      s.2,
-    ) in is_below (x.position + 2) (2 ^ 64) low))
+      s.3,
+    ) in is_below (k.started + x.position + 2) (2 ^ 64) low))
   where
     long : (earlier ys : List Entry) → length (newest_first_onto earlier ys) ≡ length earlier + length ys
     long earlier [] = omega arith
     long earlier (y ∷ ys) = long (y ∷ earlier) ys ∙ omega arith
 
 -- the entry that waits first was judged, and leaves
-pub taken_on : (k n : Kept) (log : List Entry) (xs : List Waiting) → HasTakenIn k log
-    → Judged k.header log n.state n.made n.watches xs n.views.cuts → HasQueued k.header xs n.taken n.callers (newest_first log) → n.waiting ≡ xs
-    → n.header ≡ k.header → n.shape ≡ k.shape → n.shadow ≡ k.shadow → n.views.now ≡ k.views.now → n.views.header ≡ k.views.header
+pub taken_on : (k n : Kept) (starting : List StartWord) (log : List Entry) (xs : List Waiting) → HasTakenIn k starting log
+    → Judged k.header starting log n.state n.made n.watches xs n.views.first n.views.since → HasQueued k.header xs n.taken n.callers (newest_first log) → n.waiting ≡ xs
+    → n.header ≡ k.header → n.started ≡ k.started → n.shape ≡ k.shape → n.shadow ≡ k.shadow → n.inner ≡ k.inner → n.views.header ≡ k.views.header
     → (n.views.specified ≡ n.state) × (n.views.refused ≡ false)
-    → n.entries ≡ k.entries → n.commits ≡ k.commits → n.observers ≡ k.observers → HasTakenIn n log
-taken_on k n log xs t judged queued waiting header shape shadow now views_header known entries commits_same observers = record {
+    → n.entries ≡ k.entries → n.commits ≡ k.commits → n.observers ≡ k.observers → HasTakenIn n starting log
+taken_on k n starting log xs t judged queued waiting header started shape shadow inner views_header known entries commits_same observers = record {
+  started = started ∙ t.started;
+  begun = ap (λ h. start_verdict h starting) header ∙ t.begun;
   shape = subst (λ s. ShapeFollows s (newest_first log)) (sym shape) t.shape;
   shape_header = ap (λ s. s.header) shape ∙ t.shape_header ∙ sym header;
-  words = record {
-    followed = subst (λ s. ShadowFollows s (newest_first log)) (sym shadow) t.words.followed;
-    unchanged = ap (λ s. s.changed) shadow ∙ t.words.unchanged;
-    header = views_header ∙ t.words.header ∙ ap (λ s. s.header) (sym shadow);
-    now = now ∙ t.words.now ∙ ap (λ s. s.words) (sym shadow);
-  };
+  words = subst (λ xs'. HasWords n.shadow xs' starting (newest_first log)) (sym inner)
+      (subst (λ s. HasWords s k.inner starting (newest_first log)) (sym shadow) t.words);
   shadow_header = ap (λ s. s.header) shadow ∙ t.shadow_header ∙ sym header;
+  views_header = views_header ∙ t.views_header ∙ sym header;
   queued = subst (λ h. HasQueued h n.waiting n.taken n.callers (newest_first log)) (sym header)
       (subst (λ q. HasQueued k.header q n.taken n.callers (newest_first log)) (sym waiting) queued);
-  judged = subst (λ h. Judged h log n.state n.made n.watches n.waiting n.views.cuts) (sym header)
-      (subst (λ q. Judged k.header log n.state n.made n.watches q n.views.cuts) (sym waiting) judged);
+  judged = subst (λ h. Judged h starting log n.state n.made n.watches n.waiting n.views.first n.views.since) (sym header)
+      (subst (λ q. Judged k.header starting log n.state n.made n.watches q n.views.first n.views.since) (sym waiting) judged);
   kept = ap (λ h. first_break h log) header ∙ t.kept;
   specified = known.0;
   sound = known.1;
@@ -163,31 +175,36 @@ observers_more earlier (x ∷ xs) e =
     omega (arith, rest, first, whole)
 
 -- one more entry was taken in
-pub taken_more : (k n : Kept) (log : List Entry) (e : Entry) → HasTakenIn k log → Keeps k.header (newest_first log) e
-    → ShapeFollows n.shape (e ∷ newest_first log) → n.shape.header ≡ k.shape.header
-    → HasTaken k.shadow.header k.views.cuts n.shadow n.views e (newest_first log) → n.shadow.header ≡ k.shadow.header
+pub taken_more : (k n : Kept) (starting : List StartWord) (log : List Entry) (e : Entry) → HasTakenIn k starting log
+    → Keeps k.header (newest_first log) e → ShapeFollows n.shape (e ∷ newest_first log) → n.shape.header ≡ k.shape.header
+    → HasTaken n.shadow n.inner k.views n.views starting e (newest_first log) → n.shadow.header ≡ k.shadow.header
+    → n.views.header ≡ n.shadow.header
     → HasTakenUp k.header k.waiting n.waiting n.taken n.callers e (newest_first log)
-    → n.header ≡ k.header → n.state ≡ k.state → n.made ≡ k.made → n.watches ≡ k.watches
+    → n.header ≡ k.header → n.started ≡ k.started → n.state ≡ k.state → n.made ≡ k.made → n.watches ≡ k.watches
     → n.entries ≡ k.entries + 1 → n.commits ≡ k.commits + cond (is_commit e.kind) 1 0
     → n.observers ≡ k.observers + cond (is_return e.kind && is_observing e.caller (newest_first log)) 1 0
     → (n.views.specified ≡ k.views.specified) × (n.views.refused ≡ false)
-    → HasTakenIn n (log ++ e ∷ [])
-taken_more k n log e t keeps shape shape_header words shadow_header queued header state made watches entries commits_more observers known = record {
+    → HasTakenIn n starting (log ++ e ∷ [])
+taken_more k n starting log e t keeps shape shape_header words shadow_header views_header queued header started state made watches entries commits_more observers known = record {
+  started = started ∙ t.started;
+  begun = ap (λ h. start_verdict h starting) header ∙ t.begun;
   shape = subst (ShapeFollows n.shape) (sym (newest_first-push log e)) shape;
   shape_header = shape_header ∙ t.shape_header ∙ sym header;
-  words = subst (HasWords n.shadow n.views) (sym (newest_first-push log e)) words.words;
+  words = subst (HasWords n.shadow n.inner starting) (sym (newest_first-push log e)) words.words;
   shadow_header = shadow_header ∙ t.shadow_header ∙ sym header;
+  views_header = views_header ∙ shadow_header ∙ t.shadow_header ∙ sym header;
   queued = subst (λ h. HasQueued h n.waiting n.taken n.callers (newest_first (log ++ e ∷ []))) (sym header)
       (subst (HasQueued k.header n.waiting n.taken n.callers) (sym (newest_first-push log e)) queued.queued);
-  judged = subst (λ h. Judged h (log ++ e ∷ []) n.state n.made n.watches n.waiting n.views.cuts) (sym header)
-      (subst (λ s. Judged k.header (log ++ e ∷ []) s n.made n.watches n.waiting n.views.cuts) (sym state)
-      (subst (λ m. Judged k.header (log ++ e ∷ []) k.state m n.watches n.waiting n.views.cuts) (sym made)
-      (subst (λ ws. Judged k.header (log ++ e ∷ []) k.state k.made ws n.waiting n.views.cuts) (sym watches)
-      (subst (λ q. Judged k.header (log ++ e ∷ []) k.state k.made k.watches q n.views.cuts) (sym queued.waiting)
-      (subst (λ cs. Judged k.header (log ++ e ∷ []) k.state k.made k.watches
-      (map (replied e) k.waiting ++ cons_option (waiting_at (place_of e (newest_first log) [])) []) cs)
-      (sym (words.waiting ∙ ap (λ h. k.views.cuts ++ cons_option (cut_at h (place_of e (newest_first log) [])) []) t.shadow_header))
-      (judged_more k.header log e k.state k.made k.watches k.waiting k.views.cuts keeps.rules t.judged))))));
+  judged = subst (λ h. Judged h starting (log ++ e ∷ []) n.state n.made n.watches n.waiting n.views.first n.views.since) (sym header)
+      (subst (λ s. Judged k.header starting (log ++ e ∷ []) s n.made n.watches n.waiting n.views.first n.views.since) (sym state)
+      (subst (λ m. Judged k.header starting (log ++ e ∷ []) k.state m n.watches n.waiting n.views.first n.views.since) (sym made)
+      (subst (λ ws. Judged k.header starting (log ++ e ∷ []) k.state k.made ws n.waiting n.views.first n.views.since) (sym watches)
+      (subst (λ q. Judged k.header starting (log ++ e ∷ []) k.state k.made k.watches q n.views.first n.views.since) (sym queued.waiting)
+      (subst (λ f. Judged k.header starting (log ++ e ∷ []) k.state k.made k.watches queue f n.views.since) (sym words.first)
+      (subst (Judged k.header starting (log ++ e ∷ []) k.state k.made k.watches queue
+      (first_with (parts_behind (newest_first log) e.caller e.kind) words.writes k.views.first k.views.since)) (sym words.since)
+      (judged_more k.header starting log e k.state k.made k.watches k.waiting k.views.first k.views.since words.writes
+      (well_formed-first_break k.header log t.kept) keeps.rules words.alike t.judged)))))));
   kept = ap (λ h. first_break h (log ++ e ∷ [])) header ∙ kept-push k.header log e t.kept keeps.rules;
   specified = known.0 ∙ t.specified ∙ sym state;
   sound = known.1;
@@ -196,35 +213,49 @@ taken_more k n log e t keeps shape shape_header words shadow_header queued heade
   observers = observers ∙ ap (λ m. m + cond (is_return e.kind && is_observing e.caller (newest_first log)) 1 0) t.observers
       ∙ sym (observers_more [] log e);
 }
+  where
+    queue : List Waiting
+    queue = map (replied e) k.waiting ++ cons_option (waiting_at (place_of e (newest_first log) [])) []
 
 -- an entry that breaks a rule
-pub broken_so_far : {k : Kept} {log : List Entry} (e : Entry) (rule : Rule) → IsFaultless k log → broken_rule k.shape.header (newest_first log) e ≡ Some rule
-    → Some (Malformed (k.entries + 2) rule) ≡ verdict_so_far k.header (log ++ e ∷ [])
-broken_so_far {k} {log} e rule f broken =
+pub broken_so_far : {k : Kept} {starting : List StartWord} {log : List Entry} (e : Entry) (rule : Rule) → IsFaultless k starting log
+    → broken_rule k.shape.header (newest_first log) e ≡ Some rule
+    → Some (Malformed (k.started + k.entries + 2) rule) ≡ verdict_so_far k.header starting (log ++ e ∷ [])
+broken_so_far {k} {starting} {log} e rule f broken =
     let t = f.taken_in in
     let here : broken_rule k.header (newest_first log) e ≡ Some rule = ap (λ h. broken_rule h (newest_first log) e) (sym t.shape_header) ∙ broken in
-    sym (so_far_break k.header (log ++ e ∷ []) log k.entries rule (sym (front_at_break k.header log [] e rule t.kept here)) (sym t.entries) f.faultless
-    (break_at_break k.header log [] e rule t.kept here))
+    ap (λ n. Some (Malformed (n + k.entries + 2) rule)) t.started
+    ∙ sym (so_far_break k.header starting (log ++ e ∷ []) log k.entries rule t.begun (sym (front_at_break k.header log [] e rule t.kept here))
+    (sym t.entries) f.faultless (break_at_break k.header log [] e rule t.kept here))
 
 -- the verdict so far of a log that keeps all rules
-pub so_far_is : {k : Kept} {log : List Entry} → HasTakenIn k log → verdict_so_far k.header log ≡ first_fault k.header log
-unfolding verdict_so_far shape_verdict
-so_far_is {k} {log} t =
-    ap (λ o. option_or (first_fault k.header (front k.header log)) (option_map (Malformed (length (front k.header log) + 2)) o)) t.kept
-    ∙ or_none (first_fault k.header (front k.header log)) ∙ ap (first_fault k.header) (front_whole k.header log t.kept)
-  where
-    or_none : {A : Type 0} (o : Option A) → option_or o None ≡ o
-    or_none None = refl
-    or_none (Some a) = refl
+pub so_far_is : {k : Kept} {starting : List StartWord} {log : List Entry} → HasTakenIn k starting log
+    → verdict_so_far k.header starting log ≡ first_fault k.header starting log
+so_far_is {k} {starting} {log} t = so_far_kept k.header starting log t.begun t.kept
+
+-- how many commits there are, from either end
+commits_onto : (earlier xs : List Entry) → commit_count (newest_first_onto earlier xs) ≡ commit_count xs + commit_count earlier
+commits_onto earlier [] = omega arith
+commits_onto earlier (x ∷ xs) =
+    let rest = commits_onto (x ∷ earlier) xs in
+    let one = commit_count-cons x earlier in
+    let whole = commit_count-cons x xs in
+    omega (arith, rest, one, whole)
+
+commits_same : (log : List Entry) → commit_count (newest_first log) ≡ commit_count log
+commits_same log = let all = commits_onto [] log in omega (arith, all)
 
 -- what may follow
-pub may_take : {k : Kept} (e : Entry) → IsSomewhere k → ((log : List Entry) → IsFaultless k log → Keeps k.shadow.header (newest_first log) e)
-    → MayFollow k.shadow k.views e
-may_take e somewhere keeps = ∥∥₁_map somewhere (λ s. (newest_first s.0, s.1.taken_in.words, keeps s.0 s.1))
+pub may_take : {k : Kept} (e : Entry) → IsSomewhere k
+    → ((starting : List StartWord) (log : List Entry) → IsFaultless k starting log → Keeps k.shadow.header (newest_first log) e)
+    → MayFollow k.shadow k.inner e k.commits
+may_take {k} e somewhere keeps = ∥∥₁_map somewhere (λ s.
+    (s.0, newest_first s.1, s.2.taken_in.words, keeps s.0 s.1 s.2, s.2.taken_in.commits ∙ sym (commits_same s.1)))
 
-pub may_queue : {k : Kept} (e : Entry) → IsSomewhere k → ((log : List Entry) → IsFaultless k log → Keeps k.header (newest_first log) e)
+pub may_queue : {k : Kept} (e : Entry) → IsSomewhere k
+    → ((starting : List StartWord) (log : List Entry) → IsFaultless k starting log → Keeps k.header (newest_first log) e)
     → MayQueue k.header k.waiting k.taken k.callers e k.entries
-may_queue {k} e somewhere keeps = ∥∥₁_map somewhere (λ s. (newest_first s.0, s.1.taken_in.queued, keeps s.0 s.1, same s.0 s.1.taken_in.entries))
+may_queue {k} e somewhere keeps = ∥∥₁_map somewhere (λ s. (newest_first s.1, s.2.taken_in.queued, keeps s.0 s.1 s.2, same s.1 s.2.taken_in.entries))
   where
     long : (earlier ys : List Entry) → length (newest_first_onto earlier ys) ≡ length earlier + length ys
     long earlier [] = omega arith
@@ -251,36 +282,52 @@ length-places earlier (x ∷ xs) = ap suc (length-places (x ∷ earlier) xs)
 
 pub few_commits : {k : Kept} → k.entries < 2 ^ 62 → IsSomewhere k → k.commits + 1 < 2 ^ 64
 few_commits {k} few somewhere = below_of _ _ (∥∥₁_elim somewhere (Bool-set _ _) (λ s.
-    let low : k.commits + 1 < 2 ^ 64 = omega (arith, few, s.1.taken_in.commits, s.1.taken_in.entries, count_few (λ x. is_commit x.kind) s.0) in
+    let low : k.commits + 1 < 2 ^ 64 = omega (arith, few, s.2.taken_in.commits, s.2.taken_in.entries, count_few (λ x. is_commit x.kind) s.1) in
     is_below (k.commits + 1) (2 ^ 64) low))
+
+pub low_commits : {k : Kept} → k.entries < 2 ^ 62 → IsSomewhere k → k.commits < 2 ^ 62
+low_commits {k} few somewhere = below_of _ _ (∥∥₁_elim somewhere (Bool-set _ _) (λ s.
+    let low : k.commits < 2 ^ 62 = omega (arith, few, s.2.taken_in.commits, s.2.taken_in.entries, count_few (λ x. is_commit x.kind) s.1) in
+    is_below k.commits (2 ^ 62) low))
+
+-- the shape has counted the entries too
+pub low_shape : {k : Kept} → k.entries < 2 ^ 62 → IsSomewhere k → k.shape.entries < 2 ^ 62
+low_shape {k} few somewhere = below_of _ _ (∥∥₁_elim somewhere (Bool-set _ _) (λ s.
+    let low : k.shape.entries < 2 ^ 62 = omega (arith, few, s.2.taken_in.shape.entries, s.2.taken_in.entries, length-newest_first_onto [] s.1) in
+    is_below k.shape.entries (2 ^ 62) low))
 
 pub few_observers : {k : Kept} → k.entries < 2 ^ 62 → IsSomewhere k → k.observers + 1 < 2 ^ 64
 few_observers {k} few somewhere = below_of _ _ (∥∥₁_elim somewhere (Bool-set _ _) (λ s.
-    let low : k.observers + 1 < 2 ^ 64 = omega (arith, few, s.1.taken_in.observers, s.1.taken_in.entries, count_few observer_returns (places s.0), length-places [] s.0) in
+    let low : k.observers + 1 < 2 ^ 64 = omega (arith, few, s.2.taken_in.observers, s.2.taken_in.entries, count_few observer_returns (places s.1), length-places [] s.1) in
     is_below (k.observers + 1) (2 ^ 64) low))
 
-pub low_caller_of : {k : Kept} (e : Entry) → IsSomewhere k → ((log : List Entry) → IsFaultless k log → Keeps k.header (newest_first log) e) → e.caller < k.header.callers
+pub low_caller_of : {k : Kept} (e : Entry) → IsSomewhere k → ((starting : List StartWord) (log : List Entry) → IsFaultless k starting log → Keeps k.header (newest_first log) e) → e.caller < k.header.callers
 low_caller_of {k} e somewhere keeps = below_of _ _ (∥∥₁_elim somewhere (Bool-set _ _) (λ s.
-    is_below _ _ (caller_kept k.header (newest_first s.0) e (keeps s.0 s.1).rules)))
+    is_below _ _ (caller_kept k.header (newest_first s.1) e (keeps s.0 s.1 s.2).rules)))
 
 -- before the first entry all is kept
-pub first_taken_in : (k : Kept) (h : Header) → k.header ≡ h → ShapeFollows k.shape [] → k.shape.header ≡ h → HasWords k.shadow k.views []
-    → k.shadow.header ≡ h → HasQueued h k.waiting k.taken k.callers [] → k.state ≡ start → k.made ≡ 0 → AreObservers h k.watches → AreCurrent start k.watches
-    → k.waiting ≡ [] → k.views.cuts ≡ [] → k.entries ≡ 0 → k.commits ≡ 0 → k.observers ≡ 0
-    → (k.views.specified ≡ start) × (k.views.refused ≡ false) → HasTakenIn k []
-first_taken_in k h header shape shape_header words shadow_header queued state made closed current waiting cuts entries commits_none observers known = record {
+pub first_taken_in : (k : Kept) (h : Header) (starting : List StartWord) → k.header ≡ h → k.started ≡ length starting
+    → state_at_start h starting ≡ Some k.state → ShapeFollows k.shape [] → k.shape.header ≡ h → HasWords k.shadow k.inner starting []
+    → k.shadow.header ≡ h → k.views.header ≡ h → HasQueued h k.waiting k.taken k.callers [] → k.made ≡ 0
+    → AreObservers h k.watches → AreCurrent k.state k.watches → k.waiting ≡ [] → k.views.first ≡ words_at_start h starting → k.views.since ≡ []
+    → k.entries ≡ 0 → k.commits ≡ 0 → k.observers ≡ 0
+    → (k.views.specified ≡ k.state) × (k.views.refused ≡ false) → HasTakenIn k starting []
+first_taken_in k h starting header started begins shape shape_header words shadow_header views_header queued made closed current waiting first since entries commits_none observers known = record {
+  started = started;
+  begun = ap (λ g. start_verdict g starting) header ∙ sound_start h starting k.state begins;
   shape = shape;
   shape_header = shape_header ∙ sym header;
   words = words;
   shadow_header = shadow_header ∙ sym header;
+  views_header = views_header ∙ sym header;
   queued = subst (λ g. HasQueued g k.waiting k.taken k.callers []) (sym header) queued;
-  judged = subst (λ g. Judged g [] k.state k.made k.watches k.waiting k.views.cuts) (sym header)
-      (subst (λ s. Judged h [] s k.made k.watches k.waiting k.views.cuts) (sym state)
-      (subst (λ m. Judged h [] start m k.watches k.waiting k.views.cuts) (sym made)
-      (subst (λ q. Judged h [] start 0 k.watches q k.views.cuts) (sym waiting)
-      (subst (Judged h [] start 0 k.watches []) (sym cuts) (judged_nothing h k.watches closed current)))));
+  judged = subst (λ g. Judged g starting [] k.state k.made k.watches k.waiting k.views.first k.views.since) (sym header)
+      (subst (λ m. Judged h starting [] k.state m k.watches k.waiting k.views.first k.views.since) (sym made)
+      (subst (λ q. Judged h starting [] k.state 0 k.watches q k.views.first k.views.since) (sym waiting)
+      (subst (Judged h starting [] k.state 0 k.watches [] k.views.first) (sym since)
+      (judged_nothing h starting k.state k.watches k.views.first begins first closed current))));
   kept = nothing_broken k.header;
-  specified = known.0 ∙ sym state;
+  specified = known.0;
   sound = known.1;
   entries = entries;
   commits = commits_none;
@@ -288,16 +335,19 @@ first_taken_in k h header shape shape_header words shadow_header queued state ma
 }
 
 -- where no more can be judged
-pub stops_answer : (h : Header) (log : List Entry) (k : Kept) (o : Option Verdict) → AdvanceGives h log k (Stops o) → o ≡ first_fault h log
-stops_answer h log k None gives = sym gives.0
-stops_answer h log k (Some v) gives = sym gives
+pub stops_answer : (h : Header) (starting : List StartWord) (log : List Entry) (k : Kept) (o : Option Verdict)
+    → AdvanceGives h starting log k (Stops o) → o ≡ first_fault h starting log
+stops_answer h starting log k None gives = sym gives.0
+stops_answer h starting log k (Some v) gives = sym gives
 
-pub stops_none : (h : Header) (log : List Entry) (k : Kept) (o : Option Verdict) → o ≡ None → AdvanceGives h log k (Stops o) → HasTakenIn k log
-stops_none h log k None is gives = gives.1
-stops_none h log k (Some v) is gives = cc
+pub stops_none : (h : Header) (starting : List StartWord) (log : List Entry) (k : Kept) (o : Option Verdict) → o ≡ None
+    → AdvanceGives h starting log k (Stops o) → HasTakenIn k starting log
+stops_none h starting log k None is gives = gives.1
+stops_none h starting log k (Some v) is gives = cc
 
-pub may_catch_up_on : {k n : Kept} → MayCatchUp k → ((log : List Entry) → HasTakenIn k log → HasTakenIn n log) → MayCatchUp n
-may_catch_up_on may on = ∥∥₁_map may (λ s. (s.0, on s.0 s.1, s.2))
+pub may_catch_up_on : {k n : Kept} → MayCatchUp k
+    → ((starting : List StartWord) (log : List Entry) → HasTakenIn k starting log → HasTakenIn n starting log) → MayCatchUp n
+may_catch_up_on may on = ∥∥₁_map may (λ s. (s.0, s.1, on s.0 s.1 s.2, s.3))
 
 -- the value of an answer
 abbrev pub ok_of : (A E : Type 0) → A → Result A E
@@ -311,24 +361,24 @@ pub taken_all : (k n : Kept) (e : Entry) (queue_header : Header) (commits_here o
     → k.shape.header ≡ k.header → k.shadow.header ≡ k.header → queue_header ≡ k.header
     → ((earlier : List Entry) → ShapeFollows k.shape earlier → (broken_rule k.shape.header earlier e ≡ None) × ShapeFollows n.shape (e ∷ earlier))
     → n.shape.header ≡ k.shape.header
-    → ((earlier : List Entry) → HasWords k.shadow k.views earlier → Keeps k.shadow.header earlier e
-    → HasTaken k.shadow.header k.views.cuts n.shadow n.views e earlier)
-    → n.shadow.header ≡ k.shadow.header
+    → ((starting : List StartWord) (earlier : List Entry) → HasWords k.shadow k.inner starting earlier → Keeps k.shadow.header earlier e
+    → k.commits ≡ commit_count earlier → HasTaken n.shadow n.inner k.views n.views starting e earlier)
+    → n.shadow.header ≡ k.shadow.header → n.views.header ≡ n.shadow.header
     → ((earlier : List Entry) → HasQueued queue_header k.waiting k.taken k.callers earlier → Keeps queue_header earlier e → k.entries ≡ length earlier
     → HasTakenUp queue_header k.waiting n.waiting n.taken n.callers e earlier)
-    → n.header ≡ k.header → n.state ≡ k.state → n.made ≡ k.made → n.watches ≡ k.watches
+    → n.header ≡ k.header → n.started ≡ k.started → n.state ≡ k.state → n.made ≡ k.made → n.watches ≡ k.watches
     → commits_here ≡ is_commit e.kind → n.commits ≡ k.commits + cond commits_here 1 0
     → ((earlier : List Entry) → HasQueued queue_header k.waiting k.taken k.callers earlier → Keeps queue_header earlier e
     → observes ≡ (is_return e.kind && is_observing e.caller earlier))
     → n.observers ≡ k.observers + cond observes 1 0 → n.entries ≡ k.entries + 1
     → (n.views.specified ≡ k.views.specified) × (n.views.refused ≡ false)
-    → (log : List Entry) → HasTakenIn k log → HasTakenIn n (log ++ e ∷ [])
-taken_all k n e queue_header commits_here observes shape_is shadow_is queue_is shape shape_header words shadow_header queued header state made watches commits_is commits_more observes_is observers entries known log t =
-    taken_more k n log e t keeps (shape (newest_first log) t.shape).1 shape_header
-    (words (newest_first log) t.words (keeps_at shadow_is)) shadow_header
+    → (starting : List StartWord) (log : List Entry) → HasTakenIn k starting log → HasTakenIn n starting (log ++ e ∷ [])
+taken_all k n e queue_header commits_here observes shape_is shadow_is queue_is shape shape_header words shadow_header views_header queued header started state made watches commits_is commits_more observes_is observers entries known starting log t =
+    taken_more k n starting log e t keeps (shape (newest_first log) t.shape).1 shape_header
+    (words starting (newest_first log) t.words (keeps_at shadow_is) (t.commits ∙ sym (commits_same log))) shadow_header views_header
     (subst (λ h. HasTakenUp h k.waiting n.waiting n.taken n.callers e (newest_first log)) queue_is
     (queued (newest_first log) queue (keeps_at queue_is) (reversed log t.entries)))
-    header state made watches entries (commits_more ∙ ap (λ b. k.commits + cond b 1 0) commits_is)
+    header started state made watches entries (commits_more ∙ ap (λ b. k.commits + cond b 1 0) commits_is)
     (observers ∙ ap (λ b. k.observers + cond b 1 0) (observes_is (newest_first log) queue (keeps_at queue_is))) known
   where
     keeps : Keeps k.header (newest_first log) e
@@ -348,42 +398,41 @@ taken_all k n e queue_header commits_here observes shape_is shadow_is queue_is s
     reversed es is = omega (arith, is, long [] es)
 
 pub may_catch_up : (k n : Kept) (e : Entry) → k.entries < 2 ^ 62 → IsSomewhere k
-    → ((log : List Entry) → HasTakenIn k log → HasTakenIn n (log ++ e ∷ [])) → MayCatchUp n
+    → ((starting : List StartWord) (log : List Entry) → HasTakenIn k starting log → HasTakenIn n starting (log ++ e ∷ [])) → MayCatchUp n
 may_catch_up k n e few somewhere on = ∥∥₁_map somewhere (λ s.
-    let short : length (s.0 ++ e ∷ []) ≤ 2 ^ 62 = omega (arith, few, s.1.taken_in.entries, length_push s.0 e) in
-    (s.0 ++ e ∷ [], on s.0 s.1.taken_in, short))
+    let short : length (s.1 ++ e ∷ []) ≤ 2 ^ 62 = omega (arith, few, s.2.taken_in.entries, length_push s.1 e) in
+    (s.0, s.1 ++ e ∷ [], on s.0 s.1 s.2.taken_in, short))
 
 -- an entry that keeps the rules by one name of the header keeps them by another
 pub keeps_by : {k : Kept} {n : ShapeKept} (e : Entry) (h : Header) → k.shape.header ≡ k.header → h ≡ k.header
     → ((earlier : List Entry) → ShapeFollows k.shape earlier → (broken_rule k.shape.header earlier e ≡ None) × ShapeFollows n (e ∷ earlier))
-    → (log : List Entry) → IsFaultless k log → Keeps h (newest_first log) e
-keeps_by {k} {n} e h shape_is is shape log f = record {
+    → (starting : List StartWord) (log : List Entry) → IsFaultless k starting log → Keeps h (newest_first log) e
+keeps_by {k} {n} e h shape_is is shape starting log f = record {
   rules = ap (λ g. broken_rule g (newest_first log) e) (is ∙ sym shape_is) ∙ (shape (newest_first log) f.taken_in.shape).0;
 }
 
 -- the answer with one more entry
-pub answer_with : {k : Kept} {log : List Entry} (v : Option Verdict) → HasTakenIn k log → v ≡ first_fault k.header log → v ≡ verdict_so_far k.header log
+pub answer_with : {k : Kept} {starting : List StartWord} {log : List Entry} (v : Option Verdict) → HasTakenIn k starting log → v ≡ first_fault k.header starting log → v ≡ verdict_so_far k.header starting log
 answer_with v t is = is ∙ sym (so_far_is t)
 
 -- the verdict where `end` stands after the entries
-pub end_open : {k : Kept} {log : List Entry} → IsFaultless k log → is_call_open k.shape.header (newest_first log) ≡ true
-    → Malformed (k.entries + 2) CallOpen ≡ verdict k.header log
+pub end_open : {k : Kept} {starting : List StartWord} {log : List Entry} → IsFaultless k starting log
+    → is_call_open k.shape.header (newest_first log) ≡ true
+    → Malformed (k.started + k.entries + 2) CallOpen ≡ verdict k.header starting log
 unfolding verdict_at
-end_open {k} {log} f is_open =
-    ap (λ n. Malformed (n + 2) CallOpen) f.taken_in.entries
-    ∙ at_end_open k.header log (so_far_is f.taken_in ∙ f.faultless) (ap (λ h. is_call_open h (newest_first log)) (sym f.taken_in.shape_header) ∙ is_open)
+end_open {k} {starting} {log} f is_open =
+    (λ i. Malformed (f.taken_in.started i + f.taken_in.entries i + 2) CallOpen)
+    ∙ at_end_open k.header starting log f.taken_in.begun (so_far_is f.taken_in ∙ f.faultless)
+    (ap (λ h. is_call_open h (newest_first log)) (sym f.taken_in.shape_header) ∙ is_open)
 
-pub end_accepted : {k : Kept} {log : List Entry} → IsFaultless k log → is_call_open k.shape.header (newest_first log) ≡ false
-    → Accepted k.entries k.commits k.observers ≡ verdict k.header log
+pub end_accepted : {k : Kept} {starting : List StartWord} {log : List Entry} → IsFaultless k starting log
+    → is_call_open k.shape.header (newest_first log) ≡ false
+    → Accepted k.entries k.commits k.observers ≡ verdict k.header starting log
 unfolding verdict_at accepted
-end_accepted {k} {log} f closed =
+end_accepted {k} {starting} {log} f closed =
     (λ i. Accepted (f.taken_in.entries i) (f.taken_in.commits i) (f.taken_in.observers i))
-    ∙ at_end_accepted k.header log (so_far_is f.taken_in ∙ f.faultless) (ap (λ h. is_call_open h (newest_first log)) (sym f.taken_in.shape_header) ∙ closed)
-
--- a log without entries has no fault
-pub no_first_fault : (h : Header) → first_fault h [] ≡ None
-unfolding first_fault
-no_first_fault h = refl
+    ∙ at_end_accepted k.header starting log f.taken_in.begun (so_far_is f.taken_in ∙ f.faultless)
+    (ap (λ h. is_call_open h (newest_first log)) (sym f.taken_in.shape_header) ∙ closed)
 
 -- whether a test of a result fails
 pub open_by : {T E : Type 0} {b : Bool} (P : E → Type 0) (r : Result T E) → MatchResult r (λ _. b ≡ false) (λ f. (b ≡ true) × P f) → is_err r ≡ b
@@ -392,10 +441,10 @@ open_by P (Err x) fault = sym fault.0
 
 -- the comparison was not refused
 pub sound_of : {k : Kept} → IsSomewhere k → k.views.refused ≡ false
-sound_of somewhere = ∥∥₁_elim somewhere (Bool-set _ _) (λ s. s.1.taken_in.sound)
+sound_of somewhere = ∥∥₁_elim somewhere (Bool-set _ _) (λ s. s.2.taken_in.sound)
 
 pub sound_up : {k : Kept} → MayCatchUp k → k.views.refused ≡ false
-sound_up may = ∥∥₁_elim may (Bool-set _ _) (λ s. s.1.sound)
+sound_up may = ∥∥₁_elim may (Bool-set _ _) (λ s. s.2.sound)
 
 -- an entry is its caller and its kind
 pub of_kind : (e : Entry) {k : Kind} → e.kind ≡ k → record { caller = e.caller; kind = k } ≡ e

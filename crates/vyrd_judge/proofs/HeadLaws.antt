@@ -1,15 +1,14 @@
 -- What the entry that waits first leads to, by its event.
-use Rattle.std.proofs.Common.{◌≡◌, ℕ, ◌+◌, ◌<◌, ◌≤◌, true, false, cond, List, [], ◌∷◌, ◌++◌, length, Option, Some, None, slice_get, refl, ap, subst, ◌∙◌, sym, arith, append-nil}
+use Rattle.std.proofs.Common.{◌≡◌, ℕ, ◌+◌, ◌<◌, ◌≤◌, Bool, true, false, cond, List, [], ◌∷◌, ◌++◌, length, Option, Some, None, slice_get, refl, ap, subst, ◌∙◌, sym, arith, append-nil}
 use Rattle.std.specs.Prelude.{option_map}
 use Rattle.std.specs.Option.{option_or, option_map_or}
-use Rattle.std.specs.Bool.{then_some}
-use Rattle.std.specs.List.{cons_option}
 use Rattle.vyrd_base.specs.declared.header.Header.{Header}
 use Rattle.vyrd_base.specs.declared.subject.Method.{Method}
 use Rattle.vyrd_base.specs.declared.subject.Args.{Args}
 use Rattle.vyrd_base.specs.declared.log.Kind.{Kind}
 use Rattle.vyrd_base.specs.declared.log.Kind.TheVariants.{Call, Return}
 use Rattle.vyrd_base.specs.declared.log.Entry.{Entry}
+use Rattle.vyrd_base.specs.declared.log.StartWord.{StartWord}
 use Rattle.vyrd_base.specs.declared.verdict.Why.{Why}
 use Rattle.vyrd_base.specs.declared.verdict.Why.TheVariants.{Observer}
 use Rattle.vyrd_base.specs.declared.verdict.Verdict.TheVariants.{Violation}
@@ -17,77 +16,82 @@ use Rattle.vyrd_base.specs.Places.{places_after, newest_first_onto, first_answer
 use Rattle.vyrd_base.specs.Callers.{Called, open_call}
 use Rattle.vyrd_base.specs.Subjects.{is_observer}
 use Rattle.vyrd_base.specs.Shape.{broken_rule}
-use Rattle.vyrd_base.specs.Words.{words_after}
+use Rattle.vyrd_base.specs.Words.{words_at, effects}
 use Rattle.vyrd_base.specs.Views.{view_of_words}
 use Rattle.vyrd_base.specs.Amounts.{Amounts, first_difference}
 use Rattle.vyrd_base.specs.Specification.{next_state, answer_in}
 use Rattle.vyrd_base.specs.Commits.{is_commit, commit_count}
 use Rattle.vyrd_base.specs.Faults.{step_fault, fault_at}
-use Rattle.vyrd_base.specs.Verdicts.{violation_at, first_fault}
+use Rattle.vyrd_base.specs.Verdicts.{line_of, violation_at, first_fault, states_along}
 use Rattle.vyrd_base.proofs.BlockLaws.{entry}
 use Rattle.vyrd_base.proofs.Growing.{next_reply_stays}
 use Rattle.vyrd_base.proofs.Lasting.{no_fault_beyond}
+use Rattle.vyrd_base.proofs.Settled.{IsReturned, words_at_stay}
 use Rattle.vyrd_base.proofs.ShadowLaws.{caller_kept}
+use Rattle.vyrd_shadow.specs.Blocks.{with_writes}
 use Rattle.vyrd_judge.specs.declared.waiting.Waiting.{Waiting}
+use Rattle.vyrd_judge.specs.Effects.{effect_parts, AllActAlike}
 use Rattle.vyrd_judge.specs.Executions.{has_method}
 use Rattle.vyrd_judge.specs.Outcomes.{place_of}
-use Rattle.vyrd_judge.specs.Standing.{states_of}
 use Rattle.vyrd_judge.specs.Watching.{Seen, has_answer, IsWatched}
-use Rattle.vyrd_judge.specs.Waiting.{cut_at, cuts_after}
 use Rattle.vyrd_judge.specs.Reached.{Reached, AreObservers, AreCurrent, AllSee}
 use Rattle.vyrd_judge.specs.Judged.{Judged}
+use Rattle.vyrd_judge.proofs.AlikeLaws.{Split, has_parts_next}
 use Rattle.vyrd_judge.proofs.KeptFacts.{call_kept, commit_kept, block_commit_runs}
-use Rattle.vyrd_judge.proofs.FaultLaws.{Commits as Committing, alone, with_block, commits_is}
+use Rattle.vyrd_judge.proofs.CommitLaws.{Commits as Committing, alone, with_block, commits_is}
 use Rattle.vyrd_judge.proofs.Reaching.{OthersStay, reached_begins, reached_return}
 use Rattle.vyrd_judge.proofs.ReachedFaults.{commit_fault_at, commit_right, commit_waits, observer_at}
 use Rattle.vyrd_judge.proofs.WaitingLaws.{IsBegin, IsCommit, IsReturn}
-use Rattle.vyrd_judge.proofs.JudgedLaws.{AtHead, Onward, judged_next, judged_fault}
+use Rattle.vyrd_judge.proofs.JudgedLaws.{AtHead, Onward, parts_on, parts_at, judged_next, judged_fault}
 
 -- what a place leads to, by another name of its entry
-onward_as : {h : Header} {log : List Entry} {d e : Entry} {earlier later : List Entry} {state : Amounts} {watches : List Seen}
-    → d ≡ e → Onward h log d earlier later state watches → Onward h log e earlier later state watches
-onward_as {h} {log} {d} {e} {earlier} {later} {state} {watches} same on = subst (λ x. Onward h log x earlier later state watches) same on
+onward_as : {h : Header} {starting : List StartWord} {log : List Entry} {d e : Entry} {earlier later : List Entry} {state : Amounts} {watches : List Seen}
+    → d ≡ e → Onward h starting log d earlier later state watches → Onward h starting log e earlier later state watches
+onward_as {h} {starting} {log} {d} {e} {earlier} {later} {state} {watches} same on = subst (λ x. Onward h starting log x earlier later state watches) same on
 
 named : (e : Entry) (kind : Kind) → e.kind ≡ kind → entry e.caller kind ≡ e
 named e kind is = ap (entry e.caller) (sym is)
 
--- an entry that is no commit adds no words
-no_cut : (h : Header) (e : Entry) (earlier later : List Entry) (cuts : List (List ℕ)) → is_commit e.kind ≡ false
-    → cuts ≡ cons_option (cut_at h (place_of e earlier later)) cuts
-no_cut h e earlier later cuts isnt = sym (ap (λ b. cons_option (then_some b (words_after h (e ∷ earlier))) cuts) isnt)
+-- an entry that is no commit needs no return
+no_return : (c : ℕ) (kind : Kind) (later : List Entry) → is_commit kind ≡ false → IsReturned c kind later
+no_return c kind later isnt commits = absurd (apart isnt commits)
+  where
+    apart : {b : Bool} → b ≡ false → b ≡ true → ⊥
+    apart p q = cc
 
 -- an observer begins
-pub head_begins : {h : Header} {log : List Entry} {state : Amounts} {made : ℕ} {watches : List Seen} (new : List Seen) {x : Waiting}
-    {xs : List Waiting} {cuts : List (List ℕ)} {method : Method} {args : Args} (at : AtHead h log state made watches x xs cuts)
+pub head_begins : {h : Header} {starting : List StartWord} {log : List Entry} {state : Amounts} {made : ℕ} {watches : List Seen} (new : List Seen) {x : Waiting}
+    {xs : List Waiting} {first : List ℕ} {since : List (List (ℕ × ℕ))} {method : Method} {args : Args} (at : AtHead h starting log state made watches x xs first since)
     → IsBegin at.here at.earlier x method args → OthersStay x.caller watches new
     → slice_get new x.caller ≡ Some (record { is_open = true; method = method; args = args; answers = answer_in state method args ∷ [] })
-    → AreObservers h new → AreCurrent state new → Judged h log state made new xs cuts
+    → AreObservers h new → AreCurrent state new → Judged h starting log state made new xs first since
 unfolding fault_at
-head_begins {h} {log} {state} {made} {watches} new {x} {xs} {cuts} {method} {args} at is others here observers current =
-    judged_next h log state state made made watches new x xs cuts cuts at
-    (no_cut h at.here at.earlier at.later cuts (ap is_commit is.kind)) (omega arith) observers current
+head_begins {h} {starting} {log} {state} {made} {watches} new {x} {xs} {first} {since} {method} {args} at is others here observers current =
+    judged_next h starting log state state made made watches new x xs first first since since at
+    (no_return at.here.caller at.here.kind at.later (ap is_commit is.kind))
+    (parts_on h starting first since at.here at.earlier at.later (ap is_commit is.kind) at.judged.parts) (omega arith) observers current
     (onward_as (named at.here (Call method args) is.kind) (record {
       fault = λ more. refl;
-      reached = λ more. reached_begins h (states_of (log ++ more)) at.here.caller method args at.earlier (at.later ++ more) state watches new
+      reached = λ more. reached_begins h (states_along h starting (log ++ more)) at.here.caller method args at.earlier (at.later ++ more) state watches new
           may (subst (λ c. OthersStay c watches new) is.caller others)
           (ap (slice_get new) (sym is.caller) ∙ here)
-          (subst (λ e. Reached h (states_of (log ++ more)) at.earlier (e ∷ at.later ++ more) state watches) (sym (named at.here (Call method args) is.kind))
-          (at.reached more));
+          (subst (λ e. Reached h (states_along h starting (log ++ more)) at.earlier (e ∷ at.later ++ more) state watches) (sym (named at.here (Call method args) is.kind))
+          (at.judged.reached more));
     }))
   where
     may : has_method h method args ≡ true
     may = call_kept h at.here.caller method args at.earlier
         (subst (λ e. broken_rule h at.earlier e ≡ None) (sym (named at.here (Call method args) is.kind)) at.keeps)
 
-pub begin_fits : {h : Header} {log : List Entry} {state : Amounts} {made : ℕ} {watches : List Seen} {x : Waiting} {xs : List Waiting}
-    {cuts : List (List ℕ)} {method : Method} {args : Args} (at : AtHead h log state made watches x xs cuts)
+pub begin_fits : {h : Header} {starting : List StartWord} {log : List Entry} {state : Amounts} {made : ℕ} {watches : List Seen} {x : Waiting} {xs : List Waiting}
+    {first : List ℕ} {since : List (List (ℕ × ℕ))} {method : Method} {args : Args} (at : AtHead h starting log state made watches x xs first since)
     → IsBegin at.here at.earlier x method args → has_method h method args ≡ true
 begin_fits {h} {method = method} {args = args} at is = call_kept h at.here.caller method args at.earlier
     (subst (λ e. broken_rule h at.earlier e ≡ None) (sym (named at.here (Call method args) is.kind)) at.keeps)
 
 -- the caller is one of the header's
-pub head_caller : {h : Header} {log : List Entry} {state : Amounts} {made : ℕ} {watches : List Seen} {x : Waiting} {xs : List Waiting}
-    {cuts : List (List ℕ)} (at : AtHead h log state made watches x xs cuts) → x.caller ≡ at.here.caller → x.caller < h.callers
+pub head_caller : {h : Header} {starting : List StartWord} {log : List Entry} {state : Amounts} {made : ℕ} {watches : List Seen} {x : Waiting} {xs : List Waiting}
+    {first : List ℕ} {since : List (List (ℕ × ℕ))} (at : AtHead h starting log state made watches x xs first since) → x.caller ≡ at.here.caller → x.caller < h.callers
 head_caller {h} at same = subst (λ c. c < h.callers) (sym same) (caller_kept h at.earlier at.here at.keeps)
 
 -- an observer returns: what was called, and what is kept of it
@@ -98,8 +102,8 @@ pub record Returning (h : Header) (log : List Entry) (c : ℕ) (earlier : List E
   pub seen : Seen
   pub here : slice_get watches c ≡ Some seen
 
-returning : {h : Header} {log : List Entry} {state : Amounts} {made : ℕ} {watches : List Seen} {x : Waiting}
-    {xs : List Waiting} {cuts : List (List ℕ)} {reply : ℕ} (at : AtHead h log state made watches x xs cuts)
+returning : {h : Header} {starting : List StartWord} {log : List Entry} {state : Amounts} {made : ℕ} {watches : List Seen} {x : Waiting}
+    {xs : List Waiting} {first : List ℕ} {since : List (List (ℕ × ℕ))} {reply : ℕ} (at : AtHead h starting log state made watches x xs first since)
     → IsReturn at.here at.earlier x reply
     → (called : Called) × (open_call at.here.caller at.earlier ≡ Some called) × (is_observer called.method ≡ true)
 returning at is = observing (open_call at.here.caller at.earlier) is.observes
@@ -113,64 +117,65 @@ returning at is = observing (open_call at.here.caller at.earlier) is.observes
     observing (Some called) b = (called, refl, b)
 
 -- the watch of an observer that returns, however the log goes on
-watch_of : {h : Header} {log : List Entry} {state : Amounts} {made : ℕ} {watches : List Seen} {x : Waiting}
-    {xs : List Waiting} {cuts : List (List ℕ)} {reply : ℕ} (seen : Seen) (at : AtHead h log state made watches x xs cuts)
+watch_of : {h : Header} {starting : List StartWord} {log : List Entry} {state : Amounts} {made : ℕ} {watches : List Seen} {x : Waiting}
+    {xs : List Waiting} {first : List ℕ} {since : List (List (ℕ × ℕ))} {reply : ℕ} (seen : Seen) (at : AtHead h starting log state made watches x xs first since)
     (is : IsReturn at.here at.earlier x reply) → slice_get watches x.caller ≡ Some seen → (more : List Entry)
-    → IsWatched (states_of (log ++ more)) at.here.caller at.earlier (returning at is).0 seen
-watch_of {h} {log} {watches = watches} {x} seen at is here more =
+    → IsWatched (states_along h starting (log ++ more)) at.here.caller at.earlier (returning at is).0 seen
+watch_of {h} {starting} {log} {watches = watches} {x} seen at is here more =
     let call = returning at is in
-    let kept = (at.reached more).watched at.here.caller call.0 (caller_kept h at.earlier at.here at.keeps) call.1 call.2 in
-    subst (λ s. IsWatched (states_of (log ++ more)) at.here.caller at.earlier call.0 s)
+    let kept = (at.judged.reached more).watched at.here.caller call.0 (caller_kept h at.earlier at.here at.keeps) call.1 call.2 in
+    subst (λ s. IsWatched (states_along h starting (log ++ more)) at.here.caller at.earlier call.0 s)
     (some_same (sym kept.1 ∙ ap (slice_get watches) (sym is.caller) ∙ here)) kept.2
   where
     some_same : {a b : Seen} → Some a ≡ Some b → a ≡ b
     some_same e = cc
 
-return_fault : {h : Header} {log : List Entry} {state : Amounts} {made : ℕ} {watches : List Seen} {x : Waiting}
-    {xs : List Waiting} {cuts : List (List ℕ)} {reply : ℕ} (seen : Seen) (at : AtHead h log state made watches x xs cuts)
+return_fault : {h : Header} {starting : List StartWord} {log : List Entry} {state : Amounts} {made : ℕ} {watches : List Seen} {x : Waiting}
+    {xs : List Waiting} {first : List ℕ} {since : List (List (ℕ × ℕ))} {reply : ℕ} (seen : Seen) (at : AtHead h starting log state made watches x xs first since)
     (is : IsReturn at.here at.earlier x reply) → slice_get watches x.caller ≡ Some seen → (more : List Entry)
-    → fault_at h (states_of (log ++ more)) (place_of (entry at.here.caller (Return reply)) at.earlier (at.later ++ more))
+    → fault_at h starting (states_along h starting (log ++ more)) (place_of (entry at.here.caller (Return reply)) at.earlier (at.later ++ more))
     ≡ cond (has_answer seen.answers reply) None (Some (Observer reply))
-return_fault {h} {log} {state} {watches = watches} {reply = reply} seen at is here more =
+return_fault {h} {starting} {log} {state} {watches = watches} {reply = reply} seen at is here more =
     let call = returning at is in
-    observer_at h (states_of (log ++ more)) at.here.caller reply at.earlier (at.later ++ more) state watches call.0 seen call.1 call.2
+    observer_at h starting (states_along h starting (log ++ more)) at.here.caller reply at.earlier (at.later ++ more) state watches call.0 seen call.1 call.2
     (watch_of seen at is here more)
-    (subst (λ e. Reached h (states_of (log ++ more)) at.earlier (e ∷ at.later ++ more) state watches) (sym (named at.here (Return reply) is.kind))
-    (at.reached more))
+    (subst (λ e. Reached h (states_along h starting (log ++ more)) at.earlier (e ∷ at.later ++ more) state watches) (sym (named at.here (Return reply) is.kind))
+    (at.judged.reached more))
 
-pub head_answered : {h : Header} {log : List Entry} {state : Amounts} {made : ℕ} {watches : List Seen} (new : List Seen) {x : Waiting}
-    {xs : List Waiting} {cuts : List (List ℕ)} {reply : ℕ} (seen : Seen) (at : AtHead h log state made watches x xs cuts)
+pub head_answered : {h : Header} {starting : List StartWord} {log : List Entry} {state : Amounts} {made : ℕ} {watches : List Seen} (new : List Seen) {x : Waiting}
+    {xs : List Waiting} {first : List ℕ} {since : List (List (ℕ × ℕ))} {reply : ℕ} (seen : Seen) (at : AtHead h starting log state made watches x xs first since)
     → IsReturn at.here at.earlier x reply → slice_get watches x.caller ≡ Some seen → has_answer seen.answers reply ≡ true
-    → OthersStay x.caller watches new → AreObservers h new → AreCurrent state new → Judged h log state made new xs cuts
-head_answered {h} {log} {state} {made} {watches} new {x} {xs} {cuts} {reply} seen at is here answered others observers current =
-    judged_next h log state state made made watches new x xs cuts cuts at
-    (no_cut h at.here at.earlier at.later cuts (ap is_commit is.kind)) (omega arith) observers current
+    → OthersStay x.caller watches new → AreObservers h new → AreCurrent state new → Judged h starting log state made new xs first since
+head_answered {h} {starting} {log} {state} {made} {watches} new {x} {xs} {first} {since} {reply} seen at is here answered others observers current =
+    judged_next h starting log state state made made watches new x xs first first since since at
+    (no_return at.here.caller at.here.kind at.later (ap is_commit is.kind))
+    (parts_on h starting first since at.here at.earlier at.later (ap is_commit is.kind) at.judged.parts) (omega arith) observers current
     (onward_as (named at.here (Return reply) is.kind) (record {
       fault = λ more. return_fault seen at is here more ∙ ap (λ b. cond b None (Some (Observer reply))) answered;
-      reached = λ more. reached_return h (states_of (log ++ more)) at.here.caller reply at.earlier (at.later ++ more) state watches new
+      reached = λ more. reached_return h (states_along h starting (log ++ more)) at.here.caller reply at.earlier (at.later ++ more) state watches new
           (subst (λ c. OthersStay c watches new) is.caller others)
-          (subst (λ e. Reached h (states_of (log ++ more)) at.earlier (e ∷ at.later ++ more) state watches) (sym (named at.here (Return reply) is.kind))
-          (at.reached more));
+          (subst (λ e. Reached h (states_along h starting (log ++ more)) at.earlier (e ∷ at.later ++ more) state watches) (sym (named at.here (Return reply) is.kind))
+          (at.judged.reached more));
     }))
 
 -- a fault that doesn't depend on how the log goes on
-fault_now : {h : Header} {log : List Entry} {state : Amounts} {made : ℕ} {watches : List Seen} {x : Waiting}
-    {xs : List Waiting} {cuts : List (List ℕ)} (why : Why) (e : Entry) (at : AtHead h log state made watches x xs cuts)
+fault_now : {h : Header} {starting : List StartWord} {log : List Entry} {state : Amounts} {made : ℕ} {watches : List Seen} {x : Waiting}
+    {xs : List Waiting} {first : List ℕ} {since : List (List (ℕ × ℕ))} (why : Why) (e : Entry) (at : AtHead h starting log state made watches x xs first since)
     → e ≡ at.here → x.position ≡ length at.earlier
-    → ((more : List Entry) → fault_at h (states_of (log ++ more)) (place_of e at.earlier (at.later ++ more)) ≡ Some why)
-    → first_fault h log ≡ Some (Violation (x.position + 2) why)
-fault_now {h} {log} {state} {made} {watches} {x} {xs} {cuts} why e at same position fault =
-    judged_fault h log state made watches x xs cuts why at
-    (ap (λ d. fault_at h (states_of log) (place_of d at.earlier at.later)) (sym same)
-    ∙ ap (λ es. fault_at h (states_of log) (place_of e at.earlier es)) (sym (append-nil at.later))
-    ∙ ap (λ es. fault_at h (states_of es) (place_of e at.earlier (at.later ++ []))) (sym (append-nil log))
+    → ((more : List Entry) → fault_at h starting (states_along h starting (log ++ more)) (place_of e at.earlier (at.later ++ more)) ≡ Some why)
+    → first_fault h starting log ≡ Some (Violation (line_of starting x.position) why)
+fault_now {h} {starting} {log} {state} {made} {watches} {x} {xs} {first} {since} why e at same position fault =
+    judged_fault h starting log state made watches x xs first since why at
+    (ap (λ d. fault_at h starting (states_along h starting log) (place_of d at.earlier at.later)) (sym same)
+    ∙ ap (λ es. fault_at h starting (states_along h starting log) (place_of e at.earlier es)) (sym (append-nil at.later))
+    ∙ ap (λ es. fault_at h starting (states_along h starting es) (place_of e at.earlier (at.later ++ []))) (sym (append-nil log))
     ∙ fault [])
-    ∙ ap (λ n. Some (Violation (n + 2) why)) (sym position)
+    ∙ ap (λ n. Some (Violation (line_of starting n) why)) (sym position)
 
-pub head_unanswered : {h : Header} {log : List Entry} {state : Amounts} {made : ℕ} {watches : List Seen} {x : Waiting}
-    {xs : List Waiting} {cuts : List (List ℕ)} {reply : ℕ} (seen : Seen) (at : AtHead h log state made watches x xs cuts)
+pub head_unanswered : {h : Header} {starting : List StartWord} {log : List Entry} {state : Amounts} {made : ℕ} {watches : List Seen} {x : Waiting}
+    {xs : List Waiting} {first : List ℕ} {since : List (List (ℕ × ℕ))} {reply : ℕ} (seen : Seen) (at : AtHead h starting log state made watches x xs first since)
     → IsReturn at.here at.earlier x reply → slice_get watches x.caller ≡ Some seen → has_answer seen.answers reply ≡ false
-    → first_fault h log ≡ Some (Violation (x.position + 2) (Observer reply))
+    → first_fault h starting log ≡ Some (Violation (line_of starting x.position) (Observer reply))
 head_unanswered {reply = reply} seen at is here unanswered =
     fault_now (Observer reply) (entry at.here.caller (Return reply)) at (named at.here (Return reply) is.kind) is.position
     (λ more. return_fault seen at is here more ∙ ap (λ b. cond b None (Some (Observer reply))) unanswered)
@@ -185,101 +190,112 @@ pub record CommitFits (h : Header) (method : Method) (args : Args) : Type 0 wher
   pub may : has_method h method args ≡ true
   pub mutates : is_observer method ≡ false
 
-pub commit_fits : {h : Header} {log : List Entry} {state : Amounts} {made : ℕ} {watches : List Seen} {x : Waiting} {xs : List Waiting}
-    {cuts : List (List ℕ)} {method : Method} {args : Args} {o : Option ℕ} (at : AtHead h log state made watches x xs cuts)
+pub commit_fits : {h : Header} {starting : List StartWord} {log : List Entry} {state : Amounts} {made : ℕ} {watches : List Seen} {x : Waiting} {xs : List Waiting}
+    {first : List ℕ} {since : List (List (ℕ × ℕ))} {method : Method} {args : Args} {o : Option ℕ} (at : AtHead h starting log state made watches x xs first since)
     → IsCommit at.here at.earlier at.later x method args o → CommitFits h method args
 commit_fits {h} {method = method} {args = args} at is =
     let runs = commit_runs h at.here.caller at.earlier at.here.kind is.commits at.keeps in
     let same : runs.0 ≡ record { method = method; args = args } = some_same (sym runs.1 ∙ is.opened) in
     record {
-      may = (at.reached []).allowed at.here.caller (record { method = method; args = args }) is.opened;
+      may = (at.judged.reached []).allowed at.here.caller (record { method = method; args = args }) is.opened;
       mutates = ap (λ k. is_observer k.method) (sym same) ∙ runs.2;
     }
   where
     some_same : {a b : Called} → Some a ≡ Some b → a ≡ b
     some_same e = cc
 
--- the words at a commit are those that wait first
-pub cut_here : {h : Header} {log : List Entry} {state : Amounts} {made : ℕ} {watches : List Seen} {x : Waiting} {xs : List Waiting}
-    {cuts : List (List ℕ)} {method : Method} {args : Args} {o : Option ℕ} (at : AtHead h log state made watches x xs cuts)
+-- the words at a commit are those that wait first, and the next ones wait behind them
+words_here : {h : Header} {starting : List StartWord} {log : List Entry} {state : Amounts} {made : ℕ} {watches : List Seen} {x : Waiting} {xs : List Waiting}
+    {first : List ℕ} {since : List (List (ℕ × ℕ))} {method : Method} {args : Args} {o : Option ℕ} (at : AtHead h starting log state made watches x xs first since)
     → IsCommit at.here at.earlier at.later x method args o
-    → cuts ≡ words_after h (at.here ∷ at.earlier) ∷ cuts_after h (at.here ∷ at.earlier) at.later
-cut_here {h} at is = at.cut ∙ ap (λ b. cons_option (then_some b (words_after h (at.here ∷ at.earlier))) (cuts_after h (at.here ∷ at.earlier) at.later))
-    (commits_is at.here.kind is.commits)
+    → (first ≡ words_at h starting (place_of at.here at.earlier at.later)) × AllActAlike since (effect_parts [] (at.here ∷ at.earlier) at.later)
+unfolding words_at
+words_here {h} {starting} {first = first} {since = since} at is =
+    parts_at h starting first since at.here at.earlier at.later (commits_is at.here.kind is.commits) at.judged.parts
 
--- the fault that a commit shows, where these are the words there
-pub head_faults : {h : Header} {log : List Entry} {state : Amounts} {made : ℕ} {watches : List Seen} {x : Waiting} {xs : List Waiting}
-    {cuts rest : List (List ℕ)} {method : Method} {args : Args} {reply : ℕ} (words : List ℕ) (why : Why)
-    (at : AtHead h log state made watches x xs cuts)
-    → IsCommit at.here at.earlier at.later x method args (Some reply) → cuts ≡ words ∷ rest
-    → step_fault (view_of_words h words) (record { method = method; args = args }) reply state ≡ Some why
-    → first_fault h log ≡ Some (Violation (x.position + 2) why)
-head_faults {h} {log} {state} {watches = watches} {rest = rest} {method = method} {args = args} {reply = reply} words why at is cut faulty =
+pub split_here : {h : Header} {starting : List StartWord} {log : List Entry} {state : Amounts} {made : ℕ} {watches : List Seen} {x : Waiting} {xs : List Waiting}
+    {first : List ℕ} {since : List (List (ℕ × ℕ))} {method : Method} {args : Args} {o : Option ℕ} (at : AtHead h starting log state made watches x xs first since)
+    → IsCommit at.here at.earlier at.later x method args o
+    → Split h starting first since (effect_parts (effects (at.here ∷ at.earlier) at.later) (at.here ∷ at.earlier) at.later)
+unfolding words_at
+split_here {h} {starting} {first = first} {since = since} at is =
+    let here = words_here at is in
+    has_parts_next h starting first since (effects (at.here ∷ at.earlier) at.later) (at.here ∷ at.earlier) at.later here.0 here.1
+
+-- once the commit has returned, these stay the words there
+words_stay : {h : Header} {starting : List StartWord} {log : List Entry} {state : Amounts} {made : ℕ} {watches : List Seen} {x : Waiting} {xs : List Waiting}
+    {first : List ℕ} {since : List (List (ℕ × ℕ))} {method : Method} {args : Args} {reply : ℕ} (at : AtHead h starting log state made watches x xs first since)
+    → IsCommit at.here at.earlier at.later x method args (Some reply) → (more : List Entry)
+    → words_at h starting (place_of at.here at.earlier (at.later ++ more)) ≡ first
+words_stay {h} {starting} {reply = reply} at is more =
+    words_at_stay h starting (place_of at.here at.earlier at.later) more (λ commits. (reply, is.replies)) at.judged.settled ∙ sym (words_here at is).0
+
+-- the fault that a commit shows
+pub head_faults : {h : Header} {starting : List StartWord} {log : List Entry} {state : Amounts} {made : ℕ} {watches : List Seen} {x : Waiting} {xs : List Waiting}
+    {first : List ℕ} {since : List (List (ℕ × ℕ))} {method : Method} {args : Args} {reply : ℕ} (why : Why)
+    (at : AtHead h starting log state made watches x xs first since)
+    → IsCommit at.here at.earlier at.later x method args (Some reply)
+    → step_fault (view_of_words h first) (record { method = method; args = args }) reply state ≡ Some why
+    → first_fault h starting log ≡ Some (Violation (line_of starting x.position) why)
+head_faults {h} {starting} {log} {state} {watches = watches} {method = method} {args = args} {reply = reply} why at is faulty =
     fault_now why at.here at refl is.position
-    (λ more. commit_fault_at h (states_of (log ++ more)) at.here.caller at.here.kind at.earlier (at.later ++ more) state watches
-    (record { method = method; args = args }) (Some reply) is.commits is.opened (next_reply_stays at.here.caller at.later more reply is.replies) (at.reached more)
-    ∙ ap (λ ws. step_fault (view_of_words h ws) (record { method = method; args = args }) reply state) (sym (first_cut (sym cut ∙ cut_here at is)))
+    (λ more. commit_fault_at h starting (states_along h starting (log ++ more)) at.here.caller at.here.kind at.earlier (at.later ++ more) state watches
+    (record { method = method; args = args }) (Some reply) is.commits is.opened (next_reply_stays at.here.caller at.later more reply is.replies)
+    (at.judged.reached more)
+    ∙ ap (λ ws. step_fault (view_of_words h ws) (record { method = method; args = args }) reply state) (words_stay at is more)
     ∙ faulty)
-  where
-    first_cut : {v : List ℕ} {vs : List (List ℕ)} → words ∷ rest ≡ v ∷ vs → words ≡ v
-    first_cut e = cc
 
-pub head_right : {h : Header} {log : List Entry} {state : Amounts} {made : ℕ} {watches : List Seen} (new : List Seen) {x : Waiting} {xs : List Waiting}
-    {cuts : List (List ℕ)} (rest : List (List ℕ)) {method : Method} {args : Args} {reply : ℕ} (words : List ℕ) (next : Amounts) (more : ℕ)
-    (at : AtHead h log state made watches x xs cuts)
-    → IsCommit at.here at.earlier at.later x method args (Some reply) → cuts ≡ words ∷ rest → next_state method args reply state ≡ Some next
-    → first_difference (view_of_words h words) next ≡ None → more ≤ made + 1 → AllSee next watches new → AreObservers h new → AreCurrent next new
-    → Judged h log next more new xs rest
-head_right {h} {log} {state} {made} {watches} new {x} {xs} {cuts} rest {method} {args} {reply} words next more at is cut after same count see observers current =
-    judged_next h log state next made more watches new x xs cuts rest at
-    (cut ∙ ap (λ ws. ws ∷ rest) words_here
-    ∙ ap (λ b. cons_option (then_some b (words_after h (at.here ∷ at.earlier))) rest) (sym (commits_is at.here.kind is.commits))) count observers current
+-- a commit that is right
+pub head_right : {h : Header} {starting : List StartWord} {log : List Entry} {state : Amounts} {made : ℕ} {watches : List Seen} (new : List Seen) {x : Waiting} {xs : List Waiting}
+    {first : List ℕ} {since : List (List (ℕ × ℕ))} {method : Method} {args : Args} {reply : ℕ} (next : Amounts) (more : ℕ)
+    (at : AtHead h starting log state made watches x xs first since)
+    (is : IsCommit at.here at.earlier at.later x method args (Some reply)) → next_state method args reply state ≡ Some next
+    → first_difference (view_of_words h first) next ≡ None → more ≤ made + 1 → AllSee next watches new → AreObservers h new → AreCurrent next new
+    → Judged h starting log next more new xs (with_writes first (split_here at is).part) (split_here at is).rest
+head_right {h} {starting} {log} {state} {made} {watches} new {x} {xs} {first} {since} {method} {args} {reply} next more at is after same count see observers current =
+    let split = split_here at is in
+    judged_next h starting log state next made more watches new x xs first (with_writes first split.part) since split.rest at
+    (λ commits. (reply, is.replies)) split.has count observers current
     (record { fault = λ es. (right es).0; reached = λ es. (right es).1 })
   where
-    first_cut : {v : List ℕ} {vs : List (List ℕ)} → words ∷ rest ≡ v ∷ vs → words ≡ v
-    first_cut e = cc
-
-    words_here : words ≡ words_after h (at.here ∷ at.earlier)
-    words_here = first_cut (sym cut ∙ cut_here at is)
-
-    right : (es : List Entry) → (fault_at h (states_of (log ++ es)) (place_of at.here at.earlier (at.later ++ es)) ≡ None)
-        × Reached h (states_of (log ++ es)) (at.here ∷ at.earlier) (at.later ++ es) next new
-    right es = commit_right h (states_of (log ++ es)) at.here.caller at.here.kind at.earlier (at.later ++ es) state next watches new
+    right : (es : List Entry) → (fault_at h starting (states_along h starting (log ++ es)) (place_of at.here at.earlier (at.later ++ es)) ≡ None)
+        × Reached h (states_along h starting (log ++ es)) (at.here ∷ at.earlier) (at.later ++ es) next new
+    right es = commit_right h starting (states_along h starting (log ++ es)) at.here.caller at.here.kind at.earlier (at.later ++ es) state next watches new
         (record { method = method; args = args }) reply is.commits is.opened (next_reply_stays at.here.caller at.later es reply is.replies) after
-        (ap (λ ws. first_difference (view_of_words h ws) next) (sym words_here) ∙ same) see (at.reached es)
+        (ap (λ ws. first_difference (view_of_words h ws) next) (words_stay at is es) ∙ same) see (at.judged.reached es)
 
 -- a commit whose execution hasn't returned
-pub head_waits : {h : Header} {log : List Entry} {state : Amounts} {made : ℕ} {watches : List Seen} {x : Waiting} {xs : List Waiting}
-    {cuts : List (List ℕ)} {method : Method} {args : Args} (at : AtHead h log state made watches x xs cuts)
-    → IsCommit at.here at.earlier at.later x method args None → first_fault h log ≡ None
-head_waits {h} {log} {state} {watches = watches} {method = method} {args = args} at is =
-    ap (first_fault h) (sym (append-nil log)) ∙ at.clean []
-    ∙ ap (λ es. first_answer (violation_at h states) (places_after at.earlier (at.here ∷ es))) (append-nil at.later)
-    ∙ by_fault (fault_at h states (place_of at.here at.earlier at.later)) none
+pub head_waits : {h : Header} {starting : List StartWord} {log : List Entry} {state : Amounts} {made : ℕ} {watches : List Seen} {x : Waiting} {xs : List Waiting}
+    {first : List ℕ} {since : List (List (ℕ × ℕ))} {method : Method} {args : Args} (at : AtHead h starting log state made watches x xs first since)
+    → IsCommit at.here at.earlier at.later x method args None → first_fault h starting log ≡ None
+head_waits {h} {starting} {log} {state} {watches = watches} {method = method} {args = args} at is =
+    ap (first_fault h starting) (sym (append-nil log)) ∙ at.judged.clean []
+    ∙ ap (λ es. first_answer (violation_at h starting states) (places_after at.earlier (at.here ∷ es))) (append-nil at.later)
+    ∙ by_fault (fault_at h starting states (place_of at.here at.earlier at.later)) none
   where
     states : List Amounts
-    states = states_of (log ++ [])
+    states = states_along h starting (log ++ [])
 
-    waiting : (fault_at h states (place_of at.here at.earlier at.later) ≡ None) × (length states ≤ commit_count (at.here ∷ at.earlier))
-    waiting = commit_waits h states at.here.caller at.here.kind at.earlier at.later state watches (record { method = method; args = args })
+    waiting : (fault_at h starting states (place_of at.here at.earlier at.later) ≡ None) × (length states ≤ commit_count (at.here ∷ at.earlier))
+    waiting = commit_waits h starting states at.here.caller at.here.kind at.earlier at.later state watches (record { method = method; args = args })
         is.commits is.opened is.replies
-        (subst (λ es. Reached h states at.earlier (at.here ∷ es) state watches) (append-nil at.later) (at.reached []))
+        (subst (λ es. Reached h states at.earlier (at.here ∷ es) state watches) (append-nil at.later) (at.judged.reached []))
 
-    none : fault_at h states (place_of at.here at.earlier at.later) ≡ None
+    none : fault_at h starting states (place_of at.here at.earlier at.later) ≡ None
     none = waiting.0
 
     by_fault : (o : Option Why) → o ≡ None
-        → option_or (option_map (Violation (length at.earlier + 2)) o)
-        (first_answer (violation_at h states) (places_after (at.here ∷ at.earlier) at.later)) ≡ None
-    by_fault None e = no_fault_beyond h states (at.here ∷ at.earlier) at.later waiting.1
+        → option_or (option_map (Violation (line_of starting (length at.earlier))) o)
+        (first_answer (violation_at h starting states) (places_after (at.here ∷ at.earlier) at.later)) ≡ None
+    by_fault None e = no_fault_beyond h starting states (at.here ∷ at.earlier) at.later waiting.1
     by_fault (Some why) e = cc
 
 -- there are fewer steps than entries
-pub head_few : {h : Header} {log : List Entry} {state : Amounts} {made : ℕ} {watches : List Seen} {x : Waiting} {xs : List Waiting}
-    {cuts : List (List ℕ)} (at : AtHead h log state made watches x xs cuts) → made < length log
+pub head_few : {h : Header} {starting : List StartWord} {log : List Entry} {state : Amounts} {made : ℕ} {watches : List Seen} {x : Waiting} {xs : List Waiting}
+    {first : List ℕ} {since : List (List (ℕ × ℕ))} (at : AtHead h starting log state made watches x xs first since) → made < length log
 head_few {log = log} at = omega (
   arith,
-  at.few,
+  at.judged.few,
   long (at.here ∷ at.earlier) at.later,
   long [] log,
   ap length at.whole,

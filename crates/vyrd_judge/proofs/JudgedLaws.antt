@@ -1,5 +1,5 @@
 -- How what is judged of a log goes on: with one more entry of the log, and with one more entry that is judged.
-use Rattle.std.proofs.Common.{◌≡◌, ℕ, ◌+◌, ◌≤◌, Bool, true, false, List, [], ◌∷◌, ◌++◌, map, length, Option, Some, None, refl, ap, subst, ◌∙◌, sym, arith, append_assoc, append-nil}
+use Rattle.std.proofs.Common.{◌≡◌, ℕ, ◌+◌, ◌≤◌, Bool, true, false, cond, List, [], ◌∷◌, ◌++◌, map, length, Option, Some, None, refl, ap, subst, ◌∙◌, sym, arith, append_assoc, append-nil}
 use Rattle.std.specs.Prelude.{option_map}
 use Rattle.std.specs.Option.{option_or, option_map_or}
 use Rattle.std.specs.Bool.{then_some}
@@ -8,39 +8,50 @@ use Rattle.vyrd_base.specs.declared.header.Header.{Header}
 use Rattle.vyrd_base.specs.declared.log.Kind.{Kind}
 use Rattle.vyrd_base.specs.declared.log.Kind.TheVariants.{Call, Return, Write, Commit, BlockOpen, BlockClose, BlockCommit}
 use Rattle.vyrd_base.specs.declared.log.Entry.{Entry}
+use Rattle.vyrd_base.specs.declared.log.StartWord.{StartWord}
 use Rattle.vyrd_base.specs.declared.verdict.Why.{Why}
 use Rattle.vyrd_base.specs.declared.verdict.Verdict.TheVariants.{Violation}
 use Rattle.vyrd_base.specs.Places.{Place, places_after, newest_first_onto, newest_first, first_answer}
 use Rattle.vyrd_base.specs.Callers.{Called, open_call}
 use Rattle.vyrd_base.specs.Subjects.{is_observer}
 use Rattle.vyrd_base.specs.Shape.{broken_rule, is_observing}
-use Rattle.vyrd_base.specs.Words.{words_after}
+use Rattle.vyrd_base.specs.Words.{effects_at, effects, words_with}
+use Rattle.vyrd_base.specs.FirstVersion.{old_effects_at}
 use Rattle.vyrd_base.specs.Amounts.{Amounts}
 use Rattle.vyrd_base.specs.Commits.{is_commit}
 use Rattle.vyrd_base.specs.Faults.{fault_at}
-use Rattle.vyrd_base.specs.Verdicts.{line_of, violation_at, first_fault}
+use Rattle.vyrd_base.specs.Verdicts.{line_of, violation_at, first_fault, states_along}
 use Rattle.vyrd_base.proofs.BlockLaws.{entry}
 use Rattle.vyrd_base.proofs.Fronts.{break_after, break_after-append}
 use Rattle.vyrd_base.proofs.PlaceLaws.{newest_first_onto-append, newest_first-push}
+use Rattle.vyrd_base.proofs.Settled.{IsReturned, Settled, settled_next}
+use Rattle.vyrd_base.proofs.ShadowLaws.{WellFormed}
 use Rattle.vyrd_judge.specs.declared.waiting.Event.{Event}
 use Rattle.vyrd_judge.specs.declared.waiting.Waiting.{Waiting}
+use Rattle.vyrd_judge.specs.Cuts.{first_with, with_part}
+use Rattle.vyrd_judge.specs.Effects.{effect_parts, with_effects, cut_if, parts_behind, ActAlike, AllActAlike, HasParts}
 use Rattle.vyrd_judge.specs.Outcomes.{place_of}
-use Rattle.vyrd_judge.specs.Standing.{states_of}
 use Rattle.vyrd_judge.specs.Watching.{Seen}
-use Rattle.vyrd_judge.specs.Waiting.{waiting_of, waiting_at, waiting_after, replied, commit_of, cut_at, cuts_after}
+use Rattle.vyrd_judge.specs.Waiting.{waiting_of, waiting_at, waiting_after, replied, commit_of}
 use Rattle.vyrd_judge.specs.Reached.{Reached, AreObservers, AreCurrent}
 use Rattle.vyrd_judge.specs.Judged.{Judged}
+use Rattle.vyrd_judge.proofs.AlikeLaws.{has_parts_more}
+use Rattle.vyrd_judge.proofs.EndingLaws.{AllEnd, end_next, end_more}
 use Rattle.vyrd_judge.proofs.KeptFacts.{call_kept, commit_kept, block_commit_runs, return_kept}
+use Rattle.vyrd_judge.proofs.PartLaws.{parts_more}
 use Rattle.vyrd_judge.proofs.Reaching.{reached_inside, reached_mutates, reached_return}
 use Rattle.vyrd_judge.proofs.ReachedFaults.{mutator_at}
-use Rattle.vyrd_judge.proofs.WaitingLaws.{listed, waiting_more, cuts_more}
+use Rattle.vyrd_judge.proofs.WaitingLaws.{listed, waiting_more}
 
 -- one more entry that keeps the rules: it may be the reply of a commit that waits, and may wait itself
-pub judged_more : (h : Header) (log : List Entry) (e : Entry) (state : Amounts) (made : ℕ) (watches : List Seen) (queue : List Waiting)
-    (cuts : List (List ℕ)) → broken_rule h (newest_first log) e ≡ None → Judged h log state made watches queue cuts
-    → Judged h (log ++ e ∷ []) state made watches (map (replied e) queue ++ listed (waiting_at (place_of e (newest_first log) [])))
-    (cuts ++ listed (cut_at h (place_of e (newest_first log) [])))
-judged_more h log e state made watches queue cuts keeps j = record {
+pub judged_more : (h : Header) (starting : List StartWord) (log : List Entry) (e : Entry) (state : Amounts) (made : ℕ) (watches : List Seen)
+    (queue : List Waiting) (first : List ℕ) (since : List (List (ℕ × ℕ))) (writes : List (ℕ × ℕ)) → WellFormed h (newest_first log)
+    → broken_rule h (newest_first log) e ≡ None → ActAlike writes (old_effects_at (newest_first log) e.caller e.kind)
+    → Judged h starting log state made watches queue first since
+    → Judged h starting (log ++ e ∷ []) state made watches (map (replied e) queue ++ listed (waiting_at (place_of e (newest_first log) [])))
+    (first_with (parts_behind (newest_first log) e.caller e.kind) writes first since)
+    (cut_if (is_commit e.kind) (with_part (parts_behind (newest_first log) e.caller e.kind) writes since))
+judged_more h starting log e state made watches queue first since writes well_formed keeps alike j = record {
   earlier = j.earlier;
   later = j.later ++ e ∷ [];
   whole = newest_first_onto-append j.earlier j.later (e ∷ []) ∙ ap (λ es. e ∷ es) j.whole ∙ sym (newest_first-push log e);
@@ -50,51 +61,66 @@ judged_more h log e state made watches queue cuts keeps j = record {
   queued = ap (λ es. map (replied e) queue ++ listed (waiting_at (place_of e es []))) (sym j.whole)
       ∙ ap (λ q. map (replied e) q ++ listed (waiting_at (place_of e (newest_first_onto j.earlier j.later) []))) j.queued
       ∙ sym (waiting_more j.earlier j.later e);
-  cut = ap (λ es. cuts ++ listed (cut_at h (place_of e es []))) (sym j.whole)
-      ∙ ap (λ q. q ++ listed (cut_at h (place_of e (newest_first_onto j.earlier j.later) []))) j.cut
-      ∙ sym (cuts_more h j.earlier j.later e);
-  reached = λ more. subst (λ es. Reached h (states_of es) j.earlier ((j.later ++ e ∷ []) ++ more) state watches) (sym (append_assoc log (e ∷ []) more))
-      (subst (λ es. Reached h (states_of (log ++ e ∷ more)) j.earlier es state watches) (sym (append_assoc j.later (e ∷ []) more)) (j.reached (e ∷ more)));
-  clean = λ more. ap (first_fault h) (append_assoc log (e ∷ []) more) ∙ j.clean (e ∷ more)
-      ∙ ap (λ es. first_answer (violation_at h (states_of (log ++ e ∷ more))) (places_after j.earlier es)) (sym (append_assoc j.later (e ∷ []) more))
-      ∙ ap (λ es. first_answer (violation_at h (states_of es)) (places_after j.earlier ((j.later ++ e ∷ []) ++ more))) (sym (append_assoc log (e ∷ []) more));
+  parts = subst (HasParts h starting (first_with (behind (newest_first log)) writes first since) (cut_if (is_commit e.kind) (with_part (behind (newest_first log)) writes since)))
+      parts (has_parts_more h starting first since (effect_parts (effects j.earlier j.later) j.earlier j.later) (behind (newest_first log)) writes
+      (old_effects_at (newest_first log) e.caller e.kind) (is_commit e.kind) alike j.parts);
+  settled = λ more. ap (effects j.earlier) (append_assoc j.later (e ∷ []) more) ∙ j.settled (e ∷ more) ∙ sym (j.settled (e ∷ []));
+  ended = end_more j.earlier j.later (e ∷ []) j.ended;
+  reached = λ more. subst (λ es. Reached h (states_along h starting es) j.earlier ((j.later ++ e ∷ []) ++ more) state watches) (sym (append_assoc log (e ∷ []) more))
+      (subst (λ es. Reached h (states_along h starting (log ++ e ∷ more)) j.earlier es state watches) (sym (append_assoc j.later (e ∷ []) more)) (j.reached (e ∷ more)));
+  clean = λ more. ap (first_fault h starting) (append_assoc log (e ∷ []) more) ∙ j.clean (e ∷ more)
+      ∙ ap (λ es. first_answer (violation_at h starting (states_along h starting (log ++ e ∷ more))) (places_after j.earlier es)) (sym (append_assoc j.later (e ∷ []) more))
+      ∙ ap (λ es. first_answer (violation_at h starting (states_along h starting es)) (places_after j.earlier ((j.later ++ e ∷ []) ++ more))) (sym (append_assoc log (e ∷ []) more));
   few = j.few;
   observers = j.observers;
   current = j.current;
 }
+  where
+    behind : List Entry → ℕ
+    behind all = parts_behind all e.caller e.kind
+
+    parts : cut_if (is_commit e.kind) (with_effects (behind (newest_first log)) (old_effects_at (newest_first log) e.caller e.kind)
+        (effect_parts (effects j.earlier j.later) j.earlier j.later))
+        ≡ effect_parts (effects j.earlier (j.later ++ e ∷ [])) j.earlier (j.later ++ e ∷ [])
+    parts = ap (λ all. cut_if (is_commit e.kind) (with_effects (behind all) (old_effects_at all e.caller e.kind)
+        (effect_parts (effects j.earlier j.later) j.earlier j.later))) (sym j.whole)
+        ∙ sym (parts_more h (effects j.earlier j.later) j.earlier j.later e (subst (WellFormed h) (sym j.whole) well_formed)
+        (ap (λ all. broken_rule h all e) j.whole ∙ keeps) j.ended)
+        ∙ ap (λ ws. effect_parts ws j.earlier (j.later ++ e ∷ [])) (sym (j.settled (e ∷ [])))
 
 -- What a place leads to, however the log goes on: it is no fault, and the next one is reached.
-pub record Onward (h : Header) (log : List Entry) (e : Entry) (earlier later : List Entry) (state : Amounts) (watches : List Seen) : Type 0 where
-  pub fault : (more : List Entry) → fault_at h (states_of (log ++ more)) (place_of e earlier (later ++ more)) ≡ None
-  pub reached : (more : List Entry) → Reached h (states_of (log ++ more)) (e ∷ earlier) (later ++ more) state watches
+pub record Onward (h : Header) (starting : List StartWord) (log : List Entry) (e : Entry) (earlier later : List Entry) (state : Amounts) (watches : List Seen) : Type 0 where
+  pub fault : (more : List Entry) → fault_at h starting (states_along h starting (log ++ more)) (place_of e earlier (later ++ more)) ≡ None
+  pub reached : (more : List Entry) → Reached h (states_along h starting (log ++ more)) (e ∷ earlier) (later ++ more) state watches
 
 -- no fault is found before the places from this one on
-abbrev pub IsClean : Header → List Entry → List Entry → List Entry → Type 0
-IsClean h log earlier later = (more : List Entry) → first_fault h (log ++ more)
-    ≡ first_answer (violation_at h (states_of (log ++ more))) (places_after earlier (later ++ more))
+abbrev pub IsClean : Header → List StartWord → List Entry → List Entry → List Entry → Type 0
+IsClean h starting log earlier later = (more : List Entry) → first_fault h starting (log ++ more)
+    ≡ first_answer (violation_at h starting (states_along h starting (log ++ more))) (places_after earlier (later ++ more))
 
-abbrev pub IsReached : Header → List Entry → List Entry → List Entry → Amounts → List Seen → Type 0
-IsReached h log earlier later state watches = (more : List Entry) → Reached h (states_of (log ++ more)) earlier (later ++ more) state watches
+abbrev pub IsReached : Header → List StartWord → List Entry → List Entry → List Entry → Amounts → List Seen → Type 0
+IsReached h starting log earlier later state watches =
+    (more : List Entry) → Reached h (states_along h starting (log ++ more)) earlier (later ++ more) state watches
 
-clean_on : (h : Header) (log : List Entry) (e : Entry) (earlier later : List Entry)
-    → ((more : List Entry) → fault_at h (states_of (log ++ more)) (place_of e earlier (later ++ more)) ≡ None)
-    → IsClean h log earlier (e ∷ later) → IsClean h log (e ∷ earlier) later
-clean_on h log e earlier later fault clean = λ more.
-    clean more ∙ ap (λ o. option_or (option_map (Violation (line_of (length earlier))) o)
-    (first_answer (violation_at h (states_of (log ++ more))) (places_after (e ∷ earlier) (later ++ more)))) (fault more)
+clean_on : (h : Header) (starting : List StartWord) (log : List Entry) (e : Entry) (earlier later : List Entry)
+    → ((more : List Entry) → fault_at h starting (states_along h starting (log ++ more)) (place_of e earlier (later ++ more)) ≡ None)
+    → IsClean h starting log earlier (e ∷ later) → IsClean h starting log (e ∷ earlier) later
+clean_on h starting log e earlier later fault clean = λ more.
+    clean more ∙ ap (λ o. option_or (option_map (Violation (line_of starting (length earlier))) o)
+    (first_answer (violation_at h starting (states_along h starting (log ++ more))) (places_after (e ∷ earlier) (later ++ more)))) (fault more)
 
 -- an entry that isn't judged
-quiet_on : (h : Header) (log : List Entry) (e : Entry) (earlier later : List Entry) (state : Amounts) (watches : List Seen)
-    → broken_rule h earlier e ≡ None → waiting_at (place_of e earlier later) ≡ None → IsReached h log earlier (e ∷ later) state watches
-    → Onward h log e earlier later state watches
+quiet_on : (h : Header) (starting : List StartWord) (log : List Entry) (e : Entry) (earlier later : List Entry) (state : Amounts) (watches : List Seen)
+    → broken_rule h earlier e ≡ None → waiting_at (place_of e earlier later) ≡ None → IsReached h starting log earlier (e ∷ later) state watches
+    → Onward h starting log e earlier later state watches
 unfolding fault_at
-quiet_on h log e earlier later state watches keeps quiet r = by_kind e.kind keeps quiet r
+quiet_on h starting log e earlier later state watches keeps quiet r = by_kind e.kind keeps quiet r
   where
     c : ℕ
     c = e.caller
 
     Goal : Kind → Type 0
-    Goal kind = Onward h log (entry c kind) earlier later state watches
+    Goal kind = Onward h starting log (entry c kind) earlier later state watches
 
     place : Kind → Place Entry
     place kind = place_of (entry c kind) earlier later
@@ -120,10 +146,10 @@ quiet_on h log e earlier later state watches keeps quiet r = by_kind e.kind keep
 
     by_kind : (kind : Kind) → broken_rule h earlier (entry c kind) ≡ None
         → waiting_at (place kind) ≡ None
-        → IsReached h log earlier (entry c kind ∷ later) state watches → Goal kind
+        → IsReached h starting log earlier (entry c kind ∷ later) state watches → Goal kind
     by_kind (Call method args) keeps' none r' = record {
       fault = λ more. refl;
-      reached = λ more. reached_mutates h (states_of (log ++ more)) c method args earlier (later ++ more) state watches
+      reached = λ more. reached_mutates h (states_along h starting (log ++ more)) c method args earlier (later ++ more) state watches
           (untrue (is_observer method) _ (unwaiting (place (Call method args)) _ none)) (call_kept h c method args earlier keeps') (r' more);
     }
     by_kind (Return reply) keeps' none r' =
@@ -132,28 +158,28 @@ quiet_on h log e earlier later state watches keeps quiet r = by_kind e.kind keep
         ap (λ o. option_map_or (λ k. is_observer k.method) o false) (sym called.1)
         ∙ untrue (is_observing c earlier) _ (unwaiting (place (Return reply)) _ none) in
         record {
-          fault = λ more. mutator_at h (states_of (log ++ more)) c reply earlier (later ++ more) state watches called.0 called.1 mutates (r' more);
-          reached = λ more. reached_return h (states_of (log ++ more)) c reply earlier (later ++ more) state watches watches (λ d other. refl) (r' more);
+          fault = λ more. mutator_at h starting (states_along h starting (log ++ more)) c reply earlier (later ++ more) state watches called.0 called.1 mutates (r' more);
+          reached = λ more. reached_return h (states_along h starting (log ++ more)) c reply earlier (later ++ more) state watches watches (λ d other. refl) (r' more);
         }
     by_kind (Write word value) keeps' none r' = record {
       fault = λ more. refl;
-      reached = λ more. reached_inside h (states_of (log ++ more)) c (Write word value) earlier (later ++ more) state watches refl refl refl (r' more);
+      reached = λ more. reached_inside h (states_along h starting (log ++ more)) c (Write word value) earlier (later ++ more) state watches refl refl refl (r' more);
     }
     by_kind BlockOpen keeps' none r' = record {
       fault = λ more. refl;
-      reached = λ more. reached_inside h (states_of (log ++ more)) c BlockOpen earlier (later ++ more) state watches refl refl refl (r' more);
+      reached = λ more. reached_inside h (states_along h starting (log ++ more)) c BlockOpen earlier (later ++ more) state watches refl refl refl (r' more);
     }
     by_kind BlockClose keeps' none r' = record {
       fault = λ more. refl;
-      reached = λ more. reached_inside h (states_of (log ++ more)) c BlockClose earlier (later ++ more) state watches refl refl refl (r' more);
+      reached = λ more. reached_inside h (states_along h starting (log ++ more)) c BlockClose earlier (later ++ more) state watches refl refl refl (r' more);
     }
     by_kind Commit keeps' none r' = at_commit (open_call c earlier) _ (commit_kept h c earlier keeps') (unwaiting (place Commit) _ none)
     by_kind BlockCommit keeps' none r' = at_commit (open_call c earlier) _ (block_commit_runs h c earlier keeps') (unwaiting (place BlockCommit) _ none)
 
 -- an entry that isn't judged is no commit
-uncut : (h : Header) (e : Entry) (earlier later : List Entry) → broken_rule h earlier e ≡ None → waiting_at (place_of e earlier later) ≡ None
-    → cut_at h (place_of e earlier later) ≡ None
-uncut h e earlier later keeps quiet = by_kind e.kind keeps quiet
+uncommitted : (h : Header) (e : Entry) (earlier later : List Entry) → broken_rule h earlier e ≡ None → waiting_at (place_of e earlier later) ≡ None
+    → is_commit e.kind ≡ false
+uncommitted h e earlier later keeps quiet = by_kind e.kind keeps quiet
   where
     c : ℕ
     c = e.caller
@@ -171,7 +197,7 @@ uncut h e earlier later keeps quiet = by_kind e.kind keeps quiet
         apart p = cc
 
     by_kind : (kind : Kind) → broken_rule h earlier (entry c kind) ≡ None → waiting_at (place_of (entry c kind) earlier later) ≡ None
-        → then_some (is_commit kind) (words_after h (entry c kind ∷ earlier)) ≡ None
+        → is_commit kind ≡ false
     by_kind Commit keeps' none = at_commit Commit (open_call c earlier) _ (commit_kept h c earlier keeps') none
     by_kind BlockCommit keeps' none = at_commit BlockCommit (open_call c earlier) _ (block_commit_runs h c earlier keeps') none
     by_kind (Call method args) keeps' none = refl
@@ -185,9 +211,56 @@ both_none : {A : Type 0} (a b : Option A) → option_or a b ≡ None → (a ≡ 
 both_none None b e = (refl, e)
 both_none (Some a) b e = cc
 
+-- All before a place is judged: what is known there, however the log goes on.
+pub record IsJudged (h : Header) (starting : List StartWord) (log : List Entry) (state : Amounts) (made : ℕ) (watches : List Seen)
+    (first : List ℕ) (since : List (List (ℕ × ℕ))) (earlier later : List Entry) : Type 0 where
+  pub parts : HasParts h starting first since (effect_parts (effects earlier later) earlier later)
+  pub settled : Settled earlier later
+  pub ended : AllEnd earlier later
+  pub reached : IsReached h starting log earlier later state watches
+  pub clean : IsClean h starting log earlier later
+  pub few : made ≤ length earlier
+
+-- what isn't a commit changes nothing of the words that wait
+pub parts_on : (h : Header) (starting : List StartWord) (first : List ℕ) (since : List (List (ℕ × ℕ))) (e : Entry) (earlier later : List Entry)
+    → is_commit e.kind ≡ false → HasParts h starting first since (effect_parts (effects earlier (e ∷ later)) earlier (e ∷ later))
+    → HasParts h starting first since (effect_parts (effects (e ∷ earlier) later) (e ∷ earlier) later)
+parts_on h starting first since e earlier later isnt has =
+    subst (λ b. HasParts h starting first since (cond b ((effects_at earlier e.caller e.kind later ++ effects earlier (e ∷ later))
+    ∷ effect_parts [] (e ∷ earlier) later) (effect_parts (effects (e ∷ earlier) later) (e ∷ earlier) later))) isnt has
+
+-- at a commit the first words are those there, and the writes since act as the effects after it
+pub parts_at : (h : Header) (starting : List StartWord) (first : List ℕ) (since : List (List (ℕ × ℕ))) (e : Entry) (earlier later : List Entry)
+    → is_commit e.kind ≡ true → HasParts h starting first since (effect_parts (effects earlier (e ∷ later)) earlier (e ∷ later))
+    → (first ≡ words_with h starting (effects (e ∷ earlier) later)) × AllActAlike since (effect_parts [] (e ∷ earlier) later)
+parts_at h starting first since e earlier later commits has =
+    subst (λ b. HasParts h starting first since (cond b ((effects_at earlier e.caller e.kind later ++ effects earlier (e ∷ later))
+    ∷ effect_parts [] (e ∷ earlier) later) (effect_parts (effects (e ∷ earlier) later) (e ∷ earlier) later))) commits has
+
+-- an entry that isn't judged leads on
+judged_quiet : (h : Header) (starting : List StartWord) (log : List Entry) (state : Amounts) (made : ℕ) (watches : List Seen)
+    (first : List ℕ) (since : List (List (ℕ × ℕ))) (e : Entry) (earlier later : List Entry) → broken_rule h earlier e ≡ None
+    → waiting_at (place_of e earlier later) ≡ None → IsJudged h starting log state made watches first since earlier (e ∷ later)
+    → IsJudged h starting log state made watches first since (e ∷ earlier) later
+judged_quiet h starting log state made watches first since e earlier later keeps quiet j =
+    let isnt = uncommitted h e earlier later keeps quiet in
+    let is : IsReturned e.caller e.kind later = λ commits. absurd (apart isnt commits) in
+    let onward = quiet_on h starting log e earlier later state watches keeps quiet j.reached in
+    record {
+      parts = parts_on h starting first since e earlier later isnt j.parts;
+      settled = settled_next e earlier later is j.settled;
+      ended = end_next h e earlier later keeps is j.ended;
+      reached = onward.reached;
+      clean = clean_on h starting log e earlier later onward.fault j.clean;
+      few = omega (arith, j.few);
+    }
+  where
+    apart : {b : Bool} → b ≡ false → b ≡ true → ⊥
+    apart p q = cc
+
 -- The entry that waits first, where all before it is judged.
-pub record AtHead (h : Header) (log : List Entry) (state : Amounts) (made : ℕ) (watches : List Seen) (x : Waiting) (xs : List Waiting)
-    (cuts : List (List ℕ)) : Type 0 where
+pub record AtHead (h : Header) (starting : List StartWord) (log : List Entry) (state : Amounts) (made : ℕ) (watches : List Seen) (x : Waiting)
+    (xs : List Waiting) (first : List ℕ) (since : List (List (ℕ × ℕ))) : Type 0 where
   pub earlier : List Entry
   pub here : Entry
   pub later : List Entry
@@ -196,40 +269,34 @@ pub record AtHead (h : Header) (log : List Entry) (state : Amounts) (made : ℕ)
   pub kept : break_after h (here ∷ earlier) later ≡ None
   pub is : waiting_at (place_of here earlier later) ≡ Some x
   pub rest : xs ≡ waiting_after (here ∷ earlier) later
-  pub cut : cuts ≡ cons_option (cut_at h (place_of here earlier later)) (cuts_after h (here ∷ earlier) later)
-  pub reached : IsReached h log earlier (here ∷ later) state watches
-  pub clean : IsClean h log earlier (here ∷ later)
-  pub few : made ≤ length earlier
+  pub judged : IsJudged h starting log state made watches first since earlier (here ∷ later)
   pub observers : AreObservers h watches
   pub current : AreCurrent state watches
 
 -- the first entry that waits from a place on
-head_from : (h : Header) (log : List Entry) (state : Amounts) (made : ℕ) (watches : List Seen) (x : Waiting) (xs : List Waiting)
-    (cuts : List (List ℕ)) (earlier later : List Entry) → newest_first_onto earlier later ≡ newest_first log
-    → break_after h earlier later ≡ None → x ∷ xs ≡ waiting_after earlier later → cuts ≡ cuts_after h earlier later
-    → IsReached h log earlier later state watches → IsClean h log earlier later → made ≤ length earlier → AreObservers h watches → AreCurrent state watches
-    → AtHead h log state made watches x xs cuts
-head_from h log state made watches x xs cuts earlier [] whole kept queued cut reached clean few observers current = absurd (some_is_none queued)
+head_from : (h : Header) (starting : List StartWord) (log : List Entry) (state : Amounts) (made : ℕ) (watches : List Seen) (x : Waiting)
+    (xs : List Waiting) (first : List ℕ) (since : List (List (ℕ × ℕ))) (earlier later : List Entry)
+    → newest_first_onto earlier later ≡ newest_first log → break_after h earlier later ≡ None → x ∷ xs ≡ waiting_after earlier later
+    → IsJudged h starting log state made watches first since earlier later → AreObservers h watches → AreCurrent state watches
+    → AtHead h starting log state made watches x xs first since
+head_from h starting log state made watches x xs first since earlier [] whole kept queued judged observers current = absurd (some_is_none queued)
   where
     some_is_none : x ∷ xs ≡ [] → ⊥
     some_is_none e = cc
-head_from h log state made watches x xs cuts earlier (e ∷ later) whole kept queued cut reached clean few observers current =
-    by_waiting (λ queued' cut' reached' clean' few'.
-    head_from h log state made watches x xs cuts (e ∷ earlier) later whole kept_both.1 queued' cut' reached' clean' few' observers current)
+head_from h starting log state made watches x xs first since earlier (e ∷ later) whole kept queued judged observers current =
+    by_waiting (λ queued' judged'.
+    head_from h starting log state made watches x xs first since (e ∷ earlier) later whole kept_both.1 queued' judged' observers current)
     (waiting_at (place_of e earlier later)) refl queued
   where
     kept_both : (broken_rule h earlier e ≡ None) × (break_after h (e ∷ earlier) later ≡ None)
     kept_both = both_none (broken_rule h earlier e) (break_after h (e ∷ earlier) later) kept
 
-    by_waiting : (x ∷ xs ≡ waiting_after (e ∷ earlier) later → cuts ≡ cuts_after h (e ∷ earlier) later
-        → IsReached h log (e ∷ earlier) later state watches → IsClean h log (e ∷ earlier) later → made ≤ length (e ∷ earlier)
-        → AtHead h log state made watches x xs cuts)
+    by_waiting : (x ∷ xs ≡ waiting_after (e ∷ earlier) later
+        → IsJudged h starting log state made watches first since (e ∷ earlier) later → AtHead h starting log state made watches x xs first since)
         → (o : Option Waiting) → waiting_at (place_of e earlier later) ≡ o → x ∷ xs ≡ cons_option o (waiting_after (e ∷ earlier) later)
-        → AtHead h log state made watches x xs cuts
+        → AtHead h starting log state made watches x xs first since
     by_waiting on None quiet queued' =
-        let onward = quiet_on h log e earlier later state watches kept_both.0 quiet reached in
-        on queued' (cut ∙ ap (λ o. cons_option o (cuts_after h (e ∷ earlier) later)) (uncut h e earlier later kept_both.0 quiet))
-        onward.reached (clean_on h log e earlier later onward.fault clean) (omega arith)
+        on queued' (judged_quiet h starting log state made watches first since e earlier later kept_both.0 quiet judged)
     by_waiting on (Some y) is queued' = record {
       earlier = earlier;
       here = e;
@@ -239,10 +306,7 @@ head_from h log state made watches x xs cuts earlier (e ∷ later) whole kept qu
       kept = kept_both.1;
       is = is ∙ ap Some (first_of queued');
       rest = rest_of queued';
-      cut = cut;
-      reached = reached;
-      clean = clean;
-      few = few;
+      judged = judged;
       observers = observers;
       current = current;
     }
@@ -253,67 +317,74 @@ head_from h log state made watches x xs cuts earlier (e ∷ later) whole kept qu
         rest_of : x ∷ xs ≡ y ∷ waiting_after (e ∷ earlier) later → xs ≡ waiting_after (e ∷ earlier) later
         rest_of p = cc
 
-pub judged_head : (h : Header) (log : List Entry) (state : Amounts) (made : ℕ) (watches : List Seen) (x : Waiting) (xs : List Waiting)
-    (cuts : List (List ℕ)) → Judged h log state made watches (x ∷ xs) cuts → AtHead h log state made watches x xs cuts
-judged_head h log state made watches x xs cuts j =
-    head_from h log state made watches x xs cuts j.earlier j.later j.whole j.kept j.queued j.cut j.reached j.clean j.few j.observers j.current
+known_of : {h : Header} {starting : List StartWord} {log : List Entry} {state : Amounts} {made : ℕ} {watches : List Seen} {queue : List Waiting}
+    {first : List ℕ} {since : List (List (ℕ × ℕ))} (j : Judged h starting log state made watches queue first since)
+    → IsJudged h starting log state made watches first since j.earlier j.later
+known_of j =
+    record { parts = j.parts; settled = j.settled; ended = j.ended; reached = j.reached; clean = j.clean; few = j.few }
+
+pub judged_head : (h : Header) (starting : List StartWord) (log : List Entry) (state : Amounts) (made : ℕ) (watches : List Seen) (x : Waiting)
+    (xs : List Waiting) (first : List ℕ) (since : List (List (ℕ × ℕ))) → Judged h starting log state made watches (x ∷ xs) first since
+    → AtHead h starting log state made watches x xs first since
+judged_head h starting log state made watches x xs first since j =
+    head_from h starting log state made watches x xs first since j.earlier j.later j.whole j.kept j.queued (known_of j) j.observers j.current
 
 -- where nothing waits there is no fault
-none_from : (h : Header) (log : List Entry) (state : Amounts) (watches : List Seen) (earlier later : List Entry)
+none_from : (h : Header) (starting : List StartWord) (log : List Entry) (state : Amounts) (watches : List Seen) (earlier later : List Entry)
     → break_after h earlier later ≡ None → [] ≡ waiting_after earlier later
-    → IsReached h log earlier later state watches → IsClean h log earlier later → first_fault h log ≡ None
-none_from h log state watches earlier [] kept queued reached clean = ap (first_fault h) (sym (append-nil log)) ∙ clean []
-none_from h log state watches earlier (e ∷ later) kept queued reached clean =
-    by_waiting (λ queued' reached' clean'. none_from h log state watches (e ∷ earlier) later kept_both.1 queued' reached' clean')
+    → IsReached h starting log earlier later state watches → IsClean h starting log earlier later → first_fault h starting log ≡ None
+none_from h starting log state watches earlier [] kept queued reached clean = ap (first_fault h starting) (sym (append-nil log)) ∙ clean []
+none_from h starting log state watches earlier (e ∷ later) kept queued reached clean =
+    by_waiting (λ queued' reached' clean'. none_from h starting log state watches (e ∷ earlier) later kept_both.1 queued' reached' clean')
     (waiting_at (place_of e earlier later)) refl queued
   where
     kept_both : (broken_rule h earlier e ≡ None) × (break_after h (e ∷ earlier) later ≡ None)
     kept_both = both_none (broken_rule h earlier e) (break_after h (e ∷ earlier) later) kept
 
-    by_waiting : ([] ≡ waiting_after (e ∷ earlier) later → IsReached h log (e ∷ earlier) later state watches
-        → IsClean h log (e ∷ earlier) later → first_fault h log ≡ None)
+    by_waiting : ([] ≡ waiting_after (e ∷ earlier) later → IsReached h starting log (e ∷ earlier) later state watches
+        → IsClean h starting log (e ∷ earlier) later → first_fault h starting log ≡ None)
         → (o : Option Waiting) → waiting_at (place_of e earlier later) ≡ o → [] ≡ cons_option o (waiting_after (e ∷ earlier) later)
-        → first_fault h log ≡ None
+        → first_fault h starting log ≡ None
     by_waiting on None quiet queued' =
-        let onward = quiet_on h log e earlier later state watches kept_both.0 quiet reached in
-        on queued' onward.reached (clean_on h log e earlier later onward.fault clean)
+        let onward = quiet_on h starting log e earlier later state watches kept_both.0 quiet reached in
+        on queued' onward.reached (clean_on h starting log e earlier later onward.fault clean)
     by_waiting on (Some y) is queued' = cc
 
-pub judged_all : (h : Header) (log : List Entry) (state : Amounts) (made : ℕ) (watches : List Seen) (cuts : List (List ℕ))
-    → Judged h log state made watches [] cuts → first_fault h log ≡ None
-judged_all h log state made watches cuts j = none_from h log state watches j.earlier j.later j.kept j.queued j.reached j.clean
+pub judged_all : (h : Header) (starting : List StartWord) (log : List Entry) (state : Amounts) (made : ℕ) (watches : List Seen) (first : List ℕ) (since : List (List (ℕ × ℕ)))
+    → Judged h starting log state made watches [] first since → first_fault h starting log ≡ None
+judged_all h starting log state made watches first since j = none_from h starting log state watches j.earlier j.later j.kept j.queued j.reached j.clean
 
 -- one more entry is judged
-pub judged_next : (h : Header) (log : List Entry) (state next : Amounts) (made more : ℕ) (watches new : List Seen) (x : Waiting) (xs : List Waiting)
-    (cuts rest : List (List ℕ)) (at : AtHead h log state made watches x xs cuts)
-    → cuts ≡ cons_option (cut_at h (place_of at.here at.earlier at.later)) rest → more ≤ made + 1 → AreObservers h new → AreCurrent next new
-    → Onward h log at.here at.earlier at.later next new → Judged h log next more new xs rest
-judged_next h log state next made more watches new x xs cuts rest at cut count observers current onward = record {
+pub judged_next : (h : Header) (starting : List StartWord) (log : List Entry) (state next : Amounts) (made more : ℕ) (watches new : List Seen)
+    (x : Waiting) (xs : List Waiting) (first next_first : List ℕ) (since next_since : List (List (ℕ × ℕ)))
+    (at : AtHead h starting log state made watches x xs first since) → IsReturned at.here.caller at.here.kind at.later
+    → HasParts h starting next_first next_since (effect_parts (effects (at.here ∷ at.earlier) at.later) (at.here ∷ at.earlier) at.later)
+    → more ≤ made + 1 → AreObservers h new → AreCurrent next new
+    → Onward h starting log at.here at.earlier at.later next new → Judged h starting log next more new xs next_first next_since
+judged_next h starting log state next made more watches new x xs first next_first since next_since at is parts count observers current onward = record {
   earlier = at.here ∷ at.earlier;
   later = at.later;
   whole = at.whole;
   kept = at.kept;
   queued = at.rest;
-  cut = same_rest (cut_at h (place_of at.here at.earlier at.later)) rest (cuts_after h (at.here ∷ at.earlier) at.later) (sym cut ∙ at.cut);
+  parts = parts;
+  settled = settled_next at.here at.earlier at.later is at.judged.settled;
+  ended = end_next h at.here at.earlier at.later at.keeps is at.judged.ended;
   reached = onward.reached;
-  clean = clean_on h log at.here at.earlier at.later onward.fault at.clean;
-  few = omega (arith, count, at.few);
+  clean = clean_on h starting log at.here at.earlier at.later onward.fault at.judged.clean;
+  few = omega (arith, count, at.judged.few);
   observers = observers;
   current = current;
 }
-  where
-    same_rest : {A : Type 0} (o : Option A) (xs ys : List A) → cons_option o xs ≡ cons_option o ys → xs ≡ ys
-    same_rest None xs ys e = e
-    same_rest (Some a) xs ys e = cc
 
 -- the entry that waits first is a fault
-pub judged_fault : (h : Header) (log : List Entry) (state : Amounts) (made : ℕ) (watches : List Seen) (x : Waiting) (xs : List Waiting)
-    (cuts : List (List ℕ)) (why : Why) (at : AtHead h log state made watches x xs cuts)
-    → fault_at h (states_of log) (place_of at.here at.earlier at.later) ≡ Some why
-    → first_fault h log ≡ Some (Violation (length at.earlier + 2) why)
-judged_fault h log state made watches x xs cuts why at fault =
-    ap (first_fault h) (sym (append-nil log)) ∙ at.clean []
-    ∙ ap (λ es. first_answer (violation_at h (states_of es)) (places_after at.earlier (at.here ∷ at.later ++ []))) (append-nil log)
-    ∙ ap (λ es. first_answer (violation_at h (states_of log)) (places_after at.earlier (at.here ∷ es))) (append-nil at.later)
-    ∙ ap (λ o. option_or (option_map (Violation (line_of (length at.earlier))) o)
-    (first_answer (violation_at h (states_of log)) (places_after (at.here ∷ at.earlier) at.later))) fault
+pub judged_fault : (h : Header) (starting : List StartWord) (log : List Entry) (state : Amounts) (made : ℕ) (watches : List Seen) (x : Waiting) (xs : List Waiting)
+    (first : List ℕ) (since : List (List (ℕ × ℕ))) (why : Why) (at : AtHead h starting log state made watches x xs first since)
+    → fault_at h starting (states_along h starting log) (place_of at.here at.earlier at.later) ≡ Some why
+    → first_fault h starting log ≡ Some (Violation (line_of starting (length at.earlier)) why)
+judged_fault h starting log state made watches x xs first since why at fault =
+    ap (first_fault h starting) (sym (append-nil log)) ∙ at.judged.clean []
+    ∙ ap (λ es. first_answer (violation_at h starting (states_along h starting es)) (places_after at.earlier (at.here ∷ at.later ++ []))) (append-nil log)
+    ∙ ap (λ es. first_answer (violation_at h starting (states_along h starting log)) (places_after at.earlier (at.here ∷ es))) (append-nil at.later)
+    ∙ ap (λ o. option_or (option_map (Violation (line_of starting (length at.earlier))) o)
+    (first_answer (violation_at h starting (states_along h starting log)) (places_after (at.here ∷ at.earlier) at.later))) fault

@@ -8,6 +8,7 @@ use Rattle.vyrd_base.specs.declared.header.Header.{Header}
 use Rattle.vyrd_base.specs.declared.subject.Method.{Method}
 use Rattle.vyrd_base.specs.declared.subject.Args.{Args}
 use Rattle.vyrd_base.specs.declared.log.Entry.{Entry}
+use Rattle.vyrd_base.specs.declared.log.StartWord.{StartWord}
 use Rattle.vyrd_base.specs.declared.verdict.Why.TheVariants.{Observer}
 use Rattle.vyrd_base.specs.declared.verdict.Verdict.TheVariants.{Violation}
 use Rattle.vyrd_base.specs.Subjects.{is_observer}
@@ -16,6 +17,7 @@ use Rattle.vyrd_base.specs.Specification.{answer_in}
 use Rattle.vyrd_base.specs.Verdicts.{line_of, first_fault}
 use Rattle.vyrd_base.proofs.BlockLaws.{by_same}
 use Rattle.vyrd_base.proofs.TestLaws.{below_of, is_below, same_number}
+use Rattle.vyrd_shadow.specs.Blocks.{with_writes}
 use Rattle.vyrd_judge.specs.declared.outcome.Outcome.{Outcome}
 use Rattle.vyrd_judge.specs.declared.outcome.Outcome.TheVariants.{Goes, Faults, Ends}
 use Rattle.vyrd_judge.specs.declared.waiting.Event.TheVariants.{Begins, Commits, Returns}
@@ -28,16 +30,16 @@ use Rattle.vyrd_judge.proofs.StandingLaws.{slice_get-set_same, slice_get-set_oth
 use Rattle.vyrd_judge.proofs.Reaching.{OthersStay}
 use Rattle.vyrd_judge.proofs.WaitingLaws.{Waits, begins, commits, returns, waits, IsBegin, IsCommit, IsReturn}
 use Rattle.vyrd_judge.proofs.JudgedLaws.{AtHead, judged_head}
-use Rattle.vyrd_judge.proofs.HeadLaws.{head_begins, begin_fits, head_caller, head_answered, head_unanswered, commit_fits, cut_here, head_faults, head_right, head_waits, head_few}
+use Rattle.vyrd_judge.proofs.HeadLaws.{head_begins, begin_fits, head_caller, head_answered, head_unanswered, commit_fits, split_here, head_faults, head_right, head_waits, head_few}
 
 -- the entry that waits first, by its event
-pub begins_at : {h : Header} {log : List Entry} {state : Amounts} {made : ℕ} {watches : List Seen} {x : Waiting} {xs : List Waiting}
-    {cuts : List (List ℕ)} {method : Method} {args : Args} → x.event ≡ Begins method args → Judged h log state made watches (x ∷ xs) cuts
-    → (at : AtHead h log state made watches x xs cuts) × IsBegin at.here at.earlier x method args
-begins_at {h} {log} {state} {made} {watches} {x} {xs} {cuts} {method} {args} event j =
-    let at = judged_head h log state made watches x xs cuts j in (at, by_event at (waits at.here at.earlier at.later x at.is))
+pub begins_at : {h : Header} {starting : List StartWord} {log : List Entry} {state : Amounts} {made : ℕ} {watches : List Seen} {x : Waiting} {xs : List Waiting}
+    {first : List ℕ} {since : List (List (ℕ × ℕ))} {method : Method} {args : Args} → x.event ≡ Begins method args → Judged h starting log state made watches (x ∷ xs) first since
+    → (at : AtHead h starting log state made watches x xs first since) × IsBegin at.here at.earlier x method args
+begins_at {h} {starting} {log} {state} {made} {watches} {x} {xs} {first} {since} {method} {args} event j =
+    let at = judged_head h starting log state made watches x xs first since j in (at, by_event at (waits at.here at.earlier at.later x at.is))
   where
-    by_event : (at : AtHead h log state made watches x xs cuts) → Waits at.here at.earlier at.later x → IsBegin at.here at.earlier x method args
+    by_event : (at : AtHead h starting log state made watches x xs first since) → Waits at.here at.earlier at.later x → IsBegin at.here at.earlier x method args
     by_event at (begins m a e is) =
         let same_method : m ≡ method = cc in
         let same_args : a ≡ args = cc in
@@ -51,14 +53,14 @@ begins_at {h} {log} {state} {made} {watches} {x} {xs} {cuts} {method} {args} eve
         apart : Begins method args ≡ Returns r → ⊥
         apart p = cc
 
-pub commits_at : {h : Header} {log : List Entry} {state : Amounts} {made : ℕ} {watches : List Seen} {x : Waiting} {xs : List Waiting}
-    {cuts : List (List ℕ)} {method : Method} {args : Args} {o : Option ℕ} → x.event ≡ Commits method args o
-    → Judged h log state made watches (x ∷ xs) cuts
-    → (at : AtHead h log state made watches x xs cuts) × IsCommit at.here at.earlier at.later x method args o
-commits_at {h} {log} {state} {made} {watches} {x} {xs} {cuts} {method} {args} {o} event j =
-    let at = judged_head h log state made watches x xs cuts j in (at, by_event at (waits at.here at.earlier at.later x at.is))
+pub commits_at : {h : Header} {starting : List StartWord} {log : List Entry} {state : Amounts} {made : ℕ} {watches : List Seen} {x : Waiting} {xs : List Waiting}
+    {first : List ℕ} {since : List (List (ℕ × ℕ))} {method : Method} {args : Args} {o : Option ℕ} → x.event ≡ Commits method args o
+    → Judged h starting log state made watches (x ∷ xs) first since
+    → (at : AtHead h starting log state made watches x xs first since) × IsCommit at.here at.earlier at.later x method args o
+commits_at {h} {starting} {log} {state} {made} {watches} {x} {xs} {first} {since} {method} {args} {o} event j =
+    let at = judged_head h starting log state made watches x xs first since j in (at, by_event at (waits at.here at.earlier at.later x at.is))
   where
-    by_event : (at : AtHead h log state made watches x xs cuts) → Waits at.here at.earlier at.later x
+    by_event : (at : AtHead h starting log state made watches x xs first since) → Waits at.here at.earlier at.later x
         → IsCommit at.here at.earlier at.later x method args o
     by_event at (commits m a p e is) =
         let same_method : m ≡ method = cc in
@@ -75,13 +77,13 @@ commits_at {h} {log} {state} {made} {watches} {x} {xs} {cuts} {method} {args} {o
         apart : Commits method args o ≡ Returns r → ⊥
         apart p = cc
 
-pub returns_at : {h : Header} {log : List Entry} {state : Amounts} {made : ℕ} {watches : List Seen} {x : Waiting} {xs : List Waiting}
-    {cuts : List (List ℕ)} {reply : ℕ} → x.event ≡ Returns reply → Judged h log state made watches (x ∷ xs) cuts
-    → (at : AtHead h log state made watches x xs cuts) × IsReturn at.here at.earlier x reply
-returns_at {h} {log} {state} {made} {watches} {x} {xs} {cuts} {reply} event j =
-    let at = judged_head h log state made watches x xs cuts j in (at, by_event at (waits at.here at.earlier at.later x at.is))
+pub returns_at : {h : Header} {starting : List StartWord} {log : List Entry} {state : Amounts} {made : ℕ} {watches : List Seen} {x : Waiting} {xs : List Waiting}
+    {first : List ℕ} {since : List (List (ℕ × ℕ))} {reply : ℕ} → x.event ≡ Returns reply → Judged h starting log state made watches (x ∷ xs) first since
+    → (at : AtHead h starting log state made watches x xs first since) × IsReturn at.here at.earlier x reply
+returns_at {h} {starting} {log} {state} {made} {watches} {x} {xs} {first} {since} {reply} event j =
+    let at = judged_head h starting log state made watches x xs first since j in (at, by_event at (waits at.here at.earlier at.later x at.is))
   where
-    by_event : (at : AtHead h log state made watches x xs cuts) → Waits at.here at.earlier at.later x → IsReturn at.here at.earlier x reply
+    by_event : (at : AtHead h starting log state made watches x xs first since) → Waits at.here at.earlier at.later x → IsReturn at.here at.earlier x reply
     by_event at (returns r e is) = let same : r ≡ reply = cc in subst (IsReturn at.here at.earlier x) same is
     by_event at (begins m a e is) = absurd (apart (sym event ∙ e))
       where
@@ -93,50 +95,50 @@ returns_at {h} {log} {state} {made} {watches} {x} {xs} {cuts} {reply} event j =
         apart p = cc
 
 -- what may be judged: its caller, what was called, and how many steps were made
-pub begins_caller : {h : Header} {state : Amounts} {made : ℕ} {watches : List Seen} {x : Waiting} {cuts : List (List ℕ)} {method : Method} {args : Args}
-    → x.event ≡ Begins method args → MayJudge h state made watches x cuts → x.caller < h.callers
+pub begins_caller : {h : Header} {state : Amounts} {made : ℕ} {watches : List Seen} {x : Waiting} {first : List ℕ} {since : List (List (ℕ × ℕ))} {method : Method} {args : Args}
+    → x.event ≡ Begins method args → MayJudge h state made watches x first since → x.caller < h.callers
 begins_caller event may = below_of _ _ (∥∥₁_elim may (Bool-set _ _) (λ s.
-    let found = begins_at event s.2 in is_below _ _ (head_caller found.0 found.1.caller)))
+    let found = begins_at event s.3 in is_below _ _ (head_caller found.0 found.1.caller)))
 
-pub begins_may : {h : Header} {state : Amounts} {made : ℕ} {watches : List Seen} {x : Waiting} {cuts : List (List ℕ)} {method : Method} {args : Args}
-    → x.event ≡ Begins method args → MayJudge h state made watches x cuts → has_method h method args ≡ true
-begins_may event may = ∥∥₁_elim may (Bool-set _ _) (λ s. let found = begins_at event s.2 in begin_fits found.0 found.1)
+pub begins_may : {h : Header} {state : Amounts} {made : ℕ} {watches : List Seen} {x : Waiting} {first : List ℕ} {since : List (List (ℕ × ℕ))} {method : Method} {args : Args}
+    → x.event ≡ Begins method args → MayJudge h state made watches x first since → has_method h method args ≡ true
+begins_may event may = ∥∥₁_elim may (Bool-set _ _) (λ s. let found = begins_at event s.3 in begin_fits found.0 found.1)
 
-pub begins_observes : {h : Header} {state : Amounts} {made : ℕ} {watches : List Seen} {x : Waiting} {cuts : List (List ℕ)} {method : Method} {args : Args}
-    → x.event ≡ Begins method args → MayJudge h state made watches x cuts → is_observer method ≡ true
-begins_observes event may = ∥∥₁_elim may (Bool-set _ _) (λ s. (begins_at event s.2).1.observes)
+pub begins_observes : {h : Header} {state : Amounts} {made : ℕ} {watches : List Seen} {x : Waiting} {first : List ℕ} {since : List (List (ℕ × ℕ))} {method : Method} {args : Args}
+    → x.event ≡ Begins method args → MayJudge h state made watches x first since → is_observer method ≡ true
+begins_observes event may = ∥∥₁_elim may (Bool-set _ _) (λ s. (begins_at event s.3).1.observes)
 
-pub commits_may : {h : Header} {state : Amounts} {made : ℕ} {watches : List Seen} {x : Waiting} {cuts : List (List ℕ)} {method : Method} {args : Args}
-    {o : Option ℕ} → x.event ≡ Commits method args o → MayJudge h state made watches x cuts → has_method h method args ≡ true
-commits_may event may = ∥∥₁_elim may (Bool-set _ _) (λ s. let found = commits_at event s.2 in (commit_fits found.0 found.1).may)
+pub commits_may : {h : Header} {state : Amounts} {made : ℕ} {watches : List Seen} {x : Waiting} {first : List ℕ} {since : List (List (ℕ × ℕ))} {method : Method} {args : Args}
+    {o : Option ℕ} → x.event ≡ Commits method args o → MayJudge h state made watches x first since → has_method h method args ≡ true
+commits_may event may = ∥∥₁_elim may (Bool-set _ _) (λ s. let found = commits_at event s.3 in (commit_fits found.0 found.1).may)
 
-pub commits_mutates : {h : Header} {state : Amounts} {made : ℕ} {watches : List Seen} {x : Waiting} {cuts : List (List ℕ)} {method : Method} {args : Args}
-    {o : Option ℕ} → x.event ≡ Commits method args o → MayJudge h state made watches x cuts → is_observer method ≡ false
-commits_mutates event may = ∥∥₁_elim may (Bool-set _ _) (λ s. let found = commits_at event s.2 in (commit_fits found.0 found.1).mutates)
+pub commits_mutates : {h : Header} {state : Amounts} {made : ℕ} {watches : List Seen} {x : Waiting} {first : List ℕ} {since : List (List (ℕ × ℕ))} {method : Method} {args : Args}
+    {o : Option ℕ} → x.event ≡ Commits method args o → MayJudge h state made watches x first since → is_observer method ≡ false
+commits_mutates event may = ∥∥₁_elim may (Bool-set _ _) (λ s. let found = commits_at event s.3 in (commit_fits found.0 found.1).mutates)
 
-pub returns_caller : {h : Header} {state : Amounts} {made : ℕ} {watches : List Seen} {x : Waiting} {cuts : List (List ℕ)} {reply : ℕ}
-    → x.event ≡ Returns reply → MayJudge h state made watches x cuts → x.caller < h.callers
+pub returns_caller : {h : Header} {state : Amounts} {made : ℕ} {watches : List Seen} {x : Waiting} {first : List ℕ} {since : List (List (ℕ × ℕ))} {reply : ℕ}
+    → x.event ≡ Returns reply → MayJudge h state made watches x first since → x.caller < h.callers
 returns_caller event may = below_of _ _ (∥∥₁_elim may (Bool-set _ _) (λ s.
-    let found = returns_at event s.2 in is_below _ _ (head_caller found.0 found.1.caller)))
+    let found = returns_at event s.3 in is_below _ _ (head_caller found.0 found.1.caller)))
 
-pub steps_few : {h : Header} {state : Amounts} {made : ℕ} {watches : List Seen} {x : Waiting} {cuts : List (List ℕ)}
-    → MayJudge h state made watches x cuts → made < 2 ^ 62
-steps_few {h} {state} {made} {watches} {x} {cuts} may = below_of _ _ (∥∥₁_elim may (Bool-set _ _) (λ s.
-    let few : made < 2 ^ 62 = omega (arith, head_few (judged_head h s.0 state made watches x s.1 cuts s.2), s.3) in is_below made (2 ^ 62) few))
+pub steps_few : {h : Header} {state : Amounts} {made : ℕ} {watches : List Seen} {x : Waiting} {first : List ℕ} {since : List (List (ℕ × ℕ))}
+    → MayJudge h state made watches x first since → made < 2 ^ 62
+steps_few {h} {state} {made} {watches} {x} {first} {since} may = below_of _ _ (∥∥₁_elim may (Bool-set _ _) (λ s.
+    let few : made < 2 ^ 62 = omega (arith, head_few (judged_head h s.0 s.1 state made watches x s.2 first since s.3), s.4) in is_below made (2 ^ 62) few))
 
 observers-prop : (h : Header) (watches : List Seen) → IsProp (AreObservers h watches)
 observers-prop h watches = hlevel Bool-set
 
-pub judged_observers : {h : Header} {state : Amounts} {made : ℕ} {watches : List Seen} {x : Waiting} {cuts : List (List ℕ)}
-    → MayJudge h state made watches x cuts → AreObservers h watches
-judged_observers {h} {watches = watches} may = ∥∥₁_elim may (observers-prop h watches) (λ s. s.2.observers)
+pub judged_observers : {h : Header} {state : Amounts} {made : ℕ} {watches : List Seen} {x : Waiting} {first : List ℕ} {since : List (List (ℕ × ℕ))}
+    → MayJudge h state made watches x first since → AreObservers h watches
+judged_observers {h} {watches = watches} may = ∥∥₁_elim may (observers-prop h watches) (λ s. s.3.observers)
 
 current-prop : (state : Amounts) (watches : List Seen) → IsProp (AreCurrent state watches)
 current-prop state watches = hlevel Bool-set
 
-pub judged_current : {h : Header} {state : Amounts} {made : ℕ} {watches : List Seen} {x : Waiting} {cuts : List (List ℕ)}
-    → MayJudge h state made watches x cuts → AreCurrent state watches
-judged_current {state = state} {watches = watches} may = ∥∥₁_elim may (current-prop state watches) (λ s. s.2.current)
+pub judged_current : {h : Header} {state : Amounts} {made : ℕ} {watches : List Seen} {x : Waiting} {first : List ℕ} {since : List (List (ℕ × ℕ))}
+    → MayJudge h state made watches x first since → AreCurrent state watches
+judged_current {state = state} {watches = watches} may = ∥∥₁_elim may (current-prop state watches) (λ s. s.3.current)
 
 -- one watch is changed
 others_stay : (c : ℕ) (watches : List Seen) (seen : Seen) → OthersStay c watches (set watches c seen)
@@ -166,10 +168,10 @@ current_set state c watches seen low all own = λ d other here is_open. by_same 
     (λ apart. all d other (sym (slice_get-set_other watches c d seen (not_same c d apart)) ∙ here) is_open)
 
 -- an observer begins
-pub judged_begins : {h : Header} {log : List Entry} {state : Amounts} {made : ℕ} {watches : List Seen} {x : Waiting} {xs : List Waiting}
-    {cuts : List (List ℕ)} {method : Method} {args : Args} → x.event ≡ Begins method args → length watches ≡ h.callers
-    → Judged h log state made watches (x ∷ xs) cuts
-    → Judged h log state made (set watches x.caller (record { is_open = true; method = method; args = args; answers = answer_in state method args ∷ [] })) xs cuts
+pub judged_begins : {h : Header} {starting : List StartWord} {log : List Entry} {state : Amounts} {made : ℕ} {watches : List Seen} {x : Waiting} {xs : List Waiting}
+    {first : List ℕ} {since : List (List (ℕ × ℕ))} {method : Method} {args : Args} → x.event ≡ Begins method args → length watches ≡ h.callers
+    → Judged h starting log state made watches (x ∷ xs) first since
+    → Judged h starting log state made (set watches x.caller (record { is_open = true; method = method; args = args; answers = answer_in state method args ∷ [] })) xs first since
 judged_begins {h} {state = state} {watches = watches} {x} {method = method} {args = args} event long j =
     let found = begins_at event j in
     let low : x.caller < length watches = omega (arith, long, head_caller found.0 found.1.caller) in
@@ -186,16 +188,16 @@ there (x ∷ xs) zero low = (x, refl)
 there (x ∷ xs) (suc c) low = there xs c (omega (arith, low))
 
 -- an observer returns
-pub watch_there : {h : Header} {log : List Entry} {state : Amounts} {made : ℕ} {watches : List Seen} {x : Waiting} {xs : List Waiting}
-    {cuts : List (List ℕ)} {reply : ℕ} → x.event ≡ Returns reply → length watches ≡ h.callers
-    → Judged h log state made watches (x ∷ xs) cuts → (seen : Seen) × (slice_get watches x.caller ≡ Some seen)
+pub watch_there : {h : Header} {starting : List StartWord} {log : List Entry} {state : Amounts} {made : ℕ} {watches : List Seen} {x : Waiting} {xs : List Waiting}
+    {first : List ℕ} {since : List (List (ℕ × ℕ))} {reply : ℕ} → x.event ≡ Returns reply → length watches ≡ h.callers
+    → Judged h starting log state made watches (x ∷ xs) first since → (seen : Seen) × (slice_get watches x.caller ≡ Some seen)
 watch_there {watches = watches} {x} event long j =
     let found = returns_at event j in there watches x.caller (omega (arith, long, head_caller found.0 found.1.caller))
 
-pub judged_answered : {h : Header} {log : List Entry} {state : Amounts} {made : ℕ} {watches : List Seen} {x : Waiting} {xs : List Waiting}
-    {cuts : List (List ℕ)} {reply : ℕ} (seen : Seen) → x.event ≡ Returns reply → slice_get watches x.caller ≡ Some seen
-    → has_answer seen.answers reply ≡ true → Judged h log state made watches (x ∷ xs) cuts
-    → Judged h log state made (set watches x.caller (record seen { is_open = false })) xs cuts
+pub judged_answered : {h : Header} {starting : List StartWord} {log : List Entry} {state : Amounts} {made : ℕ} {watches : List Seen} {x : Waiting} {xs : List Waiting}
+    {first : List ℕ} {since : List (List (ℕ × ℕ))} {reply : ℕ} (seen : Seen) → x.event ≡ Returns reply → slice_get watches x.caller ≡ Some seen
+    → has_answer seen.answers reply ≡ true → Judged h starting log state made watches (x ∷ xs) first since
+    → Judged h starting log state made (set watches x.caller (record seen { is_open = false })) xs first since
 judged_answered {h} {state = state} {watches = watches} {x} seen event here answered j =
     let found = returns_at event j in
     let closed : Seen = record seen { is_open = false } in
@@ -206,44 +208,46 @@ judged_answered {h} {state = state} {watches = watches} {x} seen event here answ
     apart : false ≡ true → ⊥
     apart e = cc
 
-pub judged_unanswered : {h : Header} {log : List Entry} {state : Amounts} {made : ℕ} {watches : List Seen} {x : Waiting} {xs : List Waiting}
-    {cuts : List (List ℕ)} {reply : ℕ} (seen : Seen) → x.event ≡ Returns reply → slice_get watches x.caller ≡ Some seen
-    → has_answer seen.answers reply ≡ false → Judged h log state made watches (x ∷ xs) cuts
-    → first_fault h log ≡ Some (Violation (line_of x.position) (Observer reply))
+pub judged_unanswered : {h : Header} {starting : List StartWord} {log : List Entry} {state : Amounts} {made : ℕ} {watches : List Seen} {x : Waiting} {xs : List Waiting}
+    {first : List ℕ} {since : List (List (ℕ × ℕ))} {reply : ℕ} (seen : Seen) → x.event ≡ Returns reply → slice_get watches x.caller ≡ Some seen
+    → has_answer seen.answers reply ≡ false → Judged h starting log state made watches (x ∷ xs) first since
+    → first_fault h starting log ≡ Some (Violation (line_of starting x.position) (Observer reply))
 judged_unanswered seen event here unanswered j =
     let found = returns_at event j in head_unanswered seen found.0 found.1 here unanswered
 
 -- a commit that hasn't returned
-pub judged_waits : {h : Header} {log : List Entry} {state : Amounts} {made : ℕ} {watches : List Seen} {x : Waiting} {xs : List Waiting}
-    {cuts : List (List ℕ)} {method : Method} {args : Args} → x.event ≡ Commits method args None → Judged h log state made watches (x ∷ xs) cuts
-    → (first_fault h log ≡ None) × Judged h log state made watches (x ∷ xs) cuts
+pub judged_waits : {h : Header} {starting : List StartWord} {log : List Entry} {state : Amounts} {made : ℕ} {watches : List Seen} {x : Waiting} {xs : List Waiting}
+    {first : List ℕ} {since : List (List (ℕ × ℕ))} {method : Method} {args : Args} → x.event ≡ Commits method args None → Judged h starting log state made watches (x ∷ xs) first since
+    → (first_fault h starting log ≡ None) × Judged h starting log state made watches (x ∷ xs) first since
 judged_waits event j = let found = commits_at event j in (head_waits found.0 found.1, j)
 
 -- a commit that has, by what it leads to
-pub judged_commits : {E : Type 0} {h : Header} {log : List Entry} {state : Amounts} {made : ℕ} {watches : List Seen} {x : Waiting} {xs : List Waiting}
-    {cuts : List (List ℕ)} {method : Method} {args : Args} {reply : ℕ} (after : Amounts) (more : ℕ) (new : List Seen) (now : List (List ℕ))
-    (r : Result Outcome E) → x.event ≡ Commits method args (Some reply) → Judged h log state made watches (x ∷ xs) cuts
-    → ((words : List ℕ) (rest : List (List ℕ)) → cuts ≡ words ∷ rest
-    → IfOk r (CommitLeads h words rest (record { method = method; args = args }) reply state made watches after more new now))
-    → IfOk r (HeadGives h log after more new x xs now)
-judged_commits {E} {h} {log} {state} {made} {watches} {x} {xs} {cuts} {method} {args} {reply} after more new now r event j leads =
+pub judged_commits : {E : Type 0} {h : Header} {starting : List StartWord} {log : List Entry} {state : Amounts} {made : ℕ} {watches : List Seen} {x : Waiting}
+    {xs : List Waiting} {first : List ℕ} {since : List (List (ℕ × ℕ))} {method : Method} {args : Args} {reply : ℕ} (after : Amounts) (more : ℕ)
+    (new : List Seen) (next_first : List ℕ) (next_since : List (List (ℕ × ℕ))) (r : Result Outcome E) → x.event ≡ Commits method args (Some reply)
+    → Judged h starting log state made watches (x ∷ xs) first since
+    → ((part : List (ℕ × ℕ)) (rest : List (List (ℕ × ℕ))) → since ≡ part ∷ rest
+    → IfOk r (CommitLeads h first part rest (record { method = method; args = args }) reply state made watches after more new next_first next_since))
+    → IfOk r (HeadGives h starting log after more new x xs next_first next_since)
+judged_commits {E} {h} {starting} {log} {state} {made} {watches} {x} {xs} {first} {since} {method} {args} {reply} after more new next_first next_since r event j leads =
     let found = commits_at event j in
-    let cut = cut_here found.0 found.1 in
-    by_result found.0 found.1 _ _ cut r (leads _ _ cut)
+    let split = split_here found.0 found.1 in
+    by_result found.0 found.1 r (leads split.part split.rest split.is)
   where
-    by_outcome : (at : AtHead h log state made watches x xs cuts) → IsCommit at.here at.earlier at.later x method args (Some reply)
-        → (words : List ℕ) (rest : List (List ℕ)) → cuts ≡ words ∷ rest → (o : Outcome)
-        → CommitLeads h words rest (record { method = method; args = args }) reply state made watches after more new now o
-        → HeadGives h log after more new x xs now o
-    by_outcome at is words rest cut Goes right =
-        subst (λ cs. Judged h log after more new xs cs) (sym right.waiting)
-        (head_right new rest words after more at is cut right.next right.same right.count right.seen right.observers right.current)
-    by_outcome at is words rest cut (Faults why) faulty = head_faults words why at is cut faulty
-    by_outcome at is words rest cut Ends never = absurd never
+    Leads : (at : AtHead h starting log state made watches x xs first since) → IsCommit at.here at.earlier at.later x method args (Some reply) → Outcome → Type 0
+    Leads at is o = CommitLeads h first (split_here at is).part (split_here at is).rest (record { method = method; args = args }) reply state made watches
+        after more new next_first next_since o
 
-    by_result : (at : AtHead h log state made watches x xs cuts) → IsCommit at.here at.earlier at.later x method args (Some reply)
-        → (words : List ℕ) (rest : List (List ℕ)) → cuts ≡ words ∷ rest → (s : Result Outcome E)
-        → IfOk s (CommitLeads h words rest (record { method = method; args = args }) reply state made watches after more new now)
-        → IfOk s (HeadGives h log after more new x xs now)
-    by_result at is words rest cut (Ok o) l = by_outcome at is words rest cut o l
-    by_result at is words rest cut (Err e) l = tt
+    by_outcome : (at : AtHead h starting log state made watches x xs first since) (is : IsCommit at.here at.earlier at.later x method args (Some reply))
+        → (o : Outcome) → Leads at is o → HeadGives h starting log after more new x xs next_first next_since o
+    by_outcome at is Goes right =
+        subst (λ ws. Judged h starting log after more new xs ws next_since) (sym right.words)
+        (subst (λ ps. Judged h starting log after more new xs (with_writes first (split_here at is).part) ps) (sym right.since)
+        (head_right new after more at is right.next right.same right.count right.seen right.observers right.current))
+    by_outcome at is (Faults why) faulty = head_faults why at is faulty
+    by_outcome at is Ends never = absurd never
+
+    by_result : (at : AtHead h starting log state made watches x xs first since) (is : IsCommit at.here at.earlier at.later x method args (Some reply))
+        → (s : Result Outcome E) → IfOk s (Leads at is) → IfOk s (HeadGives h starting log after more new x xs next_first next_since)
+    by_result at is (Ok o) l = by_outcome at is o l
+    by_result at is (Err e) l = tt

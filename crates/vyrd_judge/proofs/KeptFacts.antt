@@ -1,5 +1,6 @@
 -- What an entry that keeps the rules of shape tells.
-use Rattle.std.proofs.Common.{◌≡◌, ℕ, ◌<◌, ◌^◌, true, false, ◌&&◌, List, ◌∷◌, length, take, drop, get_or, Option, Some, None, refl, ap, ◌∙◌, sym, suc}
+use Rattle.std.proofs.Common.{◌≡◌, ℕ, ◌<◌, ◌^◌, true, false, ◌&&◌, List, ◌∷◌, length, take, drop, get_or, Option, Some, None, slice_get, refl, ap, subst, ◌∙◌, sym, suc}
+use Rattle.std.proofs.lemmas.Option.{slice_get_within, get_or_from_slice_get}
 use Rattle.std.specs.Prelude.{is_none}
 use Rattle.std.specs.Option.{option_or, option_map_or}
 use Rattle.std.proofs.lemmas.Bool.{not-false}
@@ -12,7 +13,7 @@ use Rattle.vyrd_base.specs.Places.{newest_first}
 use Rattle.vyrd_base.specs.Subjects.{subject_of, is_observer, are_args}
 use Rattle.vyrd_base.specs.Callers.{Called, open_call}
 use Rattle.vyrd_base.specs.Layout.{plain_words}
-use Rattle.vyrd_base.specs.Shape.{broken_rule, checks_at, is_held_by_other}
+use Rattle.vyrd_base.specs.Shape.{broken_rule, checks_at}
 use Rattle.vyrd_base.specs.Front.{first_break}
 use Rattle.vyrd_base.proofs.BlockLaws.{entry}
 use Rattle.vyrd_base.proofs.VerdictLaws.{first_break-append}
@@ -35,6 +36,13 @@ kept_at h front at d within kept =
     by_parts None (Some b) c e = cc
     by_parts (Some a) b c e = cc
 
+-- the same of an entry that was read there
+pub rules_at : (h : Header) (front : List Entry) (at : ℕ) (e : Entry) → slice_get front at ≡ Some e → first_break h front ≡ None
+    → broken_rule h (newest_first (take at front)) e ≡ None
+rules_at h front at e here kept =
+    subst (λ x. broken_rule h (newest_first (take at front)) x ≡ None) (get_or_from_slice_get front at e e here)
+    (kept_at h front at e (slice_get_within front at e here) kept)
+
 pub call_kept : (h : Header) (c : ℕ) (method : Method) (args : Args) (earlier : List Entry)
     → broken_rule h earlier (entry c (Call method args)) ≡ None
     → has_method h method args ≡ true
@@ -42,16 +50,15 @@ call_kept h c method args earlier kept =
     let checks = all_kept (checks_at h earlier (entry c (Call method args))) kept in
     ap (λ b. b && are_args h.size method args) (not-false _ checks.1.0) ∙ not-false _ checks.1.1.0
 
-pub record WriteFits (h : Header) (c word value : ℕ) (earlier : List Entry) : Type 0 where
+pub record WriteFits (h : Header) (word value : ℕ) : Type 0 where
   pub word_fits : word < plain_words h
   pub value_fits : value < 2 ^ 63
-  pub unheld : is_held_by_other h c word earlier ≡ false
 
 pub write_kept : (h : Header) (c word value : ℕ) (earlier : List Entry)
-    → broken_rule h earlier (entry c (Write word value)) ≡ None → WriteFits h c word value earlier
+    → broken_rule h earlier (entry c (Write word value)) ≡ None → WriteFits h word value
 write_kept h c word value earlier kept =
     let checks = all_kept (checks_at h earlier (entry c (Write word value))) kept in
-    record { word_fits = above_of _ word checks.1.1.0; value_fits = above_of _ value checks.1.1.1.0; unheld = checks.1.1.1.1.0 }
+    record { word_fits = above_of _ word checks.1.1.0; value_fits = above_of _ value checks.1.1.1.0 }
 
 -- a commit stands in a mutator's execution
 is_running : (o : Option Called) → is_none o ≡ false → option_map_or (λ called. is_observer called.method) o false ≡ false

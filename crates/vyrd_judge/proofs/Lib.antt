@@ -1,3 +1,8 @@
+pub mod StartedLaws
+pub mod EndingLaws
+pub mod AlikeLaws
+pub mod CommitLaws
+pub mod PartLaws
 pub mod AnyLaws
 pub mod HistoryLaws
 pub mod OnlineLaws
@@ -7,6 +12,9 @@ pub mod JudgingLaws
 pub mod SeeingLaws
 pub mod WordsLaws
 pub mod CutLaws
+pub mod ShadowFacts
+pub mod ActLaws
+pub mod StartingLaws
 pub mod HeadLaws
 pub mod JudgedLaws
 pub mod WaitingLaws
@@ -19,6 +27,9 @@ pub mod FaultLaws
 pub mod KeptFacts
 pub mod SeenLaws
 pub mod OutcomeLaws
+pub mod EffectFacts
 pub mod StepLaws
+pub mod BlockFacts
 pub mod CountLaws
 pub mod VerdictFacts
+pub mod StartWords

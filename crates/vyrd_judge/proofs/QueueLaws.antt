@@ -31,7 +31,7 @@ use Rattle.vyrd_judge.specs.Outcomes.{place_of}
 use Rattle.vyrd_judge.specs.Queued.{IsCaller, IsPending, IsUnreturned, HasQueued, HasTakenUp, MayQueue, CanLeave}
 use Rattle.vyrd_judge.specs.Waiting.{commit_of, waiting_of, waiting_at, replied_event, replied}
 use Rattle.vyrd_judge.proofs.ExecutionLaws.{open_call-other, open_call-quiet}
-use Rattle.vyrd_judge.proofs.FaultLaws.{Commits as Committing, alone, with_block, commits_inside, commits_unreturned}
+use Rattle.vyrd_judge.proofs.CommitLaws.{Commits as Committing, alone, with_block, commits_inside, commits_unreturned}
 use Rattle.vyrd_judge.proofs.KeptFacts.{commit_kept, block_commit_runs, return_kept}
 use Rattle.vyrd_judge.proofs.StandingLaws.{slice_get-set_same, slice_get-set_other, not_same}
 

@@ -7,13 +7,14 @@ use Rattle.vyrd_base.specs.declared.header.Header.{Header}
 use Rattle.vyrd_base.specs.declared.log.Kind.{Kind}
 use Rattle.vyrd_base.specs.declared.log.Kind.TheVariants.{Return}
 use Rattle.vyrd_base.specs.declared.log.Entry.{Entry}
+use Rattle.vyrd_base.specs.declared.log.StartWord.{StartWord}
 use Rattle.vyrd_base.specs.declared.verdict.Why.{Why}
 use Rattle.vyrd_base.specs.declared.verdict.Why.TheVariants.{Reply, View, Observer}
 use Rattle.vyrd_base.specs.Callers.{Called, open_call}
 use Rattle.vyrd_base.specs.Subjects.{is_observer}
 use Rattle.vyrd_base.specs.Amounts.{Amounts, first_difference}
 use Rattle.vyrd_base.specs.Specification.{next_state, answer_in}
-use Rattle.vyrd_base.specs.Words.{words_after}
+use Rattle.vyrd_base.specs.Words.{words_at}
 use Rattle.vyrd_base.specs.Views.{view_of_words}
 use Rattle.vyrd_base.specs.Commits.{next_reply, committed_at, commits_after, commit_count, once_returned, state_after}
 use Rattle.vyrd_base.specs.Faults.{step_fault, commit_fault, states_since_call, observer_fault, fault_at}
@@ -21,13 +22,13 @@ use Rattle.vyrd_base.proofs.BlockLaws.{entry}
 use Rattle.vyrd_judge.specs.Outcomes.{place_of}
 use Rattle.vyrd_judge.specs.Watching.{Seen, has_answer, IsWatched}
 use Rattle.vyrd_judge.specs.Reached.{Reached, AllSee}
-use Rattle.vyrd_judge.proofs.FaultLaws.{Commits, commits_is, commits_inside, commits_uncalled, fault_of_commit_kind}
+use Rattle.vyrd_judge.proofs.CommitLaws.{Commits, commits_is, commits_inside, commits_uncalled, fault_of_commit_kind}
 use Rattle.vyrd_judge.proofs.StandingLaws.{state_here, ending-commit}
 use Rattle.vyrd_judge.proofs.Reaching.{reached_commit}
 
 -- what the words show at a commit
-abbrev pub shown_after : Header → ℕ → Kind → List Entry → Amounts
-shown_after h c kind earlier = view_of_words h (words_after h (entry c kind ∷ earlier))
+abbrev pub shown_there : Header → List StartWord → ℕ → Kind → List Entry → List Entry → Amounts
+shown_there h starting c kind earlier later = view_of_words h (words_at h starting (place_of (entry c kind) earlier later))
 
 -- what the commit at a place gives, by what was called and its reply
 once_called : {B : Type 0} (f : Called → ℕ → Option B) (c : ℕ) (kind : Kind) (earlier later : List Entry) (called : Called) (o : Option ℕ)
@@ -37,14 +38,14 @@ once_called f c kind earlier later called o opened replied =
     ap (λ p. option_and_then (λ k. option_and_then (f k) (next_reply c later)) p) opened ∙ ap (option_and_then (f called)) replied
 
 -- the fault of a commit that is reached
-pub commit_fault_at : (h : Header) (states : List Amounts) (c : ℕ) (kind : Kind) (earlier later : List Entry) (state : Amounts) (watches : List Seen)
+pub commit_fault_at : (h : Header) (starting : List StartWord) (states : List Amounts) (c : ℕ) (kind : Kind) (earlier later : List Entry) (state : Amounts) (watches : List Seen)
     (called : Called) (o : Option ℕ) → Commits kind → open_call c earlier ≡ Some called → next_reply c later ≡ o
     → Reached h states earlier (entry c kind ∷ later) state watches
-    → fault_at h states (place_of (entry c kind) earlier later)
-    ≡ option_and_then (λ reply. step_fault (shown_after h c kind earlier) called reply state) o
-commit_fault_at h states c kind earlier later state watches called o commits opened replied r =
-    let shown = shown_after h c kind earlier in
-    fault_of_commit_kind h states c kind earlier later commits
+    → fault_at h starting states (place_of (entry c kind) earlier later)
+    ≡ option_and_then (λ reply. step_fault (shown_there h starting c kind earlier later) called reply state) o
+commit_fault_at h starting states c kind earlier later state watches called o commits opened replied r =
+    let shown = shown_there h starting c kind earlier later in
+    fault_of_commit_kind h starting states c kind earlier later commits
     ∙ ap (option_and_then (commit_fault shown (committed_at (place_of (entry c kind) earlier later))))
     (state_here states earlier state (commits_after earlier (entry c kind ∷ later)) r.going)
     ∙ once_called (λ k reply. step_fault shown k reply state) c kind earlier later called o opened replied
@@ -61,55 +62,55 @@ abbrev pub by_next : Amounts → ℕ → Option Amounts → Option Why
 by_next shown reply o = elim o as (λ _. Option Why) [ None ↦ Some (Reply reply) | Some after ↦ option_map View (first_difference shown after) ]
 
 -- a commit that is right
-pub commit_right : (h : Header) (states : List Amounts) (c : ℕ) (kind : Kind) (earlier later : List Entry) (state next : Amounts)
+pub commit_right : (h : Header) (starting : List StartWord) (states : List Amounts) (c : ℕ) (kind : Kind) (earlier later : List Entry) (state next : Amounts)
     (watches new : List Seen) (called : Called) (reply : ℕ) → Commits kind → open_call c earlier ≡ Some called → next_reply c later ≡ Some reply
-    → next_state called.method called.args reply state ≡ Some next → first_difference (shown_after h c kind earlier) next ≡ None
+    → next_state called.method called.args reply state ≡ Some next → first_difference (shown_there h starting c kind earlier later) next ≡ None
     → AllSee next watches new → Reached h states earlier (entry c kind ∷ later) state watches
-    → (fault_at h states (place_of (entry c kind) earlier later) ≡ None) × Reached h states (entry c kind ∷ earlier) later next new
-commit_right h states c kind earlier later state next watches new called reply commits opened replied after same see r = (
-  commit_fault_at h states c kind earlier later state watches called (Some reply) commits opened replied r
-      ∙ ap (by_next (shown_after h c kind earlier) reply) after ∙ ap (option_map View) same,
+    → (fault_at h starting states (place_of (entry c kind) earlier later) ≡ None) × Reached h states (entry c kind ∷ earlier) later next new
+commit_right h starting states c kind earlier later state next watches new called reply commits opened replied after same see r = (
+  commit_fault_at h starting states c kind earlier later state watches called (Some reply) commits opened replied r
+      ∙ ap (by_next (shown_there h starting c kind earlier later) reply) after ∙ ap (option_map View) same,
   reached_commit h states c kind earlier later state next watches new (commits_inside kind commits) (commits_uncalled kind commits)
       (commits_is kind commits) (state_after_at c kind earlier later state called (Some reply) opened replied ∙ after) see r,
 )
 
 -- a commit whose execution hasn't returned
-pub commit_waits : (h : Header) (states : List Amounts) (c : ℕ) (kind : Kind) (earlier later : List Entry) (state : Amounts) (watches : List Seen)
+pub commit_waits : (h : Header) (starting : List StartWord) (states : List Amounts) (c : ℕ) (kind : Kind) (earlier later : List Entry) (state : Amounts) (watches : List Seen)
     (called : Called) → Commits kind → open_call c earlier ≡ Some called → next_reply c later ≡ None
     → Reached h states earlier (entry c kind ∷ later) state watches
-    → (fault_at h states (place_of (entry c kind) earlier later) ≡ None) × (length states ≤ commit_count (entry c kind ∷ earlier))
-commit_waits h states c kind earlier later state watches called commits opened replied r = (
-  commit_fault_at h states c kind earlier later state watches called None commits opened replied r,
+    → (fault_at h starting states (place_of (entry c kind) earlier later) ≡ None) × (length states ≤ commit_count (entry c kind ∷ earlier))
+commit_waits h starting states c kind earlier later state watches called commits opened replied r = (
+  commit_fault_at h starting states c kind earlier later state watches called None commits opened replied r,
   ending-commit states (entry c kind) earlier later state (commits_is kind commits)
       (state_after_at c kind earlier later state called None opened replied) r.going,
 )
 
 -- the fault of a return that is reached
-return_fault_at : (h : Header) (states : List Amounts) (c reply : ℕ) (earlier later : List Entry) (state : Amounts) (watches : List Seen)
+return_fault_at : (h : Header) (starting : List StartWord) (states : List Amounts) (c reply : ℕ) (earlier later : List Entry) (state : Amounts) (watches : List Seen)
     (called : Called) → open_call c earlier ≡ Some called → Reached h states earlier (entry c (Return reply) ∷ later) state watches
-    → fault_at h states (place_of (entry c (Return reply)) earlier later) ≡ observer_fault (states_since_call states c earlier) reply called
+    → fault_at h starting states (place_of (entry c (Return reply)) earlier later) ≡ observer_fault (states_since_call states c earlier) reply called
 unfolding fault_at
-return_fault_at h states c reply earlier later state watches called opened r =
+return_fault_at h starting states c reply earlier later state watches called opened r =
     ap (λ o. option_and o (option_and_then (observer_fault (states_since_call states c earlier) reply) (open_call c earlier)))
     (state_here states earlier state (commits_after earlier (entry c (Return reply) ∷ later)) r.going)
     ∙ ap (option_and_then (observer_fault (states_since_call states c earlier) reply)) opened
 
 -- an observer's return, by what is kept of the observer
-pub observer_at : (h : Header) (states : List Amounts) (c reply : ℕ) (earlier later : List Entry) (state : Amounts) (watches : List Seen)
+pub observer_at : (h : Header) (starting : List StartWord) (states : List Amounts) (c reply : ℕ) (earlier later : List Entry) (state : Amounts) (watches : List Seen)
     (called : Called) (seen : Seen) → open_call c earlier ≡ Some called → is_observer called.method ≡ true
     → IsWatched states c earlier called seen
     → Reached h states earlier (entry c (Return reply) ∷ later) state watches
-    → fault_at h states (place_of (entry c (Return reply)) earlier later) ≡ cond (has_answer seen.answers reply) None (Some (Observer reply))
-observer_at h states c reply earlier later state watches called seen opened observes is r =
-    return_fault_at h states c reply earlier later state watches called opened r
+    → fault_at h starting states (place_of (entry c (Return reply)) earlier later) ≡ cond (has_answer seen.answers reply) None (Some (Observer reply))
+observer_at h starting states c reply earlier later state watches called seen opened observes is r =
+    return_fault_at h starting states c reply earlier later state watches called opened r
     ∙ ap (λ b. cond (not b || list_any (λ s. answer_in s called.method called.args == reply) (states_since_call states c earlier)) None (Some (Observer reply))) observes
     ∙ ap (λ b. cond b None (Some (Observer reply))) (sym (is.answers reply))
 
 -- a return of no observer
-pub mutator_at : (h : Header) (states : List Amounts) (c reply : ℕ) (earlier later : List Entry) (state : Amounts) (watches : List Seen)
+pub mutator_at : (h : Header) (starting : List StartWord) (states : List Amounts) (c reply : ℕ) (earlier later : List Entry) (state : Amounts) (watches : List Seen)
     (called : Called) → open_call c earlier ≡ Some called → is_observer called.method ≡ false
     → Reached h states earlier (entry c (Return reply) ∷ later) state watches
-    → fault_at h states (place_of (entry c (Return reply)) earlier later) ≡ None
-mutator_at h states c reply earlier later state watches called opened mutates r =
-    return_fault_at h states c reply earlier later state watches called opened r
+    → fault_at h starting states (place_of (entry c (Return reply)) earlier later) ≡ None
+mutator_at h starting states c reply earlier later state watches called opened mutates r =
+    return_fault_at h starting states c reply earlier later state watches called opened r
     ∙ ap (λ b. cond (not b || list_any (λ s. answer_in s called.method called.args == reply) (states_since_call states c earlier)) None (Some (Observer reply))) mutates

@@ -4,7 +4,6 @@ use Rattle.std.specs.Prelude.{option_map, filter_map}
 use Rattle.std.specs.Option.{option_or}
 use Rattle.std.specs.Bool.{then_some}
 use Rattle.std.specs.List.{cons_option}
-use Rattle.vyrd_base.specs.declared.header.Header.{Header}
 use Rattle.vyrd_base.specs.declared.subject.Method.{Method}
 use Rattle.vyrd_base.specs.declared.subject.Args.{Args}
 use Rattle.vyrd_base.specs.declared.log.Kind.{Kind}
@@ -21,8 +20,8 @@ use Rattle.vyrd_judge.specs.declared.waiting.Event.{Event}
 use Rattle.vyrd_judge.specs.declared.waiting.Event.TheVariants.{Begins, Commits, Returns}
 use Rattle.vyrd_judge.specs.declared.waiting.Waiting.{Waiting}
 use Rattle.vyrd_judge.specs.Outcomes.{place_of}
-use Rattle.vyrd_judge.specs.Waiting.{commit_of, event_of, waiting_of, waiting_at, waiting_after, replied, cut_at, cuts_after}
-use Rattle.vyrd_judge.proofs.FaultLaws.{Commits as Committing, alone, with_block}
+use Rattle.vyrd_judge.specs.Waiting.{commit_of, event_of, waiting_of, waiting_at, waiting_after, replied}
+use Rattle.vyrd_judge.proofs.CommitLaws.{Commits as Committing, alone, with_block}
 
 -- a list and what comes after it
 filter_map-append : {A B : Type 0} (f : A → Option B) (xs ys : List A) → filter_map f (xs ++ ys) ≡ filter_map f xs ++ filter_map f ys
@@ -42,11 +41,6 @@ filter_map-map f g k so (x ∷ xs) = ap (λ o. cons_option o (filter_map f (map 
     mapped : {B : Type 0} (j : B → B) (o : Option B) (bs : List B) → cons_option (option_map j o) (map j bs) ≡ map j (cons_option o bs)
     mapped j None bs = refl
     mapped j (Some b) bs = refl
-
-filter_map-same : {A B : Type 0} (f : A → Option B) (g : A → A) → ((x : A) → f (g x) ≡ f x) → (xs : List A)
-    → filter_map f (map g xs) ≡ filter_map f xs
-filter_map-same f g so [] = refl
-filter_map-same f g so (x ∷ xs) = ap (λ o. cons_option o (filter_map f (map g xs))) (so x) ∙ ap (cons_option (f x)) (filter_map-same f g so xs)
 
 reply_more : (c : ℕ) (later : List Entry) (e : Entry) → next_reply c (later ++ e ∷ []) ≡ option_or (next_reply c later) (by_caller c returned e)
 reply_more c later e = first_answer-append (by_caller c returned) later (e ∷ [])
@@ -96,15 +90,6 @@ waiting_more earlier later e =
     ∙ filter_map-append waiting_at (map (with_later (e ∷ [])) (places_after earlier later)) (places_after (newest_first_onto earlier later) (e ∷ []))
     ∙ ap (λ xs. xs ++ listed (waiting_at (place_of e (newest_first_onto earlier later) [])))
     (filter_map-map waiting_at (with_later (e ∷ [])) (replied e) (λ place. kind_replied e place place.here.kind) (places_after earlier later))
-
--- the words at the commits, with one more entry
-pub cuts_more : (h : Header) (earlier later : List Entry) (e : Entry)
-    → cuts_after h earlier (later ++ e ∷ []) ≡ cuts_after h earlier later ++ listed (cut_at h (place_of e (newest_first_onto earlier later) []))
-cuts_more h earlier later e =
-    ap (filter_map (cut_at h)) (places_after-append earlier later (e ∷ []))
-    ∙ filter_map-append (cut_at h) (map (with_later (e ∷ [])) (places_after earlier later)) (places_after (newest_first_onto earlier later) (e ∷ []))
-    ∙ ap (λ xs. xs ++ listed (cut_at h (place_of e (newest_first_onto earlier later) [])))
-    (filter_map-same (cut_at h) (with_later (e ∷ [])) (λ place. refl) (places_after earlier later))
 
 -- What an entry that waits is.
 pub record IsBegin (e : Entry) (earlier : List Entry) (x : Waiting) (method : Method) (args : Args) : Type 0 where

@@ -1,249 +1,341 @@
 -- How the words that are kept go on with one more entry.
-use Rattle.std.proofs.Common.{◌≡◌, ℕ, zero, suc, ◌+◌, ◌<◌, ◌^◌, Bool, true, false, cond, List, [], ◌∷◌, ◌++◌, length, map, set, get_or, Some, None, Result, Ok, Err, refl, ap, subst, ◌∙◌, sym, arith, get_or-set_other, length-set}
-use Rattle.std.specs.Prelude.{◌==◌, ◌≢◌, ◌||◌, unwrap_or, OnOk, replicate}
+use Rattle.std.proofs.Common.{◌≡◌, ℕ, zero, suc, ◌+◌, ◌<◌, ◌≤◌, ◌^◌, Bool, true, false, cond, List, [], ◌∷◌, ◌++◌, length, set, get_or, Some, None, Result, Ok, Err, refl, ap, subst, ◌∙◌, sym, arith, slice_get}
+use Rattle.std.specs.Prelude.{◌==◌, ◌≢◌, ◌||◌, ◌-◌, OnOk, All, replicate}
 use Rattle.std.specs.Option.{option_or}
-use Rattle.std.specs.Bool.{then_some}
-use Rattle.std.specs.List.{cons_option, list_any}
-use Rattle.std.proofs.lemmas.List.{same_lists}
+use Rattle.std.specs.List.{list_any}
 use Rattle.std.proofs.Math.Logic.{∥∥₁_elim}
 use Rattle.std.proofs.Math.Bool.{Bool-set}
+use Rattle.std.proofs.lemmas.List.Sums.{sum_by-cons}
+use Rattle.std.proofs.lemmas.List.Elements.{All-head, All-tail}
 use Rattle.vyrd_base.specs.declared.header.Header.{Header}
 use Rattle.vyrd_base.specs.declared.log.Kind.{Kind}
-use Rattle.vyrd_base.specs.declared.log.Kind.TheVariants.{Write, Commit, BlockOpen, BlockClose, BlockCommit}
+use Rattle.vyrd_base.specs.declared.log.Kind.TheVariants.{Call, Return, Write, Commit, BlockOpen, BlockClose, BlockCommit}
 use Rattle.vyrd_base.specs.declared.log.Entry.{Entry}
-use Rattle.vyrd_base.specs.Places.{first_answer, numbers_from, numbers_below}
+use Rattle.vyrd_base.specs.declared.log.StartWord.{StartWord}
+use Rattle.vyrd_base.specs.Places.{first_answer}
 use Rattle.vyrd_base.specs.Callers.{has_block}
 use Rattle.vyrd_base.specs.Layout.{plain_words}
-use Rattle.vyrd_base.specs.Words.{block_writes, effects_at, effects, given_to, value_after, words_after}
-use Rattle.vyrd_base.specs.Commits.{is_commit}
-use Rattle.vyrd_base.proofs.PlaceLaws.{first_answer-append, length-mapped}
-use Rattle.vyrd_base.proofs.BlockLaws.{entry}
+use Rattle.vyrd_base.specs.Words.{block_writes, given_to}
+use Rattle.vyrd_base.specs.FirstVersion.{old_effects_at, old_effects}
+use Rattle.vyrd_base.specs.Commits.{is_commit, commit_count}
+use Rattle.vyrd_base.proofs.BlockLaws.{entry, by_same}
 use Rattle.vyrd_base.proofs.ShadowLaws.{caller_kept, open_kept, close_kept, block_commit_kept}
-use Rattle.vyrd_base.proofs.TestLaws.{below_of, is_below, same_of, neither_true, same_number}
+use Rattle.vyrd_base.proofs.TestLaws.{below_of, is_below, at_most_of, is_at_most, neither_true, same_number, same_of}
 use Rattle.vyrd_shadow.specs.Following.{Kept, HasFollowed, is_open, kept_writes, words_of}
-use Rattle.vyrd_judge.specs.Cuts.{Cuts}
-use Rattle.vyrd_judge.specs.HasWords.{HasWords, HasTaken, Keeps, MayFollow, given}
+use Rattle.vyrd_judge.specs.Cuts.{Cuts, first_with, with_part, written}
+use Rattle.vyrd_judge.specs.Effects.{ActAlike, cut_if, number_at, inner_number, parts_behind, parts_since}
+use Rattle.vyrd_judge.specs.HasWords.{HasWords, HasTaken, Keeps, MayFollow}
+use Rattle.vyrd_judge.proofs.ActLaws.{written_alike, word_is}
+use Rattle.vyrd_judge.proofs.CutLaws.{with_part_nothing, first_with_nothing}
 use Rattle.vyrd_judge.proofs.KeptFacts.{write_kept}
+use Rattle.vyrd_judge.proofs.ShadowFacts.{words_old}
+use Rattle.vyrd_judge.proofs.StandingLaws.{slice_get-set_same, slice_get-set_other, not_same}
 
 -- what the rules say of an entry that may follow
-pub may_caller : {k : Kept} {v : Cuts} {e : Entry} → MayFollow k v e → e.caller < k.header.callers
-may_caller {k} {v} {e} may = below_of _ _ (∥∥₁_elim may (Bool-set _ _) (λ s. is_below _ _ (caller_kept k.header s.0 e s.2.rules)))
+pub may_caller : {k : Kept} {inner : List ℕ} {e : Entry} {commits : ℕ} → MayFollow k inner e commits → e.caller < k.header.callers
+may_caller {k} {inner} {e} may = below_of _ _ (∥∥₁_elim may (Bool-set _ _) (λ s. is_below _ _ (caller_kept k.header s.1 e s.3.rules)))
 
-named_keeps : {h : Header} {earlier : List Entry} {e : Entry} {kind : Kind} → e.kind ≡ kind → Keeps h earlier e → Keeps h earlier (entry e.caller kind)
-named_keeps {h} {earlier} {e} is keeps = subst (λ k. Keeps h earlier (entry e.caller k)) is keeps
+-- an entry of this kind keeps the rules
+pub keeps_as : {h : Header} {earlier : List Entry} {e : Entry} {kind : Kind} → e.kind ≡ kind → Keeps h earlier e → Keeps h earlier (entry e.caller kind)
+keeps_as {h} {earlier} {e} is keeps = subst (λ k. Keeps h earlier (entry e.caller k)) is keeps
 
-pub may_word : {k : Kept} {v : Cuts} {e : Entry} {word value : ℕ} → e.kind ≡ Write word value → MayFollow k v e → word < plain_words k.header
-may_word {k} {v} {e} {word} {value} is may = below_of _ _ (∥∥₁_elim may (Bool-set _ _) (λ s.
-    is_below _ _ ((write_kept k.header e.caller word value s.0 (named_keeps is s.2).rules).word_fits)))
+pub may_word : {k : Kept} {inner : List ℕ} {e : Entry} {commits word value : ℕ} → e.kind ≡ Write word value → MayFollow k inner e commits → word < plain_words k.header
+may_word {k} {inner} {e} {commits} {word} {value} is may = below_of _ _ (∥∥₁_elim may (Bool-set _ _) (λ s.
+    is_below _ _ ((write_kept k.header e.caller word value s.1 (keeps_as is s.3).rules).word_fits)))
 
-pub may_value : {k : Kept} {v : Cuts} {e : Entry} {word value : ℕ} → e.kind ≡ Write word value → MayFollow k v e → value < 2 ^ 63
-may_value {k} {v} {e} {word} {value} is may = below_of _ _ (∥∥₁_elim may (Bool-set _ _) (λ s.
-    is_below value (2 ^ 63) ((write_kept k.header e.caller word value s.0 (named_keeps is s.2).rules).value_fits)))
+pub may_value : {k : Kept} {inner : List ℕ} {e : Entry} {commits word value : ℕ} → e.kind ≡ Write word value → MayFollow k inner e commits → value < 2 ^ 63
+may_value {k} {inner} {e} {commits} {word} {value} is may = below_of _ _ (∥∥₁_elim may (Bool-set _ _) (λ s.
+    is_below value (2 ^ 63) ((write_kept k.header e.caller word value s.1 (keeps_as is s.3).rules).value_fits)))
 
-pub may_open : {k : Kept} {v : Cuts} {e : Entry} → e.kind ≡ BlockOpen → MayFollow k v e → is_open k e.caller ≡ false
-may_open {k} {v} {e} is may = ∥∥₁_elim may (Bool-set _ _) (λ s.
-    s.1.followed.blocks e.caller (caller_kept k.header s.0 e s.2.rules) ∙ open_kept k.header e.caller s.0 (named_keeps is s.2).rules)
+pub may_open : {k : Kept} {inner : List ℕ} {e : Entry} {commits : ℕ} → e.kind ≡ BlockOpen → MayFollow k inner e commits → is_open k e.caller ≡ false
+may_open {k} {inner} {e} is may = ∥∥₁_elim may (Bool-set _ _) (λ s.
+    s.2.followed.blocks e.caller (caller_kept k.header s.1 e s.3.rules) ∙ open_kept k.header e.caller s.1 (keeps_as is s.3).rules)
 
-pub may_close : {k : Kept} {v : Cuts} {e : Entry} → e.kind ≡ BlockClose → MayFollow k v e → is_open k e.caller ≡ true
-may_close {k} {v} {e} is may = ∥∥₁_elim may (Bool-set _ _) (λ s.
-    s.1.followed.blocks e.caller (caller_kept k.header s.0 e s.2.rules) ∙ close_kept k.header e.caller s.0 (named_keeps is s.2).rules)
+pub may_close : {k : Kept} {inner : List ℕ} {e : Entry} {commits : ℕ} → e.kind ≡ BlockClose → MayFollow k inner e commits → is_open k e.caller ≡ true
+may_close {k} {inner} {e} is may = ∥∥₁_elim may (Bool-set _ _) (λ s.
+    s.2.followed.blocks e.caller (caller_kept k.header s.1 e s.3.rules) ∙ close_kept k.header e.caller s.1 (keeps_as is s.3).rules)
 
-pub may_block_commit : {k : Kept} {v : Cuts} {e : Entry} → e.kind ≡ BlockCommit → MayFollow k v e → is_open k e.caller ≡ true
-may_block_commit {k} {v} {e} is may = ∥∥₁_elim may (Bool-set _ _) (λ s.
-    s.1.followed.blocks e.caller (caller_kept k.header s.0 e s.2.rules) ∙ block_commit_kept k.header e.caller s.0 (named_keeps is s.2).rules)
+pub may_block_commit : {k : Kept} {inner : List ℕ} {e : Entry} {commits : ℕ} → e.kind ≡ BlockCommit → MayFollow k inner e commits → is_open k e.caller ≡ true
+may_block_commit {k} {inner} {e} is may = ∥∥₁_elim may (Bool-set _ _) (λ s.
+    s.2.followed.blocks e.caller (caller_kept k.header s.1 e s.3.rules) ∙ block_commit_kept k.header e.caller s.1 (keeps_as is s.3).rules)
 
--- two words' lists of one header agree at a place where their values do
-map_at : (f g : ℕ → ℕ) (k n x : ℕ) → f (k + x) ≡ g (k + x) → get_or (map f (numbers_from k n)) x 0 ≡ get_or (map g (numbers_from k n)) x 0
-map_at f g k zero x same = refl
-map_at f g k (suc n) zero same = let e : k + 0 ≡ k = omega arith in subst (λ j. f j ≡ g j) e same
-map_at f g k (suc n) (suc x) same = let e : k + suc x ≡ k + 1 + x = omega arith in map_at f g (k + 1) n x (subst (λ j. f j ≡ g j) e same)
+-- the numbers of lone commits
+count-cons : (e : Entry) (earlier : List Entry) → commit_count (e ∷ earlier) ≡ cond (is_commit e.kind) 1 0 + commit_count earlier
+count-cons e earlier = sum_by-cons (λ x. cond (is_commit x.kind) 1 0) e earlier
 
-pub length-words_after : (h : Header) (earlier : List Entry) → length (words_after h earlier) ≡ plain_words h
-unfolding words_after
-length-words_after h earlier = length-mapped (value_after (effects earlier)) 0 (plain_words h)
-
--- the words after an entry at which nothing takes effect
-pub words_quiet : (h : Header) (earlier : List Entry) (c : ℕ) (kind : Kind) → effects_at earlier c kind ≡ []
-    → words_after h (entry c kind ∷ earlier) ≡ words_after h earlier
-unfolding words_after
-words_quiet h earlier c kind none = ap (λ ws. map (value_after (ws ++ effects earlier)) (numbers_below (plain_words h))) none
-
--- a word that isn't written at an entry is as it was
-words_beside : (h : Header) (earlier : List Entry) (c : ℕ) (kind : Kind) (x : ℕ) → first_answer (given_to x) (effects_at earlier c kind) ≡ None
-    → get_or (words_after h earlier) x 0 ≡ get_or (words_after h (entry c kind ∷ earlier)) x 0
-unfolding words_after
-words_beside h earlier c kind x none =
-    map_at (value_after (effects earlier)) (value_after (effects_at earlier c kind ++ effects earlier)) 0 (plain_words h) x
-    (subst (λ j. value_after (effects earlier) j ≡ value_after (effects_at earlier c kind ++ effects earlier) j) zero_more
-    (ap (λ o. unwrap_or (option_or o (first_answer (given_to x) (effects earlier))) 0) (sym none)
-    ∙ ap (λ o. unwrap_or o 0) (sym (first_answer-append (given_to x) (effects_at earlier c kind) (effects earlier)))))
+pub number_low : (c : ℕ) (earlier : List Entry) → inner_number c earlier ≤ commit_count earlier
+number_low c [] = omega arith
+number_low c (e ∷ earlier) =
+    let rest = number_low c earlier in
+    let count = count-cons e earlier in
+    by_test (e.caller == c) (by_kind e.kind rest) (omega (arith, rest, one (is_commit e.kind))) count
   where
-    zero_more : x ≡ 0 + x
-    zero_more = omega arith
+    one : (b : Bool) → 0 ≤ cond b 1 0
+    one b = omega arith
 
--- a word that isn't among those of some writes isn't written
+    by_kind : (kind : Kind) → inner_number c earlier ≤ commit_count earlier
+        → number_at kind (commit_count earlier) (inner_number c earlier) ≤ cond (is_commit kind) 1 0 + commit_count earlier
+    by_kind (Call method args) rest = omega (arith, rest)
+    by_kind (Return reply) rest = omega (arith, rest)
+    by_kind (Write word value) rest = omega (arith, rest)
+    by_kind Commit rest = omega arith
+    by_kind BlockOpen rest = omega arith
+    by_kind BlockClose rest = omega (arith, rest)
+    by_kind BlockCommit rest = omega (arith, rest)
+
+    by_test : (b : Bool) → number_at e.kind (commit_count earlier) (inner_number c earlier) ≤ cond (is_commit e.kind) 1 0 + commit_count earlier
+        → inner_number c earlier ≤ cond (is_commit e.kind) 1 0 + commit_count earlier
+        → commit_count (e ∷ earlier) ≡ cond (is_commit e.kind) 1 0 + commit_count earlier
+        → cond b (number_at e.kind (commit_count earlier) (inner_number c earlier)) (inner_number c earlier) ≤ commit_count (e ∷ earlier)
+    by_test true own other count = omega (arith, own, count)
+    by_test false own other count = omega (arith, other, count)
+
+pub may_number : {k : Kept} {inner : List ℕ} {e : Entry} {commits : ℕ} (n : ℕ) → slice_get inner e.caller ≡ Some n → MayFollow k inner e commits → n ≤ commits
+may_number {k} {inner} {e} {commits} n here may = at_most_of _ _ (∥∥₁_elim may (Bool-set _ _) (λ s.
+    let is : n ≡ inner_number e.caller s.1 = some_same (sym here ∙ s.2.numbers e.caller (caller_kept k.header s.1 e s.3.rules)) in
+    is_at_most n commits (omega (arith, is, number_low e.caller s.1, s.4))))
+  where
+    some_same : {a b : ℕ} → Some a ≡ Some b → a ≡ b
+    some_same p = cc
+
+-- numbers that an entry leaves as they are
+abbrev pub HasNumbers : ℕ → List ℕ → List Entry → Type 0
+HasNumbers n inner earlier = (c : ℕ) → c < n → slice_get inner c ≡ Some (inner_number c earlier)
+
+numbers_same : (n : ℕ) (inner : List ℕ) (c : ℕ) (kind : Kind) (earlier : List Entry) → ((commits number : ℕ) → number_at kind commits number ≡ number)
+    → HasNumbers n inner earlier → HasNumbers n inner (entry c kind ∷ earlier)
+numbers_same n inner c kind earlier same has = λ d low. has d low ∙ ap Some (by_test d (c == d))
+  where
+    by_test : (d : ℕ) (b : Bool) → inner_number d earlier ≡ cond b (number_at kind (commit_count earlier) (inner_number d earlier)) (inner_number d earlier)
+    by_test d true = sym (same (commit_count earlier) (inner_number d earlier))
+    by_test d false = refl
+
+-- the caller's own number is another one
+pub numbers_set : (n : ℕ) (inner : List ℕ) (c : ℕ) (kind : Kind) (earlier : List Entry) (number : ℕ) → c < length inner
+    → number ≡ number_at kind (commit_count earlier) (inner_number c earlier)
+    → HasNumbers n inner earlier → HasNumbers n (set inner c number) (entry c kind ∷ earlier)
+numbers_set n inner c kind earlier number low is has = λ d low_d. by_same c d
+    (λ same. subst (λ x. slice_get (set inner c number) x ≡ Some (inner_number x (entry c kind ∷ earlier))) same
+    (slice_get-set_same inner c number low ∙ ap Some is
+    ∙ ap (λ b. Some (cond b (number_at kind (commit_count earlier) (inner_number c earlier)) (inner_number c earlier))) (sym (same_number c))))
+    (λ other. slice_get-set_other inner c d number (not_same c d other) ∙ has d low_d
+    ∙ ap (λ b. Some (cond b (number_at kind (commit_count earlier) (inner_number d earlier)) (inner_number d earlier))) (sym other))
+
+-- the same shadow, once no word has changed
+unchanged_follows : (k : Kept) (starting : List StartWord) (earlier : List Entry) → HasFollowed k starting earlier → HasFollowed (record k { changed = [] }) starting earlier
+unchanged_follows k starting earlier f = record { rules = f.rules; words = f.words; blocks = f.blocks; order = f.order; values = f.values }
+
+-- whether some writes are to a word
 no_given : (x : ℕ) (ws : List (ℕ × ℕ)) → list_any (λ y. y == x) (words_of ws) ≡ false → first_answer (given_to x) ws ≡ None
 no_given x [] e = refl
 no_given x ((w, v) ∷ ws) e =
     let parts = neither_true (w == x) (list_any (λ y. y == x) (words_of ws)) e in
     ap (λ b. option_or (cond b (Some v) None) (first_answer (given_to x) ws)) parts.0 ∙ no_given x ws parts.1
 
--- what is given makes the words
-own_given : (now words : List ℕ) (w : ℕ) → length now ≡ length words → get_or (set now w (get_or words w 0)) w 0 ≡ get_or words w 0
-own_given [] [] w same = refl
-own_given [] (y ∷ words) w same = absurd (omega (arith, same))
-own_given (x ∷ now) [] w same = absurd (omega (arith, same))
-own_given (x ∷ now) (y ∷ words) zero same = refl
-own_given (x ∷ now) (y ∷ words) (suc w) same = own_given now words w (omega (arith, same))
-
--- outside the changed words the two agree
-abbrev pub Agree : List ℕ → List ℕ → List ℕ → Type 0
-Agree now words changed = (x : ℕ) → list_any (λ y. y == x) changed ≡ false → get_or now x 0 ≡ get_or words x 0
-
-pub given_all : (now words changed : List ℕ) → length now ≡ length words → Agree now words changed → given now words changed ≡ words
-given_all now words [] long agree = same_lists now words long (λ k d low. with_default now words k d low (omega (arith, long, low)) (agree k refl))
+some_given : (x : ℕ) (ws : List (ℕ × ℕ)) → list_any (λ y. y == x) (words_of ws) ≡ true → (v : ℕ) × (first_answer (given_to x) ws ≡ Some v)
+some_given x [] e = cc
+some_given x ((w, v) ∷ ws) e = by_test (λ f. some_given x ws f) (w == x) e
   where
-    with_default : (xs ys : List ℕ) (k d : ℕ) → k < length xs → k < length ys → get_or xs k 0 ≡ get_or ys k 0 → get_or xs k d ≡ get_or ys k d
-    with_default [] ys k d low low' e = absurd (omega (arith, low))
-    with_default (x ∷ xs) [] k d low low' e = absurd (omega (arith, low'))
-    with_default (x ∷ xs) (y ∷ ys) zero d low low' e = e
-    with_default (x ∷ xs) (y ∷ ys) (suc k) d low low' e = with_default xs ys k d (omega (arith, low)) (omega (arith, low')) e
-given_all now words (w ∷ changed) long agree =
-    given_all (set now w (get_or words w 0)) words changed (length-set now w (get_or words w 0) ∙ long) (λ x none. by_place x (w == x) refl none)
+    by_test : (list_any (λ y. y == x) (words_of ws) ≡ true → (u : ℕ) × (first_answer (given_to x) ws ≡ Some u)) → (b : Bool)
+        → (b || list_any (λ y. y == x) (words_of ws)) ≡ true → (u : ℕ) × (option_or (cond b (Some v) None) (first_answer (given_to x) ws) ≡ Some u)
+    by_test rest true f = (v, refl)
+    by_test rest false f = rest f
+
+-- a changed word is one of the header's
+changed_low : (n x : ℕ) (changed : List ℕ) → All (λ w. w < n) changed → list_any (λ y. y == x) changed ≡ true → x < n
+changed_low n x [] within e = cc
+changed_low n x (w ∷ changed) within e =
+    by_test (λ f. changed_low n x changed (All-tail (λ y. y < n) w changed within) f) (w == x) refl e
   where
-    by_place : (x : ℕ) (b : Bool) → (w == x) ≡ b → list_any (λ y. y == x) changed ≡ false
-        → get_or (set now w (get_or words w 0)) x 0 ≡ get_or words x 0
-    by_place x true e none = subst (λ p. get_or (set now w (get_or words w 0)) p 0 ≡ get_or words p 0) (same_of w x e) (own_given now words w long)
-    by_place x false e none = get_or-set_other now w x (get_or words w 0) 0 (other e)
-        ∙ agree x (ap (λ b. b || list_any (λ y. y == x) changed) e ∙ none)
-      where
-        other : (w == x) ≡ false → x ≢ w
-        other f same = apart (sym f ∙ ap (λ p. w == p) same ∙ same_number w)
-          where
-            apart : false ≡ true → ⊥
-            apart p = cc
+    by_test : (list_any (λ y. y == x) changed ≡ true → x < n) → (b : Bool) → (w == x) ≡ b → (b || list_any (λ y. y == x) changed) ≡ true → x < n
+    by_test rest true same f = subst (λ y. y < n) (same_of w x same) (All-head (λ y. y < n) w changed within)
+    by_test rest false same f = rest f
 
--- the same shadow, once no word has changed
-unchanged_follows : (k : Kept) (earlier : List Entry) → HasFollowed k earlier → HasFollowed (record k { changed = [] }) earlier
-unchanged_follows k earlier f = record { words = f.words; blocks = f.blocks; order = f.order; values = f.values }
+-- The changed words, with their values, act as the effects of the entry, where exactly the words of these effects have changed.
+changed_alike : (l : Kept) (starting : List StartWord) (earlier : List Entry) (c : ℕ) (kind : Kind) → HasFollowed l starting (entry c kind ∷ earlier)
+    → All (λ w. w < plain_words l.header) l.changed
+    → ((x : ℕ) → list_any (λ y. y == x) l.changed ≡ true → (v : ℕ) × (first_answer (given_to x) (old_effects_at earlier c kind) ≡ Some v))
+    → ((x : ℕ) → list_any (λ y. y == x) l.changed ≡ false → first_answer (given_to x) (old_effects_at earlier c kind) ≡ None)
+    → ActAlike (written l.words l.changed) (old_effects_at earlier c kind)
+changed_alike l starting earlier c kind f within there beside =
+    written_alike l.words l.changed (old_effects_at earlier c kind)
+    (λ x changed. let given = there x changed in
+    given.1 ∙ ap Some (sym (ap (λ ws. get_or ws x 0) (words_old l starting (entry c kind ∷ earlier) f)
+    ∙ word_is l.header starting (old_effects_at earlier c kind) (old_effects earlier) x given.0 (changed_low (plain_words l.header) x l.changed within changed) given.1)))
+    beside
 
--- The words go on where the shadow has followed the entry, and the views were given its changed words.
-taken_words : (k l : Kept) (v w : Cuts) (earlier : List Entry) (c : ℕ) (kind : Kind) → HasWords k v earlier → HasFollowed l (entry c kind ∷ earlier)
-    → l.header ≡ k.header → w.header ≡ v.header → w.now ≡ given v.now l.words l.changed
-    → ((x : ℕ) → list_any (λ y. y == x) l.changed ≡ false → first_answer (given_to x) (effects_at earlier c kind) ≡ None)
-    → HasWords (record l { changed = [] }) w (entry c kind ∷ earlier)
-taken_words k l v w earlier c kind has f same_header views_header now beside = record {
-  followed = unchanged_follows l (entry c kind ∷ earlier) f;
-  unchanged = refl;
-  header = views_header ∙ has.header ∙ sym same_header;
-  now = now ∙ given_all v.now l.words l.changed
-      (ap length before ∙ length-words_after k.header earlier ∙ ap plain_words (sym same_header)
-      ∙ sym (length-words_after l.header (entry c kind ∷ earlier)) ∙ ap length (sym f.words))
-      (λ x none. ap (λ ws. get_or ws x 0) before ∙ words_beside k.header earlier c kind x (beside x none)
-      ∙ ap (λ h. get_or (words_after h (entry c kind ∷ earlier)) x 0) (sym same_header) ∙ ap (λ ws. get_or ws x 0) (sym f.words));
-}
-  where
-    before : v.now ≡ words_after k.header earlier
-    before = has.now ∙ has.followed.words
+-- the effects of a block's end are those of the words that it kept back
+block_there : (k l : Kept) (starting : List StartWord) (earlier : List Entry) (c : ℕ) → HasFollowed k starting earlier → k.changed ≡ [] → c < k.header.callers
+    → has_block c earlier ≡ true → l.changed ≡ k.changed ++ words_of (kept_writes k c) → (x : ℕ) → list_any (λ y. y == x) l.changed ≡ true
+    → (v : ℕ) × (first_answer (given_to x) (block_writes c earlier) ≡ Some v)
+block_there k l starting earlier c f unchanged low inside changed x some =
+    let given = some_given x (kept_writes k c) (ap (list_any (λ y. y == x)) (sym (changed ∙ ap (λ ws. ws ++ words_of (kept_writes k c)) unchanged)) ∙ some) in
+    (given.0, sym (f.values c x low inside) ∙ given.1)
 
--- an entry that is no commit
-uncut_taken : (h : Header) (k : Kept) (v : Cuts) (cuts : List (List ℕ)) (earlier : List Entry) (c : ℕ) (kind : Kind) → is_commit kind ≡ false
-    → HasWords k v (entry c kind ∷ earlier) → v.cuts ≡ cuts → HasTaken h cuts k v (entry c kind) earlier
-uncut_taken h k v cuts earlier c kind isnt has same = record {
+block_beside : (k l : Kept) (starting : List StartWord) (earlier : List Entry) (c : ℕ) → HasFollowed k starting earlier → k.changed ≡ [] → c < k.header.callers
+    → has_block c earlier ≡ true → l.changed ≡ k.changed ++ words_of (kept_writes k c) → (x : ℕ) → list_any (λ y. y == x) l.changed ≡ false
+    → first_answer (given_to x) (block_writes c earlier) ≡ None
+block_beside k l starting earlier c f unchanged low inside changed x none =
+    sym (f.values c x low inside)
+    ∙ no_given x (kept_writes k c) (ap (list_any (λ y. y == x)) (sym (changed ∙ ap (λ ws. ws ++ words_of (kept_writes k c)) unchanged)) ∙ none)
+
+-- an entry at which nothing takes effect
+nothing_taken : (k : Kept) (inner : List ℕ) (v w : Cuts) (starting : List StartWord) (earlier : List Entry) (c : ℕ) (kind : Kind)
+    → old_effects_at earlier c kind ≡ [] → HasWords k inner starting (entry c kind ∷ earlier)
+    → w.first ≡ v.first → w.since ≡ cut_if (is_commit kind) v.since → HasTaken k inner v w starting (entry c kind) earlier
+nothing_taken k inner v w starting earlier c kind nothing has first since = record {
   words = has;
-  waiting = same ∙ sym (no_more cuts) ∙ ap (λ b. cuts ++ cons_option (then_some b (words_after h (entry c kind ∷ earlier))) []) (sym isnt);
-}
-  where
-    no_more : (xs : List (List ℕ)) → xs ++ [] ≡ xs
-    no_more [] = refl
-    no_more (x ∷ xs) = ap (λ ys. x ∷ ys) (no_more xs)
-
--- a commit's words wait
-cut_taken : (h : Header) (k : Kept) (v w : Cuts) (cuts : List (List ℕ)) (earlier : List Entry) (c : ℕ) (kind : Kind) → is_commit kind ≡ true
-    → k.header ≡ h → HasWords k v (entry c kind ∷ earlier) → v.cuts ≡ cuts → w.cuts ≡ v.cuts ++ v.now ∷ [] → w.now ≡ v.now → w.header ≡ v.header
-    → HasTaken h cuts k w (entry c kind) earlier
-cut_taken h k v w cuts earlier c kind commits same_header has same cut now header = record {
-  words = record { followed = has.followed; unchanged = has.unchanged; header = header ∙ has.header; now = now ∙ has.now };
-  waiting = cut ∙ ap (λ cs. cs ++ v.now ∷ []) same ∙ ap (λ ws. cuts ++ ws ∷ []) (has.now ∙ has.followed.words)
-      ∙ ap (λ g. cuts ++ words_after g (entry c kind ∷ earlier) ∷ []) same_header
-      ∙ ap (λ b. cuts ++ cons_option (then_some b (words_after h (entry c kind ∷ earlier))) []) (sym commits);
+  writes = [];
+  alike = λ x. ap (first_answer (given_to x)) (sym nothing);
+  first = first ∙ sym (first_with_nothing (parts_behind earlier c kind) v.first v.since);
+  since = since ∙ ap (cut_if (is_commit kind)) (sym (with_part_nothing (parts_behind earlier c kind) v.since));
 }
 
--- an entry at which nothing takes effect, and which leaves the words as they are
-pub quiet_taken : (k l : Kept) (v : Cuts) (earlier : List Entry) (c : ℕ) (kind : Kind) → is_commit kind ≡ false → effects_at earlier c kind ≡ []
-    → HasWords k v earlier → HasFollowed l (entry c kind ∷ earlier) → l.header ≡ k.header → l.changed ≡ []
-    → HasTaken k.header v.cuts l v (entry c kind) earlier
-quiet_taken k l v earlier c kind isnt none has f same_header unchanged =
-    uncut_taken k.header l v v.cuts earlier c kind isnt (record {
+-- a call or a return
+pub quiet_taken : (k : Kept) (inner : List ℕ) (v : Cuts) (starting : List StartWord) (earlier : List Entry) (c : ℕ) (kind : Kind)
+    → is_commit kind ≡ false → old_effects_at earlier c kind ≡ [] → ((commits number : ℕ) → number_at kind commits number ≡ number)
+    → HasWords k inner starting earlier → HasFollowed k starting (entry c kind ∷ earlier) → HasTaken k inner v v starting (entry c kind) earlier
+quiet_taken k inner v starting earlier c kind isnt nothing same has f =
+    nothing_taken k inner v v starting earlier c kind nothing
+    (record { followed = f; unchanged = has.unchanged; numbers = numbers_same k.header.callers inner c kind earlier same has.numbers }) refl
+    (ap (λ b. cut_if b v.since) (sym isnt))
+
+-- a block is opened
+pub open_taken : (k l : Kept) (inner : List ℕ) (v : Cuts) (starting : List StartWord) (earlier : List Entry) (c : ℕ) → HasWords k inner starting earlier
+    → HasFollowed l starting (entry c BlockOpen ∷ earlier) → l.header ≡ k.header → l.changed ≡ k.changed → c < length inner
+    → HasTaken l (set inner c 0) v v starting (entry c BlockOpen) earlier
+open_taken k l inner v starting earlier c has f header changed low =
+    nothing_taken l (set inner c 0) v v starting earlier c BlockOpen refl
+    (record {
       followed = f;
-      unchanged = unchanged;
-      header = has.header ∙ sym same_header;
-      now = has.now ∙ has.followed.words ∙ sym (words_quiet k.header earlier c kind none)
-          ∙ ap (λ h. words_after h (entry c kind ∷ earlier)) (sym same_header) ∙ sym f.words;
-    }) refl
+      unchanged = changed ∙ has.unchanged;
+      numbers = subst (λ h. HasNumbers h.callers (set inner c 0) (entry c BlockOpen ∷ earlier)) (sym header)
+          (numbers_set k.header.callers inner c BlockOpen earlier 0 low refl has.numbers);
+    }) refl refl
 
-pub lone_commit_taken : (k : Kept) (v w : Cuts) (earlier : List Entry) (c : ℕ) → HasWords k v earlier → HasFollowed k (entry c Commit ∷ earlier)
-    → w.cuts ≡ v.cuts ++ v.now ∷ [] → w.now ≡ v.now → w.header ≡ v.header → HasTaken k.header v.cuts k w (entry c Commit) earlier
-lone_commit_taken k v w earlier c has f cut now header =
-    cut_taken k.header k v w v.cuts earlier c Commit refl refl (record {
+-- a lone commit
+pub commit_taken : (k : Kept) (inner : List ℕ) (v w : Cuts) (starting : List StartWord) (earlier : List Entry) (c number : ℕ) → HasWords k inner starting earlier
+    → HasFollowed k starting (entry c Commit ∷ earlier) → c < length inner → number ≡ suc (commit_count earlier)
+    → w.first ≡ v.first → w.since ≡ v.since ++ [] ∷ [] → HasTaken k (set inner c number) v w starting (entry c Commit) earlier
+commit_taken k inner v w starting earlier c number has f low is first since =
+    nothing_taken k (set inner c number) v w starting earlier c Commit refl
+    (record {
       followed = f;
       unchanged = has.unchanged;
-      header = has.header;
-      now = has.now;
-    }) refl cut now header
+      numbers = numbers_set k.header.callers inner c Commit earlier number low is has.numbers;
+    }) first since
+
+-- an entry whose effects the views were told
+acts_taken : (l m : Kept) (inner : List ℕ) (v w : Cuts) (starting : List StartWord) (earlier : List Entry) (c : ℕ) (kind : Kind)
+    → HasFollowed l starting (entry c kind ∷ earlier) → m ≡ record l { changed = [] } → HasNumbers l.header.callers inner (entry c kind ∷ earlier)
+    → ActAlike (written l.words l.changed) (old_effects_at earlier c kind)
+    → w.first ≡ first_with (parts_behind earlier c kind) (written l.words l.changed) v.first v.since
+    → w.since ≡ cut_if (is_commit kind) (with_part (parts_behind earlier c kind) (written l.words l.changed) v.since)
+    → HasTaken m inner v w starting (entry c kind) earlier
+acts_taken l m inner v w starting earlier c kind f is numbers alike first since =
+    subst (λ n. HasTaken n inner v w starting (entry c kind) earlier) (sym is) (record {
+      words = record { followed = unchanged_follows l starting (entry c kind ∷ earlier) f; unchanged = refl; numbers = numbers };
+      writes = written l.words l.changed;
+      alike = alike;
+      first = first;
+      since = since;
+    })
+
+-- an entry that leaves all numbers as they are
+numbers_kept : (k l : Kept) (inner : List ℕ) (starting : List StartWord) (earlier : List Entry) (c : ℕ) (kind : Kind)
+    → ((commits number : ℕ) → number_at kind commits number ≡ number) → l.header ≡ k.header → HasWords k inner starting earlier
+    → HasNumbers l.header.callers inner (entry c kind ∷ earlier)
+numbers_kept k l inner starting earlier c kind same header has =
+    subst (λ h. HasNumbers h.callers inner (entry c kind ∷ earlier)) (sym header) (numbers_same k.header.callers inner c kind earlier same has.numbers)
 
 -- a write
-pub write_taken : (k l m : Kept) (v w : Cuts) (earlier : List Entry) (c word value : ℕ) → HasWords k v earlier → c < k.header.callers
-    → HasFollowed l (entry c (Write word value) ∷ earlier)
-    → l.header ≡ k.header → l.changed ≡ cond (is_open k c) k.changed (k.changed ++ word ∷ []) → m ≡ record l { changed = [] }
-    → w.header ≡ v.header → w.now ≡ given v.now l.words l.changed → w.cuts ≡ v.cuts
-    → HasTaken k.header v.cuts m w (entry c (Write word value)) earlier
-write_taken k l m v w earlier c word value has low f same_header changed is views_header now cuts =
-    subst (λ n. HasTaken k.header v.cuts n w (entry c (Write word value)) earlier) (sym is)
-    (uncut_taken k.header (record l { changed = [] }) w v.cuts earlier c (Write word value) refl
-    (taken_words k l v w earlier c (Write word value) has f same_header views_header now (beside (has_block c earlier) refl)) cuts)
+pub write_taken : (k l m : Kept) (inner : List ℕ) (v w : Cuts) (starting : List StartWord) (earlier : List Entry) (c word value : ℕ)
+    → HasWords k inner starting earlier → c < k.header.callers → HasFollowed l starting (entry c (Write word value) ∷ earlier) → l.header ≡ k.header
+    → All (λ x. x < plain_words l.header) l.changed
+    → l.changed ≡ cond (is_open k c) k.changed (k.changed ++ word ∷ []) → m ≡ record l { changed = [] }
+    → w.first ≡ first_with 0 (written l.words l.changed) v.first v.since → w.since ≡ with_part 0 (written l.words l.changed) v.since
+    → HasTaken m inner v w starting (entry c (Write word value)) earlier
+write_taken k l m inner v w starting earlier c word value has low f header within changed is first since =
+    acts_taken l m inner v w starting earlier c (Write word value) f is
+    (numbers_kept k l inner starting earlier c (Write word value) (λ commits number. refl) header has)
+    (by_block (has_block c earlier) refl) first since
   where
-    beside : (b : Bool) → has_block c earlier ≡ b → (x : ℕ) → list_any (λ y. y == x) l.changed ≡ false
-        → first_answer (given_to x) (cond (has_block c earlier) [] ((word, value) ∷ [])) ≡ None
-    beside true inside x none = ap (λ b. first_answer (given_to x) (cond b [] ((word, value) ∷ []))) inside
-    beside false outside x none =
-        ap (λ b. first_answer (given_to x) (cond b [] ((word, value) ∷ []))) outside
-        ∙ no_given x ((word, value) ∷ []) (ap (λ ws. list_any (λ y. y == x) ws) (sym one) ∙ none)
+    here : l.changed ≡ cond (has_block c earlier) [] (word ∷ [])
+    here = changed ∙ (λ i. cond (has.followed.blocks c low i) (has.unchanged i) (has.unchanged i ++ word ∷ []))
+
+    by_block : (b : Bool) → has_block c earlier ≡ b → ActAlike (written l.words l.changed) (old_effects_at earlier c (Write word value))
+    by_block true inside =
+        changed_alike l starting earlier c (Write word value) f within
+        (λ x some. absurd (apart (sym (ap (list_any (λ y. y == x)) (here ∙ ap (λ b. cond b [] (word ∷ [])) inside)) ∙ some)))
+        (λ x none. ap (λ b. first_answer (given_to x) (cond b [] ((word, value) ∷ []))) inside)
       where
-        one : l.changed ≡ word ∷ []
-        one = changed ∙ ap (λ b. cond b k.changed (k.changed ++ word ∷ [])) (has.followed.blocks c low ∙ outside)
-            ∙ ap (λ ws. ws ++ word ∷ []) has.unchanged
+        apart : false ≡ true → ⊥
+        apart e = cc
+    by_block false outside =
+        let one : l.changed ≡ word ∷ [] = here ∙ ap (λ b. cond b [] (word ∷ [])) outside in
+        let effects : old_effects_at earlier c (Write word value) ≡ (word, value) ∷ [] = ap (λ b. cond b [] ((word, value) ∷ [])) outside in
+        changed_alike l starting earlier c (Write word value) f within
+        (λ x some. let given = some_given x ((word, value) ∷ []) (ap (list_any (λ y. y == x)) (sym one) ∙ some) in
+        (given.0, ap (first_answer (given_to x)) effects ∙ given.1))
+        (λ x none. ap (first_answer (given_to x)) effects ∙ no_given x ((word, value) ∷ []) (ap (list_any (λ y. y == x)) (sym one) ∙ none))
 
 -- the end of a block
-beside_block : (k l : Kept) (v : Cuts) (earlier : List Entry) (c : ℕ) → HasWords k v earlier → c < k.header.callers → has_block c earlier ≡ true
-    → l.changed ≡ k.changed ++ words_of (kept_writes k c) → (x : ℕ) → list_any (λ y. y == x) l.changed ≡ false
-    → first_answer (given_to x) (block_writes c earlier) ≡ None
-beside_block k l v earlier c has low inside changed x none =
-    sym (has.followed.values c x low inside)
-    ∙ no_given x (kept_writes k c) (ap (list_any (λ y. y == x)) (sym (changed ∙ ap (λ ws. ws ++ words_of (kept_writes k c)) has.unchanged)) ∙ none)
+pub close_taken : (k l m : Kept) (inner : List ℕ) (v w : Cuts) (starting : List StartWord) (earlier : List Entry) (c behind : ℕ)
+    → HasWords k inner starting earlier → c < k.header.callers → has_block c earlier ≡ true → HasFollowed l starting (entry c BlockClose ∷ earlier)
+    → l.header ≡ k.header → All (λ x. x < plain_words l.header) l.changed
+    → l.changed ≡ k.changed ++ words_of (kept_writes k c) → m ≡ record l { changed = [] }
+    → behind ≡ parts_since (commit_count earlier) (inner_number c earlier)
+    → w.first ≡ first_with behind (written l.words l.changed) v.first v.since → w.since ≡ with_part behind (written l.words l.changed) v.since
+    → HasTaken m inner v w starting (entry c BlockClose) earlier
+close_taken k l m inner v w starting earlier c behind has low inside f header within changed is parts first since =
+    acts_taken l m inner v w starting earlier c BlockClose f is
+    (numbers_kept k l inner starting earlier c BlockClose (λ commits number. refl) header has)
+    (changed_alike l starting earlier c BlockClose f within (block_there k l starting earlier c has.followed has.unchanged low inside changed)
+    (block_beside k l starting earlier c has.followed has.unchanged low inside changed))
+    (first ∙ ap (λ n. first_with n (written l.words l.changed) v.first v.since) parts)
+    (since ∙ ap (λ n. with_part n (written l.words l.changed) v.since) parts)
 
-pub close_taken : (k l m : Kept) (v w : Cuts) (earlier : List Entry) (c : ℕ) → HasWords k v earlier → c < k.header.callers
-    → has_block c earlier ≡ true → HasFollowed l (entry c BlockClose ∷ earlier)
-    → l.header ≡ k.header → l.changed ≡ k.changed ++ words_of (kept_writes k c) → m ≡ record l { changed = [] }
-    → w.header ≡ v.header → w.now ≡ given v.now l.words l.changed → w.cuts ≡ v.cuts
-    → HasTaken k.header v.cuts m w (entry c BlockClose) earlier
-close_taken k l m v w earlier c has low inside f same_header changed is views_header now cuts =
-    subst (λ n. HasTaken k.header v.cuts n w (entry c BlockClose) earlier) (sym is)
-    (uncut_taken k.header (record l { changed = [] }) w v.cuts earlier c BlockClose refl
-    (taken_words k l v w earlier c BlockClose has f same_header views_header now
-    (λ x none. beside_block k l v earlier c has low inside changed x none)) cuts)
+pub block_commit_taken : (k l m : Kept) (inner : List ℕ) (v w u : Cuts) (starting : List StartWord) (earlier : List Entry) (c : ℕ)
+    → HasWords k inner starting earlier → c < k.header.callers → has_block c earlier ≡ true → HasFollowed l starting (entry c BlockCommit ∷ earlier)
+    → l.header ≡ k.header → All (λ x. x < plain_words l.header) l.changed
+    → l.changed ≡ k.changed ++ words_of (kept_writes k c) → m ≡ record l { changed = [] }
+    → w.first ≡ first_with 0 (written l.words l.changed) v.first v.since → w.since ≡ with_part 0 (written l.words l.changed) v.since
+    → u.first ≡ w.first → u.since ≡ w.since ++ [] ∷ []
+    → HasTaken m inner v u starting (entry c BlockCommit) earlier
+block_commit_taken k l m inner v w u starting earlier c has low inside f header within changed is first since same cut =
+    acts_taken l m inner v u starting earlier c BlockCommit f is
+    (numbers_kept k l inner starting earlier c BlockCommit (λ commits number. refl) header has)
+    (changed_alike l starting earlier c BlockCommit f within (block_there k l starting earlier c has.followed has.unchanged low inside changed)
+    (block_beside k l starting earlier c has.followed has.unchanged low inside changed))
+    (same ∙ first) (cut ∙ ap (λ ws. ws ++ [] ∷ []) since)
 
-pub block_commit_taken : (k l m : Kept) (v w u : Cuts) (earlier : List Entry) (c : ℕ) → HasWords k v earlier → c < k.header.callers
-    → has_block c earlier ≡ true → HasFollowed l (entry c BlockCommit ∷ earlier)
-    → l.header ≡ k.header → l.changed ≡ k.changed ++ words_of (kept_writes k c) → m ≡ record l { changed = [] }
-    → w.header ≡ v.header → w.now ≡ given v.now l.words l.changed → w.cuts ≡ v.cuts
-    → u.cuts ≡ w.cuts ++ w.now ∷ [] → u.now ≡ w.now → u.header ≡ w.header
-    → HasTaken k.header v.cuts m u (entry c BlockCommit) earlier
-block_commit_taken k l m v w u earlier c has low inside f same_header changed is views_header now cuts cut same_now header =
-    subst (λ n. HasTaken k.header v.cuts n u (entry c BlockCommit) earlier) (sym is)
-    (cut_taken k.header (record l { changed = [] }) w u v.cuts earlier c BlockCommit refl same_header
-    (taken_words k l v w earlier c BlockCommit has f same_header views_header now
-    (λ x none. beside_block k l v earlier c has low inside changed x none)) cuts cut same_now header)
+-- how many lists of writes stand behind those of the commit with this number
+pub parts_since_none : (inner : List ℕ) (c number : ℕ) (earlier : List Entry) → slice_get inner c ≡ Some number → slice_get inner c ≡ Some (inner_number c earlier)
+    → number ≡ 0 → 0 ≡ parts_since (commit_count earlier) (inner_number c earlier)
+parts_since_none inner c number earlier here has none =
+    ap (parts_since (commit_count earlier)) (sym none ∙ some_same (sym here ∙ has))
+  where
+    some_same : {a b : ℕ} → Some a ≡ Some b → a ≡ b
+    some_same p = cc
+
+pub parts_since_some : (inner : List ℕ) (c number commits : ℕ) (earlier : List Entry) → slice_get inner c ≡ Some number
+    → slice_get inner c ≡ Some (inner_number c earlier) → number ≢ 0 → commits ≡ commit_count earlier
+    → (commits - number) + 1 ≡ parts_since (commit_count earlier) (inner_number c earlier)
+parts_since_some inner c number commits earlier here has some counted =
+    by_number number some (omega (arith, low, same)) ∙ (λ i. parts_since (counted i) (same i))
+  where
+    some_same : {a b : ℕ} → Some a ≡ Some b → a ≡ b
+    some_same p = cc
+
+    same : number ≡ inner_number c earlier
+    same = some_same (sym here ∙ has)
+
+    low : number ≤ commits
+    low = omega (arith, same, counted, number_low c earlier)
+
+    by_number : (n : ℕ) → n ≢ 0 → n ≤ commits → (commits - n) + 1 ≡ parts_since commits n
+    by_number zero other few = absurd (other refl)
+    by_number (suc n) other few = omega (arith, few)
 
 -- answers put together
 pub ok_two : {T E P Q S : Type 0} (r : Result T E) → OnOk r P → OnOk r Q → (P → Q → S) → OnOk r S
@@ -255,28 +347,24 @@ ok_three (Ok x) p q u f = f p q u
 ok_three (Err x) p q u f = tt
 
 -- what was taken in, for the entry by its kind
-pub taken_as : {h : Header} {cuts : List (List ℕ)} {k : Kept} {v : Cuts} {earlier : List Entry} (e : Entry) {kind : Kind} → e.kind ≡ kind
-    → HasTaken h cuts k v (entry e.caller kind) earlier → HasTaken h cuts k v e earlier
-taken_as {h} {cuts} {k} {v} {earlier} e {kind} is taken = subst (λ x. HasTaken h cuts k v (entry e.caller x) earlier) (sym is) taken
-
--- an entry of this kind keeps the rules
-pub keeps_as : {h : Header} {earlier : List Entry} {e : Entry} {kind : Kind} → e.kind ≡ kind → Keeps h earlier e → Keeps h earlier (entry e.caller kind)
-keeps_as is keeps = named_keeps is keeps
+pub taken_as : {k : Kept} {inner : List ℕ} {v w : Cuts} {starting : List StartWord} {earlier : List Entry} (e : Entry) {kind : Kind} → e.kind ≡ kind
+    → HasTaken k inner v w starting (entry e.caller kind) earlier → HasTaken k inner v w starting e earlier
+taken_as {k} {inner} {v} {w} {starting} {earlier} e {kind} is taken = subst (λ x. HasTaken k inner v w starting (entry e.caller x) earlier) (sym is) taken
 
 pub low_caller : {h : Header} {earlier : List Entry} {e : Entry} → Keeps h earlier e → e.caller < h.callers
 low_caller {h} {earlier} {e} keeps = caller_kept h earlier e keeps.rules
 
 pub closes_block : {h : Header} {earlier : List Entry} {e : Entry} → e.kind ≡ BlockClose → Keeps h earlier e → has_block e.caller earlier ≡ true
-closes_block {h} {earlier} {e} is keeps = close_kept h e.caller earlier (named_keeps is keeps).rules
+closes_block {h} {earlier} {e} is keeps = close_kept h e.caller earlier (keeps_as is keeps).rules
 
 pub commits_block : {h : Header} {earlier : List Entry} {e : Entry} → e.kind ≡ BlockCommit → Keeps h earlier e → has_block e.caller earlier ≡ true
-commits_block {h} {earlier} {e} is keeps = block_commit_kept h e.caller earlier (named_keeps is keeps).rules
+commits_block {h} {earlier} {e} is keeps = block_commit_kept h e.caller earlier (keeps_as is keeps).rules
 
--- before the first entry all words are 0
-pub words_first : (h : Header) → words_after h [] ≡ replicate (plain_words h) 0
-unfolding words_after
-words_first h = zeros 0 (plain_words h)
+-- before the first entry no caller has a number
+pub numbers_first : (n m : ℕ) → n ≤ m → HasNumbers n (replicate m 0) []
+numbers_first n m within = λ c low. there m c (omega (arith, low, within))
   where
-    zeros : (k n : ℕ) → map (value_after []) (numbers_from k n) ≡ replicate n 0
-    zeros k zero = refl
-    zeros k (suc n) = ap (λ xs. 0 ∷ xs) (zeros (k + 1) n)
+    there : (k c : ℕ) → c < k → slice_get {X = ℕ} (replicate k 0) c ≡ Some 0
+    there zero c low = absurd (omega (arith, low))
+    there (suc k) zero low = refl
+    there (suc k) (suc c) low = there k c (omega (arith, low))

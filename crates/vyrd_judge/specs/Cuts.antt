@@ -1,5 +1,5 @@
 -- The words at the commits that wait, as they are kept: the words at one commit, and the writes that took effect since then.
-use Rattle.std.specs.Prelude.{◌≡◌, ℕ, Bool, false, ◌+◌, ◌<◌, ◌^◌, List, [], ◌∷◌, length, sum, take, drop, slice_index}
+use Rattle.std.specs.Prelude.{◌≡◌, ℕ, Bool, false, ◌+◌, ◌<◌, ◌^◌, ◌==◌, List, [], ◌∷◌, ◌++◌, length, map, sum, take, drop, slice_index, if◌then◌else◌}
 use Rattle.std.specs.List.{All}
 use Rattle.vyrd_base.specs.declared.header.Header.{Header}
 use Rattle.vyrd_base.specs.Amounts.{Amounts}
@@ -7,21 +7,46 @@ use Rattle.vyrd_base.specs.Layout.{plain_words}
 use Rattle.vyrd_shadow.specs.Blocks.{with_writes, AreInRange}
 use Rattle.vyrd_view.specs.Comparing.{Comparison, AgreeElsewhere}
 
--- the header, the words at the last commit that doesn't wait, the words at each commit that waits, in their order, the words now,
--- the words and the specification's amounts that were compared last, and whether memory was refused
+-- The header; the words at the last commit that doesn't wait, or later ones; the words at the first commit that waits, and those
+-- now where none waits; for each commit that waits the writes that took effect after it, up to the next one and in their order;
+-- the words and the specification's amounts that were compared last; and whether memory was refused.
 pub record Cuts : Type 0 where
   pub header : Header
   pub base : List ℕ
-  pub cuts : List (List ℕ)
-  pub now : List ℕ
+  pub first : List ℕ
+  pub since : List (List (ℕ × ℕ))
   pub compared : List ℕ
   pub specified : Amounts
   pub refused : Bool
 
--- the words at each commit, by how many writes took effect between it and the commit before
-abbrev pub cuts_of : List ℕ → List ℕ → List (ℕ × ℕ) → List (List ℕ)
-cuts_of words [] writes = []
-cuts_of words (n ∷ ns) writes = with_writes words (take n writes) ∷ cuts_of (with_writes words (take n writes)) ns (drop n writes)
+-- the words at the first commit, by how many writes took effect between each commit and the one before
+abbrev pub first_of : List ℕ → List ℕ → List (ℕ × ℕ) → List ℕ
+first_of words [] writes = with_writes words writes
+first_of words (n ∷ ns) writes = with_writes words (take n writes)
+
+-- the writes between the commits, and those after the last of them
+abbrev pub split_at : List ℕ → List (ℕ × ℕ) → List (List (ℕ × ℕ))
+split_at [] writes = writes ∷ []
+split_at (n ∷ ns) writes = take n writes ∷ split_at ns (drop n writes)
+
+-- the same from the first commit on
+abbrev pub since_of : List ℕ → List (ℕ × ℕ) → List (List (ℕ × ℕ))
+since_of [] writes = []
+since_of (n ∷ ns) writes = split_at ns (drop n writes)
+
+-- further writes at the end of the list behind which so many stand
+abbrev pub with_part : ℕ → List (ℕ × ℕ) → List (List (ℕ × ℕ)) → List (List (ℕ × ℕ))
+with_part behind writes [] = []
+with_part behind writes (part ∷ parts) =
+    if length parts == behind then (part ++ writes) ∷ parts else part ∷ with_part behind writes parts
+
+-- the first words, where so many lists of writes stand behind the further ones
+abbrev pub first_with : ℕ → List (ℕ × ℕ) → List ℕ → List (List (ℕ × ℕ)) → List ℕ
+first_with behind writes first since = if length since == behind then with_writes first writes else first
+
+-- the changed words, each with its value
+abbrev pub written : List ℕ → List ℕ → List (ℕ × ℕ)
+written words changed = map (λ w. (w, slice_index words w)) changed
 
 -- all words and writes are the header's, and each write is counted once
 pub record AreCuts (h : Header) (words counts : List ℕ) (writes : List (ℕ × ℕ)) (tail : ℕ) : Type 0 where

@@ -2,12 +2,13 @@
 use Rattle.std.specs.Prelude.{◌≡◌, ◌≤◌, ◌^◌, ℕ, Bool, false, List, length, Option, Some, None}
 use Rattle.vyrd_base.specs.declared.header.Header.{Header}
 use Rattle.vyrd_base.specs.declared.log.Entry.{Entry}
+use Rattle.vyrd_base.specs.declared.log.StartWord.{StartWord}
 use Rattle.vyrd_base.specs.declared.verdict.Verdict.{Verdict}
 use Rattle.vyrd_base.specs.Amounts.{Amounts}
 use Rattle.vyrd_base.specs.Places.{newest_first}
 use Rattle.vyrd_base.specs.Front.{first_break}
 use Rattle.vyrd_base.specs.Commits.{commit_count}
-use Rattle.vyrd_base.specs.Verdicts.{first_fault, verdict_so_far, observer_count}
+use Rattle.vyrd_base.specs.Verdicts.{first_fault, start_verdict, verdict_so_far, observer_count}
 use Rattle.vyrd_shape.specs.Following.{Kept as ShapeKept, HasFollowed as ShapeFollows}
 use Rattle.vyrd_shadow.specs.Following.{Kept as ShadowKept}
 use Rattle.vyrd_judge.specs.declared.caller.Caller.{Caller}
@@ -20,11 +21,13 @@ use Rattle.vyrd_judge.specs.Watching.{Seen}
 use Rattle.vyrd_judge.specs.Queued.{HasQueued}
 use Rattle.vyrd_judge.specs.Judged.{Judged}
 
--- what is kept while nothing is wrong
+-- What is kept while nothing is wrong. The number of starting words is kept in place of these.
 pub record Kept : Type 0 where
   pub header : Header
+  pub started : ℕ
   pub shape : ShapeKept
   pub shadow : ShadowKept
+  pub inner : List ℕ
   pub views : Cuts
   pub waiting : List Waiting
   pub taken : ℕ
@@ -36,14 +39,18 @@ pub record Kept : Type 0 where
   pub commits : ℕ
   pub observers : ℕ
 
--- The log keeps all rules, and what is kept stands for it. Its entries may still have to be judged.
-pub record HasTakenIn (k : Kept) (log : List Entry) : Type 0 where
+-- The starting words stand for a state, the log keeps all rules, and what is kept stands for both. Its entries may still have to be
+-- judged.
+pub record HasTakenIn (k : Kept) (starting : List StartWord) (log : List Entry) : Type 0 where
+  pub started : k.started ≡ length starting
+  pub begun : start_verdict k.header starting ≡ None
   pub shape : ShapeFollows k.shape (newest_first log)
   pub shape_header : k.shape.header ≡ k.header
-  pub words : HasWords k.shadow k.views (newest_first log)
+  pub words : HasWords k.shadow k.inner starting (newest_first log)
   pub shadow_header : k.shadow.header ≡ k.header
+  pub views_header : k.views.header ≡ k.header
   pub queued : HasQueued k.header k.waiting k.taken k.callers (newest_first log)
-  pub judged : Judged k.header log k.state k.made k.watches k.waiting k.views.cuts
+  pub judged : Judged k.header starting log k.state k.made k.watches k.waiting k.views.first k.views.since
   pub kept : first_break k.header log ≡ None
   pub specified : k.views.specified ≡ k.state
   pub sound : k.views.refused ≡ false
@@ -52,17 +59,17 @@ pub record HasTakenIn (k : Kept) (log : List Entry) : Type 0 where
   pub observers : k.observers ≡ observer_count log
 
 -- the same, and nothing is wrong with the log so far
-pub record IsFaultless (k : Kept) (log : List Entry) : Type 0 where
-  pub taken_in : HasTakenIn k log
-  pub faultless : first_fault k.header log ≡ None
+pub record IsFaultless (k : Kept) (starting : List StartWord) (log : List Entry) : Type 0 where
+  pub taken_in : HasTakenIn k starting log
+  pub faultless : first_fault k.header starting log ≡ None
 
 -- what is kept stands for some log
 abbrev pub IsSomewhere : Kept → Type 0
-IsSomewhere k = ∥ ((log : List Entry) × IsFaultless k log) ∥₁
+IsSomewhere k = ∥ ((starting : List StartWord) × (log : List Entry) × IsFaultless k starting log) ∥₁
 
 -- entries were taken in that may still have to be judged
 abbrev pub MayCatchUp : Kept → Type 0
-MayCatchUp k = ∥ ((log : List Entry) × HasTakenIn k log × (length log ≤ 2 ^ 62)) ∥₁
+MayCatchUp k = ∥ ((starting : List StartWord) × (log : List Entry) × HasTakenIn k starting log × (length log ≤ 2 ^ 62)) ∥₁
 
 -- what is kept, the verdict that stands, and whether memory was refused
 pub record JudgeView : Type 0 where
@@ -71,15 +78,16 @@ pub record JudgeView : Type 0 where
   pub has_failed : Bool
 
 -- what is kept stands for the log, or a verdict stands
-abbrev pub FollowsBy : Kept → List Entry → Option Verdict → Type 0
-FollowsBy k log None = IsFaultless k log
-FollowsBy k log (Some v) = verdict_so_far k.header log ≡ Some v
+abbrev pub FollowsBy : Kept → List StartWord → List Entry → Option Verdict → Type 0
+FollowsBy k starting log None = IsFaultless k starting log
+FollowsBy k starting log (Some v) = verdict_so_far k.header starting log ≡ Some v
 
-pub record HasFollowed (j : JudgeView) (log : List Entry) : Type 0 where
-  pub follows : FollowsBy j.kept log j.so_far
+-- The judge has followed the log, which begins with these words. They stand for a state, for there is no judge where they don't.
+pub record HasFollowed (j : JudgeView) (starting : List StartWord) (log : List Entry) : Type 0 where
+  pub follows : FollowsBy j.kept starting log j.so_far
 
 -- what the entry that waits first leads to
-abbrev pub AdvanceGives : Header → List Entry → Kept → Advance → Type 0
-AdvanceGives h log k Goes = HasTakenIn k log
-AdvanceGives h log k (Stops None) = (first_fault h log ≡ None) × HasTakenIn k log
-AdvanceGives h log k (Stops (Some v)) = first_fault h log ≡ Some v
+abbrev pub AdvanceGives : Header → List StartWord → List Entry → Kept → Advance → Type 0
+AdvanceGives h starting log k Goes = HasTakenIn k starting log
+AdvanceGives h starting log k (Stops None) = (first_fault h starting log ≡ None) × HasTakenIn k starting log
+AdvanceGives h starting log k (Stops (Some v)) = first_fault h starting log ≡ Some v

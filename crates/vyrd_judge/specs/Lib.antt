@@ -1,12 +1,14 @@
 pub mod Executions
 pub mod Standing
 pub mod Outcomes
+pub mod OpenBlocks
 pub mod Observing
 pub mod Watching
 pub mod Waiting
 pub mod Reached
 pub mod Judged
 pub mod Cuts
+pub mod Effects
 pub mod HasWords
 pub mod Queued
 pub mod Following

@@ -2,6 +2,7 @@
 use Rattle.std.specs.Prelude.{◌≡◌, ◌≤◌, ℕ, List, ◌∷◌, ◌&&◌, not, map, length, Option, Some, None, if◌then◌else◌}
 use Rattle.vyrd_base.specs.declared.header.Header.{Header}
 use Rattle.vyrd_base.specs.declared.log.Entry.{Entry}
+use Rattle.vyrd_base.specs.declared.log.StartWord.{StartWord}
 use Rattle.vyrd_base.specs.declared.verdict.Why.{Why}
 use Rattle.vyrd_base.specs.declared.verdict.Why.TheVariants.{Observer}
 use Rattle.vyrd_base.specs.Places.{Place}
@@ -38,12 +39,12 @@ CommitGives shown x before after old new Ends = x.reply ≡ None
 
 -- What the entry at a place leads to: it is no fault, and what is kept stands for the next place; or this is its fault; or no
 -- later state is known, so that nothing later is a fault either.
-abbrev pub PlaceGives : Header → List Amounts → Place Entry → Amounts → List (Option Execution) → Outcome → Type 0
-PlaceGives h states place state executions Goes =
-    (fault_at h states place ≡ None) × Stands h states (place.here ∷ place.earlier) place.later state executions
-PlaceGives h states place state executions (Faults why) = fault_at h states place ≡ Some why
-PlaceGives h states place state executions Ends =
-    (fault_at h states place ≡ None) × (length states ≤ commit_count (place.here ∷ place.earlier))
+abbrev pub PlaceGives : Header → List StartWord → List Amounts → Place Entry → Amounts → List (Option Execution) → Outcome → Type 0
+PlaceGives h starting states place state executions Goes =
+    (fault_at h starting states place ≡ None) × Stands h states (place.here ∷ place.earlier) place.later state executions
+PlaceGives h starting states place state executions (Faults why) = fault_at h starting states place ≡ Some why
+PlaceGives h starting states place state executions Ends =
+    (fault_at h starting states place ≡ None) × (length states ≤ commit_count (place.here ∷ place.earlier))
 
 -- what a return leads to: it is a fault where no state since the call answers an observer's reply
 abbrev pub return_outcome : Execution → ℕ → Outcome

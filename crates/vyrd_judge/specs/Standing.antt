@@ -3,8 +3,7 @@ use Rattle.std.specs.Prelude.{◌≡◌, ℕ, ◌<◌, List, Option, Some, slice
 use Rattle.vyrd_base.specs.declared.header.Header.{Header}
 use Rattle.vyrd_base.specs.declared.log.Entry.{Entry}
 use Rattle.vyrd_base.specs.Amounts.{Amounts}
-use Rattle.vyrd_base.specs.Specification.{start}
-use Rattle.vyrd_base.specs.Commits.{commit_count, commits, commits_after, states_from}
+use Rattle.vyrd_base.specs.Commits.{commit_count, commits_after, states_from}
 use Rattle.vyrd_judge.specs.declared.execution.Execution.{Execution}
 use Rattle.vyrd_judge.specs.Executions.{IsOpen}
 
@@ -13,7 +12,3 @@ pub record Stands (h : Header) (states : List Amounts) (earlier later : List Ent
     (executions : List (Option Execution)) : Type 0 where
   pub going : drop (commit_count earlier) states ≡ states_from state (commits_after earlier later)
   pub open_calls : (c : ℕ) → c < h.callers → (o : Option Execution) × (slice_get executions c ≡ Some o) × IsOpen h states c earlier later o
-
--- the states along the commits of a front
-abbrev pub states_of : List Entry → List Amounts
-states_of front = states_from start (commits front)

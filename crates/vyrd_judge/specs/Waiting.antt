@@ -1,8 +1,7 @@
--- Which entries wait to be judged, and the words at the commits that wait.
-use Rattle.std.specs.Prelude.{ℕ, List, ◌∷◌, Option, None, option_map, filter_map}
+-- Which entries wait to be judged.
+use Rattle.std.specs.Prelude.{ℕ, List, Option, None, option_map, filter_map}
 use Rattle.std.specs.Bool.{then_some}
 use Rattle.std.specs.Option.{option_or}
-use Rattle.vyrd_base.specs.declared.header.Header.{Header}
 use Rattle.vyrd_base.specs.declared.log.Kind.{Kind}
 use Rattle.vyrd_base.specs.declared.log.Kind.TheVariants.{Call, Return, Commit, BlockCommit}
 use Rattle.vyrd_base.specs.declared.log.Entry.{Entry}
@@ -10,8 +9,7 @@ use Rattle.vyrd_base.specs.Places.{Place, places_after, position_of}
 use Rattle.vyrd_base.specs.Callers.{Called, open_call, by_caller}
 use Rattle.vyrd_base.specs.Subjects.{is_observer}
 use Rattle.vyrd_base.specs.Shape.{is_observing}
-use Rattle.vyrd_base.specs.Words.{words_after}
-use Rattle.vyrd_base.specs.Commits.{is_commit, returned, next_reply}
+use Rattle.vyrd_base.specs.Commits.{returned, next_reply}
 use Rattle.vyrd_judge.specs.declared.waiting.Event.{Event}
 use Rattle.vyrd_judge.specs.declared.waiting.Event.TheVariants.{Begins, Commits, Returns}
 use Rattle.vyrd_judge.specs.declared.waiting.Waiting.{Waiting}
@@ -47,10 +45,3 @@ replied_event e c (Returns reply) = Returns reply
 
 abbrev pub replied : Entry → Waiting → Waiting
 replied e x = record { caller = x.caller; position = x.position; event = replied_event e x.caller x.event }
-
--- the words at the commits from a place on
-abbrev pub cut_at : Header → Place Entry → Option (List ℕ)
-cut_at h place = then_some (is_commit place.here.kind) (words_after h (place.here ∷ place.earlier))
-
-abbrev pub cuts_after : Header → List Entry → List Entry → List (List ℕ)
-cuts_after h earlier later = filter_map (cut_at h) (places_after earlier later)

@@ -1,8 +1,10 @@
 //! The judge of a log of any structure.
 
-ghost use Rattle.std.specs.Prelude.{◌≡◌, length, ◌<◌, ◌≤◌, ◌+◌, ◌^◌, ◌∷◌, ◌++◌, ℕ, true, false, List, [], Option, Some, None, Ok, IfOk, OnOk, OnErr, unwrap_or};
+ghost use Rattle.std.specs.Prelude.{◌≡◌, length, ◌<◌, ◌≤◌, ◌+◌, ◌^◌, ◌∷◌, ◌++◌, ℕ, true, false, List, [], Option, Some, None, Ok, IfOk, OnOk, OnErr, unwrap_or, is_none, IfSome};
 ghost use Rattle.std.specs.Result.{is_err};
 ghost use Rattle.vyrd_base.specs.declared.log.Entry.{Entry};
+ghost use Rattle.vyrd_base.specs.declared.log.StartWord.{StartWord};
+ghost use Rattle.vyrd_base.specs.Starts.{may_start, state_at_start};
 ghost use Rattle.vyrd_base.specs.declared.verdict.Verdict.{Verdict};
 ghost use Rattle.vyrd_base.specs.declared.verdict.Verdict.TheVariants.{Malformed};
 ghost use Rattle.vyrd_base.specs.Histories.{log_of};
@@ -12,7 +14,7 @@ ghost use Rattle.vyrd_judge.specs.Following.{HasFollowed};
 use crate::online::Judge;
 use std::alloc::{AllocError, Global};
 use std::marker::Model;
-use vyrd_base::{Entry, Header, Rule, Stamped, Subject, Verdict};
+use vyrd_base::{Entry, Header, Rule, Stamped, StartWord, Subject, Verdict};
 use vyrd_spec::{CacheSpec, MultisetSpec, TreeSpec};
 
 /// A judge that follows a log of any structure, by the specification of its header's subject. It is seen as the [`Judge`] of
@@ -49,7 +51,7 @@ impl Drop for AnyJudge {
 impl AnyJudge {
     /// A judge that has followed no entry.
     pub fn new(alloc: Global, header: Header) -> Result<AnyJudge, AllocError>
-        ensures followed { IfOk result (λ j. HasFollowed j []) }
+        ensures followed { IfOk result (λ j. HasFollowed j [] []) }
         ensures header { IfOk result (λ j. j.kept.header ≡ header) }
         ensures entries { IfOk result (λ j. j.kept.entries ≡ 0) }
         ensures so_far { IfOk result (λ j. j.so_far ≡ None) }
@@ -63,11 +65,43 @@ impl AnyJudge {
         Ok(AnyJudge { judge })
     }
 
+    /// A judge of a log that begins with these words, which has followed no entry. It is `None` exactly where the words stand for
+    /// no state of the specification.
+    pub fn start_from(
+        alloc: Global,
+        header: Header,
+        start: &[StartWord],
+    ) -> Result<Option<AnyJudge>, AllocError>
+        requires may_start { may_start header start.now ≡ true }
+        ensures none { IfOk result (λ j. is_none j ≡ is_none (state_at_start header start.now)) }
+        ensures followed { IfOk result (λ o. IfSome o (λ j. HasFollowed j start.now [])) }
+        ensures header { IfOk result (λ o. IfSome o (λ j. j.kept.header ≡ header)) }
+        ensures entries { IfOk result (λ o. IfSome o (λ j. j.kept.entries ≡ 0)) }
+        ensures so_far { IfOk result (λ o. IfSome o (λ j. j.so_far ≡ None)) }
+        ensures has_failed { IfOk result (λ o. IfSome o (λ j. j.has_failed ≡ false)) }
+    {
+        let judge = match header.subject() {
+            Subject::Multiset => match Judge::start_from(alloc, header, start)? {
+                Some(judge) => JudgeOf::Multiset(judge),
+                None => return Ok(None),
+            },
+            Subject::Cache => match Judge::start_from(alloc, header, start)? {
+                Some(judge) => JudgeOf::Cache(judge),
+                None => return Ok(None),
+            },
+            Subject::Tree => match Judge::start_from(alloc, header, start)? {
+                Some(judge) => JudgeOf::Tree(judge),
+                None => return Ok(None),
+            },
+        };
+        Ok(Some(AnyJudge { judge }))
+    }
+
     /// Follows one more entry. The answer is the verdict so far, with this entry.
     pub fn feed(&mut self, entry: Entry) -> Result<Option<Verdict>, AllocError>
         requires few { self.old.kept.entries < 2 ^ 62 }
-        ensures answer { (log : List Entry) → HasFollowed self.old log → IfOk result (λ v. v ≡ verdict_so_far self.old.kept.header (log ++ entry ∷ [])) }
-        ensures followed { (log : List Entry) → HasFollowed self.old log → OnOk result (HasFollowed self.new (log ++ entry ∷ [])) }
+        ensures answer { (starting : List StartWord) (log : List Entry) → HasFollowed self.old starting log → IfOk result (λ v. v ≡ verdict_so_far self.old.kept.header starting (log ++ entry ∷ [])) }
+        ensures followed { (starting : List StartWord) (log : List Entry) → HasFollowed self.old starting log → OnOk result (HasFollowed self.new starting (log ++ entry ∷ [])) }
         ensures so_far { IfOk result (λ v. self.new.so_far ≡ v) }
         ensures stays { OnErr result (self.new.so_far ≡ self.old.so_far) }
         ensures stands { (v : Verdict) → self.old.so_far ≡ Some v → self.old.has_failed ≡ false → result ≡ Ok (Some v) }
@@ -86,8 +120,8 @@ impl AnyJudge {
     /// Follows further entries, in their order. The answer is the verdict so far, with all of them.
     pub fn follow(&mut self, entries: &[Entry]) -> Result<Option<Verdict>, AllocError>
         requires few { self.old.kept.entries + length entries.now ≤ 2 ^ 62 }
-        ensures answer { (log : List Entry) → HasFollowed self.old log → IfOk result (λ v. v ≡ verdict_so_far self.old.kept.header (log ++ entries.now)) }
-        ensures followed { (log : List Entry) → HasFollowed self.old log → OnOk result (HasFollowed self.new (log ++ entries.now)) }
+        ensures answer { (starting : List StartWord) (log : List Entry) → HasFollowed self.old starting log → IfOk result (λ v. v ≡ verdict_so_far self.old.kept.header starting (log ++ entries.now)) }
+        ensures followed { (starting : List StartWord) (log : List Entry) → HasFollowed self.old starting log → OnOk result (HasFollowed self.new starting (log ++ entries.now)) }
         ensures so_far { IfOk result (λ v. self.new.so_far ≡ v) }
         ensures stays { OnErr result (self.new.so_far ≡ self.old.so_far) }
         ensures has_failed { OnErr result (self.new.has_failed ≡ true) }
@@ -104,8 +138,8 @@ impl AnyJudge {
     /// Follows the log of a history: its marks and its writes, in their order. The answer is the verdict so far, with all of them.
     pub fn follow_history(&mut self, history: &[Stamped]) -> Result<Option<Verdict>, AllocError>
         requires few { self.old.kept.entries + length history.now ≤ 2 ^ 62 }
-        ensures answer { (log : List Entry) → HasFollowed self.old log → IfOk result (λ v. v ≡ verdict_so_far self.old.kept.header (log ++ log_of history.now)) }
-        ensures followed { (log : List Entry) → HasFollowed self.old log → OnOk result (HasFollowed self.new (log ++ log_of history.now)) }
+        ensures answer { (starting : List StartWord) (log : List Entry) → HasFollowed self.old starting log → IfOk result (λ v. v ≡ verdict_so_far self.old.kept.header starting (log ++ log_of history.now)) }
+        ensures followed { (starting : List StartWord) (log : List Entry) → HasFollowed self.old starting log → OnOk result (HasFollowed self.new starting (log ++ log_of history.now)) }
         ensures so_far { IfOk result (λ v. self.new.so_far ≡ v) }
         ensures stays { OnErr result (self.new.so_far ≡ self.old.so_far) }
         ensures has_failed { OnErr result (self.new.has_failed ≡ true) }
@@ -132,7 +166,7 @@ impl AnyJudge {
 
     /// The verdict about the whole log, where `end` stands after the entries.
     pub fn finish(&self) -> Result<Verdict, AllocError>
-        ensures verdict { (log : List Entry) → HasFollowed self.now log → IfOk result (λ v. v ≡ verdict self.now.kept.header log) }
+        ensures verdict { (starting : List StartWord) (log : List Entry) → HasFollowed self.now starting log → IfOk result (λ v. v ≡ verdict self.now.kept.header starting log) }
         ensures has_failed { is_err result ≡ self.now.has_failed }
     {
         match &self.judge {
@@ -144,8 +178,8 @@ impl AnyJudge {
 
     /// The verdict where the text breaks a rule on this line: the one that stands, or else that break.
     pub fn stop(&self, line: u64, rule: Rule) -> Result<Verdict, AllocError>
-        ensures verdict { (log : List Entry) → HasFollowed self.now log →
-            IfOk result (λ v. v ≡ unwrap_or (verdict_so_far self.now.kept.header log) (Malformed line rule)) }
+        ensures verdict { (starting : List StartWord) (log : List Entry) → HasFollowed self.now starting log →
+            IfOk result (λ v. v ≡ unwrap_or (verdict_so_far self.now.kept.header starting log) (Malformed line rule)) }
         ensures has_failed { is_err result ≡ self.now.has_failed }
     {
         match &self.judge {
@@ -163,7 +197,7 @@ pub fn judge_history(
     history: &[Stamped],
 ) -> Result<Verdict, AllocError>
     requires few { length history.now ≤ 2 ^ 62 }
-    ensures { IfOk result (λ v. v ≡ verdict header (log_of history.now)) }
+    ensures { IfOk result (λ v. v ≡ verdict header [] (log_of history.now)) }
 {
     let mut judge = AnyJudge::new(alloc, header)?;
     judge.follow_history(history)?;

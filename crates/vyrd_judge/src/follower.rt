@@ -1,8 +1,11 @@
 //! All that is kept of a log in which nothing is wrong so far.
 
-ghost use Rattle.std.specs.Prelude.{◌≡◌, ◌<◌, ◌≤◌, ◌+◌, ◌^◌, ◌∷◌, ◌++◌, ◌&&◌, ℕ, Bool, List, [], length, Option, Some, None, Ok, IfOk, OnOk, if◌then◌else◌};
+ghost use Rattle.std.specs.Prelude.{◌≡◌, ◌<◌, ◌≤◌, ◌+◌, ◌^◌, ◌∷◌, ◌++◌, ◌&&◌, ℕ, Bool, true, List, [], length, Option, Some, None, Ok, IfOk, OnOk, if◌then◌else◌};
 ghost use Rattle.vyrd_base.specs.declared.header.Header.{Header};
 ghost use Rattle.vyrd_base.specs.declared.log.Entry.{Entry};
+ghost use Rattle.vyrd_base.specs.declared.log.StartWord.{StartWord};
+ghost use Rattle.vyrd_base.specs.Layout.{plain_words};
+ghost use Rattle.vyrd_base.specs.Starts.{may_start, words_at_start, state_at_start};
 ghost use Rattle.vyrd_base.specs.Verdicts.{first_fault, verdict, verdict_so_far};
 ghost use Rattle.vyrd_judge.specs.Following.{Kept, HasTakenIn, IsFaultless, IsSomewhere, MayCatchUp, AdvanceGives};
 ghost use Rattle.vyrd_judge.specs.declared.outcome.Advance.TheVariants.{Goes};
@@ -11,10 +14,11 @@ use crate::counts::is_commit;
 use crate::outcome::{Advance, Outcome};
 use crate::queue::Queue;
 use crate::replay::Replay;
+use crate::starting::words_of;
 use crate::words::Words;
 use std::alloc::{AllocError, Global};
 use std::marker::Model;
-use vyrd_base::{Entry, Header, Kind, Rule, Verdict};
+use vyrd_base::{Entry, Header, Kind, Rule, StartWord, Verdict};
 use vyrd_shape::Shape;
 use vyrd_spec::Spec;
 
@@ -22,6 +26,8 @@ use vyrd_spec::Spec;
 /// that wait to be judged, and the state at the first of these.
 #[derive(Drop)]
 pub(crate) struct Follower<S: Spec> {
+    /// How many starting words stand before the first entry.
+    started: u64,
     shape: Shape,
     words: Words,
     queue: Queue,
@@ -40,8 +46,10 @@ impl<S: Spec> Model for Follower<S> {
 
     ghost view = { λ f. record {
       header = f.replay.header;
+      started = f.started;
       shape = f.shape;
       shadow = f.words.shadow;
+      inner = f.words.inner.items;
       views = f.words.views;
       waiting = f.queue.waiting.items;
       taken = f.queue.taken;
@@ -55,22 +63,37 @@ impl<S: Spec> Model for Follower<S> {
     } };
 
     ghost invariant = { λ f. (f.shape.header ≡ f.replay.header) × (f.words.shadow.header ≡ f.replay.header) × (f.queue.header ≡ f.replay.header)
-        × (f.entries ≤ 2 ^ 62) };
+        × (f.started ≤ 2 ^ 32) × (f.entries ≤ 2 ^ 62) };
 }
 
 impl<S: Spec> Follower<S> {
-    /// No entry was taken in.
-    pub fn new(alloc: Global, header: Header) -> Result<Follower<S>, AllocError>
+    /// No entry was taken in. These are the starting words, all words at the start, and the specification in the state for which
+    /// they stand.
+    pub fn new(
+        alloc: Global,
+        header: Header,
+        start: &[StartWord],
+        words: &[u64],
+        spec: S,
+    ) -> Result<Follower<S>, AllocError>
         requires subject { header.subject ≡ S.subject }
-        ensures taken_in { IfOk result (λ f. HasTakenIn f []) }
+        requires spec_header { S.header_of spec ≡ header }
+        requires made { S.made spec ≡ 0 }
+        requires may_start { may_start header start.now ≡ true }
+        requires words { words.now ≡ words_at_start header start.now }
+        requires state { state_at_start header start.now ≡ Some (S.state spec) }
+        ensures taken_in { IfOk result (λ f. HasTakenIn f start.now []) }
         ensures header { IfOk result (λ f. f.header ≡ header) }
         ensures entries { IfOk result (λ f. f.entries ≡ 0) }
     {
+        let changed = words_of(alloc, start)?;
+        let state = spec.view(alloc)?;
         Ok(Follower {
+            started: start.len() as u64,
             shape: Shape::new(alloc, header)?,
-            words: Words::new(alloc, header)?,
+            words: Words::new(alloc, header, words, changed, &state)?,
             queue: Queue::new(alloc, header)?,
-            replay: Replay::new(alloc, header)?,
+            replay: Replay::new(alloc, header, spec)?,
             entries: 0,
             commits: 0,
             observers: 0,
@@ -83,8 +106,8 @@ impl<S: Spec> Follower<S> {
     pub fn take_in(&mut self, entry: Entry) -> Result<Option<Verdict>, AllocError>
         requires few { self.old.entries < 2 ^ 62 }
         requires somewhere { IsSomewhere self.old }
-        ensures answer { (log : List Entry) → IsFaultless self.old log → IfOk result (λ v. v ≡ verdict_so_far self.old.header (log ++ entry ∷ [])) }
-        ensures follows { (log : List Entry) → IsFaultless self.old log → result ≡ Ok None → IsFaultless self.new (log ++ entry ∷ []) }
+        ensures answer { (starting : List StartWord) (log : List Entry) → IsFaultless self.old starting log → IfOk result (λ v. v ≡ verdict_so_far self.old.header starting (log ++ entry ∷ [])) }
+        ensures follows { (starting : List StartWord) (log : List Entry) → IsFaultless self.old starting log → result ≡ Ok None → IsFaultless self.new starting (log ++ entry ∷ []) }
         ensures counted { self.new.entries ≤ self.old.entries + 1 }
         ensures header { self.new.header ≡ self.old.header }
     {
@@ -127,19 +150,19 @@ impl<S: Spec> Follower<S> {
     fn take(&mut self, entry: Entry) -> Result<Option<Verdict>, AllocError>
         requires few { self.old.entries < 2 ^ 62 }
         requires somewhere { IsSomewhere self.old }
-        ensures answer { (log : List Entry) → IsFaultless self.old log → IfOk result (λ v. v ≡ verdict_so_far self.old.header (log ++ entry ∷ [])) }
-        ensures follows { (log : List Entry) → IsFaultless self.old log → result ≡ Ok None → IsFaultless self.new (log ++ entry ∷ []) }
+        ensures answer { (starting : List StartWord) (log : List Entry) → IsFaultless self.old starting log → IfOk result (λ v. v ≡ verdict_so_far self.old.header starting (log ++ entry ∷ [])) }
+        ensures follows { (starting : List StartWord) (log : List Entry) → IsFaultless self.old starting log → result ≡ Ok None → IsFaultless self.new starting (log ++ entry ∷ []) }
         ensures counted { self.new.entries ≤ self.old.entries + 1 }
         ensures header { self.new.header ≡ self.old.header }
     {
         if let Err(fault) = self.shape.step(&entry) {
             return Ok(Some(Verdict::Malformed {
-                line: self.entries + 2,
+                line: self.started + self.entries + 2,
                 rule: fault.rule,
             }));
         }
         let observes = self.queue.observer_returns(entry);
-        self.words.follow(entry)?;
+        self.words.follow(entry, self.commits)?;
         self.queue.follow(entry, self.entries)?;
         self.commits = counted(self.commits, is_commit(entry.kind));
         self.observers = counted(self.observers, observes);
@@ -149,11 +172,11 @@ impl<S: Spec> Follower<S> {
 
     /// The verdict where `end` stands after the entries.
     pub fn end(&self) -> Verdict
-        ensures { (log : List Entry) → IsFaultless self.now log → result ≡ verdict self.now.header log }
+        ensures { (starting : List StartWord) (log : List Entry) → IsFaultless self.now starting log → result ≡ verdict self.now.header starting log }
     {
         if self.shape.end().is_err() {
             return Verdict::Malformed {
-                line: self.entries + 2,
+                line: self.started + self.entries + 2,
                 rule: Rule::CallOpen,
             };
         }
@@ -168,8 +191,8 @@ impl<S: Spec> Follower<S> {
     #[inline(always)]
     fn catch_up(&mut self) -> Result<Option<Verdict>, AllocError>
         requires { MayCatchUp self.old }
-        ensures answer { (log : List Entry) → HasTakenIn self.old log → IfOk result (λ v. v ≡ first_fault self.old.header log) }
-        ensures stays { (log : List Entry) → HasTakenIn self.old log → result ≡ Ok None → HasTakenIn self.new log }
+        ensures answer { (starting : List StartWord) (log : List Entry) → HasTakenIn self.old starting log → IfOk result (λ v. v ≡ first_fault self.old.header starting log) }
+        ensures stays { (starting : List StartWord) (log : List Entry) → HasTakenIn self.old starting log → result ≡ Ok None → HasTakenIn self.new starting log }
         ensures entries { self.new.entries ≡ self.old.entries }
         ensures header { self.new.header ≡ self.old.header }
     {
@@ -185,7 +208,7 @@ impl<S: Spec> Follower<S> {
     #[inline(always)]
     fn judge_first(&mut self) -> Result<Advance, AllocError>
         requires { MayCatchUp self.old }
-        ensures gives { (log : List Entry) → HasTakenIn self.old log → IfOk result (AdvanceGives self.old.header log self.new) }
+        ensures gives { (starting : List StartWord) (log : List Entry) → HasTakenIn self.old starting log → IfOk result (AdvanceGives self.old.header starting log self.new) }
         ensures less { result ≡ Ok Goes → length self.new.waiting < length self.old.waiting }
         ensures entries { self.new.entries ≡ self.old.entries }
         ensures header { self.new.header ≡ self.old.header }
@@ -199,7 +222,7 @@ impl<S: Spec> Follower<S> {
                 Ok(Advance::Goes)
             }
             Outcome::Faults(why) => {
-                let line = x.position + 2;
+                let line = self.started + x.position + 2;
                 Ok(Advance::Stops(Some(Verdict::Violation { line, why })))
             }
             Outcome::Ends => Ok(Advance::Stops(None)),

@@ -1,6 +1,6 @@
 //! The plain judge of a whole log, which has all of its entries before it begins.
 
-ghost use Rattle.std.specs.Prelude.{◌≡◌, ◌<◌, ◌^◌, length, None, IfOk};
+ghost use Rattle.std.specs.Prelude.{◌≡◌, ◌<◌, ◌^◌, [], length, None, IfOk};
 ghost use Rattle.vyrd_base.specs.Front.{first_break};
 ghost use Rattle.vyrd_base.specs.Places.{newest_first};
 ghost use Rattle.vyrd_base.specs.Verdicts.{verdict_so_far, verdict_at, is_call_open};
@@ -12,7 +12,8 @@ use std::alloc::{AllocError, Global};
 use vyrd_base::{Entry, Header, Rule, Stop, Verdict};
 use vyrd_spec::Spec;
 
-/// The verdict about the entries of a log whose text stops so. `S` is the specification of the header's subject.
+/// The verdict about the entries of a log without starting words, whose text stops so. `S` is the specification of the header's
+/// subject.
 ///
 /// The lines that a verdict names count from 1, the header's: the entry at position 0 stands on line 2. Where the log has a
 /// fault and breaks a rule too, what stands first is named. An observer's reply is judged by the states since its call, and a
@@ -21,11 +22,12 @@ use vyrd_spec::Spec;
 ///
 /// The only error is want of memory, and then nothing is known of the log.
 ///
-/// Time: each entry is gone over a few times, and once more for each call that looks forward over it to its caller's next
-/// return. An entry stands within at most one execution of each caller, so that this is in proportion to the entries times the
-/// callers at most. Beside it a commit takes both views whole, and shows the new state to each caller's execution. Memory: in
-/// proportion to the words of the header, to the keys of the specification's state and to the writes of open blocks, and one
-/// execution a caller. Nothing is kept of the entries.
+/// Time: each entry is gone over a few times, once more for each call that looks forward over it to its caller's next return, and
+/// once or twice more for each block that it stands in, whose writes are looked up from its open to its end. An entry stands
+/// within at most one execution and one block of each caller, so that this is in proportion to the entries times the callers at
+/// most. Beside it a commit takes both views whole, and shows the new state to each caller's execution. Memory: in proportion to
+/// the words of the header and to the keys of the specification's state, and one execution and one block a caller. Nothing is
+/// kept of the entries.
 pub fn judge_log<S: Spec>(
     alloc: Global,
     header: Header,
@@ -34,7 +36,7 @@ pub fn judge_log<S: Spec>(
 ) -> Result<Verdict, AllocError>
     requires subject { header.subject ≡ S.subject }
     requires few { length entries.now < 2 ^ 62 }
-    ensures { IfOk result (λ verdict. verdict ≡ verdict_at header entries.now stop) }
+    ensures { IfOk result (λ verdict. verdict ≡ verdict_at header [] entries.now stop) }
 {
     let front = front_of(alloc, header, entries)?;
     let (kept, _) = entries.split_at(front.len);
@@ -59,9 +61,9 @@ fn at_stop(
 ) -> Result<Verdict, AllocError>
     requires few { length entries.now < 2 ^ 62 }
     requires kept { first_break header entries.now ≡ None }
-    requires faultless { verdict_so_far header entries.now ≡ None }
+    requires faultless { verdict_so_far header [] entries.now ≡ None }
     requires is_open { is_open ≡ is_call_open header (newest_first entries.now) }
-    ensures { IfOk result (λ verdict. verdict ≡ verdict_at header entries.now stop) }
+    ensures { IfOk result (λ verdict. verdict ≡ verdict_at header [] entries.now stop) }
 {
     let after = entries.len() as u64 + 2;
     match stop {

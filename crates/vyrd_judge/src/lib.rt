@@ -5,16 +5,18 @@
 //! break of a rule of shape where no fault stands before it. [`AnyJudge`] is the judge of a structure that is known only as the
 //! program runs, and [`judge_history`] gives the verdict about the log of a history without making that log.
 //!
-//! How the pieces go: a `follower` takes in each entry. In front, the shape, the `words` with their `views` and the `queue`
-//! follow it at once. Behind, the `replay` judges what is `waiting` in the queue, with a `watch` for each open observer.
+//! How the pieces go: a `follower` takes in each entry, and `starting` gives it the words at the start. In front, the shape,
+//! the `words` with their `views` and the `queue` follow it at once. Behind, the `replay` judges what is `waiting` in the
+//! queue, with a `watch` for each open observer.
 //!
-//! [`judge_log`] is the plain judge, which has all entries before it begins: `front`, `scan`, `execution`, `violation`,
-//! `counts` and `judge`. It is what the other is compared with.
+//! [`judge_log`] is the plain judge, which has all entries before it begins: `front`, `scan`, `effects`, `execution`,
+//! `violation`, `counts` and `judge`. It is what the other is compared with.
 #![tactic(auto)]
 
 mod any;
 mod caller;
 mod counts;
+mod effects;
 mod execution;
 mod follower;
 mod front;
@@ -25,6 +27,7 @@ mod outcome;
 mod queue;
 mod replay;
 mod scan;
+mod starting;
 #[cfg(test)]
 mod tests;
 mod views;

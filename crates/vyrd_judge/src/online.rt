@@ -1,8 +1,10 @@
 //! The online judge.
 
-ghost use Rattle.std.specs.Prelude.{◌≡◌, length, take, ◌<◌, ◌≤◌, ◌+◌, ◌^◌, ◌∷◌, ◌++◌, ℕ, true, false, List, [], Option, Some, None, Ok, IfOk, OnOk, OnErr, unwrap_or};
+ghost use Rattle.std.specs.Prelude.{◌≡◌, length, take, ◌<◌, ◌≤◌, ◌+◌, ◌^◌, ◌∷◌, ◌++◌, ℕ, true, false, List, [], Option, Some, None, Ok, IfOk, OnOk, OnErr, unwrap_or, is_none, IfSome};
 ghost use Rattle.std.specs.Result.{is_err};
 ghost use Rattle.vyrd_base.specs.declared.log.Entry.{Entry};
+ghost use Rattle.vyrd_base.specs.declared.log.StartWord.{StartWord};
+ghost use Rattle.vyrd_base.specs.Starts.{may_start, words_at_start, state_at_start};
 ghost use Rattle.vyrd_base.specs.declared.verdict.Verdict.{Verdict};
 ghost use Rattle.vyrd_base.specs.declared.verdict.Verdict.TheVariants.{Malformed};
 ghost use Rattle.vyrd_base.specs.declared.header.Header.{Header};
@@ -12,9 +14,10 @@ ghost use Rattle.vyrd_judge.specs.Following.{HasFollowed};
 
 use crate::follower::Follower;
 use crate::logged::entry_of;
+use crate::starting::words_at_start;
 use std::alloc::{AllocError, Global};
 use std::marker::Model;
-use vyrd_base::{Entry, Header, Rule, Stamped, Verdict};
+use vyrd_base::{Entry, Header, Rule, Stamped, StartWord, Verdict};
 use vyrd_spec::Spec;
 
 /// A judge that takes the entries of a log one by one, in their order, and never looks back. `S` is the specification of the
@@ -63,14 +66,62 @@ impl<S: Spec> Judge<S> {
     /// A judge that has followed no entry. It takes memory in proportion to the header's words and callers.
     pub fn new(alloc: Global, header: Header) -> Result<Judge<S>, AllocError>
         requires subject { header.subject ≡ S.subject }
-        ensures followed { IfOk result (λ j. HasFollowed j []) }
+        ensures followed { IfOk result (λ j. HasFollowed j [] []) }
+        ensures header { IfOk result (λ j. j.kept.header ≡ header) }
+        ensures entries { IfOk result (λ j. j.kept.entries ≡ 0) }
+        ensures so_far { IfOk result (λ j. j.so_far ≡ None) }
+        ensures has_failed { IfOk result (λ j. j.has_failed ≡ false) }
+    {
+        let words = words_at_start(alloc, header, &[])?;
+        let spec = S::start(alloc, header)?;
+        Judge::begin(alloc, header, &[], &words, spec)
+    }
+
+    /// A judge of a log that begins with these words, which has followed no entry. It is `None` exactly where the words stand for
+    /// no state of the specification. It takes memory in proportion to the header's words and callers.
+    pub fn start_from(
+        alloc: Global,
+        header: Header,
+        start: &[StartWord],
+    ) -> Result<Option<Judge<S>>, AllocError>
+        requires subject { header.subject ≡ S.subject }
+        requires may_start { may_start header start.now ≡ true }
+        ensures none { IfOk result (λ j. is_none j ≡ is_none (state_at_start header start.now)) }
+        ensures followed { IfOk result (λ o. IfSome o (λ j. HasFollowed j start.now [])) }
+        ensures header { IfOk result (λ o. IfSome o (λ j. j.kept.header ≡ header)) }
+        ensures entries { IfOk result (λ o. IfSome o (λ j. j.kept.entries ≡ 0)) }
+        ensures so_far { IfOk result (λ o. IfSome o (λ j. j.so_far ≡ None)) }
+        ensures has_failed { IfOk result (λ o. IfSome o (λ j. j.has_failed ≡ false)) }
+    {
+        let words = words_at_start(alloc, header, start)?;
+        let Some(spec) = S::start_from(alloc, header, &words)? else {
+            return Ok(None);
+        };
+        Ok(Some(Judge::begin(alloc, header, start, &words, spec)?))
+    }
+
+    // A judge that has followed no entry, with the specification in its state at the start.
+    fn begin(
+        alloc: Global,
+        header: Header,
+        start: &[StartWord],
+        words: &[u64],
+        spec: S,
+    ) -> Result<Judge<S>, AllocError>
+        requires subject { header.subject ≡ S.subject }
+        requires spec_header { S.header_of spec ≡ header }
+        requires made { S.made spec ≡ 0 }
+        requires may_start { may_start header start.now ≡ true }
+        requires words { words.now ≡ words_at_start header start.now }
+        requires state { state_at_start header start.now ≡ Some (S.state spec) }
+        ensures followed { IfOk result (λ j. HasFollowed j start.now []) }
         ensures header { IfOk result (λ j. j.kept.header ≡ header) }
         ensures entries { IfOk result (λ j. j.kept.entries ≡ 0) }
         ensures so_far { IfOk result (λ j. j.so_far ≡ None) }
         ensures has_failed { IfOk result (λ j. j.has_failed ≡ false) }
     {
         Ok(Judge {
-            follower: Follower::new(alloc, header)?,
+            follower: Follower::new(alloc, header, start, words, spec)?,
             so_far: None,
             has_failed: false,
         })
@@ -81,8 +132,8 @@ impl<S: Spec> Judge<S> {
     #[inline(always)]
     pub fn feed(&mut self, entry: Entry) -> Result<Option<Verdict>, AllocError>
         requires few { self.old.kept.entries < 2 ^ 62 }
-        ensures answer { (log : List Entry) → HasFollowed self.old log → IfOk result (λ v. v ≡ verdict_so_far self.old.kept.header (log ++ entry ∷ [])) }
-        ensures followed { (log : List Entry) → HasFollowed self.old log → OnOk result (HasFollowed self.new (log ++ entry ∷ [])) }
+        ensures answer { (starting : List StartWord) (log : List Entry) → HasFollowed self.old starting log → IfOk result (λ v. v ≡ verdict_so_far self.old.kept.header starting (log ++ entry ∷ [])) }
+        ensures followed { (starting : List StartWord) (log : List Entry) → HasFollowed self.old starting log → OnOk result (HasFollowed self.new starting (log ++ entry ∷ [])) }
         ensures so_far { IfOk result (λ v. self.new.so_far ≡ v) }
         ensures stays { OnErr result (self.new.so_far ≡ self.old.so_far) }
         ensures stands { (v : Verdict) → self.old.so_far ≡ Some v → self.old.has_failed ≡ false → result ≡ Ok (Some v) }
@@ -112,8 +163,8 @@ impl<S: Spec> Judge<S> {
     /// Follows further entries, in their order. The answer is the verdict so far, with all of them.
     pub fn follow(&mut self, entries: &[Entry]) -> Result<Option<Verdict>, AllocError>
         requires few { self.old.kept.entries + length entries.now ≤ 2 ^ 62 }
-        ensures answer { (log : List Entry) → HasFollowed self.old log → IfOk result (λ v. v ≡ verdict_so_far self.old.kept.header (log ++ entries.now)) }
-        ensures followed { (log : List Entry) → HasFollowed self.old log → OnOk result (HasFollowed self.new (log ++ entries.now)) }
+        ensures answer { (starting : List StartWord) (log : List Entry) → HasFollowed self.old starting log → IfOk result (λ v. v ≡ verdict_so_far self.old.kept.header starting (log ++ entries.now)) }
+        ensures followed { (starting : List StartWord) (log : List Entry) → HasFollowed self.old starting log → OnOk result (HasFollowed self.new starting (log ++ entries.now)) }
         ensures so_far { IfOk result (λ v. self.new.so_far ≡ v) }
         ensures stays { OnErr result (self.new.so_far ≡ self.old.so_far) }
         ensures has_failed { OnErr result (self.new.has_failed ≡ true) }
@@ -129,8 +180,8 @@ impl<S: Spec> Judge<S> {
     /// Follows the log of a history: its marks and its writes, in their order. The answer is the verdict so far, with all of them.
     pub fn follow_history(&mut self, history: &[Stamped]) -> Result<Option<Verdict>, AllocError>
         requires few { self.old.kept.entries + length history.now ≤ 2 ^ 62 }
-        ensures answer { (log : List Entry) → HasFollowed self.old log → IfOk result (λ v. v ≡ verdict_so_far self.old.kept.header (log ++ log_of history.now)) }
-        ensures followed { (log : List Entry) → HasFollowed self.old log → OnOk result (HasFollowed self.new (log ++ log_of history.now)) }
+        ensures answer { (starting : List StartWord) (log : List Entry) → HasFollowed self.old starting log → IfOk result (λ v. v ≡ verdict_so_far self.old.kept.header starting (log ++ log_of history.now)) }
+        ensures followed { (starting : List StartWord) (log : List Entry) → HasFollowed self.old starting log → OnOk result (HasFollowed self.new starting (log ++ log_of history.now)) }
         ensures so_far { IfOk result (λ v. self.new.so_far ≡ v) }
         ensures stays { OnErr result (self.new.so_far ≡ self.old.so_far) }
         ensures has_failed { OnErr result (self.new.has_failed ≡ true) }
@@ -154,7 +205,7 @@ impl<S: Spec> Judge<S> {
 
     /// The verdict about the whole log, where `end` stands after the entries.
     pub fn finish(&self) -> Result<Verdict, AllocError>
-        ensures verdict { (log : List Entry) → HasFollowed self.now log → IfOk result (λ v. v ≡ verdict self.now.kept.header log) }
+        ensures verdict { (starting : List StartWord) (log : List Entry) → HasFollowed self.now starting log → IfOk result (λ v. v ≡ verdict self.now.kept.header starting log) }
         ensures has_failed { is_err result ≡ self.now.has_failed }
     {
         if self.has_failed {
@@ -168,8 +219,8 @@ impl<S: Spec> Judge<S> {
 
     /// The verdict where the text breaks a rule on this line: the one that stands, or else that break.
     pub fn stop(&self, line: u64, rule: Rule) -> Result<Verdict, AllocError>
-        ensures verdict { (log : List Entry) → HasFollowed self.now log →
-            IfOk result (λ v. v ≡ unwrap_or (verdict_so_far self.now.kept.header log) (Malformed line rule)) }
+        ensures verdict { (starting : List StartWord) (log : List Entry) → HasFollowed self.now starting log →
+            IfOk result (λ v. v ≡ unwrap_or (verdict_so_far self.now.kept.header starting log) (Malformed line rule)) }
         ensures has_failed { is_err result ≡ self.now.has_failed }
     {
         if self.has_failed {

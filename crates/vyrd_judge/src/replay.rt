@@ -2,8 +2,9 @@
 
 ghost use Rattle.std.specs.Prelude.{◌≡◌, ◌+◌, ◌<◌, ◌≤◌, ◌^◌, ◌∷◌, ℕ, List, [], true, false, length, Option, Some, None, Ok, IfOk, OnOk, slice_get, slice_set, vec_len};
 ghost use Rattle.vyrd_base.specs.declared.log.Entry.{Entry};
+ghost use Rattle.vyrd_base.specs.declared.log.StartWord.{StartWord};
 ghost use Rattle.vyrd_base.specs.Amounts.{Amounts};
-ghost use Rattle.vyrd_base.specs.Specification.{start, answer_in};
+ghost use Rattle.vyrd_base.specs.Specification.{answer_in};
 ghost use Rattle.vyrd_base.specs.Subjects.{is_observer};
 ghost use Rattle.vyrd_judge.specs.declared.outcome.Outcome.TheVariants.{Goes};
 ghost use Rattle.vyrd_judge.specs.declared.waiting.Waiting.{Waiting};
@@ -36,18 +37,18 @@ pub(crate) struct Replay<S: Spec> {
 }
 
 impl<S: Spec> Replay<S> {
-    /// The place before the first entry.
-    pub fn new(alloc: Global, header: Header) -> Result<Replay<S>, AllocError>
+    /// The place before the first entry, where the specification is in its state at the start.
+    pub fn new(alloc: Global, header: Header, spec: S) -> Result<Replay<S>, AllocError>
         requires subject { header.subject ≡ S.subject }
+        requires spec_header { S.header_of spec ≡ header }
         ensures header { IfOk result (λ r. r.header ≡ header) }
-        ensures state { IfOk result (λ r. S.state r.spec ≡ start) }
-        ensures made { IfOk result (λ r. S.made r.spec ≡ 0) }
+        ensures spec { IfOk result (λ r. r.spec ≡ spec) }
         ensures closed { IfOk result (λ r. AreObservers header r.watches.items) }
-        ensures current { IfOk result (λ r. AreCurrent start r.watches.items) }
+        ensures current { IfOk result (λ r. AreCurrent (S.state spec) r.watches.items) }
     {
         Ok(Replay {
             header,
-            spec: S::start(alloc, header)?,
+            spec,
             watches: closed_watches(alloc, header.callers())?,
         })
     }
@@ -99,10 +100,9 @@ impl<S: Spec> Replay<S> {
         requires observers { AreObservers self.old.header self.old.watches.items }
         requires current { AreCurrent (S.state self.old.spec) self.old.watches.items }
         requires sound { views.old.refused ≡ false }
-        ensures leads { (words : List ℕ) (rest : List (List ℕ)) → views.old.cuts ≡ words ∷ rest → views.old.specified ≡ S.state self.old.spec →
-            IfOk result (CommitLeads self.old.header words rest (record { method = method; args = args }) reply (S.state self.old.spec) (S.made self.old.spec)
-            self.old.watches.items (S.state self.new.spec) (S.made self.new.spec) self.new.watches.items views.new.cuts) }
-        ensures now { OnOk result (views.new.now ≡ views.old.now) }
+        ensures leads { (part : List (ℕ × ℕ)) (rest : List (List (ℕ × ℕ))) → views.old.since ≡ part ∷ rest → views.old.specified ≡ S.state self.old.spec →
+            IfOk result (CommitLeads self.old.header views.old.first part rest (record { method = method; args = args }) reply (S.state self.old.spec)
+            (S.made self.old.spec) self.old.watches.items (S.state self.new.spec) (S.made self.new.spec) self.new.watches.items views.new.first views.new.since) }
         ensures known { views.old.specified ≡ S.state self.old.spec → IfOk result (KnowsState views.new (S.state self.new.spec)) }
         ensures header { self.new.header ≡ self.old.header }
         ensures views_header { views.new.header ≡ views.old.header }
@@ -122,14 +122,14 @@ impl<S: Spec> Replay<S> {
     /// was. A commit takes time in proportion to the callers, beside that of the specification's step and of the comparison.
     pub fn judge(&mut self, views: &mut Views, x: Waiting) -> Result<Outcome, AllocError>
         requires header { views.old.header ≡ self.old.header }
-        requires may { MayJudge self.old.header (S.state self.old.spec) (S.made self.old.spec) self.old.watches.items x views.old.cuts }
+        requires may { MayJudge self.old.header (S.state self.old.spec) (S.made self.old.spec) self.old.watches.items x views.old.first views.old.since }
         requires sound { views.old.refused ≡ false }
-        ensures gives { (log : List Entry) (xs : List Waiting) →
-            Judged self.old.header log (S.state self.old.spec) (S.made self.old.spec) self.old.watches.items (x ∷ xs) views.old.cuts → views.old.specified ≡ S.state self.old.spec →
-            IfOk result (HeadGives self.old.header log (S.state self.new.spec) (S.made self.new.spec) self.new.watches.items x xs views.new.cuts) }
+        ensures gives { (starting : List StartWord) (log : List Entry) (xs : List Waiting) →
+            Judged self.old.header starting log (S.state self.old.spec) (S.made self.old.spec) self.old.watches.items (x ∷ xs) views.old.first views.old.since →
+            views.old.specified ≡ S.state self.old.spec →
+            IfOk result (HeadGives self.old.header starting log (S.state self.new.spec) (S.made self.new.spec) self.new.watches.items x xs views.new.first views.new.since) }
         ensures leaves { result ≡ Ok Goes → CanLeave x }
         ensures known { views.old.specified ≡ S.state self.old.spec → IfOk result (KnowsState views.new (S.state self.new.spec)) }
-        ensures now { OnOk result (views.new.now ≡ views.old.now) }
         ensures header { self.new.header ≡ self.old.header }
         ensures views_header { views.new.header ≡ views.old.header }
     {

@@ -6,21 +6,23 @@ ghost use Rattle.vyrd_base.specs.Amounts.{Amounts};
 ghost use Rattle.vyrd_base.specs.Subjects.{is_observer};
 ghost use Rattle.vyrd_base.specs.Places.{newest_first};
 ghost use Rattle.vyrd_base.specs.Front.{first_break};
-ghost use Rattle.vyrd_base.specs.Words.{words_after};
+ghost use Rattle.vyrd_base.specs.Layout.{plain_words};
 ghost use Rattle.vyrd_base.specs.Views.{view_of_words};
 ghost use Rattle.vyrd_base.specs.Specification.{start};
+ghost use Rattle.vyrd_base.specs.Verdicts.{states_along};
 ghost use Rattle.vyrd_judge.specs.declared.execution.Execution.{Execution};
 ghost use Rattle.vyrd_judge.specs.Executions.{has_method, begun, AreAllowed};
-ghost use Rattle.vyrd_judge.specs.Standing.{Stands, states_of};
+ghost use Rattle.vyrd_judge.specs.Standing.{Stands};
+ghost use Rattle.vyrd_judge.specs.OpenBlocks.{HasEffects};
 ghost use Rattle.vyrd_judge.specs.Outcomes.{CommitGives, PlaceGives, place_of, return_outcome};
 ghost use Rattle.vyrd_judge.specs.declared.outcome.Outcome.TheVariants.{Goes};
-ghost use Rattle.vyrd_shadow.specs.Following.{HasFollowed};
 
+use crate::effects::Effects;
 use crate::execution::{Execution, next_reply, see};
+use crate::front::entry_at;
 use crate::outcome::Outcome;
 use std::alloc::{AllocError, Global};
 use vyrd_base::{Args, Entry, Header, Kind, Method, Why};
-use vyrd_shadow::Shadow;
 use vyrd_spec::Spec;
 use vyrd_view::{first_difference, view_of};
 
@@ -31,12 +33,12 @@ pub(crate) struct Scan<S: Spec> {
     pub alloc: Global,
     pub header: Header,
     pub spec: S,
-    pub shadow: Shadow,
+    pub effects: Effects,
     /// By caller. `None` where a caller is in no execution.
     pub executions: Vec<Option<Execution>>,
     ghost subject: { header.subject ≡ S.subject },
     ghost spec_header: { S.header_of spec ≡ header },
-    ghost shadow_header: { shadow.header ≡ header },
+    ghost effects_header: { effects.header ≡ header },
     ghost callers: { vec_len executions ≡ header.callers },
 }
 
@@ -47,14 +49,15 @@ impl<S: Spec> Scan<S> {
         ensures header { IfOk result (λ s. s.header ≡ header) }
         ensures state { IfOk result (λ s. S.state s.spec ≡ start) }
         ensures made { IfOk result (λ s. S.made s.spec ≡ 0) }
-        ensures words { IfOk result (λ s. HasFollowed s.shadow []) }
+        ensures words { IfOk result (λ s. s.effects.words.items ≡ replicate (plain_words header) 0) }
+        ensures open_blocks { IfOk result (λ s. s.effects.open_blocks.items ≡ replicate header.callers None) }
         ensures executions { IfOk result (λ s. s.executions.items ≡ replicate header.callers None) }
     {
         Ok(Scan {
             alloc,
             header,
             spec: S::start(alloc, header)?,
-            shadow: Shadow::new(alloc, header)?,
+            effects: Effects::new(alloc, header)?,
             executions: vec![in alloc; None; header.callers() as usize]?,
         })
     }
@@ -78,7 +81,7 @@ impl<S: Spec> Scan<S> {
         ensures executions { self.new.executions.items ≡ slice_set self.old.executions.items caller (Some (begun method args reply (S.state self.old.spec))) }
         ensures header { self.new.header ≡ self.old.header }
         ensures spec { self.new.spec ≡ self.old.spec }
-        ensures shadow { self.new.shadow ≡ self.old.shadow }
+        ensures effects { self.new.effects ≡ self.old.effects }
     {
         let mut execution = Execution {
             method,
@@ -97,7 +100,7 @@ impl<S: Spec> Scan<S> {
         ensures executions { self.new.executions.items ≡ slice_set self.old.executions.items caller None }
         ensures header { self.new.header ≡ self.old.header }
         ensures spec { self.new.spec ≡ self.old.spec }
-        ensures shadow { self.new.shadow ≡ self.old.shadow }
+        ensures effects { self.new.effects ≡ self.old.effects }
     {
         let execution = self.execution_of(caller);
         self.executions[caller as usize] = None;
@@ -117,12 +120,12 @@ impl<S: Spec> Scan<S> {
         requires few { S.made self.old.spec < 2 ^ 62 }
         requires allowed { AreAllowed self.old.header self.old.executions.items }
         requires mutates { (x : Execution) → slice_get self.old.executions.items caller ≡ Some (Some x) → is_observer x.method ≡ false }
-        ensures gives { (earlier : List Entry) (x : Execution) → HasFollowed self.old.shadow earlier → slice_get self.old.executions.items caller ≡ Some (Some x)
-            → IfOk result (CommitGives (view_of_words self.old.header (words_after self.old.header earlier)) x (S.state self.old.spec) (S.state self.new.spec)
+        ensures gives { (x : Execution) → slice_get self.old.executions.items caller ≡ Some (Some x)
+            → IfOk result (CommitGives (view_of_words self.old.header self.old.effects.words.items) x (S.state self.old.spec) (S.state self.new.spec)
             self.old.executions.items self.new.executions.items) }
         ensures header { self.new.header ≡ self.old.header }
         ensures made { S.made self.new.spec ≤ S.made self.old.spec + 1 }
-        ensures shadow { self.new.shadow ≡ self.old.shadow }
+        ensures effects { self.new.effects ≡ self.old.effects }
     {
         let Some(execution) = self.execution_of(caller) else {
             return Ok(Outcome::Ends);
@@ -133,7 +136,7 @@ impl<S: Spec> Scan<S> {
         if !self.spec.step(execution.method, execution.args, reply)? {
             return Ok(Outcome::Faults(Why::Reply(reply)));
         }
-        let shown = view_of(self.alloc, self.header, self.shadow.words())?;
+        let shown = view_of(self.alloc, self.header, self.effects.words())?;
         let after = self.spec.view(self.alloc)?;
         if let Some(key) = first_difference(&shown, &after) {
             return Ok(Outcome::Faults(Why::View(key)));
@@ -147,15 +150,19 @@ impl<S: Spec> Scan<S> {
     pub fn step(&mut self, front: &[Entry], at: usize) -> Result<Outcome, AllocError>
         requires within { at < length front.now }
         requires kept { first_break self.old.header front.now ≡ None }
-        requires stands { Stands self.old.header (states_of front.now) (newest_first (take at front.now)) (drop at front.now) (S.state self.old.spec) self.old.executions.items }
-        requires words { HasFollowed self.old.shadow (newest_first (take at front.now)) }
+        requires stands { Stands self.old.header (states_along self.old.header [] front.now) (newest_first (take at front.now)) (drop at front.now)
+            (S.state self.old.spec) self.old.executions.items }
+        requires words { HasEffects self.old.header self.old.effects.words.items self.old.effects.open_blocks.items (take at front.now) (drop at front.now) }
         requires few { S.made self.old.spec < 2 ^ 62 }
-        ensures gives { (e : Entry) → slice_get front.now at ≡ Some e → IfOk result (PlaceGives self.old.header (states_of front.now)
+        ensures gives { (e : Entry) → slice_get front.now at ≡ Some e → IfOk result (PlaceGives self.old.header [] (states_along self.old.header [] front.now)
             (place_of e (newest_first (take at front.now)) (drop (at + 1) front.now)) (S.state self.new.spec) self.new.executions.items) }
-        ensures words { result ≡ Ok Goes → HasFollowed self.new.shadow (newest_first (take (at + 1) front.now)) }
+        ensures words { result ≡ Ok Goes → HasEffects self.old.header self.new.effects.words.items self.new.effects.open_blocks.items
+            (take (at + 1) front.now) (drop (at + 1) front.now) }
         ensures made { S.made self.new.spec ≤ S.made self.old.spec + 1 }
         ensures header { self.new.header ≡ self.old.header }
     {
+        // A commit's view is that of the words after all effects up to it, so the entry's own take place first.
+        self.effects.step(front, at);
         let entry = entry_at(front, at);
         let caller = entry.caller;
         match entry.kind {
@@ -166,33 +173,8 @@ impl<S: Spec> Scan<S> {
                 Ok(Outcome::Goes)
             }
             Kind::Return(reply) => Ok(self.finish(caller, reply)),
-            Kind::Write(word, value) => {
-                // Views are compared whole, so that the words that have changed are of no use, and would grow with the log.
-                self.shadow.clear_changed();
-                self.shadow.write(caller, word, value)?;
-                Ok(Outcome::Goes)
-            }
-            Kind::Commit => self.commit(caller),
-            Kind::BlockOpen => {
-                self.shadow.open_block(caller);
-                Ok(Outcome::Goes)
-            }
-            Kind::BlockClose => {
-                self.shadow.close_block(caller);
-                Ok(Outcome::Goes)
-            }
-            Kind::BlockCommit => {
-                self.shadow.close_block(caller);
-                self.commit(caller)
-            }
+            Kind::Commit | Kind::BlockCommit => self.commit(caller),
+            Kind::Write(..) | Kind::BlockOpen | Kind::BlockClose => Ok(Outcome::Goes),
         }
     }
-}
-
-// The entry at a place.
-fn entry_at(front: &[Entry], at: usize) -> Entry
-    requires { at < length front.now }
-    ensures { slice_get front.now at ≡ Some result }
-{
-    front[at]
 }

@@ -1,12 +1,13 @@
 //! Logs whose verdicts are worked out by hand.
 
-ghost use Rattle.std.specs.Prelude.{◌≡◌, ◌≤◌, ◌<◌, ◌+◌, ◌^◌, length, IfOk, OnOk};
+ghost use Rattle.std.specs.Prelude.{◌≡◌, ◌≤◌, ◌<◌, ◌+◌, ◌^◌, true, length, IfOk, OnOk};
+ghost use Rattle.vyrd_base.specs.Starts.{may_start};
 
-use crate::{Judge, judge_log};
+use crate::{AnyJudge, Judge, judge_log};
 use std::alloc::{AllocError, Global};
 use std::test::Fail;
-use vyrd_base::Kind::{BlockCommit, BlockOpen, Call, Commit, Return, Write};
-use vyrd_base::{Args, Entry, Header, Kind, Method, Rule, Stop, Subject, Verdict, Why};
+use vyrd_base::Kind::{BlockClose, BlockCommit, BlockOpen, Call, Commit, Return, Write};
+use vyrd_base::{Args, Entry, Header, Kind, Method, Rule, StartWord, Stop, Subject, Verdict, Why};
 use vyrd_spec::{CacheSpec, MultisetSpec, Spec, TreeSpec};
 
 const INSERT: Kind = Call(Method::MsInsert, Args { a: 5, b: 0, c: 0 });
@@ -40,7 +41,8 @@ fn malformed(line: u64, rule: Rule) -> Verdict {
     Verdict::Malformed { line, rule }
 }
 
-/// Whole logs of a multiset of size 1 with two callers, each by both judges, and by the online judge entry by entry.
+/// Whole logs of a multiset of size 1 with two callers, each by both judges, and by the online judge entry by entry. No commit
+/// stands inside a block, so that both versions say the same.
 #[test]
 fn verdicts_on_a_multiset(rt: HostRuntime) -> Result<(), Fail> {
     assert!(rt; both_say(rt.alloc(), &insert_with_its_writes(), accepted(7, 1, 0))?);
@@ -84,6 +86,20 @@ fn verdicts_on_what_waits(rt: HostRuntime) -> Result<(), Fail> {
     );
     let open = malformed(6, Rule::CallOpen);
     assert!(rt; both_say(rt.alloc(), &cut_before_end(), open)?);
+    Ok(())
+}
+
+/// Logs of version 2 with a lone commit inside a block: what the block writes after it counts there too.
+#[test]
+fn verdicts_on_a_commit_inside_a_block(rt: HostRuntime) -> Result<(), Fail> {
+    assert!(rt; both_say_in(rt.alloc(), 2, &commit_before_its_write(), accepted(7, 1, 0))?);
+    let inside = malformed(5, Rule::CommitInBlock);
+    assert!(rt; both_say_in(rt.alloc(), 1, &commit_before_its_write(), inside)?);
+    assert!(rt; both_say_in(rt.alloc(), 2, &another_commit_between(), accepted(10, 2, 0))?);
+    let lacking = violation(5, Why::View(5));
+    assert!(rt; both_say_in(rt.alloc(), 2, &commit_without_its_write(), lacking)?);
+    let raced = malformed(8, Rule::BlockRaced);
+    assert!(rt; both_say_in(rt.alloc(), 2, &word_is_passed(), raced)?);
     Ok(())
 }
 
@@ -139,11 +155,48 @@ fn cut_before_end() -> [Entry; 4] {
     logged![0 DELETE, 0 Commit, 1 LOOKUP, 1 Return(7)]
 }
 
-// Whether both judges give the log of a multiset this verdict, and agree at each of its entries.
+fn commit_before_its_write() -> [Entry; 7] {
+    logged![0 INSERT, 0 Write(1, 5), 0 BlockOpen, 0 Commit, 0 Write(0, 2), 0 BlockClose, 0 Return(1)]
+}
+
+fn another_commit_between() -> [Entry; 10] {
+    logged![
+        0 INSERT, 0 Write(1, 5), 0 BlockOpen, 0 Commit, 1 INSERT_SIX, 1 Commit, 1 Return(0),
+        0 Write(0, 2), 0 BlockClose, 0 Return(1)
+    ]
+}
+
+fn commit_without_its_write() -> [Entry; 9] {
+    logged![
+        0 INSERT, 0 Write(1, 5), 0 BlockOpen, 0 Commit, 1 INSERT_SIX, 1 Commit, 1 Return(0),
+        0 BlockClose, 0 Return(1)
+    ]
+}
+
+// A write of another caller took effect after the commit, on the word that the block writes then.
+fn word_is_passed() -> [Entry; 7] {
+    logged![
+        0 INSERT, 0 Write(1, 5), 0 BlockOpen, 0 Commit, 1 INSERT_SIX, 1 Write(0, 1), 0 Write(0, 2)
+    ]
+}
+
+// Whether both judges give the log of a multiset, of either version, this verdict.
 fn both_say(alloc: Global, entries: &[Entry], verdict: Verdict) -> Result<bool, AllocError>
     requires few { length entries.now ≤ 20 }
 {
-    let Some(header) = Header::new(1, Subject::Multiset, 1, 2) else {
+    Ok(both_say_in(alloc, 1, entries, verdict)? && both_say_in(alloc, 2, entries, verdict)?)
+}
+
+// The same of a log of this version, where the judges agree at each of its entries too.
+fn both_say_in(
+    alloc: Global,
+    version: u32,
+    entries: &[Entry],
+    verdict: Verdict,
+) -> Result<bool, AllocError>
+    requires few { length entries.now ≤ 20 }
+{
+    let Some(header) = Header::new(version, Subject::Multiset, 1, 2) else {
         return Ok(false);
     };
     let plain = judge_log::<MultisetSpec>(alloc, header, entries, Stop::End)?;
@@ -243,6 +296,66 @@ fn absent_insert_replies_2(rt: HostRuntime) -> Result<(), Fail> {
     let judge = followed::<TreeSpec>(rt.alloc(), header, entries)?;
     assert_eq!(rt; judge.so_far(), Some(violation(3, Why::Reply(2))));
     Ok(())
+}
+
+/// Logs that begin with words: a value that can be deleted, and a chunk that can be read.
+#[test]
+fn verdicts_from_starting_words(rt: HostRuntime) -> Result<(), Fail> {
+    let header = Header::new(2, Subject::Multiset, 1, 1).ok_or("no header")?;
+    let deleted = judged_from(rt.alloc(), header, &ONE_FIVE, &delete_of_a_start(1))?;
+    assert_eq!(rt; deleted, Some(accepted(5, 1, 0)));
+    let missed = judged_from(rt.alloc(), header, &ONE_FIVE, &delete_of_a_start(0))?;
+    assert_eq!(rt; missed, Some(violation(7, Why::Reply(0))));
+    Ok(())
+}
+
+#[test]
+fn a_chunk_at_the_start(rt: HostRuntime) -> Result<(), Fail> {
+    let header = Header::new(2, Subject::Cache, 1, 1).ok_or("no header")?;
+    let start = [
+        StartWord { word: 0, value: 1 },
+        StartWord { word: 1, value: 7 },
+        StartWord { word: 3, value: 7 },
+    ];
+    let read = Call(Method::CaRead, Args { a: 0, b: 0, c: 0 });
+    let verdict = judged_from(rt.alloc(), header, &start, &logged![0 read, 0 Return(7)])?;
+    assert_eq!(rt; verdict, Some(accepted(2, 0, 1)));
+    Ok(())
+}
+
+/// The value 5 stands in a bucket that isn't its own.
+#[test]
+fn no_judge_where_the_start_is_no_state(rt: HostRuntime) -> Result<(), Fail> {
+    let header = Header::new(2, Subject::Multiset, 2, 1).ok_or("no header")?;
+    let verdict = judged_from(rt.alloc(), header, &ONE_FIVE, &[])?;
+    assert!(rt; verdict.is_none());
+    Ok(())
+}
+
+const ONE_FIVE: [StartWord; 2] = [
+    StartWord { word: 0, value: 2 },
+    StartWord { word: 1, value: 5 },
+];
+
+fn delete_of_a_start(reply: u64) -> [Entry; 5] {
+    logged![0 DELETE, 0 BlockOpen, 0 Write(0, 0), 0 BlockCommit, 0 Return(reply)]
+}
+
+// The verdict about a log that begins with these words, where they stand for a state.
+fn judged_from(
+    alloc: Global,
+    header: Header,
+    start: &[StartWord],
+    entries: &[Entry],
+) -> Result<Option<Verdict>, AllocError>
+    requires may_start { may_start header start.now ≡ true }
+    requires few { length entries.now ≤ 20 }
+{
+    let Some(mut judge) = AnyJudge::start_from(alloc, header, start)? else {
+        return Ok(None);
+    };
+    judge.follow(entries)?;
+    Ok(Some(judge.finish()?))
 }
 
 /// 4,096 values in 1,024 buckets, and then 500,000 rounds that delete one of them and insert it again. A judge that takes both

@@ -1,11 +1,13 @@
 //! The words at the commits that wait, and what they show.
 
-ghost use Rattle.std.specs.Prelude.{◌≡◌, ◌<◌, ◌≤◌, ◌^◌, ◌+◌, ◌++◌, ℕ, false, List, [], ◌∷◌, length, map, take, drop, replicate, slice_set, Some, IfOk, OnOk, vec_len, vec_capacity, All};
+ghost use Rattle.std.specs.VecDeque.{deque_len, deque_capacity};
+ghost use Rattle.std.specs.Prelude.{◌≡◌, ◌<◌, ◌≤◌, ◌^◌, ◌+◌, ◌++◌, ℕ, false, List, [], ◌∷◌, length, map, take, drop, sum, insert, replicate, slice_set, slice_index, Some, IfOk, OnOk, vec_len, vec_capacity, All};
 ghost use Rattle.vyrd_base.specs.Amounts.{Amounts, with_amount, first_difference as least_difference};
 ghost use Rattle.std.specs.Result.{is_err};
 ghost use Rattle.vyrd_base.specs.Layout.{plain_words};
 ghost use Rattle.vyrd_base.specs.Views.{view_of_words};
 ghost use Rattle.vyrd_shadow.specs.Blocks.{with_writes, AreInRange};
+ghost use Rattle.vyrd_judge.specs.Cuts.{first_with, with_part, written};
 ghost use Rattle.vyrd_spec.specs.Touching.{with_touched, with_key};
 ghost use Rattle.vyrd_view.specs.Comparing.{AgreeElsewhere};
 
@@ -13,7 +15,7 @@ use std::alloc::{AllocError, Global};
 use std::collections::VecDeque;
 use std::marker::{Brand, Model};
 use std::sync::ledger::{Blank, Ledger};
-use vyrd_base::Header;
+use vyrd_base::{Header, View};
 use vyrd_spec::{Spec, Touched};
 use vyrd_view::{Compared, Steps};
 
@@ -26,7 +28,8 @@ const MOST_CHANGED: usize = 1024;
 pub(crate) struct Views {
     header: Header,
     words: Vec<u64>,
-    /// How many of the writes took effect between each commit that waits and the commit before it.
+    /// How many of the writes took effect between each commit that waits and the commit before it. Those of a block take effect at
+    /// the lone commit inside it, where there is one.
     counts: VecDeque<usize>,
     writes: VecDeque<(u32, u64)>,
     /// How many of the writes took effect after the last commit.
@@ -37,16 +40,15 @@ pub(crate) struct Views {
 }
 
 impl Model for Views {
-    ghost use Rattle.vyrd_shadow.specs.Blocks.{with_writes};
-    ghost use Rattle.vyrd_judge.specs.Cuts.{Cuts, cuts_of, AreCuts, AreKnown};
+    ghost use Rattle.vyrd_judge.specs.Cuts.{Cuts, first_of, since_of, AreCuts, AreKnown};
 
     ghost Value = { Cuts };
 
     ghost view = { λ v. record {
       header = v.header;
       base = v.words.items;
-      cuts = cuts_of v.words.items v.counts.items v.writes.items;
-      now = with_writes v.words.items v.writes.items;
+      first = first_of v.words.items v.counts.items v.writes.items;
+      since = since_of v.counts.items v.writes.items;
       compared = v.compared.words;
       specified = v.compared.specified;
       refused = v.compared.refused;
@@ -57,23 +59,45 @@ impl Model for Views {
 }
 
 impl Views {
-    /// All words are 0, and no commit waits.
-    pub fn new(alloc: Global, header: Header) -> Result<Views, AllocError>
+    /// These are the words now, where all but the changed ones are 0. No commit waits.
+    pub fn new(
+        alloc: Global,
+        header: Header,
+        words: &[u64],
+        changed: Vec<u32>,
+    ) -> Result<Views, AllocError>
+        requires all { length words.now ≡ plain_words header }
+        requires values { (w : ℕ) → slice_index words.now w < 2 ^ 63 }
+        requires changed { All (λ w. w < plain_words header) changed.items }
+        requires elsewhere { AgreeElsewhere (replicate (plain_words header) 0) words.now changed.items }
         ensures header { IfOk result (λ v. v.header ≡ header) }
-        ensures cuts { IfOk result (λ v. v.cuts ≡ []) }
-        ensures now { IfOk result (λ v. v.now ≡ replicate (plain_words header) 0) }
+        ensures first { IfOk result (λ v. v.first ≡ words.now) }
+        ensures since { IfOk result (λ v. v.since ≡ []) }
         ensures specified { IfOk result (λ v. v.specified ≡ []) }
         ensures sound { IfOk result (λ v. v.refused ≡ false) }
     {
         Ok(Views {
             header,
-            words: vec![in alloc; 0; header.plain_words() as usize]?,
+            words: Vec::from_slice(alloc, words)?,
             counts: VecDeque::new(alloc),
             writes: VecDeque::new(alloc),
             tail: 0,
-            changed: Vec::new(alloc),
+            changed,
             compared: Compared::new(alloc, header)?,
         })
+    }
+
+    /// The specification has these amounts at the start.
+    pub fn specify_start(&mut self, state: &View) -> Result<(), AllocError>
+        requires sound { self.old.refused ≡ false }
+        requires none { self.old.specified ≡ [] }
+        ensures specified { OnOk result (self.new.specified ≡ state.now) }
+        ensures sound { OnOk result (self.new.refused ≡ false) }
+        ensures first { self.new.first ≡ self.old.first }
+        ensures since { self.new.since ≡ self.old.since }
+        ensures header { self.new.header ≡ self.old.header }
+    {
+        tell_amounts(&mut self.compared, state)
     }
 
     /// A write takes effect. Where no commit waits it does so at once, and otherwise it waits too.
@@ -82,8 +106,8 @@ impl Views {
         requires word { word < plain_words self.old.header }
         requires value { value < 2 ^ 63 }
         requires sound { self.old.refused ≡ false }
-        ensures now { OnOk result (self.new.now ≡ slice_set self.old.now word value) }
-        ensures cuts { OnOk result (self.new.cuts ≡ self.old.cuts) }
+        ensures first { OnOk result (self.new.first ≡ first_with 0 ((word, value) ∷ []) self.old.first self.old.since) }
+        ensures since { OnOk result (self.new.since ≡ with_part 0 ((word, value) ∷ []) self.old.since) }
         ensures specified { OnOk result (self.new.specified ≡ self.old.specified) }
         ensures sound { OnOk result (self.new.refused ≡ false) }
         ensures header { self.new.header ≡ self.old.header }
@@ -103,9 +127,9 @@ impl Views {
         requires word { word < plain_words self.old.header }
         requires value { value < 2 ^ 63 }
         requires sound { self.old.refused ≡ false }
-        requires none_waits { self.old.cuts ≡ [] }
-        ensures now { OnOk result (self.new.now ≡ slice_set self.old.now word value) }
-        ensures cuts { OnOk result (self.new.cuts ≡ []) }
+        requires none_waits { self.old.since ≡ [] }
+        ensures first { OnOk result (self.new.first ≡ slice_set self.old.first word value) }
+        ensures since { OnOk result (self.new.since ≡ []) }
         ensures specified { OnOk result (self.new.specified ≡ self.old.specified) }
         ensures sound { OnOk result (self.new.refused ≡ false) }
         ensures header { self.new.header ≡ self.old.header }
@@ -126,11 +150,35 @@ impl Views {
         Ok(())
     }
 
+    /// The changed words have these values at a commit already, behind which so many lists of writes stand: their writes take
+    /// effect there, after all others. Where no such commit waits nothing happens. It costs time in what took effect since then.
+    pub fn late(&mut self, behind: usize, changed: &[u32], words: &[u64]) -> Result<(), AllocError>
+        requires some { 0 < behind }
+        requires changed { All (λ w. w < plain_words self.old.header) changed.now }
+        requires all { length words.now ≡ plain_words self.old.header }
+        requires values { (w : ℕ) → slice_index words.now w < 2 ^ 63 }
+        ensures first { OnOk result (self.new.first ≡ first_with behind (written words.now changed.now) self.old.first self.old.since) }
+        ensures since { OnOk result (self.new.since ≡ with_part behind (written words.now changed.now) self.old.since) }
+        ensures specified { self.new.specified ≡ self.old.specified }
+        ensures sound { self.new.refused ≡ self.old.refused }
+        ensures header { self.new.header ≡ self.old.header }
+    {
+        if behind > self.counts.len() {
+            return Ok(());
+        }
+        let index = self.counts.len() - behind;
+        self.writes.reserve(changed.len())?;
+        let place = place_behind(&self.counts, self.writes.len() - self.tail, index);
+        put(&mut self.writes, place, changed, words);
+        self.counts[index] += changed.len();
+        Ok(())
+    }
+
     /// A commit waits from here on.
     #[inline(always)]
     pub fn cut(&mut self) -> Result<(), AllocError>
-        ensures cuts { OnOk result (self.new.cuts ≡ self.old.cuts ++ self.old.now ∷ []) }
-        ensures now { OnOk result (self.new.now ≡ self.old.now) }
+        ensures first { OnOk result (self.new.first ≡ self.old.first) }
+        ensures since { OnOk result (self.new.since ≡ self.old.since ++ [] ∷ []) }
         ensures specified { self.new.specified ≡ self.old.specified }
         ensures sound { self.new.refused ≡ self.old.refused }
         ensures header { self.new.header ≡ self.old.header }
@@ -142,9 +190,9 @@ impl Views {
 
     // The first commit no longer waits: its words are those to be compared.
     fn advance(&mut self) -> Result<(), AllocError>
-        ensures base { (words : List ℕ) (rest : List (List ℕ)) → self.old.cuts ≡ words ∷ rest → OnOk result (self.new.base ≡ words) }
-        ensures cuts { (words : List ℕ) (rest : List (List ℕ)) → self.old.cuts ≡ words ∷ rest → OnOk result (self.new.cuts ≡ rest) }
-        ensures now { self.new.now ≡ self.old.now }
+        ensures base { (part : List (ℕ × ℕ)) (rest : List (List (ℕ × ℕ))) → self.old.since ≡ part ∷ rest → OnOk result (self.new.base ≡ self.old.first) }
+        ensures first { (part : List (ℕ × ℕ)) (rest : List (List (ℕ × ℕ))) → self.old.since ≡ part ∷ rest → OnOk result (self.new.first ≡ with_writes self.old.first part) }
+        ensures since { (part : List (ℕ × ℕ)) (rest : List (List (ℕ × ℕ))) → self.old.since ≡ part ∷ rest → OnOk result (self.new.since ≡ rest) }
         ensures specified { self.new.specified ≡ self.old.specified }
         ensures sound { self.new.refused ≡ self.old.refused }
         ensures header { self.new.header ≡ self.old.header }
@@ -162,8 +210,8 @@ impl Views {
     // The changed words are compared.
     fn compare_words(&mut self) -> Result<(), AllocError>
         requires sound { self.old.refused ≡ false }
-        ensures cuts { self.new.cuts ≡ self.old.cuts }
-        ensures now { self.new.now ≡ self.old.now }
+        ensures first { self.new.first ≡ self.old.first }
+        ensures since { self.new.since ≡ self.old.since }
         ensures compared { OnOk result (self.new.compared ≡ self.old.base) }
         ensures specified { OnOk result (self.new.specified ≡ self.old.specified) }
         ensures sound { OnOk result (self.new.refused ≡ false) }
@@ -188,11 +236,11 @@ impl Views {
         touched: Touched,
     ) -> Result<Option<u64>, AllocError>
         requires sound { self.old.refused ≡ false }
-        ensures difference { (words : List ℕ) (rest : List (List ℕ)) → self.old.cuts ≡ words ∷ rest →
+        ensures difference { (part : List (ℕ × ℕ)) (rest : List (List (ℕ × ℕ))) → self.old.since ≡ part ∷ rest →
             with_touched touched (S.state spec.now) self.old.specified ≡ S.state spec.now →
-            IfOk result (λ found. found ≡ least_difference (view_of_words self.old.header words) (S.state spec.now)) }
-        ensures cuts { (words : List ℕ) (rest : List (List ℕ)) → self.old.cuts ≡ words ∷ rest → OnOk result (self.new.cuts ≡ rest) }
-        ensures now { OnOk result (self.new.now ≡ self.old.now) }
+            IfOk result (λ found. found ≡ least_difference (view_of_words self.old.header self.old.first) (S.state spec.now)) }
+        ensures first { (part : List (ℕ × ℕ)) (rest : List (List (ℕ × ℕ))) → self.old.since ≡ part ∷ rest → OnOk result (self.new.first ≡ with_writes self.old.first part) }
+        ensures since { (part : List (ℕ × ℕ)) (rest : List (List (ℕ × ℕ))) → self.old.since ≡ part ∷ rest → OnOk result (self.new.since ≡ rest) }
         ensures specified { OnOk result (self.new.specified ≡ with_touched touched (S.state spec.now) self.old.specified) }
         ensures sound { OnOk result (self.new.refused ≡ false) }
         ensures header { self.new.header ≡ self.old.header }
@@ -209,8 +257,8 @@ impl Views {
         requires sound { self.old.refused ≡ false }
         ensures specified { OnOk result (self.new.specified ≡ with_key key (S.state spec.now) self.old.specified) }
         ensures sound { OnOk result (self.new.refused ≡ false) }
-        ensures cuts { self.new.cuts ≡ self.old.cuts }
-        ensures now { self.new.now ≡ self.old.now }
+        ensures first { self.new.first ≡ self.old.first }
+        ensures since { self.new.since ≡ self.old.since }
         ensures compared { OnOk result (self.new.compared ≡ self.old.compared) }
         ensures header { self.new.header ≡ self.old.header }
     {
@@ -242,6 +290,20 @@ fn tell_words<L: Ledger>(
 {
     let mut steps = Steps::<L>::new(blank);
     compared.words_changed(words, changed, &mut steps)
+}
+
+// The comparison learns all amounts of a state.
+fn tell_amounts(compared: &mut Compared, state: &View) -> Result<(), AllocError>
+    requires sound { compared.old.refused ≡ false }
+    requires none { compared.old.specified ≡ [] }
+    ensures ok { OnOk result (compared.new ≡ record compared.old { specified = state.now }) }
+    ensures refused { compared.new.refused ≡ is_err result }
+    ensures header { compared.new.header ≡ compared.old.header }
+{
+    for (key, amount) in state.pairs() {
+        tell_amount::<Brand>(Blank::new(1), compared, *key, *amount)?;
+    }
+    Ok(())
 }
 
 // The comparison learns an amount.
@@ -285,6 +347,42 @@ fn catch_up(
             note(changed, word);
         }
     }
+}
+
+// The place behind the writes of the commit with this index. Those of all commits are so many.
+fn place_behind(counts: &VecDeque<usize>, all: usize, index: usize) -> usize
+    requires index { index < length counts.now.items }
+    requires all { sum counts.now.items ≡ all }
+    ensures { result ≡ sum (take (index + 1) counts.now.items) }
+{
+    let mut place = all;
+    for later in index + 1..counts.len() {
+        place -= counts[later];
+    }
+    place
+}
+
+// The changed words are written from this place on. There is room for that.
+fn put(writes: &mut VecDeque<(u32, u64)>, place: usize, changed: &[u32], words: &[u64])
+    requires place { place ≤ length writes.old.items }
+    requires room { deque_len writes.old + length changed.now ≤ deque_capacity writes.old }
+    requires changed { All (λ w. w < length words.now) changed.now }
+    ensures writes { writes.new.items ≡ take place writes.old.items ++ written words.now changed.now ++ drop place writes.old.items }
+{
+    for (i, word) in changed.iter().enumerate() {
+        put_one(writes, place + i, *word, words[*word as usize]);
+    }
+}
+
+// One more write at this place. There is room for it.
+fn put_one(writes: &mut VecDeque<(u32, u64)>, place: usize, word: u32, value: u64)
+    requires place { place ≤ length writes.old.items }
+    requires room { deque_len writes.old < deque_capacity writes.old }
+    ensures items { writes.new.items ≡ insert writes.old.items place (word, value) }
+    ensures len { deque_len writes.new ≡ deque_len writes.old + 1 }
+    ensures capacity { deque_capacity writes.old ≤ deque_capacity writes.new }
+{
+    let _ = writes.insert(place, (word, value));
 }
 
 // One more word has changed. There is room for it.

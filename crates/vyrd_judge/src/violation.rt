@@ -1,6 +1,6 @@
 //! The first fault of a front.
 
-ghost use Rattle.std.specs.Prelude.{◌≡◌, ◌<◌, ◌^◌, length, None, IfOk};
+ghost use Rattle.std.specs.Prelude.{◌≡◌, ◌<◌, ◌^◌, [], length, None, IfOk};
 ghost use Rattle.vyrd_base.specs.Front.{first_break};
 ghost use Rattle.vyrd_base.specs.Verdicts.{first_fault};
 
@@ -19,7 +19,7 @@ pub(crate) fn first_violation<S: Spec>(
     requires subject { header.subject ≡ S.subject }
     requires kept { first_break header front.now ≡ None }
     requires few { length front.now < 2 ^ 62 }
-    ensures { IfOk result (λ found. found ≡ first_fault header front.now) }
+    ensures { IfOk result (λ found. found ≡ first_fault header [] front.now) }
 {
     let mut scan = Scan::<S>::new(alloc, header)?;
     for at in 0..front.len() {

@@ -142,7 +142,7 @@ fewer_left (hand ∷ hands) (place ∷ places) (suc i) to d low there before aft
 -- the verdict at the end, where there is one
 pub closes : (h : Header) (w : Watch) (had : List Stamped) (hands : List HandView) (places : List ℕ) (senders : ℕ) (lanes : List Lane) (r : Option Verdict)
     → (w.stands ≡ true → (more : List Stamped) × AreRests hands places more × HasWatched h w (had ++ more))
-    → ((taken : List Stamped) → HasWatched h w taken → IfSome r (λ v. v ≡ verdict h (log_of (in_order_below w.verifier.kept.next taken))))
+    → ((taken : List Stamped) → HasWatched h w taken → IfSome r (λ v. v ≡ verdict h [] (log_of (in_order_below w.verifier.kept.next taken))))
     → IfSome r (λ _. w.stands ≡ true) → All (HasAll had) lanes → All (λ (e : Stamped). e.caller < senders) had
     → IfSome r (λ v. (x : List Stamped) × (next : ℕ) × (more : List Stamped) × AreRests hands places more
     × IsClosing h x next v senders lanes (x ++ more))

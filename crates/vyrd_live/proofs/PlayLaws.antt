@@ -90,7 +90,7 @@ pub beside_verdict : (relay : RelayView) (z : Cells) (h : Header) (done : List D
     → All (λ (hand : HandView). part hand.caller history ≡ hand.lane) hands
     → IfSome r (λ v. (x : List Stamped) × (next : ℕ) × (more : List Stamped)
     × AreRests hands (counts_sent outboxes) more × IsClosing h x next v senders (lanes_sent outboxes) (x ++ more))
-    → IfSome r (λ v. v ≡ verdict h (log_of history))
+    → IfSome r (λ v. v ≡ verdict h [] (log_of history))
 beside_verdict relay z h done history hands outboxes senders None legal callers many are outs own sent parts is = tt
 beside_verdict relay z h done history hands outboxes senders (Some v) legal callers many are outs own sent parts is =
     let lanes : lanes_sent outboxes ≡ lanes_left done = ap lanes_sent outs ∙ map_twice (λ (d : Done). d.1) (λ (o : Outbox). lane_sent o.sender) done in
@@ -105,5 +105,5 @@ beside_verdict relay z h done history hands outboxes senders (Some v) legal call
     (subst (All (λ (hand : HandView). part hand.caller history ≡ hand.lane)) are parts) in
     let all = parts_taken relay z done had more history legal callers own sent c.all c.theirs rests
     (λ i d l. ap (λ (n : ℕ). part n history) (sym (own i d l)) ∙ each i d l) in
-    c.verdict_is ∙ ap (λ (xs : List Stamped). verdict h (log_of xs))
+    c.verdict_is ∙ ap (λ (xs : List Stamped). verdict h [] (log_of xs))
     (history_is z history (had ++ more) legal all next c.gone c.missing)

@@ -91,13 +91,13 @@ kept_with k after taken e not_had next put kept =
 
 pub taking_after : (judge judge' : JudgeView) (k after : Kept) (taken : List Stamped) (e : Stamped) → held k k.next ≡ Some e → after.next ≡ k.next + 1
     → ((n : ℕ) → k.next < n → held after n ≡ held k n)
-    → ((log : List Entry) → HasFollowed judge log → HasFollowed judge' (log ++ option_to_list (logged e.caller e.did)))
+    → ((log : List Entry) → HasFollowed judge [] log → HasFollowed judge' [] (log ++ option_to_list (logged e.caller e.did)))
     → IsTaking judge k taken → IsTaking judge' after taken
 taking_after judge judge' k after taken e found next same fed t =
     let here : numbered k.next taken ≡ Some e = sym (t.in_hand.later k.next (omega arith)) ∙ found in
     let log = ap (λ (n : ℕ). log_of (in_order_below n taken)) next ∙ ap (λ (n : ℕ). log_of (in_order_below n taken)) (one_more k.next) ∙ log_more k.next taken e here in record {
       in_hand = kept_after k after taken e found next same t.in_hand;
-      judged = subst (HasFollowed judge') (sym log) (fed _ t.judged);
+      judged = subst (HasFollowed judge' []) (sym log) (fed _ t.judged);
     }
   where
     one_more : (n : ℕ) → n + 1 ≡ suc n
@@ -109,15 +109,15 @@ pub taking_with : (judge : JudgeView) (k after : Kept) (taken : List Stamped) (e
 taking_with judge k after taken e not_had next put t =
     let new = new_number k taken e.number not_had t.in_hand in record {
       in_hand = kept_with k after taken e not_had next put t.in_hand;
-      judged = subst (HasFollowed judge) (ap log_of (sym (ap (λ (n : ℕ). in_order_below n (taken ++ e ∷ [])) next ∙ in_order_same k.next taken e new.0))) t.judged;
+      judged = subst (HasFollowed judge []) (ap log_of (sym (ap (λ (n : ℕ). in_order_below n (taken ++ e ∷ [])) next ∙ in_order_same k.next taken e new.0))) t.judged;
     }
 
 -- nothing was taken in
-pub taking_none : (judge : JudgeView) (k : Kept) → k.next ≡ 0 → ((n : ℕ) → held k n ≡ None) → HasFollowed judge [] → IsTaking judge k []
+pub taking_none : (judge : JudgeView) (k : Kept) → k.next ≡ 0 → ((n : ℕ) → held k n ≡ None) → HasFollowed judge [] [] → IsTaking judge k []
 unfolding log_of
 taking_none judge k next none fed = record {
   in_hand = record { gone = λ n l. absurd (omega arith); later = λ n l. none n };
-  judged = subst (λ (n : ℕ). HasFollowed judge (log_of (in_order_below n []))) (sym next) fed;
+  judged = subst (λ (n : ℕ). HasFollowed judge [] (log_of (in_order_below n []))) (sym next) fed;
 }
 
 -- what is had is what was taken in

@@ -1,5 +1,5 @@
 -- A verifier beside the workers.
-use Rattle.std.specs.Prelude.{◌≡◌, ℕ, ◌<◌, ◌≤◌, true, false, List, drop, map, length, None, is_some, slice_index_or}
+use Rattle.std.specs.Prelude.{[], ◌≡◌, ℕ, ◌<◌, ◌≤◌, true, false, List, drop, map, length, None, is_some, slice_index_or}
 use Rattle.std.specs.List.{All}
 use Rattle.vyrd_base.specs.declared.header.Header.{Header}
 use Rattle.vyrd_base.specs.declared.history.Stamped.{Stamped}
@@ -69,6 +69,6 @@ lanes_left done = map (λ (d : Stopped × Outbox). lane_sent d.1.sender) done
 pub record IsClosing (h : Header) (had : List Stamped) (next : ℕ) (v : Verdict) (senders : ℕ) (lanes : List Lane) (taken : List Stamped) : Type 0 where
   pub gone : (n : ℕ) → n < next → is_some (numbered n taken) ≡ true
   pub missing : numbered next taken ≡ None
-  pub verdict_is : v ≡ verdict h (log_of (in_order_below next taken))
+  pub verdict_is : v ≡ verdict h [] (log_of (in_order_below next taken))
   pub all : All (HasAll had) lanes
   pub theirs : All (λ (e : Stamped). e.caller < senders) had

@@ -46,7 +46,7 @@ pub record AreKept (kept : Kept) (taken : List Stamped) : Type 0 where
 -- The judge has followed the log of the events that were handed out.
 pub record IsTaking (judge : JudgeView) (kept : Kept) (taken : List Stamped) : Type 0 where
   pub in_hand : AreKept kept taken
-  pub judged : HasFollowed judge (log_of (in_order_below kept.next taken))
+  pub judged : HasFollowed judge [] (log_of (in_order_below kept.next taken))
 
 -- `next` is the least number that no event taken in has. The events before it were judged, and the others are held.
 pub record IsJudging (v : VerifierView) (taken : List Stamped) : Type 0 where

@@ -1,6 +1,6 @@
 //! A run with its verdict.
 
-ghost use Rattle.std.specs.Prelude.{◌≡◌, IfOk};
+ghost use Rattle.std.specs.Prelude.{[], ◌≡◌, IfOk};
 ghost use Rattle.vyrd_base.specs.Histories.{log_of};
 ghost use Rattle.vyrd_base.specs.Verdicts.{verdict};
 
@@ -18,7 +18,7 @@ pub fn judged(
 ) -> Result<Run, AllocError>
     ensures history { IfOk result (λ run. run.history.items ≡ history.items) }
     ensures words { IfOk result (λ run. run.words.items ≡ words.items) }
-    ensures verdict { IfOk result (λ run. run.verdict ≡ verdict header (log_of history.items)) }
+    ensures verdict { IfOk result (λ run. run.verdict ≡ verdict header [] (log_of history.items)) }
 {
     let verdict = judge_history(alloc, header, &history)?;
     Ok(Run {

@@ -1,6 +1,6 @@
 //! The live run of a workload.
 
-ghost use Rattle.std.specs.Prelude.{◌≡◌, ◌<◌, ◌≤◌, true, map, IfOk, IfErr, IfSome};
+ghost use Rattle.std.specs.Prelude.{[], ◌≡◌, ◌<◌, ◌≤◌, true, map, IfOk, IfErr, IfSome};
 ghost use Rattle.std.specs.List.{All};
 ghost use Rattle.vyrd_base.specs.Places.{newest_first};
 ghost use Rattle.vyrd_base.specs.Histories.{cells_of, is_legal, log_of};
@@ -56,7 +56,7 @@ pub fn run_live<R: Threads + Wait + Sync, G: Gate>(
     ensures legal { IfOk result (λ run. is_legal (cells_of work.now.header) run.history.items ≡ true) }
     ensures parts { IfOk result (λ run. PlayToTheEnd (work_scripts (workload_of work.now)) run.history.items) }
     ensures words { IfOk result (λ run. run.words.items ≡ memory_after work.now.header (newest_first run.history.items)) }
-    ensures verdict { IfOk result (λ run. run.verdict ≡ verdict work.now.header (log_of run.history.items)) }
+    ensures verdict { IfOk result (λ run. run.verdict ≡ verdict work.now.header [] (log_of run.history.items)) }
     ensures room { IfOk result (λ run. AllHadRoom work.now.header limit run.history.items) }
     ensures cause { IfErr result (IsCause work.now.header limit (work_scripts (workload_of work.now))) }
     ensures too_low { IfErr result (IsTooLow (workload_of work.now) limit) }
@@ -104,7 +104,7 @@ fn play<R: Threads + Wait + Sync, G: Gate, M: WorkMachine + Send>(
     ensures words { IfOk result (λ played. played.words.items ≡ memory_after work.now.header (newest_first played.history.items)) }
     ensures long { IfOk result (λ played. IfSome played.spent (λ caller. limit < bounds_of work.now.header (ops_of caller work.now.ops.items))) }
     ensures played { IfOk result (λ played. HavePlayed work.now.header limit (work_scripts (workload_of work.now)) played.history.items played.spent) }
-    ensures verdict { IfOk result (λ played. IfSome played.verdict (λ v. v ≡ verdict work.now.header (log_of played.history.items))) }
+    ensures verdict { IfOk result (λ played. IfSome played.verdict (λ v. v ≡ verdict work.now.header [] (log_of played.history.items))) }
 {
     let header = &work.header;
     let (traced, hands) = Traced::new(

@@ -71,7 +71,7 @@ impl Verifier {
         requires number { item.number < 2 ^ 62 }
         requires new { has_number self.old item.number ≡ false }
         ensures answer { (taken : List Stamped) → HasTakenIn self.old taken
-            → IfOk result (λ v. v ≡ verdict_so_far self.old.header (log_of (in_order_below self.new.kept.next (taken ++ item ∷ [])))) }
+            → IfOk result (λ v. v ≡ verdict_so_far self.old.header [] (log_of (in_order_below self.new.kept.next (taken ++ item ∷ [])))) }
         ensures taken { (taken : List Stamped) → HasTakenIn self.old taken → OnOk result (HasTakenIn self.new (taken ++ item ∷ [])) }
         ensures refused { (taken : List Stamped) → HasTakenIn self.old taken → OnErr result (HasTakenIn self.new taken) }
         ensures has_failed { has_failed self.new ≡ is_err result }
@@ -119,7 +119,7 @@ impl Verifier {
     /// memory comes exactly where an earlier `take_in` answered it.
     pub fn finish(&self) -> Result<Verdict, AllocError>
         ensures verdict { (taken : List Stamped) → HasTakenIn self.now taken
-            → IfOk result (λ v. v ≡ verdict self.now.header (log_of (in_order_below self.now.kept.next taken))) }
+            → IfOk result (λ v. v ≡ verdict self.now.header [] (log_of (in_order_below self.now.kept.next taken))) }
         ensures has_failed { is_err result ≡ has_failed self.now }
     {
         if self.refused.is_some() {
@@ -173,8 +173,8 @@ fn advance(judge: &mut AnyJudge, reorder: &mut Reorder) -> Result<bool, AllocErr
 fn show(judge: &mut AnyJudge, event: Stamped) -> Result<(), AllocError>
     requires few { judge.old.kept.entries < 2 ^ 62 }
     requires going { judge.old.has_failed ≡ false }
-    ensures followed { (log : List Entry) → HasFollowed judge.old log
-        → OnOk result (HasFollowed judge.new (log ++ option_to_list (logged event.caller event.did))) }
+    ensures followed { (log : List Entry) → HasFollowed judge.old [] log
+        → OnOk result (HasFollowed judge.new [] (log ++ option_to_list (logged event.caller event.did))) }
     ensures counted { judge.new.kept.entries ≤ judge.old.kept.entries + 1 }
     ensures going { OnOk result (judge.new.has_failed ≡ false) }
     ensures header { judge.new.kept.header ≡ judge.old.kept.header }

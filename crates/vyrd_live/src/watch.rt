@@ -202,7 +202,7 @@ impl Watch {
     /// The verdict about all that was taken in, where the verifier stands.
     pub(crate) fn verdict(&self) -> Option<Verdict>
         ensures verdict { (h : Header) (taken : List Stamped) → HasWatched h self.now taken
-            → IfSome result (λ v. v ≡ verdict h (log_of (in_order_below self.now.verifier.kept.next taken))) }
+            → IfSome result (λ v. v ≡ verdict h [] (log_of (in_order_below self.now.verifier.kept.next taken))) }
         ensures stands { IfSome result (λ _. self.now.stands ≡ true) }
     {
         if !self.stands {

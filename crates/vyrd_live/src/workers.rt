@@ -65,7 +65,7 @@ pub(crate) fn play_all<R: Threads + Wait + Sync, G: Gate, M: Machine + Send>(
     ensures long { IfOk result (λ played. IfSome played.spent (λ caller. (w : _) → traced.plan.limit < M.ahead (slice_index_or workers.items caller w).machine)) }
     ensures played { IfOk result (λ played. (h : Header) → AreMadeFor h (map (λ w. M.header_of w.machine) workers.items)
         → HavePlayed h traced.plan.limit (map (λ w. M.script w.machine) workers.items) played.history.items played.spent) }
-    ensures verdict { IfOk result (λ played. IfSome played.verdict (λ v. v ≡ verdict header (log_of played.history.items))) }
+    ensures verdict { IfOk result (λ played. IfSome played.verdict (λ v. v ≡ verdict header [] (log_of played.history.items))) }
 {
     let (relay, senders, receiver) = Relay::new(alloc, RELAY_CAPACITY, header.callers())?;
     let jobs = jobs_of(alloc, &relay, workers, senders)?;

@@ -1,6 +1,6 @@
 -- What a caller may do where it stands breaks no rule of shape, but that its write may race for a word of a block.
-use Rattle.std.proofs.Common.{◌≡◌, ℕ, ◌<◌, ◌^◌, Bool, true, false, cond, not, ◌||◌, List, Option, Some, None, option_map, refl, ap, ◌∙◌, sym}
-use Rattle.std.specs.Prelude.{nat_lt, nat_le, is_some, is_none}
+use Rattle.std.proofs.Common.{◌≡◌, ℕ, ◌<◌, ◌^◌, Bool, true, false, cond, not, ◌&&◌, ◌||◌, List, Option, Some, None, option_map, refl, ap, ◌∙◌, sym}
+use Rattle.std.specs.Prelude.{◌==◌, nat_lt, nat_le, is_some, is_none}
 use Rattle.std.specs.Option.{option_map_or}
 use Rattle.std.proofs.lemmas.Bool.{not-true}
 use Rattle.vyrd_base.specs.declared.header.Header.{Header}
@@ -14,7 +14,7 @@ use Rattle.vyrd_base.specs.declared.verdict.Rule.TheVariants.{ValueRange, BlockR
 use Rattle.vyrd_base.specs.Layout.{plain_words}
 use Rattle.vyrd_base.specs.Subjects.{is_observer, same_subject, subject_of, are_args}
 use Rattle.vyrd_base.specs.Callers.{Called, open_call, has_block, has_committed}
-use Rattle.vyrd_base.specs.Shape.{first_broken, checks_of, is_observing, is_held_by_other, broken_rule}
+use Rattle.vyrd_base.specs.Shape.{first_broken, checks_of, is_observing, is_raced, broken_rule}
 use Rattle.vyrd_base.specs.Histories.{cells_of, is_plain}
 use Rattle.vyrd_base.proofs.BlockLaws.{entry}
 use Rattle.vyrd_base.proofs.TestLaws.{first_true, second_true, isnt_at_most, above_then}
@@ -41,6 +41,10 @@ race_last false = none_broken
 -- the tests of an entry that may come
 not_false : (b : Bool) → b ≡ true → not b ≡ false
 not_false b e = ap not e
+
+both_false : (a b : Bool) → b ≡ false → (a && b) ≡ false
+both_false true b e = e
+both_false false b e = refl
 
 opened : (o : Option Called) (p : Option Method) → option_map (λ called. called.method) o ≡ p → is_some p ≡ true → is_none o ≡ false
 opened None p e some = let no : false ≡ true = ap is_some e ∙ some in cc
@@ -74,7 +78,7 @@ write_kept h c word value s log low may a =
     (passed (is_none (open_call c log)) NoCall _ (is_open c s log a parts.2)
     (passed (nat_le (plain_words h) word) WordRange _ (above_then (plain_words h) word parts.0)
     (passed (nat_le (2 ^ 63) value) ValueRange _ (above_then (2 ^ 63) value parts.1)
-    (race_last (is_held_by_other h c word log)))))
+    (race_last (is_raced h c word log)))))
 
 -- the rules of a mark, after that of its caller
 checks_kept : (h : Header) (c : ℕ) (kind : Kind) (s : Standing) (log : List Entry) → may_mark h s kind ≡ true → Agrees c s log
@@ -97,7 +101,8 @@ checks_kept h c Commit s log may a =
     passed (is_none (open_call c log)) NoCall _ (is_open c s log a parts.0)
     (passed (is_observing c log) ObserverCommit _ (watches c s log a ∙ not-true (observes s) parts.1)
     (passed (has_committed c log) SecondCommit _ (a.committed ∙ not-true s.committed parts.2)
-    (passed (has_block c log) CommitInBlock None (a.in_block ∙ not-true s.in_block parts.3) none_broken)))
+    (passed (h.version == 1 && has_block c log) CommitInBlock None
+    (both_false (h.version == 1) (has_block c log) (a.in_block ∙ not-true s.in_block parts.3)) none_broken)))
 checks_kept h c BlockOpen s log may a =
     passed (is_none (open_call c log)) NoCall _ (is_open c s log a (first_true (is_some s.called) (not s.in_block) may))
     (passed (has_block c log) BlockInBlock None (a.in_block ∙ not-true s.in_block (second_true (is_some s.called) (not s.in_block) may)) none_broken)

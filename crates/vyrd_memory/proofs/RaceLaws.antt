@@ -20,10 +20,9 @@ use Rattle.vyrd_base.specs.Callers.{open_call}
 use Rattle.vyrd_base.specs.Shape.{broken_rule}
 use Rattle.vyrd_base.specs.Front.{front, first_break}
 use Rattle.vyrd_base.specs.Amounts.{Amounts}
-use Rattle.vyrd_base.specs.Specification.{start}
-use Rattle.vyrd_base.specs.Commits.{commits, states_from}
 use Rattle.vyrd_base.specs.Faults.{fault_at}
-use Rattle.vyrd_base.specs.Verdicts.{line_of, violation_at, first_fault, shape_verdict, verdict_so_far, is_call_open, end_verdict, accepted, verdict}
+use Rattle.vyrd_base.specs.Verdicts.{line_of, violation_at, states_along, first_fault, shape_verdict, verdict_so_far, is_call_open, end_verdict, accepted, verdict}
+use Rattle.vyrd_base.proofs.NoStart.{verdict_so_far-none, end_verdict-none}
 use Rattle.vyrd_base.specs.Histories.{cells_of, is_legal, logged, log_of}
 use Rattle.vyrd_base.proofs.HistoryLaws.{log_entry, reversed_map}
 use Rattle.vyrd_base.proofs.Fronts.{break_after}
@@ -104,19 +103,19 @@ none_open h earlier keep rest = none_any (λ c. is_some (open_call c (filter_map
 
 -- a fault is no broken rule
 fault_isnt : (h : Header) (states : List Amounts) (ps : List (Place Entry)) (line : ℕ) (rule : Rule)
-    → first_answer (violation_at h states) ps ≡ Some (Malformed line rule) → ⊥
+    → first_answer (violation_at h [] states) ps ≡ Some (Malformed line rule) → ⊥
 fault_isnt h states [] line rule e = cc
-fault_isnt h states (place ∷ ps) line rule e = by_fault (fault_at h states place) (fault_isnt h states ps line rule) e
+fault_isnt h states (place ∷ ps) line rule e = by_fault (fault_at h [] states place) (fault_isnt h states ps line rule) e
   where
-    by_fault : (o : Option Why) → (first_answer (violation_at h states) ps ≡ Some (Malformed line rule) → ⊥)
-        → option_or (option_map (Violation (line_of (position_of place))) o) (first_answer (violation_at h states) ps)
+    by_fault : (o : Option Why) → (first_answer (violation_at h [] states) ps ≡ Some (Malformed line rule) → ⊥)
+        → option_or (option_map (Violation (line_of [] (position_of place))) o) (first_answer (violation_at h [] states) ps)
         ≡ Some (Malformed line rule) → ⊥
     by_fault None later e = later e
     by_fault (Some why) later e = cc
 
-first_fault_isnt : (h : Header) (entries : List Entry) (line : ℕ) (rule : Rule) → first_fault h entries ≡ Some (Malformed line rule) → ⊥
+first_fault_isnt : (h : Header) (entries : List Entry) (line : ℕ) (rule : Rule) → first_fault h [] entries ≡ Some (Malformed line rule) → ⊥
 unfolding first_fault
-first_fault_isnt h entries line rule e = fault_isnt h (states_from start (commits entries)) (places entries) line rule e
+first_fault_isnt h entries line rule e = fault_isnt h (states_along h [] entries) (places entries) line rule e
 
 -- a verdict that names a rule names a broken one
 named : (fault : Option Verdict) (broken : Option Rule) (open_ : Bool) (at end : ℕ) (good : Verdict) (line : ℕ) (rule : Rule)
@@ -132,14 +131,25 @@ accepted_isnt : (entries : List Entry) (line : ℕ) (rule : Rule) → accepted e
 unfolding accepted
 accepted_isnt entries line rule e = cc
 
+-- without starting words a verdict has these parts
+parts : (h : Header) (entries : List Entry) → verdict h [] entries ≡ unwrap_or
+    (option_or (option_or (first_fault h [] (front h entries)) (shape_verdict h [] entries))
+    (then_some (is_call_open h (newest_first entries)) (Malformed (line_of [] (length entries)) CallOpen))) (accepted entries)
+unfolding verdict
+parts h entries =
+    ap (λ o. unwrap_or (option_or o (end_verdict h [] entries)) (accepted entries)) (verdict_so_far-none h entries)
+    ∙ ap (λ o. unwrap_or (option_or (option_or (first_fault h [] (front h entries)) (shape_verdict h [] entries)) o) (accepted entries))
+    (end_verdict-none h entries)
+
 named_is_broken : (h : Header) (entries : List Entry) (line : ℕ) (rule : Rule) → is_call_open h (newest_first entries) ≡ false
-    → verdict h entries ≡ Malformed line rule
+    → verdict h [] entries ≡ Malformed line rule
     → first_break h entries ≡ Some rule
-unfolding verdict verdict_so_far shape_verdict end_verdict
+unfolding verdict shape_verdict
 named_is_broken h entries line rule closed e =
-    named (first_fault h (front h entries)) (first_break h entries) (is_call_open h (newest_first entries))
-    (line_of (length (front h entries))) (line_of (length entries))
-    (accepted entries) line rule (first_fault_isnt h (front h entries) line rule) closed (accepted_isnt entries line rule) e
+    named (first_fault h [] (front h entries)) (first_break h entries) (is_call_open h (newest_first entries))
+    (line_of [] (length (front h entries))) (line_of [] (length entries))
+    (accepted entries) line rule (first_fault_isnt h (front h entries) line rule) closed (accepted_isnt entries line rule)
+    (sym (parts h entries) ∙ e)
 
 -- in a legal history sound scripts that are played keep to what may be done, and at their end nothing is in hand
 pub all_keep : (h : Header) (scripts : List Script) (history : List Stamped) → AreSoundScripts h scripts
@@ -174,7 +184,7 @@ none_is_open h scripts history sound is_legal_ played =
 
 -- and a broken rule that the verdict names is that of raced blocks
 pub only_races : (h : Header) (scripts : List Script) (history : List Stamped) → AreSoundScripts h scripts → is_legal (cells_of h) history ≡ true
-    → PlayToTheEnd scripts history → (line : ℕ) (rule : Rule) → verdict h (log_of history) ≡ Malformed line rule → rule ≡ BlockRaced
+    → PlayToTheEnd scripts history → (line : ℕ) (rule : Rule) → verdict h [] (log_of history) ≡ Malformed line rule → rule ≡ BlockRaced
 only_races h scripts history sound is_legal_ played line rule e =
     (only_races_break h scripts history sound is_legal_ played).raced rule
     (named_is_broken h (log_of history) line rule (none_is_open h scripts history sound is_legal_ played) e)

@@ -1,7 +1,7 @@
 -- Laws of runs of sound scripts. A run by turns is a legal history in which each caller plays its whole script, and it is a
 -- function of the scripts and the turns. And a log that such a history leaves breaks no rule of shape, but that callers may
 -- race for a word of a block.
-use Rattle.std.specs.Prelude.{◌≡◌, ℕ, ◌<◌, Bool, true, ◌&&◌, List, length}
+use Rattle.std.specs.Prelude.{◌≡◌, ℕ, ◌<◌, Bool, true, ◌&&◌, List, [], length}
 use Rattle.std.specs.List.{AllByRecursion}
 use Rattle.vyrd_base.specs.declared.header.Header.{Header}
 use Rattle.vyrd_base.specs.declared.log.Kind.{Kind}
@@ -43,7 +43,7 @@ RunsByTurnsPlayToTheEnd = (h : Header) (scripts : List Script) (turns : List Tur
 abbrev pub OnlyRacesAreMalformed : Type 0
 OnlyRacesAreMalformed = (h : Header) (scripts : List Script) (history : List Stamped)
     → AreSoundScripts h scripts → is_legal (cells_of h) history ≡ true → PlayToTheEnd scripts history
-    → (line : ℕ) (rule : Rule) → verdict h (log_of history) ≡ Malformed line rule → rule ≡ BlockRaced
+    → (line : ℕ) (rule : Rule) → verdict h [] (log_of history) ≡ Malformed line rule → rule ≡ BlockRaced
 
 -- whether an entry, where it is a call, is one of the header's subject with arguments in range
 abbrev pub is_call_of : Header → Kind → Bool

@@ -14,7 +14,6 @@ use Rattle.vyrd_base.proofs.SplitLaws.{lacks, split-join, lacks-join, number_of_
 use Rattle.vyrd_base.proofs.LineLaws.{is_plain_field, plain_number, plain_spaces, plain_line_feeds}
 use Rattle.vyrd_base.proofs.TestLaws.{both_true, first_true, second_true}
 use Rattle.vyrd_base.proofs.SubjectLaws.{plain_subject, subject_read, one_name}
-use Rattle.vyrd_base.proofs.ReadingLaws.{known_version}
 use Rattle.vyrd_text.proofs.PartLaws.{one_before_space}
 use Rattle.vyrd_text.proofs.HeaderLaws.{small_size, small_callers, made, not_made}
 use Rattle.vyrd_mover.specs.HistoryText.{history_header_line}
@@ -68,39 +67,42 @@ pub callers_fit : (h : Header) → h.callers < 2 ^ 32
 callers_fit h = small_callers h.size h.callers (sized h)
 
 -- a header is read back from its first line
-pub header_in-first_line : (h : Header) → history_header_in (history_header_line h.subject h.size h.callers) ≡ Some h
-header_in-first_line h =
+pub header_in-first_line : (h : Header) → h.version ≡ 1 → history_header_in (history_header_line h.subject h.size h.callers) ≡ Some h
+header_in-first_line h one =
     let s : h.size < 2 ^ 64 = let l = size_fits h in omega (arith, l) in
     let c : h.callers < 2 ^ 64 = let l = callers_fit h in omega (arith, l) in
     header_known h.subject h.size h.callers s c
-    ∙ made 1 h.subject h.size h.callers h (known_version h.version (first_true _ _ h.within)) refl refl refl
+    ∙ made 1 h.subject h.size h.callers h one refl refl refl
 
--- what a first line is read as has it as its first line
-pub header_in_sound : (line : List ℕ) (h : Header) → history_header_in line ≡ Some h → line ≡ history_header_line h.subject h.size h.callers
+-- what a first line is read as has version 1 and this line
+abbrev pub IsFirst : List ℕ → Header → Type 0
+IsFirst line h = (h.version ≡ 1) × (line ≡ history_header_line h.subject h.size h.callers)
+
+pub header_in_sound : (line : List ℕ) (h : Header) → history_header_in line ≡ Some h → IsFirst line h
 unfolding history_header_in
 header_in_sound line h found = from (fields_of line) found
   where
     of_header : (subject : Subject) (size callers : ℕ) (b : Bool) (e : is_within 1 size callers ≡ b)
         → line ≡ history_header_line subject size callers → header_if 1 subject size callers b e ≡ Some h
-        → line ≡ history_header_line h.subject h.size h.callers
+        → IsFirst line h
     of_header subject size callers false e same f = cc
     of_header subject size callers true e same f =
         let is : record { version = 1; subject = subject; size = size; callers = callers; within = e } ≡ h = cc in
-        same ∙ ap (λ x. history_header_line x.subject x.size x.callers) is
+        (ap (λ (x : Header). x.version) (sym is), same ∙ ap (λ x. history_header_line x.subject x.size x.callers) is)
 
     spelled : (subject : Subject) (size callers : ℕ) (b : Bool) → bytes_eq (history_header_line subject size callers) line ≡ b
-        → cond b (header_of 1 subject size callers) None ≡ Some h → line ≡ history_header_line h.subject h.size h.callers
+        → cond b (header_of 1 subject size callers) None ≡ Some h → IsFirst line h
     spelled subject size callers false t f = cc
     spelled subject size callers true t f =
         of_header subject size callers (is_within 1 size callers) refl
         (sym ((bytes_eq-Decides (history_header_line subject size callers) line).0 t)) f
 
     if_spelled : (subject : Option Subject) (size callers : ℕ) → history_header_if line subject size callers ≡ Some h
-        → line ≡ history_header_line h.subject h.size h.callers
+        → IsFirst line h
     if_spelled None size callers f = cc
     if_spelled (Some subject) size callers f = spelled subject size callers (bytes_eq (history_header_line subject size callers) line) refl f
 
-    from : (parts : List (List ℕ)) → history_header_from line parts ≡ Some h → line ≡ history_header_line h.subject h.size h.callers
+    from : (parts : List (List ℕ)) → history_header_from line parts ≡ Some h → IsFirst line h
     from [] f = cc
     from (a ∷ []) f = cc
     from (a ∷ b ∷ []) f = cc
@@ -113,7 +115,7 @@ no_first line none = by_answer (history_header_in line) refl
   where
     by_answer : (o : Option Header) → history_header_in line ≡ o → None ≡ o
     by_answer None e = refl
-    by_answer (Some h) e = absurd (none h.subject h.size h.callers (size_fits h) (callers_fit h) (header_in_sound line h e))
+    by_answer (Some h) e = absurd (none h.subject h.size h.callers (size_fits h) (callers_fit h) (header_in_sound line h e).1)
 
 module _ (line : List ℕ) (subject : Subject) (size callers : ℕ) (s : size < 2 ^ 32) (c : callers < 2 ^ 32)
     (is : line ≡ history_header_line subject size callers) where

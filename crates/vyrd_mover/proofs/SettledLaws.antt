@@ -64,7 +64,7 @@ long_header line long = by_answer (history_header_in line) refl
     by_answer None e = refl
     by_answer (Some h) e =
         let short = short_first h in
-        let same = ap length (header_in_sound line h e) in
+        let same = ap length (header_in_sound line h e).1 in
         absurd (omega (arith, long, short, same))
 
 long_isnt_end : (line : List ℕ) → 64 < length line → ¬ (line ≡ end_line)
@@ -205,7 +205,7 @@ text_settled line (x ∷ todo) more lack enough = by_byte (λ begun lack enough.
     by_header None is = refl
     by_header (Some h) is =
         let short = short_first h in
-        let same = ap length (header_in_sound line h is) in
+        let same = ap length (header_in_sound line h is).1 in
         lines_settled (record { header = h; history = [] }) 2 [] todo more refl (omega arith)
         (omega (arith, enough, length-append line (x ∷ todo), short, same))
 

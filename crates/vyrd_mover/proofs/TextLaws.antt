@@ -27,7 +27,7 @@ use Rattle.vyrd_mover.specs.HistoryText.{Recorded, history_header_line, did_line
 use Rattle.vyrd_mover.specs.HistoryLines.{is_event_of, is_did_of, history_header_in, event_in}
 use Rattle.vyrd_mover.specs.HistoryReading.{refused, is_misplaced, next_place, broken_by, with_event, unless_broken, event_read, line_read, begun_or_bad, ended, lines_read, text_read, history_reading}
 use Rattle.vyrd_mover.specs.HistoryLimits.{KeepsLimits}
-use Rattle.vyrd_mover.proofs.HeadLaws.{header_in_sound, header_in-first_line, first_line_whole, size_fits, callers_fit}
+use Rattle.vyrd_mover.proofs.HeadLaws.{IsFirst, header_in_sound, header_in-first_line, first_line_whole, size_fits, callers_fit}
 use Rattle.vyrd_mover.proofs.EventLaws.{event_in_sound, event_in-event_line}
 use Rattle.vyrd_mover.proofs.WalkLaws.{cut, then_lines, after_first}
 
@@ -212,18 +212,19 @@ text_sound [] v e = cc
 text_sound (rest ∷ []) v e = cc
 text_sound (line ∷ next ∷ lines) v e = by_header (history_header_in line) refl e
   where
-    found : (h : Header) → line ≡ history_header_line h.subject h.size h.callers → lines_read (record { header = h; history = [] }) 2 (next ∷ lines) ≡ Ok v
+    found : (h : Header) → IsFirst line h → lines_read (record { header = h; history = [] }) 2 (next ∷ lines) ≡ Ok v
         → IsHistoryText (join_with_byte 10 (line ∷ next ∷ lines)) v
     found h is f =
         let s = lines_sound (record { header = h; history = [] }) 2 (next ∷ lines) v (record { legal = refl; in_turn = refl; spelled = tt }) f in
         let events : v.history ≡ s.more = s.history in
         let first : line ≡ history_header_line v.header.subject v.header.size v.header.callers =
-        is ∙ ap (λ x. history_header_line x.subject x.size x.callers) (sym s.header) in
+        is.1 ∙ ap (λ x. history_header_line x.subject x.size x.callers) (sym s.header) in
         let all : ◌≡◌ {A = List (List ℕ)} (line ∷ next ∷ lines) (all_lines v) =
         λ i. first i ∷ (s.text ∙ ap (λ xs. map event_line xs ++ end_line ∷ [] ∷ []) (sym events)) i in
         record {
           text = ap (join_with_byte 10) (all ∙ sym (all_lines_are v)) ∙ join_lines (history_lines v);
           limits = record {
+            version = ap (λ (x : Header). x.version) s.header ∙ is.0;
             legal = s.keeps.legal;
             in_turn = s.keeps.in_turn;
             spelled = s.keeps.spelled;
@@ -357,7 +358,7 @@ all_read r keeps = by_rest (map event_line r.history ++ end_line ∷ [] ∷ []) 
     by_rest : (rest : List (List ℕ)) → has_any rest ≡ true → lines_read (of_parts r.header []) 2 rest ≡ Ok r
         → text_read (history_header_line r.header.subject r.header.size r.header.callers ∷ rest) ≡ Ok r
     by_rest [] some on = cc
-    by_rest (next ∷ lines) some on = ap (λ o. after_first (next ∷ lines) (begun_or_bad o)) (header_in-first_line r.header) ∙ on
+    by_rest (next ∷ lines) some on = ap (λ o. after_first (next ∷ lines) (begun_or_bad o)) (header_in-first_line r.header keeps.version) ∙ on
 
 -- the text of a history is read as that history
 pub reading-history_text : (r : Recorded) → KeepsLimits r → history_reading (history_text r) ≡ Ok r

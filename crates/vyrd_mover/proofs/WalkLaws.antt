@@ -7,7 +7,7 @@ use Rattle.std.proofs.lemmas.Slice.Eq.{bytes_eq-Decides}
 use Rattle.vyrd_base.specs.Spelling.{end_line}
 use Rattle.vyrd_base.proofs.SplitLaws.{lacks, split_at, split_whole, bytes_same}
 use Rattle.vyrd_base.proofs.TestLaws.{is_below, isnt_below}
-use Rattle.vyrd_text.proofs.LineSteps.{parts_of}
+use Rattle.vyrd_text.proofs.AheadLaws.{parts_of}
 use Rattle.vyrd_mover.specs.declared.fault.HistoryRule.{HistoryRule}
 use Rattle.vyrd_mover.specs.declared.fault.HistoryRule.TheVariants.{TooManyLines, AfterEnd, BadHeader, BadLine}
 use Rattle.vyrd_mover.specs.declared.fault.HistoryFault.{HistoryFault}

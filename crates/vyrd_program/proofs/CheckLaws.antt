@@ -4,7 +4,7 @@ use Rattle.std.specs.Prelude.{◌⊎◌, IfSome}
 use Rattle.vyrd_base.specs.declared.verdict.Verdict.{Verdict}
 use Rattle.vyrd_base.specs.Devices.{IsAtEnd}
 use Rattle.vyrd_base.specs.TextVerdicts.{text_verdict, text_verdict_so_far}
-use Rattle.vyrd_base.proofs.ReadingGrows.{text_verdict_stands}
+use Rattle.vyrd_base.proofs.TextLasts.{text_verdict_stands}
 use Rattle.vyrd_program.specs.Inputs.{IsVerdictOf}
 use Rattle.vyrd_program.specs.Outputs.{status_of}
 use Rattle.vyrd_program.specs.Checks.{IsSettled}

@@ -7,14 +7,16 @@ use Rattle.std.proofs.lemmas.Bool.Decides.{nat_tests}
 use Rattle.vyrd_base.specs.declared.header.Header.{Header}
 use Rattle.vyrd_base.specs.declared.subject.Subject.{Subject}
 use Rattle.vyrd_base.specs.declared.log.Entry.{Entry}
+use Rattle.vyrd_base.specs.declared.log.StartWord.{StartWord}
 use Rattle.vyrd_base.specs.declared.verdict.Rule.{Rule}
 use Rattle.vyrd_base.specs.declared.verdict.Rule.TheVariants.{TooManyLines, AfterEnd, BadHeader, BadEntry, NoLineFeed, NoEnd}
 use Rattle.vyrd_base.specs.Shape.{◌breaks◌, first_broken}
 use Rattle.vyrd_base.specs.Spelling.{end_line}
-use Rattle.vyrd_base.specs.Lines.{entry_in, header_in}
-use Rattle.vyrd_base.specs.Reading.{Reading, has_any, stopped, ended, unfinished_rule, after_end_rule, entry_before, lines_read, header_before, text_read, reading}
+use Rattle.vyrd_base.specs.Starts.{start_rule}
+use Rattle.vyrd_base.specs.Lines.{start_in, entry_in, header_in}
+use Rattle.vyrd_base.specs.Reading.{Reading, has_any, stopped, ended, unfinished_rule, after_end_rule, entry_before, lines_read, start_before, starts_read, body_read, header_before, text_read, reading}
 use Rattle.vyrd_base.proofs.ReadingGrows.{so_far, some_parts}
-use Rattle.vyrd_base.proofs.LongLines.{long_entry, long_isnt_end, long_header}
+use Rattle.vyrd_base.proofs.LongLines.{long_entry, long_start, long_isnt_end, long_header}
 use Rattle.vyrd_base.proofs.TestLaws.{not_below_of}
 use Rattle.vyrd_text.proofs.ReadLaws.{no_fault}
 use Rattle.vyrd_check.specs.LogReadings.{read_so_far}
@@ -66,6 +68,13 @@ entry_short subject line e is = by_test (nat_lt 64 (length line)) refl
     by_test : (b : Bool) → nat_lt 64 (length line) ≡ b → length line ≤ 64
     by_test false f = not_below_of 64 (length line) f
     by_test true f = let long : 64 < length line = grind (arith, nat_tests) in let none = long_entry subject line long in cc
+
+start_short : (line : List ℕ) (s : StartWord) → start_in line ≡ Some s → length line ≤ 64
+start_short line s is = by_test (nat_lt 64 (length line)) refl
+  where
+    by_test : (b : Bool) → nat_lt 64 (length line) ≡ b → length line ≤ 64
+    by_test false f = not_below_of 64 (length line) f
+    by_test true f = let long : 64 < length line = grind (arith, nat_tests) in let none = long_start line long in cc
 
 header_short : (line : List ℕ) (h : Header) → header_in line ≡ Ok h → length line ≤ 64
 header_short line h is = by_test (nat_lt 64 (length line)) refl
@@ -129,6 +138,54 @@ lines_short max subject n line (next ∷ lines) within e =
         omega (arith, end_short line q, nothing_after max (n + 1) next lines (no_fault (n + 1) _ e'))
     by_tests onward false false p q e' = by_entry onward (not_below_of max n p) (entry_in subject line) refl e'
 
+starts_short : (max : ℕ) (h : Header) (last : Option StartWord) (n : ℕ) (line : List ℕ) (lines : List (List ℕ)) → n ≤ max + 1
+    → (starts_read (so_far max) h last n (line ∷ lines)).fault ≡ None → size_of (line ∷ lines) ≤ 65 * (max + 1 - n) + 1
+unfolding size_of
+starts_short max h last n rest [] within e = let s = last_short max n BadEntry rest within (no_fault n _ e) in omega arith
+starts_short max h last n line (next ∷ lines) within e =
+    by_start (λ s within' e'. starts_short max h (Some s) (n + 1) next lines within' e') (start_in line) refl e
+  where
+    after : StartWord → Reading
+    after s = starts_read (so_far max) h (Some s) (n + 1) (next ∷ lines)
+
+    Onward : Type 0
+    Onward = (s : StartWord) → n + 1 ≤ max + 1 → (after s).fault ≡ None → size_of (next ∷ lines) ≤ 65 * (max + 1 - (n + 1)) + 1
+
+    one_line : n ≤ max → length line ≤ 64 → size_of (next ∷ lines) ≤ 65 * (max + 1 - (n + 1)) + 1
+        → length line + 1 + size_of (next ∷ lines) ≤ 65 * (max + 1 - n) + 1
+    one_line low short more = let fewer : max + 1 - n ≡ (max + 1 - (n + 1)) + 1 = omega arith in omega arith
+
+    by_rule : Onward → n ≤ max → (s : StartWord) → start_in line ≡ Some s → (rule : Option Rule)
+        → (start_before n rule s (after s)).fault ≡ None → length line + 1 + size_of (next ∷ lines) ≤ 65 * (max + 1 - n) + 1
+    by_rule onward low s is (Some rule) e' = cc
+    by_rule onward low s is None e' = one_line low (start_short line s is) (onward s (omega arith) e')
+
+    by_limit : Onward → (s : StartWord) → start_in line ≡ Some s → (past : Bool) → nat_lt max n ≡ past
+        → (cond past (stopped n (Some TooManyLines)) (start_before n (start_rule h last s) s (after s))).fault ≡ None
+        → length line + 1 + size_of (next ∷ lines) ≤ 65 * (max + 1 - n) + 1
+    by_limit onward s is true p e' = cc
+    by_limit onward s is false p e' = by_rule onward (not_below_of max n p) s is (start_rule h last s) e'
+
+    by_start : Onward → (o : Option StartWord) → start_in line ≡ o
+        → (elim o as (λ _. Reading) [
+          | None ↦ lines_read (so_far max) h.subject n (line ∷ next ∷ lines)
+          | Some s ↦ cond (nat_lt max n) (stopped n (Some TooManyLines)) (start_before n (start_rule h last s) s (after s))
+        ]).fault ≡ None
+        → length line + 1 + size_of (next ∷ lines) ≤ 65 * (max + 1 - n) + 1
+    by_start onward None is e' = lines_short max h.subject n line (next ∷ lines) within e'
+    by_start onward (Some s) is e' = by_limit onward s is (nat_lt max n) refl e'
+
+-- the lines after the header, in either version
+body_short : (max : ℕ) (h : Header) (line : List ℕ) (lines : List (List ℕ)) → 1 ≤ max
+    → (body_read (so_far max) h (line ∷ lines)).fault ≡ None → size_of (line ∷ lines) ≤ 65 * (max + 1 - 2) + 1
+body_short max h line lines low e = by_version (h.version == 2) e
+  where
+    by_version : (b : Bool)
+        → (cond b (starts_read (so_far max) h None 2 (line ∷ lines)) (lines_read (so_far max) h.subject 2 (line ∷ lines))).fault ≡ None
+        → size_of (line ∷ lines) ≤ 65 * (max + 1 - 2) + 1
+    by_version true e' = starts_short max h None 2 line lines (omega arith) e'
+    by_version false e' = lines_short max h.subject 2 line lines (omega arith) e'
+
 parts_short : (max : ℕ) (parts : List (List ℕ)) → 1 ≤ max → 0 < length parts → (text_read (so_far max) parts).fault ≡ None
     → size_of parts ≤ 65 * max + 1
 unfolding size_of
@@ -138,13 +195,12 @@ parts_short max (line ∷ next ∷ lines) low some e = by_header (header_in line
   where
     by_header : (r : Result Header Rule) → header_in line ≡ r
         → (elim r as (λ _. Reading) [
-          | Ok h ↦ header_before h
-              (lines_read (so_far max) h.subject 2 (next ∷ lines))
+          | Ok h ↦ header_before h (body_read (so_far max) h (next ∷ lines))
           | Err rule ↦ stopped 1 (Some rule)
         ]).fault ≡ None
         → length line + 1 + size_of (next ∷ lines) ≤ 65 * max + 1
     by_header (Ok h) is e' =
-        let more = lines_short max h.subject 2 next lines (omega arith) e' in
+        let more = body_short max h next lines low e' in
         let fewer : max + 1 - 2 + 1 ≡ max = omega arith in
         omega (arith, header_short line h is)
     by_header (Err rule) is e' = cc

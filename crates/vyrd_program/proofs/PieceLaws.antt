@@ -8,7 +8,7 @@ use Rattle.vyrd_base.specs.declared.verdict.Verdict.TheVariants.{Malformed}
 use Rattle.vyrd_base.specs.Devices.{Gives, IsAtEnd}
 use Rattle.vyrd_base.specs.Reading.{TextFault, reading}
 use Rattle.vyrd_base.specs.TextVerdicts.{text_verdict, text_verdict_so_far}
-use Rattle.vyrd_base.proofs.ReadingGrows.{text_verdict_lasts}
+use Rattle.vyrd_base.proofs.TextLasts.{text_verdict_lasts}
 use Rattle.vyrd_check.specs.LogReadings.{read_so_far}
 use Rattle.vyrd_check.specs.Checking.{CheckerState, HasChecked}
 use Rattle.vyrd_check.proofs.ReadingFacts.{second_none}

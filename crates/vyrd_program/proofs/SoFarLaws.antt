@@ -1,22 +1,22 @@
 -- A verdict that stands before the end is never acceptance.
 use Rattle.std.proofs.Common.{◌≡◌, ℕ, Bool, true, false, cond, List, [], ◌∷◌, Option, Some, None, subst}
-use Rattle.std.specs.Prelude.{option_map, option_and_then}
+use Rattle.std.specs.Prelude.{is_none, option_map, option_and_then}
 use Rattle.std.specs.Option.{option_or}
 use Rattle.std.specs.Bool.{then_some}
 use Rattle.vyrd_base.specs.declared.header.Header.{Header}
 use Rattle.vyrd_base.specs.declared.log.Entry.{Entry}
+use Rattle.vyrd_base.specs.declared.log.StartWord.{StartWord}
 use Rattle.vyrd_base.specs.declared.verdict.Rule.{Rule}
-use Rattle.vyrd_base.specs.declared.verdict.Rule.TheVariants.{CallOpen}
+use Rattle.vyrd_base.specs.declared.verdict.Rule.TheVariants.{StartState, CallOpen}
 use Rattle.vyrd_base.specs.declared.verdict.Why.{Why}
 use Rattle.vyrd_base.specs.declared.verdict.Verdict.{Verdict}
 use Rattle.vyrd_base.specs.declared.verdict.Verdict.TheVariants.{Accepted, Violation, Malformed}
 use Rattle.vyrd_base.specs.Places.{places, newest_first, first_answer}
-use Rattle.vyrd_base.specs.Specification.{start}
-use Rattle.vyrd_base.specs.Commits.{commits, states_from}
+use Rattle.vyrd_base.specs.Starts.{state_at_start}
 use Rattle.vyrd_base.specs.Faults.{fault_at}
 use Rattle.vyrd_base.specs.Front.{front, first_break}
 use Rattle.vyrd_base.specs.Reading.{Reading, TextFault}
-use Rattle.vyrd_base.specs.Verdicts.{line_of, violation_at, first_fault, shape_verdict, verdict_so_far, is_call_open, end_verdict}
+use Rattle.vyrd_base.specs.Verdicts.{line_of, violation_at, states_along, first_fault, shape_verdict, start_verdict, begun_verdict, verdict_so_far, is_call_open, end_verdict}
 use Rattle.vyrd_base.specs.TextVerdicts.{entries_verdict, known_verdict, text_verdict_so_far}
 use Rattle.vyrd_check.specs.LogReadings.{read_so_far}
 use Rattle.vyrd_program.specs.Outputs.{status_of}
@@ -44,6 +44,10 @@ malformed_bad : (line : ℕ) (o : Option Rule) → IsBad (option_map (Malformed 
 malformed_bad line None = tt
 malformed_bad line (Some rule) = tt
 
+start_bad : (b : Bool) → IsBad (then_some b (Malformed 2 StartState))
+start_bad true = tt
+start_bad false = tt
+
 open_bad : (line : ℕ) (b : Bool) → IsBad (then_some b (Malformed line CallOpen))
 open_bad line true = tt
 open_bad line false = tt
@@ -52,25 +56,32 @@ fault_bad : (o : Option TextFault) → IsBad (option_map (λ fault. Malformed fa
 fault_bad None = tt
 fault_bad (Some fault) = tt
 
-front_bad : (h : Header) (well_formed : List Entry) → IsBad (first_fault h well_formed)
+front_bad : (h : Header) (starting : List StartWord) (well_formed : List Entry) → IsBad (first_fault h starting well_formed)
 unfolding first_fault
-front_bad h well_formed =
-    let states = states_from start (commits well_formed) in
-    first_bad (violation_at h states) (λ place. violation_bad (line_of _) (fault_at h states place)) (places well_formed)
+front_bad h starting well_formed =
+    let states = states_along h starting well_formed in
+    first_bad (violation_at h starting states) (λ place. violation_bad (line_of starting _) (fault_at h starting states place)) (places well_formed)
 
-log_bad : (h : Header) (entries : List Entry) → IsBad (verdict_so_far h entries)
+begun_bad : (h : Header) (starting : List StartWord) (entries : List Entry) → IsBad (begun_verdict h starting entries)
+begun_bad h starting [] = tt
+begun_bad h starting (e ∷ entries) = start_bad (is_none (state_at_start h starting))
+
+log_bad : (h : Header) (starting : List StartWord) (entries : List Entry) → IsBad (verdict_so_far h starting entries)
 unfolding verdict_so_far shape_verdict
-log_bad h entries = or_bad (first_fault h (front h entries)) _ (front_bad h (front h entries)) (malformed_bad (line_of _) (first_break h entries))
+log_bad h starting entries = or_bad (begun_verdict h starting entries) _ (begun_bad h starting entries)
+    (or_bad (first_fault h starting (front h entries)) _ (front_bad h starting (front h entries))
+    (malformed_bad (line_of starting _) (first_break h entries)))
 
-end_bad : (h : Header) (entries : List Entry) → IsBad (end_verdict h entries)
+end_bad : (h : Header) (starting : List StartWord) (entries : List Entry) → IsBad (end_verdict h starting entries)
 unfolding end_verdict
-end_bad h entries = open_bad (line_of _) (is_call_open h (newest_first entries))
+end_bad h starting entries = or_bad (start_verdict h starting) _ (start_bad (is_none (state_at_start h starting)))
+    (open_bad (line_of starting _) (is_call_open h (newest_first entries)))
 
 entries_bad : (read : Reading) (h : Header) → IsBad (entries_verdict read h)
-entries_bad read h = or_bad (verdict_so_far h read.entries) _ (log_bad h read.entries) (by_end read.ended)
+entries_bad read h = or_bad (verdict_so_far h read.starting read.entries) _ (log_bad h read.starting read.entries) (by_end read.ended)
   where
-    by_end : (b : Bool) → IsBad (cond b (end_verdict h read.entries) None)
-    by_end true = end_bad h read.entries
+    by_end : (b : Bool) → IsBad (cond b (end_verdict h read.starting read.entries) None)
+    by_end true = end_bad h read.starting read.entries
     by_end false = tt
 
 known_bad : (read : Reading) → IsBad (known_verdict read)

@@ -42,7 +42,7 @@ played_run w run limits is = run_plays w.header (work_scripts w) w.turns run.his
 -- a verdict about a legal history of played scripts names no rule but that of races
 pub names_only_races : (w : Workload) (run : Run) → KeepsLimits w → is_legal (cells_of w.header) run.history.items ≡ true
     → PlayToTheEnd (work_scripts w) run.history.items
-    → run.verdict ≡ verdict w.header (log_of run.history.items) → NamesOnlyRaces run
+    → run.verdict ≡ verdict w.header [] (log_of run.history.items) → NamesOnlyRaces run
 names_only_races w run limits legal played is = λ line rule e.
     only_races w.header (work_scripts w) run.history.items (scripts_sound w limits) legal played line rule (sym is ∙ e)
 

@@ -1,6 +1,6 @@
 -- What `run` answers about an input: how the bytes are refused, that a caller's events are spent, or the verdict about the log
 -- of a live run.
-use Rattle.std.specs.Prelude.{◌≡◌, ◌<◌, ◌≤◌, ◌⊎◌, ℕ, true, List, ◌++◌, length, Option, Some, None, Result, Ok, Err, IfSome, codes, decimal}
+use Rattle.std.specs.Prelude.{[], ◌≡◌, ◌<◌, ◌≤◌, ◌⊎◌, ℕ, true, List, ◌++◌, length, Option, Some, None, Result, Ok, Err, IfSome, codes, decimal}
 use Rattle.vyrd_base.specs.Places.{newest_first}
 use Rattle.vyrd_base.specs.Histories.{cells_of, is_legal, log_of}
 use Rattle.vyrd_base.specs.Spelling.{ended_line}
@@ -29,7 +29,7 @@ pub record IsLiveRun (w : Workload) (run : Run) : Type 0 where
   pub legal : is_legal (cells_of w.header) run.history.items ≡ true
   pub parts : PlayToTheEnd (work_scripts w) run.history.items
   pub words : run.words.items ≡ memory_after w.header (newest_first run.history.items)
-  pub verdict_is : run.verdict ≡ verdict w.header (log_of run.history.items)
+  pub verdict_is : run.verdict ≡ verdict w.header [] (log_of run.history.items)
   pub room : AllHadRoom w.header most_events run.history.items
 
 -- the line of a run whose events are spent

@@ -1,5 +1,5 @@
 -- What `step` answers about an input: how the bytes are refused, that the run by turns gets stuck, or the verdict about its log.
-use Rattle.std.specs.Prelude.{◌≡◌, ◌≤◌, ◌⊎◌, ℕ, List, ◌++◌, length, Option, Some, None, Result, Ok, Err, IfSome, codes}
+use Rattle.std.specs.Prelude.{[], ◌≡◌, ◌≤◌, ◌⊎◌, ℕ, List, ◌++◌, length, Option, Some, None, Result, Ok, Err, IfSome, codes}
 use Rattle.vyrd_base.specs.declared.header.Header.{Header}
 use Rattle.vyrd_base.specs.declared.verdict.Rule.{Rule}
 use Rattle.vyrd_base.specs.declared.verdict.Rule.TheVariants.{BlockRaced}
@@ -25,12 +25,12 @@ use Rattle.vyrd_program.specs.Outputs.{status_of, Appends, AppendsFront}
 pub record IsRunByTurns (w : Workload) (run : Run) : Type 0 where
   pub history : RunsTo (work_scripts w) w.turns run.history.items
   pub words : run.words.items ≡ memory_after w.header (newest_first run.history.items)
-  pub verdict_is : run.verdict ≡ verdict w.header (log_of run.history.items)
+  pub verdict_is : run.verdict ≡ verdict w.header [] (log_of run.history.items)
 
 -- what is shown of a run: the verdict's line, or the log's text and then that line, or the history's text
 abbrev pub run_text : Show → Header → Run → List ℕ
 run_text shown.Verdict h run = verdict_text run.verdict
-run_text shown.Log h run = log_text h (log_of run.history.items) ++ verdict_text run.verdict
+run_text shown.Log h run = log_text h [] (log_of run.history.items) ++ verdict_text run.verdict
 run_text shown.History h run = history_text (record { header = h; history = run.history.items })
 
 -- the line of a run that gets stuck

@@ -27,6 +27,8 @@ mod play_tests;
 mod program;
 mod reading;
 mod show;
+#[cfg(test)]
+mod start_tests;
 mod step;
 mod telling;
 #[cfg(test)]

@@ -326,7 +326,7 @@ fn worked() -> [Row<'static>; 28] {
         },
         Row {
             name: "unknown_version",
-            log: b"vyrd 2 multiset 1 1\nend\n",
+            log: b"vyrd 3 multiset 1 1\nend\n",
             status: 2,
             answer: b"malformed at line 1: unknown version\n",
         },

@@ -1,7 +1,7 @@
 -- How what is kept goes on with one more entry.
 use Rattle.std.proofs.Common.{◌≡◌, ℕ, suc, zero, ◌+◌, ◌<◌, Bool, true, false, cond, List, [], ◌∷◌, ◌++◌, length, map, Option, Some, None, refl, ap, ◌∙◌, sym, subst, arith, get_or, set, get_or-set_other, get_or-set_same}
 use Rattle.std.specs.Prelude.{◌==◌, unwrap_or, is_some, nat_eq, replicate}
-use Rattle.std.specs.Prelude.{Result, Ok, Err, OnOk}
+use Rattle.std.specs.Prelude.{Result, Ok, Err, OnOk, IfOk}
 use Rattle.std.specs.Option.{option_or}
 use Rattle.std.proofs.lemmas.List.{length-replicate}
 use Rattle.indexmap.specs.IndexMap.{insert_entry}
@@ -11,12 +11,19 @@ use Rattle.vyrd_base.specs.declared.subject.Args.{Args}
 use Rattle.vyrd_base.specs.declared.log.Kind.{Kind}
 use Rattle.vyrd_base.specs.declared.log.Kind.TheVariants.{Call, Return, Write, Commit, BlockOpen, BlockClose, BlockCommit}
 use Rattle.vyrd_base.specs.declared.log.Entry.{Entry}
-use Rattle.vyrd_base.specs.Places.{first_answer, numbers_from, numbers_below}
+use Rattle.vyrd_base.specs.declared.log.StartWord.{StartWord}
+use Rattle.vyrd_base.specs.Places.{first_answer, numbers_from}
 use Rattle.vyrd_base.specs.Layout.{plain_words}
 use Rattle.vyrd_base.specs.Callers.{by_caller, open_or_close, has_block}
-use Rattle.vyrd_base.specs.Words.{with_write, block_writes, effects_at, effects, given_to, value_after, words_after}
+use Rattle.vyrd_base.specs.Shape.{broken_rule}
+use Rattle.vyrd_base.specs.Starts.{words_at_start}
+use Rattle.vyrd_base.specs.Words.{with_write, block_writes, effects_at, given_to, value_at_start, value_after, words_after}
+use Rattle.vyrd_base.specs.FirstVersion.{old_effects_at, old_effects}
+use Rattle.vyrd_base.proofs.ShadowLaws.{WellFormed}
+use Rattle.vyrd_base.proofs.EffectLaws.{ends_block}
+use Rattle.vyrd_base.proofs.SettledWords.{settled_value, words_settled, same_here}
 use Rattle.vyrd_base.proofs.PlaceLaws.{first_answer-append}
-use Rattle.vyrd_base.proofs.WordLaws.{words_after-write}
+use Rattle.vyrd_base.proofs.WordLaws.{words_after-write, words_after-quiet}
 use Rattle.vyrd_base.proofs.BlockLaws.{entry, by_same, other_answer, no_answer, other_writes, own_block, own_writes}
 use Rattle.vyrd_base.proofs.ListLaws.{zeros}
 use Rattle.vyrd_shadow.specs.Blocks.{with_writes, with_word, first_written}
@@ -30,18 +37,20 @@ pub record Own (c : ℕ) (block : Option (List (ℕ × ℕ))) (entries : List En
   pub values : (w : ℕ) → has_block c entries ≡ true
       → first_answer (given_to w) (unwrap_or block []) ≡ first_answer (given_to w) (block_writes c entries)
 
-own_of : (kept : Kept) (earlier : List Entry) → HasFollowed kept earlier → (c : ℕ) → c < kept.header.callers
+own_of : (kept : Kept) (starting : List StartWord) (earlier : List Entry) → HasFollowed kept starting earlier → (c : ℕ) → c < kept.header.callers
     → Own c (get_or kept.blocks c None) earlier
-own_of kept earlier followed c low = record {
+own_of kept starting earlier followed c low = record {
   opened = followed.blocks c low;
   order = followed.order c low;
   values = λ w. followed.values c w low;
 }
 
 -- words and blocks make what is kept
-followed_from : (kept : Kept) (earlier : List Entry) → kept.words ≡ words_after kept.header earlier
-    → ((c : ℕ) → c < kept.header.callers → Own c (get_or kept.blocks c None) earlier) → HasFollowed kept earlier
-followed_from kept earlier words own = record {
+followed_from : (kept : Kept) (starting : List StartWord) (earlier : List Entry) → WellFormed kept.header earlier
+    → kept.words ≡ words_after kept.header starting earlier
+    → ((c : ℕ) → c < kept.header.callers → Own c (get_or kept.blocks c None) earlier) → HasFollowed kept starting earlier
+followed_from kept starting earlier rules words own = record {
+  rules = rules;
   words = words;
   blocks = λ c low. (own c low).opened;
   order = λ c low. (own c low).order;
@@ -89,29 +98,28 @@ block_write : (d c word value : ℕ) (earlier : List Entry) → has_block d (ent
 block_write d c word value earlier = ap (λ o. unwrap_or o false) (no_answer d c open_or_close (Write word value) earlier refl)
 
 -- a write outside a block
-pub followed_through : (kept : Kept) (earlier : List Entry) (c word value : ℕ) (changed : List ℕ) → c < kept.header.callers
+pub followed_through : (kept : Kept) (starting : List StartWord) (earlier : List Entry) (c word value : ℕ) (changed : List ℕ) → c < kept.header.callers
     → word < plain_words kept.header → is_open kept c ≡ false
-    → HasFollowed kept earlier → HasFollowed (record {
+    → HasFollowed kept starting earlier → broken_rule kept.header earlier (entry c (Write word value)) ≡ None → HasFollowed (record {
       header = kept.header;
       words = set kept.words word value;
       blocks = kept.blocks;
       changed = changed;
-    }) (entry c (Write word value) ∷ earlier)
-followed_through kept earlier c word value changed low low_w closed followed =
+    }) starting (entry c (Write word value) ∷ earlier)
+followed_through kept starting earlier c word value changed low low_w closed followed keeps =
     let out : has_block c earlier ≡ false = sym (followed.blocks c low) ∙ closed in
-    followed_from _ _
-    (ap (λ l. set l word value) followed.words ∙ sym (words_after-write kept.header earlier c word value out low_w))
+    followed_from _ _ _ (keeps, followed.rules)
+    (ap (λ l. set l word value) followed.words ∙ sym (words_after-write kept.header starting earlier c word value out low_w))
     (λ d low_d. by_same c d
     (λ same. subst (λ x. Own x (get_or kept.blocks x None) (entry c (Write word value) ∷ earlier)) same
     (own_closed c (get_or kept.blocks c None) (entry c (Write word value) ∷ earlier) closed (block_write c c word value earlier ∙ out)))
-    (λ other. own_other d c (Write word value) (get_or kept.blocks d None) earlier other (own_of kept earlier followed d low_d)))
+    (λ other. own_other d c (Write word value) (get_or kept.blocks d None) earlier other (own_of kept starting earlier followed d low_d)))
 
 -- a write in a block doesn't count yet
-words_held : (h : Header) (earlier : List Entry) (c word value : ℕ) → has_block c earlier ≡ true
-    → words_after h (entry c (Write word value) ∷ earlier) ≡ words_after h earlier
-unfolding words_after
-words_held h earlier c word value inside =
-    ap (λ b. map (value_after (cond b [] ((word, value) ∷ []) ++ effects earlier)) (numbers_below (plain_words h))) inside
+words_held : (h : Header) (starting : List StartWord) (earlier : List Entry) (c word value : ℕ) → has_block c earlier ≡ true
+    → words_after h starting (entry c (Write word value) ∷ earlier) ≡ words_after h starting earlier
+words_held h starting earlier c word value inside = words_after-quiet h starting earlier c (Write word value) refl
+    (ap (λ b. cond b [] ((word, value) ∷ [])) inside)
 
 own_kept : (c word value : ℕ) (block : Option (List (ℕ × ℕ))) (earlier : List Entry) → has_block c earlier ≡ true → Own c block earlier
     → Own c (Some (insert_entry nat_eq (unwrap_or block []) word value)) (entry c (Write word value) ∷ earlier)
@@ -123,27 +131,23 @@ own_kept c word value block earlier inside own = record {
       ∙ ap (first_answer (given_to w)) (sym (own_writes c (Write word value) earlier));
 }
 
-pub followed_kept : (kept : Kept) (earlier : List Entry) (c word value : ℕ) → c < kept.header.callers → c < length kept.blocks → is_open kept c ≡ true
-    → HasFollowed kept earlier
+pub followed_kept : (kept : Kept) (starting : List StartWord) (earlier : List Entry) (c word value : ℕ) → c < kept.header.callers → c < length kept.blocks → is_open kept c ≡ true
+    → HasFollowed kept starting earlier → broken_rule kept.header earlier (entry c (Write word value)) ≡ None
     → HasFollowed (record {
       header = kept.header;
       words = kept.words;
       blocks = set kept.blocks c (Some (insert_entry nat_eq (kept_writes kept c) word value));
       changed = kept.changed;
     })
-    (entry c (Write word value) ∷ earlier)
-followed_kept kept earlier c word value low low' opened followed =
+    starting (entry c (Write word value) ∷ earlier)
+followed_kept kept starting earlier c word value low low' opened followed keeps =
     let inside : has_block c earlier ≡ true = sym (followed.blocks c low) ∙ opened in
-    followed_from _ _
-    (followed.words ∙ sym (words_held kept.header earlier c word value inside))
+    followed_from _ _ _ (keeps, followed.rules)
+    (followed.words ∙ sym (words_held kept.header starting earlier c word value inside))
     (own_next kept.header.callers kept.blocks earlier c (Write word value) _ low'
-    (own_kept c word value (get_or kept.blocks c None) earlier inside (own_of kept earlier followed c low)) (own_of kept earlier followed))
+    (own_kept c word value (get_or kept.blocks c None) earlier inside (own_of kept starting earlier followed c low)) (own_of kept starting earlier followed))
 
 -- a block is opened
-words_open : (h : Header) (earlier : List Entry) (c : ℕ) → words_after h (entry c BlockOpen ∷ earlier) ≡ words_after h earlier
-unfolding words_after
-words_open h earlier c = refl
-
 own_open : (c : ℕ) (earlier : List Entry) → Own c (Some []) (entry c BlockOpen ∷ earlier)
 own_open c earlier = record {
   opened = sym (own_block c BlockOpen earlier);
@@ -151,16 +155,18 @@ own_open c earlier = record {
   values = λ w e. ap (first_answer (given_to w)) (sym (own_writes c BlockOpen earlier));
 }
 
-pub followed_open : (kept : Kept) (earlier : List Entry) (c : ℕ) → c < length kept.blocks → HasFollowed kept earlier
+pub followed_open : (kept : Kept) (starting : List StartWord) (earlier : List Entry) (c : ℕ) → c < length kept.blocks → HasFollowed kept starting earlier
+    → broken_rule kept.header earlier (entry c BlockOpen) ≡ None
     → HasFollowed (record {
       header = kept.header;
       words = kept.words;
       blocks = set kept.blocks c (Some []);
       changed = kept.changed;
-    }) (entry c BlockOpen ∷ earlier)
-followed_open kept earlier c low followed =
-    followed_from _ _ (followed.words ∙ sym (words_open kept.header earlier c))
-    (own_next kept.header.callers kept.blocks earlier c BlockOpen (Some []) low (own_open c earlier) (own_of kept earlier followed))
+    }) starting (entry c BlockOpen ∷ earlier)
+followed_open kept starting earlier c low followed keeps =
+    followed_from _ _ _ (keeps, followed.rules)
+    (followed.words ∙ sym (words_after-quiet kept.header starting earlier c BlockOpen refl refl))
+    (own_next kept.header.callers kept.blocks earlier c BlockOpen (Some []) low (own_open c earlier) (own_of kept starting earlier followed))
 
 -- lists of numbers by their places
 is_map : (words : List ℕ) (f : ℕ → ℕ) (k n : ℕ) → length words ≡ n → ((i : ℕ) → i < n → get_or words i 0 ≡ f (k + i))
@@ -178,109 +184,119 @@ at_map f k zero i low = absurd (omega arith)
 at_map f k (suc n) zero low = ap f (omega arith)
 at_map f k (suc n) (suc i) low = at_map f (k + 1) n i (omega arith) ∙ ap f (omega arith)
 
--- a look-up in two lists of effects
-value_append : (first rest : List (ℕ × ℕ)) (w : ℕ) → value_after (first ++ rest) w ≡ unwrap_or (first_answer (given_to w) first) (value_after rest w)
-value_append first rest w = ap (λ o. unwrap_or o 0) (first_answer-append (given_to w) first rest)
-    ∙ elim (first_answer (given_to w) first) as (λ o. unwrap_or (option_or o (first_answer (given_to w) rest)) 0
-    ≡ unwrap_or o (unwrap_or (first_answer (given_to w) rest) 0)) [
+-- a value among a block's writes and older ones
+settled_append : (starting : List StartWord) (earlier : List Entry) (e : Entry) (writes : List (ℕ × ℕ)) (w : ℕ)
+    → old_effects_at earlier e.caller e.kind ≡ writes
+    → settled_value starting (e ∷ earlier) w ≡ unwrap_or (first_answer (given_to w) writes) (settled_value starting earlier w)
+settled_append starting earlier e writes w ends =
+    ap (λ o. unwrap_or o (value_at_start starting w)) (ap (λ ws. first_answer (given_to w) (ws ++ old_effects earlier)) ends
+    ∙ first_answer-append (given_to w) writes (old_effects earlier))
+    ∙ elim (first_answer (given_to w) writes) as (λ o.
+    unwrap_or (option_or o (first_answer (given_to w) (old_effects earlier))) (value_at_start starting w)
+    ≡ unwrap_or o (settled_value starting earlier w)) [
       | None ↦ refl
       | Some v ↦ refl
     ]
 
 -- a block's writes take effect
-words_close : (h : Header) (earlier : List Entry) (c : ℕ) (kind : Kind) (words : List ℕ) (writes : List (ℕ × ℕ))
-    → effects_at earlier c kind ≡ block_writes c earlier
-    → length words ≡ plain_words h → words ≡ words_after h earlier → AllOnce (words_of writes)
-    → ((w : ℕ) → first_answer (given_to w) writes ≡ first_answer (given_to w) (block_writes c earlier))
-    → with_writes words writes ≡ words_after h (entry c kind ∷ earlier)
-unfolding words_after
-words_close h earlier c kind words writes ends size is once values =
-    is_map (with_writes words writes) (value_after (effects_at earlier c kind ++ effects earlier)) 0 (plain_words h)
-    (length-with_writes words writes ∙ size)
+words_close : (h : Header) (starting : List StartWord) (earlier : List Entry) (e : Entry) (words : List ℕ) (writes : List (ℕ × ℕ))
+    → old_effects_at earlier e.caller e.kind ≡ block_writes e.caller earlier → WellFormed h (e ∷ earlier)
+    → length words ≡ plain_words h → words ≡ words_after h starting earlier → AllOnce (words_of writes)
+    → ((w : ℕ) → first_answer (given_to w) writes ≡ first_answer (given_to w) (block_writes e.caller earlier))
+    → with_writes words writes ≡ words_after h starting (e ∷ earlier)
+words_close h starting earlier e words writes ends rules size is once values =
+    is_map (with_writes words writes) (settled_value starting (e ∷ earlier)) 0 (plain_words h) (length-with_writes words writes ∙ size)
     (λ i low.
     let place : 0 + i ≡ i = omega arith in
-    let was : get_or words i 0 ≡ value_after (effects earlier) i
-    = ap (λ l. get_or l i 0) is ∙ at_map (value_after (effects earlier)) 0 (plain_words h) i low ∙ ap (value_after (effects earlier)) place in
+    let was : get_or words i 0 ≡ settled_value starting earlier i
+    = ap (λ l. get_or l i 0) (is ∙ words_settled h starting earlier rules.1)
+    ∙ at_map (settled_value starting earlier) 0 (plain_words h) i low ∙ ap (settled_value starting earlier) place in
     value_with words writes i (omega arith) once
     ∙ (λ j. unwrap_or (values i j) (was j))
-    ∙ sym (value_append (block_writes c earlier) (effects earlier) i)
-    ∙ ap (λ first. value_after (first ++ effects earlier) i) (sym ends)
-    ∙ ap (value_after (effects_at earlier c kind ++ effects earlier)) (sym place))
+    ∙ sym (settled_append starting earlier e (block_writes e.caller earlier) i ends)
+    ∙ ap (settled_value starting (e ∷ earlier)) (sym place))
+    ∙ sym (words_settled h starting (e ∷ earlier) rules)
 
 -- a block ends, with a commit or without
-followed_end : (kept : Kept) (earlier : List Entry) (c : ℕ) (kind : Kind) (changed : List ℕ)
-    → effects_at earlier c kind ≡ block_writes c earlier → open_or_close kind ≡ Some false
+followed_end : (kept : Kept) (starting : List StartWord) (earlier : List Entry) (c : ℕ) (kind : Kind) (changed : List ℕ)
+    → old_effects_at earlier c kind ≡ block_writes c earlier → open_or_close kind ≡ Some false
     → c < kept.header.callers → c < length kept.blocks → length kept.words ≡ plain_words kept.header → is_open kept c ≡ true
-    → HasFollowed kept earlier
+    → HasFollowed kept starting earlier → broken_rule kept.header earlier (entry c kind) ≡ None
     → HasFollowed (record {
       header = kept.header;
       words = with_writes kept.words (kept_writes kept c);
       blocks = set kept.blocks c None;
       changed = changed;
-    }) (entry c kind ∷ earlier)
-followed_end kept earlier c kind changed ends edge low low' size opened followed =
+    }) starting (entry c kind ∷ earlier)
+followed_end kept starting earlier c kind changed ends edge low low' size opened followed keeps =
     let inside : has_block c earlier ≡ true = sym (followed.blocks c low) ∙ opened in
     let once : AllOnce (words_of (kept_writes kept c)) = subst AllOnce (sym (followed.order c low inside)) (once_written (block_writes c earlier)) in
     let out : has_block c (entry c kind ∷ earlier) ≡ false = own_block c kind earlier
     ∙ ap (λ o. unwrap_or (option_or o (first_answer (by_caller c open_or_close) earlier)) false) edge in
-    followed_from _ _
-    (words_close kept.header earlier c kind kept.words (kept_writes kept c) ends size followed.words once (λ w. followed.values c w low inside))
+    followed_from _ _ _ (keeps, followed.rules)
+    (words_close kept.header starting earlier (entry c kind) kept.words (kept_writes kept c) ends (keeps, followed.rules) size followed.words once
+    (λ w. followed.values c w low inside))
     (own_next kept.header.callers kept.blocks earlier c kind None low' (own_closed c None (entry c kind ∷ earlier) refl out)
-    (own_of kept earlier followed))
+    (own_of kept starting earlier followed))
 
-pub followed_close : (kept : Kept) (earlier : List Entry) (c : ℕ) (changed : List ℕ)
+pub followed_close : (kept : Kept) (starting : List StartWord) (earlier : List Entry) (c : ℕ) (changed : List ℕ)
     → c < kept.header.callers → c < length kept.blocks → length kept.words ≡ plain_words kept.header → is_open kept c ≡ true
-    → HasFollowed kept earlier
+    → HasFollowed kept starting earlier → broken_rule kept.header earlier (entry c BlockClose) ≡ None
     → HasFollowed (record {
       header = kept.header;
       words = with_writes kept.words (kept_writes kept c);
       blocks = set kept.blocks c None;
       changed = changed;
-    }) (entry c BlockClose ∷ earlier)
-followed_close kept earlier c changed = followed_end kept earlier c BlockClose changed refl refl
+    }) starting (entry c BlockClose ∷ earlier)
+followed_close kept starting earlier c changed = followed_end kept starting earlier c BlockClose changed refl refl
 
-pub followed_commit : (kept : Kept) (earlier : List Entry) (c : ℕ) (changed : List ℕ)
+pub followed_commit : (kept : Kept) (starting : List StartWord) (earlier : List Entry) (c : ℕ) (changed : List ℕ)
     → c < kept.header.callers → c < length kept.blocks → length kept.words ≡ plain_words kept.header → is_open kept c ≡ true
-    → HasFollowed kept earlier
+    → HasFollowed kept starting earlier → broken_rule kept.header earlier (entry c BlockCommit) ≡ None
     → HasFollowed (record {
       header = kept.header;
       words = with_writes kept.words (kept_writes kept c);
       blocks = set kept.blocks c None;
       changed = changed;
-    }) (entry c BlockCommit ∷ earlier)
-followed_commit kept earlier c changed = followed_end kept earlier c BlockCommit changed refl refl
+    }) starting (entry c BlockCommit ∷ earlier)
+followed_commit kept starting earlier c changed = followed_end kept starting earlier c BlockCommit changed refl refl
 
 -- an entry that is no write and touches no block
-followed_quiet : (kept : Kept) (earlier : List Entry) (c : ℕ) (kind : Kind)
-    → words_after kept.header (entry c kind ∷ earlier) ≡ words_after kept.header earlier → open_or_close kind ≡ None
-    → ((b : Bool) (writes : List (ℕ × ℕ)) → with_write b kind writes ≡ writes) → HasFollowed kept earlier → HasFollowed kept (entry c kind ∷ earlier)
-followed_quiet kept earlier c kind words edge writes followed =
-    followed_from kept (entry c kind ∷ earlier) (followed.words ∙ sym words)
+followed_quiet : (kept : Kept) (starting : List StartWord) (earlier : List Entry) (c : ℕ) (kind : Kind) → ends_block kind ≡ false
+    → effects_at earlier c kind [] ≡ [] → open_or_close kind ≡ None
+    → ((b : Bool) (writes : List (ℕ × ℕ)) → with_write b kind writes ≡ writes) → HasFollowed kept starting earlier
+    → broken_rule kept.header earlier (entry c kind) ≡ None → HasFollowed kept starting (entry c kind ∷ earlier)
+followed_quiet kept starting earlier c kind goes_on none edge writes followed keeps =
+    followed_from kept starting (entry c kind ∷ earlier) (keeps, followed.rules)
+    (followed.words ∙ sym (words_after-quiet kept.header starting earlier c kind goes_on none))
     (λ d low. own_same d (get_or kept.blocks d None) earlier (entry c kind ∷ earlier)
     (ap (λ o. unwrap_or o false) (no_answer d c open_or_close kind earlier edge)) (writes (c == d) (block_writes d earlier))
-    (own_of kept earlier followed d low))
+    (own_of kept starting earlier followed d low))
 
-pub followed_call : (kept : Kept) (earlier : List Entry) (c : ℕ) (method : Method) (args : Args) → HasFollowed kept earlier
-    → HasFollowed kept (entry c (Call method args) ∷ earlier)
-unfolding words_after
-followed_call kept earlier c method args = followed_quiet kept earlier c (Call method args) refl refl by_test
+pub followed_call : (kept : Kept) (starting : List StartWord) (earlier : List Entry) (c : ℕ) (method : Method) (args : Args)
+    → HasFollowed kept starting earlier → broken_rule kept.header earlier (entry c (Call method args)) ≡ None
+    → HasFollowed kept starting (entry c (Call method args) ∷ earlier)
+followed_call kept starting earlier c method args = followed_quiet kept starting earlier c (Call method args) refl refl refl by_test
   where
     by_test : (b : Bool) (writes : List (ℕ × ℕ)) → with_write b (Call method args) writes ≡ writes
     by_test true writes = refl
     by_test false writes = refl
 
-pub followed_return : (kept : Kept) (earlier : List Entry) (c reply : ℕ) → HasFollowed kept earlier
-    → HasFollowed kept (entry c (Return reply) ∷ earlier)
-unfolding words_after
-followed_return kept earlier c reply = followed_quiet kept earlier c (Return reply) refl refl by_test
+pub followed_return : (kept : Kept) (starting : List StartWord) (earlier : List Entry) (c reply : ℕ)
+    → HasFollowed kept starting earlier → broken_rule kept.header earlier (entry c (Return reply)) ≡ None
+    → HasFollowed kept starting (entry c (Return reply) ∷ earlier)
+followed_return kept starting earlier c reply = followed_quiet kept starting earlier c (Return reply) refl refl refl by_test
   where
     by_test : (b : Bool) (writes : List (ℕ × ℕ)) → with_write b (Return reply) writes ≡ writes
     by_test true writes = refl
     by_test false writes = refl
 
-pub followed_lone_commit : (kept : Kept) (earlier : List Entry) (c : ℕ) → HasFollowed kept earlier → HasFollowed kept (entry c Commit ∷ earlier)
-unfolding words_after
-followed_lone_commit kept earlier c = followed_quiet kept earlier c Commit refl refl by_test
+-- a lone commit, in a block too: the writes of the block that take effect there aren't known before its end
+pub followed_lone_commit : (kept : Kept) (starting : List StartWord) (earlier : List Entry) (c : ℕ)
+    → HasFollowed kept starting earlier → broken_rule kept.header earlier (entry c Commit) ≡ None
+    → HasFollowed kept starting (entry c Commit ∷ earlier)
+followed_lone_commit kept starting earlier c =
+    followed_quiet kept starting earlier c Commit refl (same_here earlier c Commit refl) refl by_test
   where
     by_test : (b : Bool) (writes : List (ℕ × ℕ)) → with_write b Commit writes ≡ writes
     by_test true writes = refl
@@ -291,15 +307,26 @@ alike zero c block = refl
 alike (suc n) zero block = refl
 alike (suc n) (suc c) block = alike n c block
 
-pub followed_none : (h : Header) (changed : List ℕ)
-    → HasFollowed (record { header = h; words = replicate (plain_words h) 0; blocks = replicate h.callers None; changed = changed }) []
+-- no block of a new shadow is open
+pub none_open : (h : Header) (words changed : List ℕ) (c : ℕ)
+    → is_open (record { header = h; words = words; blocks = replicate h.callers None; changed = changed }) c ≡ false
+none_open h words changed c = ap is_some (alike h.callers c None)
+
+pub followed_start : (h : Header) (starting : List StartWord) (words changed : List ℕ) → words ≡ words_at_start h starting
+    → HasFollowed (record { header = h; words = words; blocks = replicate h.callers None; changed = changed }) starting []
 unfolding words_after
-followed_none h changed = followed_from _ _
-    (is_map (replicate (plain_words h) 0) (value_after []) 0 (plain_words h) (length-replicate {A = ℕ} (plain_words h) 0)
-    (λ i low. zeros (plain_words h) i))
-    (λ c low. own_closed c (get_or (replicate h.callers None) c None) [] (ap is_some (alike h.callers c None)) refl)
+followed_start h starting words changed is = followed_from _ _ _ tt is
+    (λ c low. own_closed c (get_or (replicate h.callers None) c None) [] (none_open h words changed c) refl)
+
+pub zeros_at_start : (h : Header) → replicate (plain_words h) 0 ≡ words_at_start h []
+zeros_at_start h = is_map (replicate (plain_words h) 0) (value_after [] []) 0 (plain_words h)
+    (length-replicate {A = ℕ} (plain_words h) 0) (λ i low. zeros (plain_words h) i)
 
 -- what follows from an `Ok`
 pub on_ok : {T E P Q : Type 0} (r : Result T E) → OnOk r P → (P → Q) → OnOk r Q
 on_ok (Ok x) p f = f p
 on_ok (Err e) p f = p
+
+pub if_ok : {T E : Type 0} {P Q : T → Type 0} (r : Result T E) → IfOk r P → ((x : T) → P x → Q x) → IfOk r Q
+if_ok (Ok x) p f = f x p
+if_ok (Err e) p f = p

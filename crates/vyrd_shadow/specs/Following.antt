@@ -2,9 +2,11 @@
 use Rattle.std.specs.Prelude.{◌≡◌, ℕ, ◌<◌, Bool, true, List, [], map, Option, None, is_some, unwrap_or, slice_index_or}
 use Rattle.vyrd_base.specs.declared.header.Header.{Header}
 use Rattle.vyrd_base.specs.declared.log.Entry.{Entry}
+use Rattle.vyrd_base.specs.declared.log.StartWord.{StartWord}
 use Rattle.vyrd_base.specs.Places.{first_answer}
 use Rattle.vyrd_base.specs.Callers.{has_block}
 use Rattle.vyrd_base.specs.Words.{block_writes, given_to, words_after}
+use Rattle.vyrd_base.proofs.ShadowLaws.{WellFormed}
 use Rattle.vyrd_shadow.specs.Blocks.{first_written}
 
 -- The header, the plain words, for each caller the writes that its open block keeps back, each word once in the order of the
@@ -27,11 +29,12 @@ kept_writes kept c = unwrap_or (slice_index_or kept.blocks c None) []
 abbrev pub words_of : List (ℕ × ℕ) → List ℕ
 words_of writes = map (λ write. write.0) writes
 
--- What is kept stands for these entries, given the newest first: the words are those after them, a caller's block is open
--- exactly where its last open has no close after it, and what an open block keeps has its words, in the order of their first
--- writes, each with its last value.
-pub record HasFollowed (kept : Kept) (earlier : List Entry) : Type 0 where
-  pub words : kept.words ≡ words_after kept.header earlier
+-- What is kept stands for these entries, given the newest first, after these starting words. Each entry keeps the rules. The words are
+-- those after all of them. A caller's block is open exactly where its last open has no close after it, and what an open block keeps
+-- has its words, in the order of their first writes, each with its last value.
+pub record HasFollowed (kept : Kept) (starting : List StartWord) (earlier : List Entry) : Type 0 where
+  pub rules : WellFormed kept.header earlier
+  pub words : kept.words ≡ words_after kept.header starting earlier
   pub blocks : (c : ℕ) → c < kept.header.callers → is_open kept c ≡ has_block c earlier
   pub order : (c : ℕ) → c < kept.header.callers → has_block c earlier ≡ true → words_of (kept_writes kept c) ≡ first_written (block_writes c earlier)
   pub values : (c w : ℕ) → c < kept.header.callers → has_block c earlier ≡ true

@@ -5,7 +5,10 @@ ghost use Rattle.std.specs.List.{All};
 ghost use Rattle.indexmap.specs.IndexMap.{insert_entry};
 ghost use Rattle.vyrd_base.specs.declared.log.Kind.TheVariants.{Write, BlockOpen, BlockClose, BlockCommit};
 ghost use Rattle.vyrd_base.specs.declared.log.Entry.{Entry};
+ghost use Rattle.vyrd_base.specs.declared.log.StartWord.{StartWord};
 ghost use Rattle.vyrd_base.specs.Layout.{plain_words};
+ghost use Rattle.vyrd_base.specs.Shape.{broken_rule};
+ghost use Rattle.vyrd_base.specs.Starts.{words_at_start};
 ghost use Rattle.vyrd_shadow.specs.Blocks.{with_writes};
 ghost use Rattle.vyrd_shadow.specs.Following.{Kept, HasFollowed, is_open, kept_writes, words_of};
 
@@ -41,13 +44,38 @@ impl Model for Shadow {
 impl Shadow {
     /// All words are 0, no block is open, and no word has changed. It takes memory in proportion to the words and the callers.
     pub fn new(alloc: Global, header: Header) -> Result<Shadow, AllocError>
-        ensures followed { IfOk result (λ s. HasFollowed s []) }
+        ensures followed { IfOk result (λ s. HasFollowed s [] []) }
         ensures header { IfOk result (λ s. s.header ≡ header) }
+        ensures closed { IfOk result (λ s. (c : ℕ) → is_open s c ≡ false) }
         ensures changed { IfOk result (λ s. s.changed ≡ []) }
+    {
+        let words = vec![in alloc; 0; header.plain_words() as usize]?;
+        Shadow::of_words(alloc, header, words)
+    }
+
+    /// The words are these, as a log's starting words give them, no block is open, and no word has changed. It takes memory in
+    /// proportion to the words and the callers.
+    pub fn start_from(alloc: Global, header: Header, words: &[u64]) -> Result<Shadow, AllocError>
+        requires all { length words.now ≡ plain_words header }
+        requires values { (w : ℕ) → slice_index words.now w < 2 ^ 63 }
+        ensures followed { (starting : List StartWord) → words.now ≡ words_at_start header starting → IfOk result (λ s. HasFollowed s starting []) }
+        ensures words { IfOk result (λ s. s.words ≡ words.now) }
+        ensures header { IfOk result (λ s. s.header ≡ header) }
+        ensures closed { IfOk result (λ s. (c : ℕ) → is_open s c ≡ false) }
+        ensures changed { IfOk result (λ s. s.changed ≡ []) }
+    {
+        Shadow::of_words(alloc, header, words.to_vec(alloc)?)
+    }
+
+    /// The words are these, no block is open, and no word has changed.
+    fn of_words(alloc: Global, header: Header, words: Vec<u64>) -> Result<Shadow, AllocError>
+        requires all { length words.items ≡ plain_words header }
+        requires values { (w : ℕ) → slice_index words.items w < 2 ^ 63 }
+        ensures { IfOk result (λ s. s ≡ record { header = header; words = words.items; blocks = replicate header.callers None; changed = [] }) }
     {
         Ok(Shadow {
             header,
-            words: vec![in alloc; 0; header.plain_words() as usize]?,
+            words,
             blocks: closed_blocks(alloc, header.callers())?,
             changed: Vec::new(alloc),
             count: 0,
@@ -62,7 +90,10 @@ impl Shadow {
         requires caller { caller < self.old.header.callers }
         requires word { word < plain_words self.old.header }
         requires value { value < 2 ^ 63 }
-        ensures followed { (earlier : List Entry) → HasFollowed self.old earlier → OnOk result (HasFollowed self.new (record { caller = caller; kind = Write word value } ∷ earlier)) }
+        ensures followed { (starting : List StartWord) (earlier : List Entry) → HasFollowed self.old starting earlier →
+            broken_rule self.old.header earlier (record { caller = caller; kind = Write word value }) ≡ None →
+            OnOk result (HasFollowed self.new starting (record { caller = caller; kind = Write word value } ∷ earlier)) }
+        ensures blocks { (c : ℕ) → is_open self.new c ≡ is_open self.old c }
         ensures changed { OnOk result (self.new.changed ≡ (if is_open self.old caller then self.old.changed else self.old.changed ++ word ∷ [])) }
         ensures refused { OnErr result (self.new ≡ self.old) }
         ensures header { self.new.header ≡ self.old.header }
@@ -79,7 +110,10 @@ impl Shadow {
     pub fn open_block(&mut self, caller: u32)
         requires caller { caller < self.old.header.callers }
         requires closed { is_open self.old caller ≡ false }
-        ensures followed { (earlier : List Entry) → HasFollowed self.old earlier → HasFollowed self.new (record { caller = caller; kind = BlockOpen } ∷ earlier) }
+        ensures followed { (starting : List StartWord) (earlier : List Entry) → HasFollowed self.old starting earlier →
+            broken_rule self.old.header earlier (record { caller = caller; kind = BlockOpen }) ≡ None →
+            HasFollowed self.new starting (record { caller = caller; kind = BlockOpen } ∷ earlier) }
+        ensures opened { is_open self.new caller ≡ true }
         ensures changed { self.new.changed ≡ self.old.changed }
         ensures header { self.new.header ≡ self.old.header }
     {
@@ -87,13 +121,17 @@ impl Shadow {
     }
 
     /// The caller's block ends, with a commit or without: the writes that it kept back take effect in their order, in time linear
-    /// in the number of their words. No memory is taken.
+    /// in the number of their words. So they do where a lone commit stood in the block. No memory is taken.
     #[inline(always)]
     pub fn close_block(&mut self, caller: u32)
         requires caller { caller < self.old.header.callers }
         requires opened { is_open self.old caller ≡ true }
-        ensures closed { (earlier : List Entry) → HasFollowed self.old earlier → HasFollowed self.new (record { caller = caller; kind = BlockClose } ∷ earlier) }
-        ensures committed { (earlier : List Entry) → HasFollowed self.old earlier → HasFollowed self.new (record { caller = caller; kind = BlockCommit } ∷ earlier) }
+        ensures closed { (starting : List StartWord) (earlier : List Entry) → HasFollowed self.old starting earlier →
+            broken_rule self.old.header earlier (record { caller = caller; kind = BlockClose }) ≡ None →
+            HasFollowed self.new starting (record { caller = caller; kind = BlockClose } ∷ earlier) }
+        ensures committed { (starting : List StartWord) (earlier : List Entry) → HasFollowed self.old starting earlier →
+            broken_rule self.old.header earlier (record { caller = caller; kind = BlockCommit }) ≡ None →
+            HasFollowed self.new starting (record { caller = caller; kind = BlockCommit } ∷ earlier) }
         ensures changed { self.new.changed ≡ self.old.changed ++ words_of (kept_writes self.old caller) }
         ensures header { self.new.header ≡ self.old.header }
     {
@@ -126,7 +164,7 @@ impl Shadow {
     #[inline(always)]
     pub fn clear_changed(&mut self)
         ensures changed { self.new ≡ record self.old { changed = [] } }
-        ensures followed { (earlier : List Entry) → HasFollowed self.old earlier → HasFollowed self.new earlier }
+        ensures followed { (starting : List StartWord) (earlier : List Entry) → HasFollowed self.old starting earlier → HasFollowed self.new starting earlier }
     {
         self.changed.clear();
     }

@@ -31,3 +31,21 @@ fn blocks_change_words_at_their_end(rt: HostRuntime) -> Result<(), Fail> {
     assert_eq!(rt; shadow.words(), [0, 0, 8, 9, 0, 0, 1, 0].as_slice());
     Ok(())
 }
+
+#[test]
+fn starts_from_words_and_needs_no_commit(rt: HostRuntime) -> Result<(), Fail> {
+    let header = Header::new(2, Subject::Multiset, 1, 1).ok_or("no header")?;
+    let start = [2, 5, 0, 0, 0, 0, 0, 0];
+    let mut shadow = Shadow::start_from(rt.alloc(), header, start.as_slice())?;
+    assert_eq!(rt; shadow.words(), start.as_slice());
+    assert_eq!(rt; shadow.changed(), [].as_slice());
+    // The log is: call, open, write 0 0, commit, write 1 9, close. The call and the commit aren't told.
+    shadow.open_block(0);
+    shadow.write(0, 0, 0)?;
+    shadow.write(0, 1, 9)?;
+    assert_eq!(rt; shadow.words(), start.as_slice());
+    shadow.close_block(0);
+    assert_eq!(rt; shadow.changed(), [0, 1].as_slice());
+    assert_eq!(rt; shadow.words(), [0, 9, 0, 0, 0, 0, 0, 0].as_slice());
+    Ok(())
+}

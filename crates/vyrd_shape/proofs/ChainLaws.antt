@@ -158,6 +158,16 @@ head_of holder by_word links first some more linked = by_words linked.words link
           };
         }
 
+-- where the links end, the holder has no word
+pub linked_none : (holder : ℕ) (by_word links : List ℕ) (first : ℕ) → first ≡ 0
+    → IsLinked holder by_word links first → (w : ℕ) → get_or by_word w 0 ≢ holder
+linked_none holder by_word links first ends linked = by_words linked.words linked.chain
+  where
+    by_words : (ws : List ℕ) → IsChain holder by_word links first ws → (w : ℕ)
+        → get_or by_word w 0 ≢ holder
+    by_words [] chain = chain.1
+    by_words (v ∷ ws) chain = absurd (omega (arith, chain.0))
+
 pub linked_ends : (holder : ℕ) (by_word links : List ℕ) (first : ℕ) → first ≡ 0 → IsLinked holder by_word links first
     → map (released holder) by_word ≡ by_word
 linked_ends holder by_word links first ends linked = chain_ends holder by_word links first linked.words ends linked.chain

@@ -1,3 +1,5 @@
 pub mod ChainLaws
 pub mod RuleLaws
 pub mod ShapeLaws
+pub mod StampLaws
+pub mod EffectStamps

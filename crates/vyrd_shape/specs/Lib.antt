@@ -1,3 +1,4 @@
+pub mod Stamps
 pub mod Phases
 pub mod Holding
 pub mod Following

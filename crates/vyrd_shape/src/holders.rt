@@ -2,7 +2,9 @@
 
 ghost use Rattle.std.specs.Prelude.{◌≡◌, ℕ, ◌+◌, ◌<◌, ◌≤◌, ◌^◌, ◌==◌, map, length, slice_index, slice_set, replicate, IfOk, if◌then◌else◌};
 ghost use Rattle.vyrd_shape.specs.Holding.{released, holders_after, is_held_by_another, IsLinked, IsWordBelow};
+ghost use Rattle.vyrd_shape.specs.Stamps.{takes_effect, AreRaised};
 
+use crate::stamps::Stamps;
 use std::alloc::{AllocError, Global};
 use std::marker::Model;
 use vyrd_base::{Entry, Kind};
@@ -53,21 +55,26 @@ impl Holders {
     }
 
     /// Follows an entry of a caller that has an open block or hasn't. A write in a block holds its word, and a block's end lets
-    /// go of the caller's words.
+    /// go of the caller's words. The words on which writes take effect get at least this stamp.
     #[inline(always)]
-    pub fn follow(&mut self, in_block: bool, entry: &Entry)
+    pub fn follow(&mut self, in_block: bool, entry: &Entry, stamp: u64, stamps: &mut Stamps)
         requires caller { entry.now.caller < self.old.callers }
         requires word { IsWordBelow (length self.old.by_word) entry.now.kind }
         ensures callers { self.new.callers ≡ self.old.callers }
         ensures by_word { self.new.by_word ≡ holders_after self.old.by_word in_block entry.now.caller entry.now.kind }
+        ensures stamps { AreRaised
+            (takes_effect self.old.by_word in_block entry.now.caller entry.now.kind) stamp
+            stamps.old stamps.new }
     {
         match entry.kind {
             Kind::Write(word, _) => {
                 if in_block {
                     self.hold(entry.caller, word);
+                } else {
+                    stamps.raise(word, stamp);
                 }
             }
-            Kind::BlockClose | Kind::BlockCommit => self.release(entry.caller),
+            Kind::BlockClose | Kind::BlockCommit => self.release(entry.caller, stamp, stamps),
             _ => {}
         }
     }
@@ -88,28 +95,49 @@ impl Holders {
         }
     }
 
-    /// The caller lets go of all of its words, in time linear in their number.
-    pub fn release(&mut self, caller: u32)
+    /// The caller lets go of all of its words, in time linear in their number, and they get at
+    /// least this stamp.
+    pub fn release(&mut self, caller: u32, stamp: u64, stamps: &mut Stamps)
         requires { caller < self.old.callers }
         ensures callers { self.new.callers ≡ self.old.callers }
         ensures by_word { self.new.by_word ≡ map (released (caller + 1)) self.old.by_word }
+        ensures stamps { AreRaised (λ w. slice_index self.old.by_word w == caller + 1) stamp
+            stamps.old stamps.new }
     {
         let first = self.firsts[caller as usize];
-        release_linked(&mut self.by_word, &self.links, caller + 1, first);
+        release_linked(
+            &mut self.by_word,
+            &self.links,
+            caller + 1,
+            first,
+            stamp,
+            stamps,
+        );
         self.firsts[caller as usize] = 0;
     }
 }
 
-/// The holder lets go of its words, which are linked from `first` on.
-fn release_linked(by_word: &mut [u32], links: &[u32], holder: u32, mut first: u32)
+/// The holder lets go of its words, which are linked from `first` on, and they get at least this
+/// stamp.
+fn release_linked(
+    by_word: &mut [u32],
+    links: &[u32],
+    holder: u32,
+    mut first: u32,
+    stamp: u64,
+    stamps: &mut Stamps,
+)
     requires some { 0 < holder }
     requires lengths { length links.now ≡ length by_word.old }
     requires linked { IsLinked holder by_word.old links.now first }
-    ensures { by_word.new ≡ map (released holder) by_word.old }
+    ensures by_word { by_word.new ≡ map (released holder) by_word.old }
+    ensures stamps { AreRaised (λ w. slice_index by_word.old w == holder) stamp
+        stamps.old stamps.new }
 {
     while first != 0 {
-        let place = (first - 1) as usize;
-        by_word[place] = 0;
-        first = links[place];
+        let word = first - 1;
+        stamps.raise(word, stamp);
+        by_word[word as usize] = 0;
+        first = links[word as usize];
     }
 }

@@ -7,6 +7,7 @@
 mod holders;
 mod phase;
 mod shape;
+mod stamps;
 #[cfg(test)]
 mod tests;
 

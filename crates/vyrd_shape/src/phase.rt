@@ -1,12 +1,12 @@
 //! What one caller is in the middle of.
 
-ghost use Rattle.std.specs.Prelude.{◌≡◌, ℕ, ◌<◌, ◌^◌, List, [], ◌∷◌, IfNone};
+ghost use Rattle.std.specs.Prelude.{◌≡◌, ℕ, ◌+◌, ◌<◌, ◌^◌, List, [], ◌∷◌, length, unwrap_or, IfNone};
 ghost use Rattle.std.specs.Option.{option_or};
 ghost use Rattle.std.specs.Bool.{then_some};
 ghost use Rattle.vyrd_base.specs.Layout.{plain_words};
 ghost use Rattle.vyrd_base.specs.declared.header.Header.{Header};
 ghost use Rattle.vyrd_base.specs.declared.log.Entry.{Entry};
-ghost use Rattle.vyrd_base.specs.Shape.{checks_of, first_broken, is_held_by_other};
+ghost use Rattle.vyrd_base.specs.Shape.{checks_of, first_broken, is_raced};
 
 use vyrd_base::{Args, Header, Kind, Method, Rule};
 
@@ -19,6 +19,8 @@ pub(crate) struct Phase {
     pub committed: bool,
     /// Whether it has an open block.
     pub in_block: bool,
+    /// The stamp of the lone commit inside its open block. `Stamps` says what a stamp is.
+    pub inner: Option<u64>,
 }
 
 impl Phase {
@@ -32,13 +34,16 @@ impl Phase {
             open_method: None,
             committed: false,
             in_block: false,
+            inner: None,
         }
     }
 
-    /// The phase after an entry of the caller.
+    /// The phase after an entry of the caller with this stamp.
     #[inline(always)]
-    pub fn after(self, kind: Kind) -> Phase
-        ensures { (c : ℕ) (earlier : List Entry) → self ≡ phase_of c earlier → result ≡ phase_of c (record { caller = c; kind = kind } ∷ earlier) }
+    pub fn after(self, kind: Kind, stamp: u64) -> Phase
+        ensures { (c : ℕ) (earlier : List Entry) → self ≡ phase_of c earlier
+            → stamp ≡ length earlier + 1
+            → result ≡ phase_of c (record { caller = c; kind = kind } ∷ earlier) }
     {
         let mut next = self;
         match kind {
@@ -51,15 +56,37 @@ impl Phase {
                 next.committed = false;
             }
             Kind::Write(_, _) => {}
-            Kind::Commit => next.committed = true,
-            Kind::BlockOpen => next.in_block = true,
-            Kind::BlockClose => next.in_block = false,
+            Kind::Commit => {
+                next.committed = true;
+                if self.in_block {
+                    next.inner = Some(stamp);
+                }
+            }
+            Kind::BlockOpen => {
+                next.in_block = true;
+                next.inner = None;
+            }
+            Kind::BlockClose => {
+                next.in_block = false;
+                next.inner = None;
+            }
             Kind::BlockCommit => {
                 next.committed = true;
                 next.in_block = false;
+                next.inner = None;
             }
         }
         next
+    }
+
+    /// When the writes of the caller's block took effect, once an entry with this stamp ends it: at
+    /// the lone commit inside the block, and at the end itself where there is none. Outside a block
+    /// a write takes effect at once.
+    #[inline(always)]
+    pub fn effect_stamp(self, stamp: u64) -> u64
+        ensures { result ≡ unwrap_or self.inner stamp }
+    {
+        self.inner.unwrap_or(stamp)
     }
 
     /// The first rule that a call breaks.
@@ -91,11 +118,11 @@ impl Phase {
         }
     }
 
-    /// The first rule that a write breaks, apart from a word that another caller holds.
+    /// The first rule that a write breaks, apart from a word that is held or passed.
     #[inline(always)]
     pub fn write_rule(self, header: Header, word: u32, value: u64) -> Option<Rule>
         ensures rule { (c : ℕ) (earlier : List Entry) → self ≡ phase_of c earlier →
-            option_or result (then_some (is_held_by_other header c word earlier) Rule.BlockRaced)
+            option_or result (then_some (is_raced header c word earlier) Rule.BlockRaced)
             ≡ first_broken (checks_of header earlier c (Kind.Write word value)) }
         ensures word { IfNone result (word < plain_words header) }
         ensures value { IfNone result (value < 2 ^ 63) }
@@ -113,14 +140,15 @@ impl Phase {
 
     /// The first rule that a lone commit breaks.
     #[inline(always)]
-    pub fn commit_rule(self) -> Option<Rule>
-        ensures { (h : Header) (c : ℕ) (earlier : List Entry) → self ≡ phase_of c earlier → result ≡ first_broken (checks_of h earlier c Kind.Commit) }
+    pub fn commit_rule(self, header: Header) -> Option<Rule>
+        ensures { (c : ℕ) (earlier : List Entry) → self ≡ phase_of c earlier
+            → result ≡ first_broken (checks_of header earlier c Kind.Commit) }
     {
         match self.open_method {
             None => Some(Rule::NoCall),
             Some(method) if method.is_observer() => Some(Rule::ObserverCommit),
             Some(_) if self.committed => Some(Rule::SecondCommit),
-            Some(_) if self.in_block => Some(Rule::CommitInBlock),
+            Some(_) if header.version() == 1 && self.in_block => Some(Rule::CommitInBlock),
             Some(_) => None,
         }
     }

@@ -1,17 +1,19 @@
 //! The rules of shape, one entry at a time.
 
-ghost use Rattle.std.specs.Prelude.{◌≡◌, ℕ, ◌<◌, true, false, length, List, [], ◌∷◌, Some, None, is_some, IfOk, IfErr, IfNone, OnOk, OnErr, MatchResult};
+ghost use Rattle.std.specs.Prelude.{◌≡◌, ℕ, ◌+◌, ◌<◌, ◌^◌, true, false, length, List, [], ◌∷◌, Some, None, is_some, IfOk, IfErr, IfNone, OnOk, OnErr, MatchResult};
 ghost use Rattle.std.specs.List.{list_any};
 ghost use Rattle.vyrd_base.specs.declared.log.Entry.{Entry};
 ghost use Rattle.vyrd_base.specs.Layout.{plain_words};
-ghost use Rattle.vyrd_base.specs.Shape.{broken_rule, checks_of, first_broken};
+ghost use Rattle.vyrd_base.specs.Shape.{broken_rule, checks_of, first_broken, is_raced};
 ghost use Rattle.vyrd_base.specs.Verdicts.{is_call_open};
+ghost use Rattle.vyrd_base.specs.Words.{is_passed};
 ghost use Rattle.vyrd_shape.specs.Phases.{phase_of};
 ghost use Rattle.vyrd_shape.specs.Holding.{IsWordBelow};
 ghost use Rattle.vyrd_shape.specs.Following.{HasFollowed, IsInRange};
 
 use crate::holders::Holders;
 use crate::phase::Phase;
+use crate::stamps::Stamps;
 use std::alloc::{AllocError, Global};
 use std::error::Error;
 use std::fmt;
@@ -34,13 +36,17 @@ impl fmt::Display for ShapeFault {
 impl Error for ShapeFault {}
 
 /// What the rules of shape need to know of the entries so far: for each caller what it is in the middle of, and for each word
-/// which caller's open block has written it.
+/// which caller's open block has written it and when a write last took effect on it.
 #[derive(Drop)]
 pub struct Shape {
     header: Header,
+    /// How many entries were followed.
+    entries: u64,
     /// By caller.
     phases: Vec<Phase>,
     holders: Holders,
+    /// Of no word in version 1, where no block has a lone commit inside it.
+    stamps: Stamps,
 }
 
 impl Model for Shape {
@@ -48,9 +54,15 @@ impl Model for Shape {
 
     ghost Value = { Kept };
 
-    ghost view = { λ s. record { header = s.header; phases = s.phases.items; holders = s.holders.by_word } };
+    ghost view = { λ s. record {
+      header = s.header;
+      entries = s.entries;
+      phases = s.phases.items;
+      holders = s.holders.by_word;
+      stamps = s.stamps;
+    } };
 
-    ghost invariant = { λ s. IsComplete s.header s.phases.items s.holders };
+    ghost invariant = { λ s. IsComplete s.header s.phases.items s.holders s.stamps };
 }
 
 impl Shape {
@@ -58,11 +70,15 @@ impl Shape {
     pub fn new(alloc: Global, header: Header) -> Result<Shape, AllocError>
         ensures followed { IfOk result (λ s. HasFollowed s []) }
         ensures header { IfOk result (λ s. s.header ≡ header) }
+        ensures entries { IfOk result (λ s. s.entries ≡ 0) }
     {
+        let words = header.plain_words();
         Ok(Shape {
             header,
+            entries: 0,
             phases: vec![in alloc; Phase::start(); header.callers() as usize]?,
-            holders: Holders::new(alloc, header.plain_words(), header.callers())?,
+            holders: Holders::new(alloc, words, header.callers())?,
+            stamps: Stamps::new(alloc, if header.version() == 1 { 0 } else { words })?,
         })
     }
 
@@ -70,8 +86,10 @@ impl Shape {
     /// linear in the number of words that the block has written, and any other entry takes constant time. No memory is taken.
     #[inline(always)]
     pub fn step(&mut self, entry: &Entry) -> Result<(), ShapeFault>
+        requires few { self.old.entries < 2 ^ 62 }
         ensures ok { (earlier : List Entry) → HasFollowed self.old earlier → OnOk result ((broken_rule self.old.header earlier entry.now ≡ None) × HasFollowed self.new (entry.now ∷ earlier)) }
         ensures fault { (earlier : List Entry) → HasFollowed self.old earlier → IfErr result (λ f. broken_rule self.old.header earlier entry.now ≡ Some f.rule) }
+        ensures entries { OnOk result (self.new.entries ≡ self.old.entries + 1) }
         ensures refused { OnErr result (self.new ≡ self.old) }
         ensures header { self.new.header ≡ self.old.header }
     {
@@ -123,7 +141,7 @@ impl Shape {
             Kind::Call(method, args) => phase.call_rule(self.header, method, args),
             Kind::Return(_) => phase.return_rule(),
             Kind::Write(word, value) => self.broken_by_write(phase, entry.caller, word, value),
-            Kind::Commit => phase.commit_rule(),
+            Kind::Commit => phase.commit_rule(self.header),
             Kind::BlockOpen => phase.open_rule(),
             Kind::BlockClose => phase.close_rule(),
             Kind::BlockCommit => phase.block_commit_rule(),
@@ -138,24 +156,57 @@ impl Shape {
         ensures word { IfNone result (word < plain_words self.now.header) }
     {
         let rule = phase.write_rule(self.header, word, value);
-        if rule.is_none() && self.holders.is_held_by_another(caller, word) {
+        if rule.is_none() && self.is_raced(phase, caller, word) {
             Some(Rule::BlockRaced)
         } else {
             rule
         }
     }
 
+    /// Whether another caller holds the word, or it is passed for the caller, whose phase this is.
+    #[inline(always)]
+    fn is_raced(&self, phase: Phase, caller: u32, word: u32) -> bool
+        requires { word < plain_words self.now.header }
+        ensures { (earlier : List Entry) → HasFollowed self.now earlier
+            → phase ≡ phase_of caller earlier
+            → result ≡ is_raced self.now.header caller word earlier }
+    {
+        self.holders.is_held_by_another(caller, word) || self.is_passed(phase, word)
+    }
+
+    /// Whether the word is passed for a caller in this phase.
+    #[inline(always)]
+    fn is_passed(&self, phase: Phase, word: u32) -> bool
+        requires { word < plain_words self.now.header }
+        ensures { (c : ℕ) (earlier : List Entry) → HasFollowed self.now earlier
+            → phase ≡ phase_of c earlier → result ≡ is_passed c word earlier }
+    {
+        match phase.inner {
+            Some(commit) => self.stamps.is_later(word, commit),
+            None => false,
+        }
+    }
+
     /// Follows an entry that breaks no rule.
     #[inline(always)]
     fn follow(&mut self, entry: &Entry)
-        requires { IsInRange self.old.header entry.now }
+        requires in_range { IsInRange self.old.header entry.now }
+        requires few { self.old.entries < 2 ^ 62 }
         ensures followed { (earlier : List Entry) → HasFollowed self.old earlier → broken_rule self.old.header earlier entry.now ≡ None → HasFollowed self.new (entry.now ∷ earlier) }
+        ensures entries { self.new.entries ≡ self.old.entries + 1 }
         ensures header { self.new.header ≡ self.old.header }
     {
         let place = entry.caller as usize;
         let phase = self.phases[place];
-        self.holders.follow(phase.in_block, entry);
-        self.phases[place] = phase.after(entry.kind);
+        let stamp = self.entries + 1;
+        self.holders.follow(
+            phase.in_block,
+            entry,
+            phase.effect_stamp(stamp),
+            &mut self.stamps,
+        );
+        self.phases[place] = phase.after(entry.kind, stamp);
+        self.entries = stamp;
     }
 }
 

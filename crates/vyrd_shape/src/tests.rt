@@ -1,6 +1,7 @@
 //! Each rule of shape, broken once.
 
 use crate::Shape;
+use std::alloc::Global;
 use std::test::Fail;
 use vyrd_base::{Args, Entry, Header, Kind, Method, Rule, Subject};
 
@@ -14,20 +15,25 @@ fn of(caller: u32, kind: Kind) -> Entry {
     Entry { caller, kind }
 }
 
-/// The first rule that the log of these entries breaks.
-fn first_break(shape: &mut Shape, entries: &[Entry]) -> Option<Rule> {
+/// The first rule that the log of these entries breaks, of a multiset of size 1 with two callers.
+/// There are at most 100 entries.
+fn first_break(alloc: Global, version: u32, entries: &[Entry]) -> Result<Option<Rule>, Fail> {
+    let header = Header::new(version, Subject::Multiset, 1, 2).ok_or("no header")?;
+    let mut shape = Shape::new(alloc, header)?;
+    if entries.len() > 100 {
+        return Err("a long log")?;
+    }
     for entry in entries {
         if let Err(fault) = shape.step(entry) {
-            return Some(fault.rule);
+            return Ok(Some(fault.rule));
         }
     }
-    shape.end().err().map(|fault| fault.rule)
+    Ok(shape.end().err().map(|fault| fault.rule))
 }
 
-/// Logs of a multiset of size 1 with two callers, each with the first rule that it breaks.
+/// Logs of version 1, each with the first rule that it breaks.
 #[test]
 fn each_rule_is_named(rt: HostRuntime) -> Result<(), Fail> {
-    let header = Header::new(1, Subject::Multiset, 1, 2).ok_or("no header")?;
     let table: [(&[Entry], Option<Rule>); 18] = [
         (&[], None),
         (
@@ -112,8 +118,107 @@ fn each_rule_is_named(rt: HostRuntime) -> Result<(), Fail> {
         (&[of(0, INSERT), of(0, Kind::Commit)], Some(Rule::CallOpen)),
     ];
     for (entries, rule) in table {
-        let mut shape = Shape::new(rt.alloc(), header)?;
-        assert_eq!(rt; first_break(&mut shape, entries), rule);
+        assert_eq!(rt; first_break(rt.alloc(), 1, entries)?, rule);
+    }
+    Ok(())
+}
+
+/// Logs of version 2, each with the first rule that it breaks. A lone commit may stand inside a
+/// block there, and once the block ends, its writes have taken effect at that commit.
+#[test]
+fn words_are_passed(rt: HostRuntime) -> Result<(), Fail> {
+    let table: [(&[Entry], Option<Rule>); 6] = [
+        // a word is written before the commit, after it, and after the block
+        (
+            &[
+                of(0, INSERT),
+                of(0, Kind::BlockOpen),
+                of(0, Kind::Write(0, 2)),
+                of(0, Kind::Commit),
+                of(0, Kind::Write(0, 1)),
+                of(0, Kind::BlockClose),
+                of(0, Kind::Write(0, 0)),
+                of(0, Kind::Return(1)),
+            ],
+            None,
+        ),
+        // the block's end is no second commit
+        (
+            &[
+                of(0, INSERT),
+                of(0, Kind::BlockOpen),
+                of(0, Kind::Commit),
+                of(0, Kind::BlockCommit),
+            ],
+            Some(Rule::SecondCommit),
+        ),
+        // a word that another caller wrote after the commit
+        (
+            &[
+                of(0, INSERT),
+                of(0, Kind::Write(1, 5)),
+                of(0, Kind::BlockOpen),
+                of(0, Kind::Commit),
+                of(1, INSERT),
+                of(1, Kind::Write(0, 1)),
+                of(0, Kind::Write(0, 2)),
+            ],
+            Some(Rule::BlockRaced),
+        ),
+        // a word that another caller wrote before the commit
+        (
+            &[
+                of(0, INSERT),
+                of(1, INSERT),
+                of(0, Kind::BlockOpen),
+                of(1, Kind::Write(0, 1)),
+                of(0, Kind::Commit),
+                of(0, Kind::Write(0, 2)),
+                of(0, Kind::BlockClose),
+                of(1, Kind::BlockOpen),
+                of(1, Kind::Write(0, 2)),
+                of(1, Kind::BlockCommit),
+                of(0, Kind::Return(1)),
+                of(1, Kind::Return(1)),
+            ],
+            None,
+        ),
+        // a word of a block that ended after the commit, but had its own commit before it
+        (
+            &[
+                of(0, INSERT),
+                of(1, INSERT),
+                of(1, Kind::BlockOpen),
+                of(1, Kind::Commit),
+                of(0, Kind::BlockOpen),
+                of(0, Kind::Commit),
+                of(1, Kind::Write(0, 1)),
+                of(1, Kind::BlockClose),
+                of(0, Kind::Write(0, 2)),
+                of(0, Kind::BlockClose),
+                of(0, Kind::Return(1)),
+                of(1, Kind::Return(1)),
+            ],
+            None,
+        ),
+        // a word of a block that had its own commit after it
+        (
+            &[
+                of(0, INSERT),
+                of(1, INSERT),
+                of(1, Kind::BlockOpen),
+                of(0, Kind::BlockOpen),
+                of(0, Kind::Commit),
+                of(1, Kind::Commit),
+                of(1, Kind::Write(0, 1)),
+                of(1, Kind::BlockClose),
+                of(0, Kind::Write(0, 2)),
+            ],
+            Some(Rule::BlockRaced),
+        ),
+    ];
+    for (entries, rule) in table {
+        assert_eq!(rt; first_break(rt.alloc(), 2, entries)?, rule);
     }
     Ok(())
 }

@@ -3,3 +3,11 @@ pub mod StepLaws
 pub mod TouchLaws
 pub mod ChangeLaws
 pub mod ChunkLaws
+pub mod RowLaws
+pub mod SlotLaws
+pub mod ChunkWordLaws
+pub mod StartFromLaws
+pub mod NeighbourLaws
+pub mod NodeLaws
+pub mod TreeWordLaws
+pub mod LeafLaws

@@ -72,9 +72,9 @@ AllAmounts-with_amount passes s k a all new =
         let kept : n ≡ amount_of s q = is ∙ ap (λ b. cond b a (amount_of s q)) e in
         subst (λ m. passes q m) (sym kept) (all q (λ z. some (kept ∙ z)))
 
--- values below 2^32, of each at most so many
+-- values below 2^63, of each at most so many
 abbrev pub AreCounts : ℕ → Amounts → Type 0
-AreCounts most s = AllAmounts (λ value count. (value < 2 ^ 32) × (count ≤ most)) s
+AreCounts most s = AllAmounts (λ value count. (value < 2 ^ 63) × (count ≤ most)) s
 
 pub count_at_most : (most : ℕ) (s : Amounts) (q : ℕ) → AreCounts most s → amount_of s q ≤ most
 count_at_most most s q all = by_zero (amount_of s q == 0) refl
@@ -83,46 +83,46 @@ count_at_most most s q all = by_zero (amount_of s q == 0) refl
     by_zero true e = let none = same_of (amount_of s q) 0 e in omega (arith, none)
     by_zero false e = (all q (apart_of (amount_of s q) 0 e)).1
 
-weaker_counts : (m n : ℕ) (s : Amounts) → m ≤ n → AreCounts m s → AreCounts n s
+pub weaker_counts : (m n : ℕ) (s : Amounts) → m ≤ n → AreCounts m s → AreCounts n s
 weaker_counts m n s le all = λ q some. let here = all q some in (here.0, omega (arith, here.1))
 
 one_more : (most : ℕ) (s : Amounts) (k : ℕ) → k < 2 ^ 32 → AreCounts most s → AreCounts (most + 1) (plus_amount s k 1)
 one_more most s k low all =
     let at = count_at_most most s k all in
-    AllAmounts-with_amount (λ value count. (value < 2 ^ 32) × (count ≤ most + 1)) s k (amount_of s k + 1)
-    (weaker_counts most (most + 1) s (omega arith) all) (λ some. (low, omega (arith, at)))
+    AllAmounts-with_amount (λ value count. (value < 2 ^ 63) × (count ≤ most + 1)) s k (amount_of s k + 1)
+    (weaker_counts most (most + 1) s (omega arith) all) (λ some. (omega (arith, low), omega (arith, at)))
 
 one_less : (most : ℕ) (s : Amounts) (k : ℕ) → AreCounts most s → AreCounts most (with_amount s k (amount_of s k - 1))
 one_less most s k all =
     let at = count_at_most most s k all in
-    AllAmounts-with_amount (λ value count. (value < 2 ^ 32) × (count ≤ most)) s k (amount_of s k - 1) all
+    AllAmounts-with_amount (λ value count. (value < 2 ^ 63) × (count ≤ most)) s k (amount_of s k - 1) all
     (λ some. let there : amount_of s k ≢ 0 = omega (arith, some) in ((all k there).0, omega (arith, at)))
 
 -- a step of the multiset adds two at most to each count
-pub next_state-counts : (made : ℕ) (method : Method) (args : Args) (reply : ℕ) (s t : Amounts) → subject_of method ≡ Multiset
-    → args.a < 2 ^ 32 → args.b < 2 ^ 32 → AreCounts (2 * made) s → next_state method args reply s ≡ Some t → AreCounts (2 * (made + 1)) t
-next_state-counts made MsInsert args reply s t of low low_b all =
-    let kept = weaker_counts (2 * made) (2 * (made + 1)) s (omega arith) all in
-    let more = weaker_counts (2 * made + 1) (2 * (made + 1)) (plus_amount s args.a 1) (omega arith) (one_more (2 * made) s args.a low all) in
-    by_replies (AreCounts (2 * (made + 1))) reply _ _ _ t kept more tt
-next_state-counts made MsInsertPair args reply s t of low low_b all =
-    let kept = weaker_counts (2 * made) (2 * (made + 1)) s (omega arith) all in
-    let more = one_more (2 * made + 1) (plus_amount s args.a 1) args.b low_b (one_more (2 * made) s args.a low all) in
-    let both = weaker_counts (2 * made + 1 + 1) (2 * (made + 1)) (plus_amount (plus_amount s args.a 1) args.b 1) (omega arith) more in
-    by_replies (AreCounts (2 * (made + 1))) reply _ _ _ t kept both tt
-next_state-counts made MsDelete args reply s t of low low_b all =
-    let Q : Amounts → Type 0 = AreCounts (2 * (made + 1)) in
-    let kept = weaker_counts (2 * made) (2 * (made + 1)) s (omega arith) all in
-    let less = one_less (2 * (made + 1)) s args.a kept in
+pub next_state-counts : (most : ℕ) (method : Method) (args : Args) (reply : ℕ) (s t : Amounts) → subject_of method ≡ Multiset
+    → args.a < 2 ^ 32 → args.b < 2 ^ 32 → AreCounts most s → next_state method args reply s ≡ Some t → AreCounts (most + 2) t
+next_state-counts most MsInsert args reply s t of low low_b all =
+    let kept = weaker_counts most (most + 2) s (omega arith) all in
+    let more = weaker_counts (most + 1) (most + 2) (plus_amount s args.a 1) (omega arith) (one_more most s args.a low all) in
+    by_replies (AreCounts (most + 2)) reply _ _ _ t kept more tt
+next_state-counts most MsInsertPair args reply s t of low low_b all =
+    let kept = weaker_counts most (most + 2) s (omega arith) all in
+    let more = one_more (most + 1) (plus_amount s args.a 1) args.b low_b (one_more most s args.a low all) in
+    let both = weaker_counts (most + 1 + 1) (most + 2) (plus_amount (plus_amount s args.a 1) args.b 1) (omega arith) more in
+    by_replies (AreCounts (most + 2)) reply _ _ _ t kept both tt
+next_state-counts most MsDelete args reply s t of low low_b all =
+    let Q : Amounts → Type 0 = AreCounts (most + 2) in
+    let kept = weaker_counts most (most + 2) s (omega arith) all in
+    let less = one_less (most + 2) s args.a kept in
     by_replies Q reply _ _ _ t (where_allowed Q (not (is_present s args.a)) s kept) (where_allowed Q (is_present s args.a) _ less) tt
-next_state-counts made MsLookup args reply s t of low low_b all = λ e. cc
-next_state-counts made CaWrite args reply s t of low low_b all = cc
-next_state-counts made CaFlush args reply s t of low low_b all = cc
-next_state-counts made CaEvict args reply s t of low low_b all = cc
-next_state-counts made CaRead args reply s t of low low_b all = cc
-next_state-counts made TrInsert args reply s t of low low_b all = cc
-next_state-counts made TrDelete args reply s t of low low_b all = cc
-next_state-counts made TrLookup args reply s t of low low_b all = cc
+next_state-counts most MsLookup args reply s t of low low_b all = λ e. cc
+next_state-counts most CaWrite args reply s t of low low_b all = cc
+next_state-counts most CaFlush args reply s t of low low_b all = cc
+next_state-counts most CaEvict args reply s t of low low_b all = cc
+next_state-counts most CaRead args reply s t of low low_b all = cc
+next_state-counts most TrInsert args reply s t of low low_b all = cc
+next_state-counts most TrDelete args reply s t of low low_b all = cc
+next_state-counts most TrLookup args reply s t of low low_b all = cc
 
 -- chunks and pairs
 abbrev pub ArePairs : Amounts → Type 0
@@ -148,20 +148,20 @@ next_state-pairs TrLookup args reply s t of low low_b low_c all = cc
 
 -- keys, and values with 2^32 added
 abbrev pub AreValues : Amounts → Type 0
-AreValues s = AllAmounts (λ key amount. (key < 2 ^ 32) × (2 ^ 32 ≤ amount) × (amount < 2 ^ 33)) s
+AreValues s = AllAmounts (λ key amount. (key < 2 ^ 32) × (2 ^ 32 ≤ amount) × (amount < 2 ^ 64)) s
 
 -- a step of the tree keeps the values in range
 pub next_state-values : (method : Method) (args : Args) (reply : ℕ) (s t : Amounts) → subject_of method ≡ Tree
     → args.a < 2 ^ 32 → args.b < 2 ^ 32 → AreValues s → next_state method args reply s ≡ Some t → AreValues t
 next_state-values TrInsert args reply s t of low low_b all =
     let set : AreValues (with_amount s args.a (2 ^ 32 + args.b)) =
-    AllAmounts-with_amount (λ key amount. (key < 2 ^ 32) × (2 ^ 32 ≤ amount) × (amount < 2 ^ 33)) s args.a (2 ^ 32 + args.b) all
+    AllAmounts-with_amount (λ key amount. (key < 2 ^ 32) × (2 ^ 32 ≤ amount) × (amount < 2 ^ 64)) s args.a (2 ^ 32 + args.b) all
     (λ some. (low, omega arith, omega arith)) in
     by_replies AreValues reply _ _ _ t all (where_allowed AreValues (not (is_present s args.a)) _ set)
     (where_allowed AreValues (is_present s args.a) _ set)
 next_state-values TrDelete args reply s t of low low_b all =
     let gone : AreValues (with_amount s args.a 0) =
-    AllAmounts-with_amount (λ key amount. (key < 2 ^ 32) × (2 ^ 32 ≤ amount) × (amount < 2 ^ 33)) s args.a 0 all (λ some. absurd (some refl)) in
+    AllAmounts-with_amount (λ key amount. (key < 2 ^ 32) × (2 ^ 32 ≤ amount) × (amount < 2 ^ 64)) s args.a 0 all (λ some. absurd (some refl)) in
     by_replies AreValues reply _ _ _ t (where_allowed AreValues (not (is_present s args.a)) s all)
     (where_allowed AreValues (is_present s args.a) _ gone) tt
 next_state-values TrLookup args reply s t of low low_b all = λ e. cc

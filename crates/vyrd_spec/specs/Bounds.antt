@@ -1,5 +1,5 @@
 -- What holds of each key with its amount.
-use Rattle.std.specs.Prelude.{◌≢◌, ℕ, ◌*◌, ◌^◌, ◌<◌, ◌≤◌}
+use Rattle.std.specs.Prelude.{◌≢◌, ℕ, ◌+◌, ◌*◌, ◌^◌, ◌<◌, ◌≤◌}
 use Rattle.std.proofs.Common.{arith}
 use Rattle.vyrd_base.specs.Amounts.{Amounts, amount_of}
 
@@ -7,12 +7,22 @@ use Rattle.vyrd_base.specs.Amounts.{Amounts, amount_of}
 abbrev pub AllAmounts : (ℕ → ℕ → Type 0) → Amounts → Type 0
 AllAmounts passes amounts = (key : ℕ) → amount_of amounts key ≢ 0 → passes key (amount_of amounts key)
 
+-- A multiset that begins with a value in each slot has each value at most this often after so many steps, for a step adds two.
+abbrev pub most_after : ℕ → ℕ
+most_after made = 2 * made + 4096
+
 -- The counts of a multiset after at most 2^62 steps are below 2^64.
-pub small_counts : (made : ℕ) (counts : Amounts) → made ≤ 2 ^ 62 → AllAmounts (λ value count. (value < 2 ^ 32) × (count ≤ 2 * made)) counts
-    → AllAmounts (λ value count. (value < 2 ^ 32) × (count < 2 ^ 64)) counts
+pub small_counts : (made : ℕ) (counts : Amounts) → made ≤ 2 ^ 62
+    → AllAmounts (λ value count. (value < 2 ^ 63) × (count ≤ most_after made)) counts
+    → AllAmounts (λ value count. (value < 2 ^ 63) × (count < 2 ^ 64)) counts
 small_counts made counts few small = λ value some. let here = small value some in (here.0, omega (arith, here.1))
 
--- The amounts of a tree are below 2^64.
-pub small_values : (values : Amounts) → AllAmounts (λ key amount. (key < 2 ^ 32) × (2 ^ 32 ≤ amount) × (amount < 2 ^ 33)) values
-    → AllAmounts (λ key amount. (key < 2 ^ 32) × (amount < 2 ^ 64)) values
-small_values values small = λ key some. let here = small key some in (here.0, omega (arith, here.2))
+-- Chunks are few.
+pub small_chunks : (pairs : Amounts) → AllAmounts (λ chunk pair. (chunk < 2 ^ 32) × (pair < 2 ^ 64)) pairs
+    → AllAmounts (λ chunk pair. (chunk < 2 ^ 63) × (pair < 2 ^ 64)) pairs
+small_chunks pairs small = λ chunk some. let here = small chunk some in (omega (arith, here.0), here.1)
+
+-- The keys of a tree have 32 bits.
+pub small_values : (values : Amounts) → AllAmounts (λ key amount. (key < 2 ^ 32) × (2 ^ 32 ≤ amount) × (amount < 2 ^ 64)) values
+    → AllAmounts (λ key amount. (key < 2 ^ 63) × (amount < 2 ^ 64)) values
+small_values values small = λ key some. let here = small key some in (omega (arith, here.0), here.2)

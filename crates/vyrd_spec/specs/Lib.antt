@@ -1,3 +1,5 @@
 pub mod Bounds
 pub mod Touching
 pub mod Chunks
+pub mod Neighbours
+pub mod NodeKeys

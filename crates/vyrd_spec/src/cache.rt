@@ -4,9 +4,10 @@ ghost use Rattle.std.specs.Prelude.{◌≡◌, ◌≢◌, ◌+◌, ◌*◌, ◌<
 ghost use Rattle.vyrd_base.specs.declared.subject.Subject.TheVariants.{Cache};
 ghost use Rattle.vyrd_base.specs.Specification.{next_state};
 ghost use Rattle.vyrd_base.specs.Subjects.{subject_of, is_observer};
-ghost use Rattle.vyrd_spec.specs.Bounds.{AllAmounts};
+ghost use Rattle.vyrd_spec.specs.Bounds.{AllAmounts, small_chunks};
 ghost use Rattle.vyrd_spec.specs.Chunks.{chunk_amounts, chunks_formed};
 
+use crate::chunk_words::pairs_of;
 use crate::chunks::{chunks_shown, no_pairs, pair_of, write_pair};
 use crate::spec::Spec;
 use crate::touched::{Touched, touched_by};
@@ -36,7 +37,7 @@ impl Spec for CacheSpec {
 
     ghost is_formed = { λ s. chunks_formed s.pairs.items };
 
-    ghost is_small = { λ s. s.small };
+    ghost is_small = { λ s. small_chunks (chunk_amounts s.pairs.items) s.small };
 
     fn start(alloc: Global, header: Header) -> Result<Self, AllocError> {
         Ok(CacheSpec {
@@ -44,6 +45,21 @@ impl Spec for CacheSpec {
             made: 0,
             pairs: no_pairs(alloc, header.size() as usize)?,
         })
+    }
+
+    fn start_from(
+        alloc: Global,
+        header: Header,
+        words: &[u64],
+    ) -> Result<Option<Self>, AllocError> {
+        match pairs_of(alloc, header.size() as usize, words)? {
+            Some(pairs) => Ok(Some(CacheSpec {
+                header,
+                made: 0,
+                pairs,
+            })),
+            None => Ok(None),
+        }
     }
 
     fn step(&mut self, method: Method, args: Args, reply: u64) -> Result<bool, AllocError> {

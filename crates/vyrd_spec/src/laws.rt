@@ -1,10 +1,13 @@
 //! Laws of the specifications. Each function is empty, and its contract is the law.
 
-ghost use Rattle.std.specs.Prelude.{◌≡◌, ℕ, true, false, Some};
+ghost use Rattle.std.specs.Prelude.{◌≡◌, ◌+◌, ℕ, true, false, replicate, Some};
+ghost use Rattle.vyrd_base.specs.declared.header.Header.{Header};
 ghost use Rattle.vyrd_base.specs.declared.subject.Method.{Method};
 ghost use Rattle.vyrd_base.specs.declared.subject.Args.{Args};
 ghost use Rattle.vyrd_base.specs.Amounts.{Amounts, IsAmounts, amount_of};
-ghost use Rattle.vyrd_base.specs.Specification.{next_state};
+ghost use Rattle.vyrd_base.specs.Layout.{plain_words, lock_words};
+ghost use Rattle.vyrd_base.specs.Standing.{state_of_words};
+ghost use Rattle.vyrd_base.specs.Specification.{start, next_state};
 ghost use Rattle.vyrd_spec.specs.Touching.{touched_by, is_touched, with_touched, CanChange};
 
 /// A step leaves each key as it is that it doesn't touch, so that the next state differs in the touched keys alone.
@@ -14,6 +17,12 @@ pub fn other_keys_keep_their_amount()
         is_touched (touched_by method args) key ≡ false → amount_of t key ≡ amount_of s key }
     ensures all { (method : Method) (args : Args) (reply : ℕ) (s t : Amounts) → IsAmounts s → next_state method args reply s ≡ Some t →
         with_touched (touched_by method args) t s ≡ t }
+{}
+
+/// Zeroed words, with all locks 0, stand for the empty state. So `start` is what `start_from` makes of them.
+#[tactic(auto, using(vyrd_base::proofs::StartLaws::zeroed_words))]
+pub fn zeroed_words_are_the_start()
+    ensures { (h : Header) → state_of_words h (replicate (plain_words h + lock_words h) 0) ≡ Some start }
 {}
 
 /// Each key that a call touches is changed by some step with that call, so that no key is named in vain.

@@ -5,14 +5,20 @@
 #![tactic(auto)]
 
 mod cache;
+mod chunk_words;
 mod chunks;
 pub mod laws;
+mod leaves;
 mod multiset;
+mod neighbours;
+mod nodes;
+mod slot_words;
 mod spec;
 #[cfg(test)]
 mod tests;
 mod touched;
 mod tree;
+mod tree_words;
 
 pub use cache::CacheSpec;
 pub use multiset::MultisetSpec;

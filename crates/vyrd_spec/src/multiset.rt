@@ -6,15 +6,17 @@ ghost use Rattle.vyrd_base.specs.declared.subject.Subject.TheVariants.{Multiset}
 ghost use Rattle.vyrd_base.specs.Amounts.{amount_of, with_amount, plus_amount, IsAmounts};
 ghost use Rattle.vyrd_base.specs.Specification.{next_state, by_reply, is_present};
 ghost use Rattle.vyrd_base.specs.Subjects.{subject_of, is_observer};
-ghost use Rattle.vyrd_spec.specs.Bounds.{AllAmounts, small_counts};
+ghost use Rattle.vyrd_spec.specs.Bounds.{AllAmounts, most_after, small_counts};
 ghost use Rattle.vyrd_base.specs.Formed.{IsAmounts-prop};
 
+use crate::slot_words::{are_sound, counts};
 use crate::spec::Spec;
 use crate::touched::{Touched, touched_by};
 use std::alloc::{AllocError, Global};
 use vyrd_base::{AmountTable, Args, Header, Method, View};
 
-/// The specification of the multiset. The amount of a value is its multiplicity, which is at most twice the steps made.
+/// The specification of the multiset. The amount of a value is its multiplicity.
+/// It begins with 4,096 at most, and a step adds two at most.
 #[derive(Drop)]
 pub struct MultisetSpec {
     header: Header,
@@ -22,7 +24,7 @@ pub struct MultisetSpec {
     amounts: AmountTable,
     ghost few: { made ≤ 2 ^ 62 },
     ghost formed: { IsAmounts amounts } by { IsAmounts-prop amounts },
-    ghost small: { AllAmounts (λ value count. (value < 2 ^ 32) × (count ≤ 2 * made)) amounts },
+    ghost small: { AllAmounts (λ value count. (value < 2 ^ 63) × (count ≤ most_after made)) amounts },
 }
 
 impl Spec for MultisetSpec {
@@ -44,6 +46,22 @@ impl Spec for MultisetSpec {
             made: 0,
             amounts: AmountTable::new(alloc, 4 * header.size() as usize)?,
         })
+    }
+
+    fn start_from(
+        alloc: Global,
+        header: Header,
+        words: &[u64],
+    ) -> Result<Option<Self>, AllocError> {
+        let size = header.size() as usize;
+        if !are_sound(size, words) {
+            return Ok(None);
+        }
+        Ok(Some(MultisetSpec {
+            header,
+            made: 0,
+            amounts: counts(alloc, size, words)?,
+        }))
     }
 
     fn step(&mut self, method: Method, args: Args, reply: u64) -> Result<bool, AllocError> {
@@ -80,7 +98,7 @@ fn next(
 ) -> Result<bool, AllocError>
     requires subject { subject_of method ≡ Multiset }
     requires mutator { is_observer method ≡ false }
-    requires few { (value : ℕ) → amount_of counts.old value ≤ 2 ^ 63 }
+    requires few { (value : ℕ) → amount_of counts.old value ≤ 2 ^ 63 + 4096 }
     ensures allowed { result ≡ Ok true → next_state method args reply counts.old ≡ Some counts.new }
     ensures refused { result ≡ Ok false → next_state method args reply counts.old ≡ None }
     ensures unchanged { result ≢ Ok true → counts.new ≡ counts.old }

@@ -1,9 +1,12 @@
 //! What every specification offers.
 
-ghost use Rattle.std.specs.Prelude.{◌≡◌, ◌≢◌, ◌+◌, ◌<◌, ◌^◌, ℕ, true, false, IfOk, Some, None, Ok, []};
+ghost use Rattle.std.specs.Prelude.{◌≡◌, ◌≢◌, ◌+◌, ◌++◌, ◌<◌, ◌^◌, ℕ, true, false, length, replicate, All, IfOk, IfSome, Some, None, Ok, []};
+ghost use Rattle.std.specs.Option.{option_map};
 ghost use Rattle.vyrd_base.specs.declared.header.Header.{Header};
 ghost use Rattle.vyrd_base.specs.declared.subject.Subject.{Subject};
 ghost use Rattle.vyrd_base.specs.Amounts.{Amounts, IsAmounts, amount_of};
+ghost use Rattle.vyrd_base.specs.Layout.{plain_words, lock_words};
+ghost use Rattle.vyrd_base.specs.Standing.{state_of_words};
 ghost use Rattle.vyrd_base.specs.Specification.{next_state, answer_in};
 ghost use Rattle.vyrd_base.specs.Subjects.{subject_of, is_observer, are_args};
 ghost use Rattle.vyrd_spec.specs.Bounds.{AllAmounts};
@@ -35,6 +38,19 @@ pub trait Spec: Sized + Drop {
         ensures state { IfOk result (λ s. state s ≡ []) }
         ensures header { IfOk result (λ s. header_of s ≡ header) }
         ensures made { IfOk result (λ s. made s ≡ 0) };
+
+    /// The state for which these words stand where all locks are 0, and `None` where they stand for none. The words are the
+    /// plain words of the header, each below 2^63, and the header names the subject of the type. `start` is the case of zeroed
+    /// words: the law `zeroed_words_are_the_start`. Time and memory are in proportion to the words, but that a tree takes time
+    /// in proportion to the square of its nodes in use.
+    fn start_from(alloc: Global, header: Header, words: &[u64]) -> Result<Option<Self>, AllocError>
+        requires subject { header.subject ≡ subject }
+        requires count { length words.now ≡ plain_words header }
+        requires small { All (λ word. word < 2 ^ 63) words.now }
+        ensures state { IfOk result (λ found. option_map state found
+            ≡ state_of_words header (words.now ++ replicate (lock_words header) 0)) }
+        ensures header { IfOk result (λ found. IfSome found (λ s. header_of s ≡ header)) }
+        ensures made { IfOk result (λ found. IfSome found (λ s. made s ≡ 0)) };
 
     /// Makes a step with a mutator's call and its reply. `false` says that the reply isn't allowed in this state.
     /// After `false`, and after want of memory, all is as it was. It costs constant time, and the logarithm of the
@@ -77,6 +93,6 @@ pub trait Spec: Sized + Drop {
     // The keys of a state rise, and no amount is 0.
     ghost is_formed: { (s : Self) → IsAmounts (state s) };
 
-    // A key that is there is below 2^32, and its amount is below 2^64.
-    ghost is_small: { (s : Self) → AllAmounts (λ key amount. (key < 2 ^ 32) × (amount < 2 ^ 64)) (state s) };
+    // A key that is there is below 2^63, and its amount is below 2^64.
+    ghost is_small: { (s : Self) → AllAmounts (λ key amount. (key < 2 ^ 63) × (amount < 2 ^ 64)) (state s) };
 }

@@ -1,6 +1,6 @@
-//! Each call of each specification once, with replies that the table allows and some that it doesn't.
+//! Each call of each specification once, with replies that the table allows and some that it doesn't, and words to start from.
 
-ghost use Rattle.std.specs.Prelude.{◌≡◌, true, false, IfOk, []};
+ghost use Rattle.std.specs.Prelude.{◌≡◌, ◌<◌, ◌^◌, true, false, All, IfOk, []};
 ghost use Rattle.vyrd_base.specs.Specification.{next_state};
 ghost use Rattle.vyrd_base.specs.Subjects.{subject_of, is_observer, are_args};
 
@@ -79,5 +79,113 @@ fn steps_of_the_tree(rt: HostRuntime) -> Result<(), Fail> {
     assert_eq!(rt; spec.answer(Method::TrLookup, args(5, 0, 0)), 0);
     let refused = first_step::<TreeSpec>(rt.alloc(), header, Method::TrDelete, args(5, 0, 0), 1)?;
     assert!(rt; refused.is_none());
+    Ok(())
+}
+
+/// Whether each word is below 2^63.
+fn are_words(words: &[u64]) -> bool
+    ensures { result ≡ true → All (λ word. word < 2 ^ 63) words.now }
+{
+    for word in words {
+        if *word >= 1 << 63 {
+            return false;
+        }
+    }
+    true
+}
+
+/// What the state shows for which the words stand, where they stand for one.
+fn started<S: Spec>(alloc: Global, header: Header, words: &[u64]) -> Result<Option<View>, Fail>
+    requires { header.subject ≡ S.subject }
+{
+    if words.len() != header.plain_words() as usize || !are_words(words) {
+        return Err(Fail::from("the header's words"));
+    }
+    match S::start_from(alloc, header, words)? {
+        Some(spec) => Ok(Some(spec.view(alloc)?)),
+        None => Ok(None),
+    }
+}
+
+#[test]
+fn slots_of_their_buckets_are_a_start(rt: HostRuntime) -> Result<(), Fail> {
+    let header = Header::new(1, Subject::Multiset, 2, 1).ok_or("a header")?;
+    let mut words = [2, 4, 1, 7, 0, 9, 2, 4, 2, 4294967297, 0, 0, 0, 0, 0, 0];
+    let state = started::<MultisetSpec>(rt.alloc(), header, &words)?.ok_or("a state")?;
+    assert_eq!(rt; state.pairs(), [(4, 2), (4294967297, 1)].as_slice());
+    words[9] = 6;
+    assert!(rt; started::<MultisetSpec>(rt.alloc(), header, &words)?.is_none());
+    Ok(())
+}
+
+#[test]
+fn whole_chunks_are_a_start(rt: HostRuntime) -> Result<(), Fail> {
+    let header = Header::new(1, Subject::Cache, 1, 1).ok_or("a header")?;
+    let clean = started::<CacheSpec>(rt.alloc(), header, &[1, 7, 0, 7, 0])?.ok_or("a state")?;
+    let absent = started::<CacheSpec>(rt.alloc(), header, &[0, 9, 9, 1, 2])?.ok_or("a state")?;
+    assert_eq!(rt; clean.pairs(), [(0, 7)].as_slice());
+    assert_eq!(rt; absent.pairs(), [(0, 8589934593)].as_slice());
+    assert!(rt; started::<CacheSpec>(rt.alloc(), header, &[1, 7, 0, 8, 0])?.is_none());
+    assert!(rt; started::<CacheSpec>(rt.alloc(), header, &[3, 7, 0, 7, 0])?.is_none());
+    assert!(rt; started::<CacheSpec>(rt.alloc(), header, &[2, 7, 4294967296, 7, 0])?.is_none());
+    Ok(())
+}
+
+/// A tree with room for four nodes: two leaves with the keys 1 to 5, each with itself as its value, below a root.
+const TWO_LEAVES: [u64; 50] = [
+    0, 3, 4, 1, 1, 2, 3, 9, 1, 2, 3, 9, // leaf 0
+    0, 2, 0, 0, 4, 5, 0, 0, 4, 5, 0, 0, // leaf 1
+    1, 2, 0, 0, 0, 4, 0, 0, 0, 1, 0, 0, // the root
+    0, 0, 0, 0, 0, 0, 0, 0, 0, 0, 0, 0, // not in use
+    2, 2, // the root's number, and the last node in use
+];
+
+#[test]
+fn leaves_of_a_tree_are_a_start(rt: HostRuntime) -> Result<(), Fail> {
+    let header = Header::new(1, Subject::Tree, 4, 1).ok_or("a header")?;
+    let state = started::<TreeSpec>(rt.alloc(), header, &TWO_LEAVES)?.ok_or("a state")?;
+    let keys = [
+        (1, 4294967297),
+        (2, 4294967298),
+        (3, 4294967299),
+        (4, 4294967300),
+        (5, 4294967301),
+    ];
+    assert_eq!(rt; state.pairs(), keys.as_slice());
+    Ok(())
+}
+
+/// Whether the tree is one after one word of it has changed.
+fn is_tree_with(alloc: Global, place: usize, value: u64) -> Result<bool, Fail>
+    requires { place < 50 }
+{
+    let header = Header::new(1, Subject::Tree, 4, 1).ok_or("a header")?;
+    let mut words = TWO_LEAVES;
+    words[place] = value;
+    Ok(started::<TreeSpec>(alloc, header, &words)?.is_some())
+}
+
+#[test]
+fn broken_trees_are_no_start(rt: HostRuntime) -> Result<(), Fail> {
+    assert!(rt; is_tree_with(rt.alloc(), 7, 8)?);
+    assert!(rt;
+        !is_tree_with(rt.alloc(), 3, 0)?,
+        "leaf 0 has no right link"
+    );
+    assert!(rt; !is_tree_with(rt.alloc(), 15, 1)?, "leaf 1 leads to itself");
+    assert!(rt;
+        !is_tree_with(rt.alloc(), 2, 3)?,
+        "key 3 isn't below the bound of leaf 0"
+    );
+    assert!(rt;
+        !is_tree_with(rt.alloc(), 29, 5)?,
+        "leaf 1 doesn't begin at its key in the root"
+    );
+    assert!(rt; !is_tree_with(rt.alloc(), 48, 0)?, "the root is a leaf");
+    assert!(rt;
+        !is_tree_with(rt.alloc(), 49, 3)?,
+        "node 3 begins a second chain of leaves"
+    );
+    assert!(rt; !is_tree_with(rt.alloc(), 49, 4)?, "there are four nodes");
     Ok(())
 }

@@ -9,8 +9,10 @@ ghost use Rattle.vyrd_base.specs.Subjects.{subject_of, is_observer};
 ghost use Rattle.vyrd_spec.specs.Bounds.{AllAmounts, small_values};
 ghost use Rattle.vyrd_base.specs.Formed.{IsAmounts-prop};
 
+use crate::leaves::values;
 use crate::spec::Spec;
 use crate::touched::{Touched, touched_by};
+use crate::tree_words::is_tree;
 use std::alloc::{AllocError, Global};
 use vyrd_base::{AmountTable, Args, Header, Method, View};
 
@@ -25,7 +27,7 @@ pub struct TreeSpec {
     amounts: AmountTable,
     ghost few: { made ≤ 2 ^ 62 },
     ghost formed: { IsAmounts amounts } by { IsAmounts-prop amounts },
-    ghost small: { AllAmounts (λ key amount. (key < 2 ^ 32) × (2 ^ 32 ≤ amount) × (amount < 2 ^ 33)) amounts },
+    ghost small: { AllAmounts (λ key amount. (key < 2 ^ 32) × (2 ^ 32 ≤ amount) × (amount < 2 ^ 64)) amounts },
 }
 
 impl Spec for TreeSpec {
@@ -47,6 +49,22 @@ impl Spec for TreeSpec {
             made: 0,
             amounts: AmountTable::new(alloc, 4 * header.size() as usize)?,
         })
+    }
+
+    fn start_from(
+        alloc: Global,
+        header: Header,
+        words: &[u64],
+    ) -> Result<Option<Self>, AllocError> {
+        let size = header.size() as usize;
+        if !is_tree(alloc, size, words)? {
+            return Ok(None);
+        }
+        Ok(Some(TreeSpec {
+            header,
+            made: 0,
+            amounts: values(alloc, size, words)?,
+        }))
     }
 
     fn step(&mut self, method: Method, args: Args, reply: u64) -> Result<bool, AllocError> {

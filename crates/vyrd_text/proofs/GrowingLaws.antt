@@ -1,11 +1,12 @@
 -- What longer bytes say to a reader.
-use Rattle.std.proofs.Common.{◌≡◌, ℕ, ◌≤◌, true, false, List, [], ◌++◌, Option, Some, None, refl, ap, sym, ◌∙◌}
+use Rattle.std.proofs.Common.{◌≡◌, ℕ, ◌≤◌, ◌||◌, true, false, List, [], ◌++◌, Option, Some, None, refl, ap, sym, ◌∙◌}
 use Rattle.std.proofs.lemmas.List.{append-nil}
 use Rattle.vyrd_base.specs.declared.log.Entry.{Entry}
+use Rattle.vyrd_base.specs.declared.log.StartWord.{StartWord}
 use Rattle.vyrd_base.specs.declared.header.Header.{Header}
-use Rattle.vyrd_base.specs.Reading.{Reading, TextFault, reading}
+use Rattle.vyrd_base.specs.Reading.{Reading, TextFault, has_any, reading}
 use Rattle.vyrd_base.proofs.ReadingGrows.{TextGrown, reading_grows}
-use Rattle.vyrd_text.specs.Readers.{ReaderState, HasRead, so_far, whole}
+use Rattle.vyrd_text.specs.Readers.{ReaderState, lines_of, HasRead, so_far, whole}
 use Rattle.vyrd_text.proofs.ReadLaws.{faulty_fed, fed_read}
 
 module _ (r : ReaderState) (bytes more : List ℕ) (low : 1 ≤ r.max_lines) where
@@ -34,6 +35,20 @@ module _ (r : ReaderState) (bytes more : List ℕ) (low : 1 ≤ r.max_lines) whe
       by_fault None e = grown.grown.entries e
       by_fault (Some f) e = ([], ap (λ read. read.entries) (grown.grown.fault f e) ∙ sym (append-nil old.entries))
 
+  pub starts_last : (found : List StartWord) × (new.starting ≡ old.starting ++ found)
+  starts_last = by_fault old.fault refl
+    where
+      by_fault : (o : Option TextFault) → old.fault ≡ o → (found : List StartWord) × (new.starting ≡ old.starting ++ found)
+      by_fault None e = grown.grown.starting e
+      by_fault (Some f) e = ([], ap (λ read. read.starting) (grown.grown.fault f e) ∙ sym (append-nil old.starting))
+
+  pub starts_stay : (has_any old.entries || old.ended) ≡ true → new.starting ≡ old.starting
+  starts_stay begun = by_fault old.fault refl
+    where
+      by_fault : (o : Option TextFault) → old.fault ≡ o → new.starting ≡ old.starting
+      by_fault None e = grown.grown.begun e begun
+      by_fault (Some f) e = ap (λ read. read.starting) (grown.grown.fault f e)
+
   pub end_lasts : old.ended ≡ true → new.ended ≡ true
   end_lasts is = by_fault old.fault refl
     where
@@ -42,4 +57,4 @@ module _ (r : ReaderState) (bytes more : List ℕ) (low : 1 ≤ r.max_lines) whe
       by_fault (Some f) e = ap (λ read. read.ended) (grown.grown.fault f e) ∙ is
 
   pub still_read : (f : TextFault) → r.fault ≡ Some f → HasRead r bytes → HasRead r (bytes ++ more)
-  still_read f e has = fed_read r r bytes more [] [] has (faulty_fed r f more [] low e)
+  still_read f e has = fed_read r r bytes more [] [] has (faulty_fed (lines_of r) f more r.start [] low e)

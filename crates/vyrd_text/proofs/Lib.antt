@@ -2,6 +2,8 @@ pub mod NumberLaws
 pub mod PartLaws
 pub mod HeaderLaws
 pub mod ReaderLaws
+pub mod AheadLaws
+pub mod StartLaws
 pub mod LineSteps
 pub mod EntrySteps
 pub mod RestSteps

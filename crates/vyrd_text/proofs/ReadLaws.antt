@@ -5,6 +5,7 @@ use Rattle.std.specs.List.{slice_split}
 use Rattle.std.proofs.lemmas.List.{append-nil, append_cancel_left}
 use Rattle.vyrd_base.specs.declared.header.Header.{Header}
 use Rattle.vyrd_base.specs.declared.log.Entry.{Entry}
+use Rattle.vyrd_base.specs.declared.log.StartWord.{StartWord}
 use Rattle.vyrd_base.specs.declared.verdict.Rule.{Rule}
 use Rattle.vyrd_base.specs.declared.verdict.Rule.TheVariants.{TooManyLines, BadHeader, BadEntry, NoLineFeed, NoEnd}
 use Rattle.vyrd_base.specs.Reading.{TextFault, has_any, reading, fault_on}
@@ -12,48 +13,70 @@ use Rattle.vyrd_base.proofs.SplitLaws.{lacks, split_whole}
 use Rattle.vyrd_base.proofs.ReadingGrows.{Longer, split_longer}
 use Rattle.vyrd_text.specs.declared.fault.TextFault as fault
 use Rattle.vyrd_text.specs.declared.fault.TextFault.TheVariants.{Malformed, Memory}
-use Rattle.vyrd_text.specs.Readers.{ReaderState, so_far, whole, with_entries, known, lines_on, unless_faulty, goes_on, Follows, HasRead}
+use Rattle.vyrd_text.specs.Readers.{LineState, ReaderState, lines_of, so_far, whole, input_to, with_read, known, lines_on, unless_faulty, goes_on, Follows, HasRead}
 use Rattle.vyrd_text.specs.Steps.{IsNoticed, IsTaken, IsFed}
 use Rattle.vyrd_text.specs.Answered.{UnlessMemory, IsGrownBy}
 use Rattle.vyrd_text.proofs.ReaderLaws.{taken_then, faulty_taken}
+use Rattle.vyrd_text.proofs.RestSteps.{rest_body}
 
--- the entries of the bytes that were read
+-- the starting words and the entries of the bytes that were read
+abbrev pub starting_of : ReaderState → List ℕ → List StartWord
+starting_of r bytes = (reading (so_far r) bytes).starting
+
 abbrev pub entries_of : ReaderState → List ℕ → List Entry
 entries_of r bytes = (reading (so_far r) bytes).entries
 
+-- no bytes have no entry
+pub nothing_read : (r : ReaderState) → entries_of r [] ≡ []
+unfolding reading
+nothing_read r = refl
+
 -- what the reader makes of nothing more is what the bytes say
-read_now : (r : ReaderState) (bytes : List ℕ) (is_whole : Bool) (es : List Entry) → Follows r es bytes
-    → reading (record { max_lines = r.max_lines; is_whole = is_whole }) bytes ≡ with_entries es (goes_on r is_whole [])
-read_now r bytes is_whole es follows =
-    ap (reading (record { max_lines = r.max_lines; is_whole = is_whole })) (sym (append-nil bytes)) ∙ follows is_whole []
+read_now : (r : LineState) (bytes : List ℕ) (is_whole : Bool) (ss : List StartWord) (es : List Entry) → Follows r ss es bytes
+    → reading (input_to r is_whole) bytes ≡ with_read ss es (goes_on r is_whole [])
+read_now r bytes is_whole ss es follows =
+    ap (reading (input_to r is_whole)) (sym (append-nil bytes)) ∙ follows is_whole []
+
+-- a list that is the front of itself has nothing after that
+nothing_after : {A : Type 0} (xs ys : List A) → xs ≡ xs ++ ys → ys ≡ []
+nothing_after xs ys e = append_cancel_left xs ys [] (sym e ∙ sym (append-nil xs))
 
 -- a reader that has read bytes reports their fault
-noticed_of : (r : ReaderState) (bytes : List ℕ) → HasRead r bytes → IsNoticed r
+pub noticed_of : (r : ReaderState) (bytes : List ℕ) → HasRead r bytes → IsNoticed (lines_of r)
 noticed_of r bytes has =
-    let now : reading (so_far r) bytes ≡ with_entries (entries_of r bytes) (goes_on r false []) =
-    read_now r bytes false (entries_of r bytes) has.follows in
-    let none : (goes_on r false []).entries ≡ [] =
-    append_cancel_left (entries_of r bytes) (goes_on r false []).entries [] (sym (ap (λ read. read.entries) now)
-    ∙ sym (append-nil (entries_of r bytes))) in
-    let header : (goes_on r false []).header ≡ r.header = sym (ap (λ read. read.header) now) ∙ sym has.header in
-    let done : (goes_on r false []).ended ≡ r.ended = sym (ap (λ read. read.ended) now) ∙ sym has.ended in
-    let fault : (goes_on r false []).fault ≡ r.fault = sym (ap (λ read. read.fault) now) ∙ sym has.fault in
-    λ i. record { header = header i; entries = none i; ended = done i; fault = fault i }
+    let on = goes_on (lines_of r) false [] in
+    let now : reading (so_far r) bytes ≡ with_read (starting_of r bytes) (entries_of r bytes) on =
+    read_now (lines_of r) bytes false (starting_of r bytes) (entries_of r bytes) has.follows in
+    let header : on.header ≡ r.header = sym (ap (λ read. read.header) now) ∙ sym has.header in
+    let no_start : on.starting ≡ [] = nothing_after (starting_of r bytes) on.starting (ap (λ read. read.starting) now) in
+    let none : on.entries ≡ [] = nothing_after (entries_of r bytes) on.entries (ap (λ read. read.entries) now) in
+    let done : on.ended ≡ r.ended = sym (ap (λ read. read.ended) now) ∙ sym has.ended in
+    let fault : on.fault ≡ r.fault = sym (ap (λ read. read.fault) now) ∙ sym has.fault in
+    λ i. record { header = header i; starting = no_start i; entries = none i; ended = done i; fault = fault i }
 
 -- bytes were fed to a reader that had read some
 module _ (old new : ReaderState) (bytes piece : List ℕ) (before after : List Entry) (has : HasRead old bytes)
-    (fed : IsFed old piece before after new) where
+    (fed : IsFed (lines_of old) piece old.start new.start before after (lines_of new)) where
+  abbrev ss : List StartWord
+  ss = starting_of old bytes ++ fed.starts
+
   abbrev es : List Entry
   es = entries_of old bytes ++ fed.found
 
-  on : Follows new es (bytes ++ piece)
-  on = fed.taken.follows (entries_of old bytes) bytes has.follows
+  on : Follows (lines_of new) ss es (bytes ++ piece)
+  on = fed.taken.follows (starting_of old bytes) (entries_of old bytes) bytes has.follows
 
-  now : reading (so_far new) (bytes ++ piece) ≡ with_entries es (known new new.fault)
-  now = read_now new (bytes ++ piece) false es on ∙ ap (with_entries es) (fed.taken.noticed (noticed_of old bytes has))
+  now : reading (so_far new) (bytes ++ piece) ≡ with_read ss es (known (lines_of new) new.fault)
+  now = read_now (lines_of new) (bytes ++ piece) false ss es on ∙ ap (with_read ss es) (fed.taken.noticed (noticed_of old bytes has))
 
   all : (reading (so_far new) (bytes ++ piece)).entries ≡ es
   all = ap (λ read. read.entries) now ∙ append-nil es
+
+  all_start : (reading (so_far new) (bytes ++ piece)).starting ≡ ss
+  all_start = ap (λ read. read.starting) now ∙ append-nil ss
+
+  start_is : new.start ≡ (reading (so_far new) (bytes ++ piece)).starting
+  start_is = fed.start_grown ∙ ap (λ t. t ++ fed.starts) has.start ∙ sym all_start
 
   same : so_far new ≡ so_far old
   same = ap (λ n. record { max_lines = n; is_whole = false }) fed.taken.max_lines
@@ -61,10 +84,14 @@ module _ (old new : ReaderState) (bytes piece : List ℕ) (before after : List E
   pub fed_read : HasRead new (bytes ++ piece)
   fed_read = record {
     header = sym (ap (λ read. read.header) now);
+    start = start_is;
     ended = sym (ap (λ read. read.ended) now);
     fault = sym (ap (λ read. read.fault) now);
-    follows = λ is_whole more. on is_whole more ∙ ap (λ t. with_entries t (goes_on new is_whole more)) (sym all);
+    follows = λ is_whole more. on is_whole more ∙ (λ i. with_read (sym all_start i) (sym all i) (goes_on (lines_of new) is_whole more));
   }
+
+  pub fed_start : new.start ≡ (reading (so_far old) (bytes ++ piece)).starting
+  fed_start = start_is ∙ ap (λ input. (reading input (bytes ++ piece)).starting) same
 
   pub fed_entries : IsGrownBy before (entries_of old bytes) after (reading (so_far old) (bytes ++ piece)).entries
   fed_entries = record {
@@ -83,17 +110,26 @@ unless (Err (Malformed line rule)) p = p
 unless (Err Memory) p = tt
 
 -- nothing more is fed to a reader with a fault
-pub faulty_fed : (r : ReaderState) (f : TextFault) (piece : List ℕ) (entries : List Entry) → 1 ≤ r.max_lines → r.fault ≡ Some f
-    → IsFed r piece entries entries r
-faulty_fed r f piece entries low is = record { found = []; grown = sym (append-nil entries); taken = faulty_taken r f piece low is }
+pub faulty_fed : (r : LineState) (f : TextFault) (piece : List ℕ) (start : List StartWord) (entries : List Entry) → 1 ≤ r.max_lines
+    → r.fault ≡ Some f → IsFed r piece start start entries entries r
+faulty_fed r f piece start entries low is = record {
+  starts = [];
+  start_grown = sym (append-nil start);
+  found = [];
+  grown = sym (append-nil entries);
+  taken = faulty_taken r f piece low is;
+}
 
 -- a whole line more was fed
-pub fed_then : (a b c : ReaderState) (xs ys : List ℕ) (before middle after hs : List Entry) → IsFed a xs before middle b
-    → IsTaken b ys hs c → after ≡ middle ++ hs → IsFed a (xs ++ ys) before after c
-fed_then a b c xs ys before middle after hs fed taken grown = record {
+pub fed_then : (a b c : LineState) (xs ys : List ℕ) (start start_middle start_new ts : List StartWord) (before middle after hs : List Entry)
+    → IsFed a xs start start_middle before middle b → IsTaken b ys ts hs c → start_new ≡ start_middle ++ ts → after ≡ middle ++ hs
+    → IsFed a (xs ++ ys) start start_new before after c
+fed_then a b c xs ys start start_middle start_new ts before middle after hs fed taken start_grown grown = record {
+  starts = fed.starts ++ ts;
+  start_grown = start_grown ∙ ap (λ t. t ++ ts) fed.start_grown ∙ append_assoc start fed.starts ts;
   found = fed.found ++ hs;
   grown = grown ∙ ap (λ t. t ++ hs) fed.grown ∙ append_assoc before fed.found hs;
-  taken = taken_then a b c xs ys fed.found hs fed.taken taken;
+  taken = taken_then a b c xs ys fed.starts ts fed.found hs fed.taken taken;
 }
 
 -- the rules at the end of the input
@@ -111,74 +147,76 @@ pub no_fault : (n : ℕ) (o : Option Rule) → fault_on n o ≡ None → o ≡ N
 no_fault n None e = refl
 no_fault n (Some rule) e = cc
 
-module _ (r : ReaderState) (bytes : List ℕ) (has : HasRead r bytes) where
-  -- what the bytes say as the whole input
-  pub whole_read : reading (whole r) bytes ≡ with_entries (entries_of r bytes) (goes_on r true [])
-  whole_read = read_now r bytes true (entries_of r bytes) has.follows
+-- what the bytes say as the whole input
+pub whole_read : (r : ReaderState) (bytes : List ℕ) → HasRead r bytes
+    → reading (whole r) bytes ≡ with_read (starting_of r bytes) (entries_of r bytes) (goes_on (lines_of r) true [])
+whole_read r bytes has = read_now (lines_of r) bytes true (starting_of r bytes) (entries_of r bytes) has.follows
 
-  whole_fault : (reading (whole r) bytes).fault ≡ (goes_on r true []).fault
-  whole_fault = ap (λ read. read.fault) whole_read
-
+module _ (r : LineState) where
   -- a fault that stands is the fault of the whole
-  pub fault_at_end : (f : TextFault) → r.fault ≡ Some f → r.fault ≡ (reading (whole r) bytes).fault
-  fault_at_end f is = is ∙ sym (whole_fault ∙ ap (λ o. (unless_faulty r (whole r) (slice_split (λ b. b == 10) (r.unfinished ++ [])) o).fault) is)
+  pub fault_at_end : (f : TextFault) → r.fault ≡ Some f → r.fault ≡ (goes_on r true []).fault
+  fault_at_end f is = is ∙ sym (ap (λ o. (unless_faulty r (input_to r true) (slice_split (λ b. b == 10) (r.unfinished ++ [])) o).fault) is)
 
-  module _ (fine : r.fault ≡ None) where
+  module _ (noticed : IsNoticed r) (fine : r.fault ≡ None) where
+    -- the lines, and the unfinished one
+    abbrev lines : List (List ℕ)
+    lines = slice_split (λ b. b == 10) (r.unfinished ++ [])
+
     -- the fault of the bytes, which is none
-    nothing_wrong : (lines_on (so_far r) r.line r.header r.ended (slice_split (λ b. b == 10) (r.unfinished ++ []))).fault ≡ None
+    nothing_wrong : (lines_on (input_to r false) r.line r.header r.starting r.last r.ended lines).fault ≡ None
     nothing_wrong =
-        sym (ap (λ o. (unless_faulty r (so_far r) (slice_split (λ b. b == 10) (r.unfinished ++ [])) o).fault) fine)
-        ∙ ap (λ read. read.fault) (noticed_of r bytes has) ∙ fine
+        sym (ap (λ o. (unless_faulty r (input_to r false) lines o).fault) fine) ∙ ap (λ read. read.fault) noticed ∙ fine
 
-    at_whole : (reading (whole r) bytes)
-        ≡ with_entries (entries_of r bytes) (lines_on (whole r) r.line r.header r.ended (slice_split (λ b. b == 10) (r.unfinished ++ [])))
-    at_whole = whole_read ∙ ap (λ o. with_entries (entries_of r bytes)
-        (unless_faulty r (whole r) (slice_split (λ b. b == 10) (r.unfinished ++ [])) o)) fine
+    at_whole : goes_on r true [] ≡ lines_on (input_to r true) r.line r.header r.starting r.last r.ended lines
+    at_whole = ap (unless_faulty r (input_to r true) lines) fine
 
-    ended_lines : (h : Header) (lines : List (List ℕ)) → (lines_on (so_far r) r.line (Some h) true lines).fault ≡ None
-        → (lines_on (whole r) r.line (Some h) true lines).fault ≡ None
+    ended_lines : (h : Header) (ls : List (List ℕ)) → (lines_on (input_to r false) r.line (Some h) r.starting r.last true ls).fault ≡ None
+        → (lines_on (input_to r true) r.line (Some h) r.starting r.last true ls).fault ≡ None
     ended_lines h [] e = e
-    ended_lines h (line ∷ lines) e = e
+    ended_lines h (line ∷ ls) e = e
 
-    ended_is : (h : Header) (xs : List ℕ) → (lines_on (whole r) r.line (Some h) true (slice_split (λ b. b == 10) xs)).ended ≡ true
+    ended_is : (h : Header) (xs : List ℕ)
+        → (lines_on (input_to r true) r.line (Some h) r.starting r.last true (slice_split (λ b. b == 10) xs)).ended ≡ true
     ended_is h xs = by_parts (slice_split (λ b. b == 10) xs) (split_longer (λ b. b == 10) [] xs)
       where
-        by_parts : (ps : List (List ℕ)) → Longer ([] ∷ []) ps → (lines_on (whole r) r.line (Some h) true ps).ended ≡ true
+        by_parts : (ps : List (List ℕ)) → Longer ([] ∷ []) ps
+            → (lines_on (input_to r true) r.line (Some h) r.starting r.last true ps).ended ≡ true
         by_parts [] l = absurd l
         by_parts (p ∷ ps) l = refl
 
     -- a text that was read to its end
-    pub fine_at_end : (h : Header) → r.header ≡ Some h → r.ended ≡ true → (reading (whole r) bytes).fault ≡ None
+    pub fine_at_end : (h : Header) → r.header ≡ Some h → r.ended ≡ true → (goes_on r true []).fault ≡ None
     fine_at_end h is done =
-        let lines = slice_split (λ b. b == 10) (r.unfinished ++ []) in
-        ap (λ read. read.fault) at_whole ∙ (λ i. (lines_on (whole r) r.line (is i) (done i) lines).fault)
-        ∙ ended_lines h lines ((λ i. (lines_on (so_far r) r.line (sym is i) (sym done i) lines).fault) ∙ nothing_wrong)
+        ap (λ read. read.fault) at_whole ∙ (λ i. (lines_on (input_to r true) r.line (is i) r.starting r.last (done i) lines).fault)
+        ∙ ended_lines h lines ((λ i. (lines_on (input_to r false) r.line (sym is i) r.starting r.last (sym done i) lines).fault) ∙ nothing_wrong)
 
-    pub ended_at_end : (h : Header) → r.header ≡ Some h → r.ended ≡ true → (reading (whole r) bytes).ended ≡ true
+    pub ended_at_end : (h : Header) → r.header ≡ Some h → r.ended ≡ true → (goes_on r true []).ended ≡ true
     ended_at_end h is done =
-        ap (λ read. read.ended) at_whole ∙ (λ i. (lines_on (whole r) r.line (is i) (done i) (slice_split (λ b. b == 10) (r.unfinished ++ []))).ended)
+        ap (λ read. read.ended) at_whole ∙ (λ i. (lines_on (input_to r true) r.line (is i) r.starting r.last (done i) lines).ended)
         ∙ ended_is h (r.unfinished ++ [])
 
     module _ (one_line : lacks 10 r.unfinished ≡ true) (not_ended : r.ended ≡ false) where
       -- the unfinished line
-      one : slice_split (λ b. b == 10) (r.unfinished ++ []) ≡ r.unfinished ∷ []
+      one : lines ≡ r.unfinished ∷ []
       one = ap (slice_split (λ b. b == 10)) (append-nil r.unfinished) ∙ split_whole 10 r.unfinished one_line
 
       -- a text that ends before `end`
       pub unfinished_at_end : (r.header ≡ None → r.line ≡ 1)
-          → (reading (whole r) bytes).fault ≡ Some (record { line = r.line; rule = cond (has_any r.unfinished) NoLineFeed NoEnd })
+          → (goes_on r true []).fault ≡ Some (record { line = r.line; rule = cond (has_any r.unfinished) NoLineFeed NoEnd })
       unfinished_at_end first = by_header r.header refl
         where
           by_header : (o : Option Header) → r.header ≡ o
-              → (reading (whole r) bytes).fault ≡ Some (record { line = r.line; rule = cond (has_any r.unfinished) NoLineFeed NoEnd })
+              → (goes_on r true []).fault ≡ Some (record { line = r.line; rule = cond (has_any r.unfinished) NoLineFeed NoEnd })
           by_header None is =
-              let known_none = (λ i. (lines_on (so_far r) r.line (sym is i) r.ended (sym one i)).fault) ∙ nothing_wrong in
-              ap (λ read. read.fault) at_whole ∙ (λ i. (lines_on (whole r) r.line (is i) r.ended (one i)).fault)
+              let known_none = (λ i. (lines_on (input_to r false) r.line (sym is i) r.starting r.last r.ended (sym one i)).fault) ∙ nothing_wrong in
+              ap (λ read. read.fault) at_whole ∙ (λ i. (lines_on (input_to r true) r.line (is i) r.starting r.last r.ended (one i)).fault)
               ∙ ap (fault_on 1) (at_end (has_any r.unfinished && nat_lt r.max_lines 1) (nat_lt 64 (length r.unfinished))
               (has_any r.unfinished) BadHeader (no_fault 1 _ known_none))
               ∙ ap (λ n. Some (record { line = n; rule = cond (has_any r.unfinished) NoLineFeed NoEnd })) (sym (first is))
           by_header (Some h) is =
-              let known_none = (λ i. (lines_on (so_far r) r.line (sym is i) (sym not_ended i) (sym one i)).fault) ∙ nothing_wrong in
-              ap (λ read. read.fault) at_whole ∙ (λ i. (lines_on (whole r) r.line (is i) (not_ended i) (one i)).fault)
+              let known_none = ap (λ read. read.fault) (sym (rest_body (input_to r false) h r.starting r.last r.line r.unfinished))
+              ∙ (λ i. (lines_on (input_to r false) r.line (sym is i) r.starting r.last (sym not_ended i) (sym one i)).fault) ∙ nothing_wrong in
+              ap (λ read. read.fault) at_whole ∙ (λ i. (lines_on (input_to r true) r.line (is i) r.starting r.last (not_ended i) (one i)).fault)
+              ∙ ap (λ read. read.fault) (rest_body (input_to r true) h r.starting r.last r.line r.unfinished)
               ∙ ap (fault_on r.line) (at_end (has_any r.unfinished && nat_lt r.max_lines r.line) (nat_lt 64 (length r.unfinished))
               (has_any r.unfinished) BadEntry (no_fault r.line _ known_none))

@@ -4,14 +4,15 @@ use Rattle.std.specs.Prelude.{◌==◌, nat_lt, option_map}
 use Rattle.std.specs.List.{slice_split}
 use Rattle.std.proofs.Math.Bool.{and-false}
 use Rattle.vyrd_base.specs.declared.header.Header.{Header}
+use Rattle.vyrd_base.specs.declared.log.StartWord.{StartWord}
 use Rattle.vyrd_base.specs.declared.verdict.Rule.{Rule}
 use Rattle.vyrd_base.specs.declared.verdict.Rule.TheVariants.{TooManyLines, AfterEnd, BadHeader, BadEntry, NoLineFeed}
 use Rattle.vyrd_base.specs.Shape.{◌breaks◌, first_broken}
-use Rattle.vyrd_base.specs.Reading.{has_any, stopped, ended, unfinished_rule, header_before, fault_on}
+use Rattle.vyrd_base.specs.Reading.{Input, has_any, stopped, ended, unfinished_rule, header_before, fault_on}
 use Rattle.vyrd_base.proofs.SplitLaws.{lacks, lacks-append, split_whole}
 use Rattle.vyrd_base.proofs.TestLaws.{is_below, isnt_below}
-use Rattle.vyrd_text.specs.Readers.{ReaderState, so_far, known, lines_on, goes_on}
-use Rattle.vyrd_text.proofs.LineSteps.{fine_on}
+use Rattle.vyrd_text.specs.Readers.{LineState, input_to, known, lines_on, goes_on}
+use Rattle.vyrd_text.proofs.LineSteps.{fine_on, body_on}
 
 -- the rules of an unfinished line, for bytes that may go on
 unfinished_cases : (max n : ℕ) (bad : Rule) (ys : List ℕ) → unfinished_rule (record { max_lines = max; is_whole = false }) n bad ys
@@ -24,27 +25,34 @@ some_bytes : (ys : List ℕ) → 0 < length ys → has_any ys ≡ true
 some_bytes [] h = absurd (omega arith)
 some_bytes (y ∷ ys) h = refl
 
+-- an unfinished line is the same, whether it may become a starting line or not
+pub rest_body : (input : Input) (h : Header) (starting : Bool) (last : Option StartWord) (n : ℕ) (ys : List ℕ)
+    → body_on input h starting last n (ys ∷ []) ≡ stopped n (unfinished_rule input n BadEntry ys)
+rest_body input h true last n ys = refl
+rest_body input h false last n ys = refl
+
 -- a reader where nothing is wrong, with bytes that don't end its line
-module _ (r : ReaderState) (fine : r.fault ≡ None) (low : 1 ≤ r.max_lines) (one_line : lacks 10 r.unfinished ≡ true) (xs : List ℕ)
+module _ (r : LineState) (fine : r.fault ≡ None) (low : 1 ≤ r.max_lines) (one_line : lacks 10 r.unfinished ≡ true) (xs : List ℕ)
     (lack : lacks 10 xs ≡ true) (some : 0 < length xs) where
   any : has_any (r.unfinished ++ xs) ≡ true
   any = some_bytes (r.unfinished ++ xs) (omega (arith, length-append r.unfinished xs))
 
   -- they are one unfinished line
-  on : goes_on r false xs ≡ lines_on (so_far r) r.line r.header r.ended ((r.unfinished ++ xs) ∷ [])
-  on = fine_on r (so_far r) (slice_split (λ b. b == 10) (r.unfinished ++ xs)) fine
-      ∙ ap (lines_on (so_far r) r.line r.header r.ended) (split_whole 10 (r.unfinished ++ xs) (lacks-append 10 r.unfinished xs one_line lack))
+  on : goes_on r false xs ≡ lines_on (input_to r false) r.line r.header r.starting r.last r.ended ((r.unfinished ++ xs) ∷ [])
+  on = fine_on r (input_to r false) (slice_split (λ b. b == 10) (r.unfinished ++ xs)) fine
+      ∙ ap (lines_on (input_to r false) r.line r.header r.starting r.last r.ended) (split_whole 10 (r.unfinished ++ xs) (lacks-append 10 r.unfinished xs one_line lack))
 
   module _ (no_header : r.header ≡ None) (one : r.line ≡ 1) (not_ended : r.ended ≡ false) where
     first_rest : (o : Option Rule) → cond (nat_lt 64 (length (r.unfinished ++ xs))) (Some BadHeader) None ≡ o
         → goes_on r false xs ≡ known r (option_map (λ rule. record { line = r.line; rule = rule }) o)
     first_rest o is =
         on
-        ∙ ap (λ h. lines_on (so_far r) r.line h r.ended ((r.unfinished ++ xs) ∷ [])) no_header
+        ∙ ap (λ h. lines_on (input_to r false) r.line h r.starting r.last r.ended ((r.unfinished ++ xs) ∷ [])) no_header
         ∙ ap (stopped 1) (unfinished_cases r.max_lines 1 BadHeader (r.unfinished ++ xs)
         ∙ (λ i. cond (any i && isnt_below r.max_lines 1 low i) (Some TooManyLines) (is i)))
         ∙ (λ i. record {
           header = sym no_header i;
+          starting = [];
           entries = [];
           ended = sym not_ended i;
           fault = option_map (λ rule. record { line = sym one i; rule = rule }) o;
@@ -63,22 +71,23 @@ module _ (r : ReaderState) (fine : r.fault ≡ None) (low : 1 ≤ r.max_lines) (
         → goes_on r false xs ≡ known r (option_map (λ rule. record { line = r.line; rule = rule }) o)
     ended_rest o done is =
         on
-        ∙ (λ i. lines_on (so_far r) r.line (has i) (done i) ((r.unfinished ++ xs) ∷ []))
+        ∙ (λ i. lines_on (input_to r false) r.line (has i) r.starting r.last (done i) ((r.unfinished ++ xs) ∷ []))
         ∙ ap (λ b. header_before h (ended r.line
         (first_broken (((b || false) && nat_lt r.max_lines r.line breaks TooManyLines) ∷ ((b || false) breaks AfterEnd) ∷ [])))) any
         ∙ ap (λ p. header_before h (ended r.line p)) is
-        ∙ (λ i. record { header = sym has i; entries = []; ended = sym done i; fault = fault_on r.line o })
+        ∙ (λ i. record { header = sym has i; starting = []; entries = []; ended = sym done i; fault = fault_on r.line o })
 
     entry_rest : (o : Option Rule) → r.ended ≡ false
         → cond (nat_lt r.max_lines r.line) (Some TooManyLines) (cond (nat_lt 64 (length (r.unfinished ++ xs))) (Some BadEntry) None) ≡ o
         → goes_on r false xs ≡ known r (option_map (λ rule. record { line = r.line; rule = rule }) o)
     entry_rest o going is =
         on
-        ∙ (λ i. lines_on (so_far r) r.line (has i) (going i) ((r.unfinished ++ xs) ∷ []))
+        ∙ (λ i. lines_on (input_to r false) r.line (has i) r.starting r.last (going i) ((r.unfinished ++ xs) ∷ []))
+        ∙ ap (header_before h) (rest_body (input_to r false) h r.starting r.last r.line (r.unfinished ++ xs))
         ∙ ap (λ p. header_before h (stopped r.line p)) (unfinished_cases r.max_lines r.line BadEntry (r.unfinished ++ xs)
         ∙ ap (λ b. cond (b && nat_lt r.max_lines r.line) (Some TooManyLines)
         (cond (nat_lt 64 (length (r.unfinished ++ xs))) (Some BadEntry) None)) any ∙ is)
-        ∙ (λ i. record { header = sym has i; entries = []; ended = sym going i; fault = fault_on r.line o })
+        ∙ (λ i. record { header = sym has i; starting = []; entries = []; ended = sym going i; fault = fault_on r.line o })
 
     pub rest_past : r.max_lines < r.line → goes_on r false xs ≡ known r (Some (record { line = r.line; rule = TooManyLines }))
     rest_past past = by_end r.ended refl

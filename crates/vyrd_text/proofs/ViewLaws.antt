@@ -6,7 +6,7 @@ use Rattle.vyrd_base.specs.declared.verdict.Rule.TheVariants.{NoLineFeed, NoEnd}
 use Rattle.vyrd_base.specs.Reading.{TextFault, has_any}
 use Rattle.vyrd_text.specs.declared.fault.LineFault.{LineFault}
 use Rattle.vyrd_text.specs.ReaderView.{fault_of}
-use Rattle.vyrd_text.specs.Readers.{ReaderState}
+use Rattle.vyrd_text.specs.Readers.{LineState}
 use Rattle.vyrd_text.specs.Steps.{IsSteady}
 
 pub fault_none : (o : Option LineFault) → is_some o ≡ false → option_map fault_of o ≡ None
@@ -18,7 +18,7 @@ fault_some None e = cc
 fault_some (Some f) e = (fault_of f, refl)
 
 -- `end` is read after a header
-pub header_of_ended : (r : ReaderState) → IsSteady r → r.ended ≡ true → (h : Header) × (r.header ≡ Some h)
+pub header_of_ended : (r : LineState) → IsSteady r → r.ended ≡ true → (h : Header) × (r.header ≡ Some h)
 header_of_ended r steady done = by_header r.header refl
   where
     by_header : (o : Option Header) → r.header ≡ o → (h : Header) × (o ≡ Some h)

@@ -1,11 +1,19 @@
 -- What is appended in turn.
-use Rattle.std.proofs.Common.{◌≡◌, ℕ, ◌≤◌, cond, List, ◌++◌, take, length, Result, Ok, Err, refl, ap, sym, ◌∙◌, arith, append_assoc, length-append}
-use Rattle.std.specs.Prelude.{codes, flat_map, OnOk}
+use Rattle.std.proofs.Common.{◌≡◌, ℕ, ◌≤◌, ◌^◌, true, cond, ◌&&◌, List, [], ◌∷◌, ◌++◌, take, length, Result, Ok, Err, refl, ap, sym, ◌∙◌, arith, append_assoc, length-append}
+use Rattle.std.specs.Prelude.{codes, flat_map, nat_lt, OnOk}
+use Rattle.std.specs.List.{AllByRecursion}
 use Rattle.std.specs.Result.{is_ok}
 use Rattle.std.proofs.lemmas.List.{take_at, take-take}
 use Rattle.vyrd_base.specs.declared.header.Header.{Header}
+use Rattle.vyrd_base.specs.declared.subject.Subject.{Subject}
+use Rattle.vyrd_base.specs.declared.log.Kind.{Kind}
+use Rattle.vyrd_base.specs.declared.log.Kind.TheVariants.{Call, Return, Write, Commit, BlockOpen, BlockClose, BlockCommit}
 use Rattle.vyrd_base.specs.declared.log.Entry.{Entry}
-use Rattle.vyrd_base.specs.Spelling.{ended_line, entry_line, header_line, log_text}
+use Rattle.vyrd_base.specs.declared.log.StartWord.{StartWord}
+use Rattle.vyrd_base.specs.Spelling.{ended_line, start_line, entry_line, header_line, log_text, is_kind_of, is_entry_of}
+use Rattle.vyrd_base.proofs.ReadingLaws.{AllOf}
+use Rattle.vyrd_base.proofs.TestLaws.{first_true, second_true}
+use Rattle.vyrd_text.specs.Written.{is_padded, is_of_subject, is_writable}
 
 -- the front of a list that goes on from a longer front
 pub front_of_front : (old more middle now : List ℕ) → middle ≡ old ++ more → take (length middle) now ≡ middle → take (length old) now ≡ old
@@ -19,12 +27,33 @@ pub appended : {E : Type 0} (r : Result (Unit {0}) E) (was more now target : Lis
 appended (Ok x) was more now target e f = e ∙ f
 appended (Err x) was more now target e f = tt
 
--- a header, entries and `end` are a log's text
-pub whole_log : (h : Header) (entries : List Entry) (old first second : List ℕ)
+-- a header, starting words, entries and `end` are a log's text
+pub whole_log : (h : Header) (start : List StartWord) (entries : List Entry) (old first second third : List ℕ)
     → first ≡ old ++ ended_line (header_line h.version h.subject h.size h.callers)
-    → second ≡ first ++ flat_map (λ e. ended_line (entry_line e)) entries → second ++ codes "end\n" ≡ old ++ log_text h entries
+    → second ≡ first ++ flat_map (λ s. ended_line (start_line s)) start
+    → third ≡ second ++ flat_map (λ e. ended_line (entry_line e)) entries → third ++ codes "end\n" ≡ old ++ log_text h start entries
 unfolding log_text
-whole_log h entries old first second e f =
+whole_log h start entries old first second third e f g =
     let line = ended_line (header_line h.version h.subject h.size h.callers) in
+    let starts = flat_map (λ s. ended_line (start_line s)) start in
     let lines = flat_map (λ x. ended_line (entry_line x)) entries in
-    ap (λ t. t ++ codes "end\n") (f ∙ ap (λ t. t ++ lines) e ∙ append_assoc old line lines) ∙ append_assoc old (line ++ lines) (codes "end\n")
+    let begun : second ≡ old ++ (line ++ starts) = f ∙ ap (λ t. t ++ starts) e ∙ append_assoc old line starts in
+    ap (λ t. t ++ codes "end\n") (g ∙ ap (λ t. t ++ lines) begun ∙ append_assoc old (line ++ starts) lines)
+    ∙ append_assoc old ((line ++ starts) ++ lines) (codes "end\n")
+
+-- an entry that has a spelling can be written
+entry_writable : (subject : Subject) (e : Entry) → is_entry_of subject e ≡ true → is_writable subject e ≡ true
+entry_writable subject e is = by_kind e.kind (second_true (nat_lt e.caller (2 ^ 32)) _ is)
+  where
+    by_kind : (kind : Kind) → is_kind_of subject kind ≡ true → (is_of_subject subject kind && is_padded kind) ≡ true
+    by_kind (Call method args) k = first_true _ _ (first_true _ _ (first_true _ _ k))
+    by_kind (Return reply) k = refl
+    by_kind (Write word value) k = refl
+    by_kind Commit k = refl
+    by_kind BlockOpen k = refl
+    by_kind BlockClose k = refl
+    by_kind BlockCommit k = refl
+
+pub all_writable : (subject : Subject) (es : List Entry) → AllOf subject es → AllByRecursion (λ e. is_writable subject e ≡ true) es
+all_writable subject [] all = tt
+all_writable subject (e ∷ es) all = (entry_writable subject e all.0, all_writable subject es all.1)

@@ -2,7 +2,9 @@ pub mod Fields
 pub mod Spelled
 pub mod Quick
 pub mod Readers
+pub mod Ahead
 pub mod Steps
 pub mod ReaderView
+pub mod LogView
 pub mod Answered
 pub mod Written

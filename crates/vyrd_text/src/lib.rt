@@ -1,12 +1,13 @@
 //! The text of a log and of its verdict: read in pieces of any size, and written.
 //!
-//! The central type is `LogReader`. Whatever pieces a text comes in, the reader appends the entries that the definition of
-//! reading finds in the bytes so far, in their order, and answers the first fault of text exactly where that definition has
-//! one. It takes no memory but room for the entries, keeps at most one unfinished line, and reads a line that lies whole in a
-//! piece where it lies.
+//! The central type is `LogReader`. Whatever pieces a text comes in, the reader appends the entries
+//! that the definition of reading finds in the bytes so far, in their order, keeps the starting
+//! words that it finds, and answers the first fault of text exactly where that definition has one.
+//! It takes no memory but room for starting words and entries, keeps at most one unfinished line,
+//! and reads a line that lies whole in a piece where it lies.
 //!
-//! The parts of lines are there for texts that share them: `read_call`, `read_subject` and the numbers to read, `LineBuffer`
-//! and `push_call` to write.
+//! The parts of lines are there for texts that share them: `read_call`, `read_subject` and the
+//! numbers to read, `LineBuffer` and `push_call` to write.
 #![tactic(auto)]
 
 mod fault;
@@ -14,10 +15,12 @@ mod header;
 pub mod laws;
 mod line;
 mod line_buffer;
+mod line_reader;
 mod lines;
 mod number;
 mod quick;
 mod reader;
+mod start;
 #[cfg(test)]
 mod tests;
 mod verdict;
@@ -30,5 +33,6 @@ pub use line_buffer::LineBuffer;
 pub use lines::split_line;
 pub use number::{read_u32, read_u32_and_space, read_u64};
 pub use reader::LogReader;
+pub use start::read_start;
 pub use verdict::write_verdict;
-pub use writer::{name_of_subject, push_call, write_line, write_log};
+pub use writer::{name_of_subject, push_call, write_line, write_log, write_started};

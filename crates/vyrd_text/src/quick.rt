@@ -196,7 +196,7 @@ fn read_open(text: &[u8]) -> Option<(Kind, &[u8])>
     Some((Kind::BlockOpen, rest))
 }
 
-/// A commit outside a block.
+/// A lone commit.
 #[inline(always)]
 fn read_commit(text: &[u8]) -> Option<(Kind, &[u8])>
     ensures { (subject : Subject) → IfSome result (λ r. IsKindAtFront subject text.now r.0 r.1.now) }

@@ -4,16 +4,31 @@ ghost use Rattle.std.specs.Prelude.{◌≡◌, ◌≤◌, true, length};
 ghost use Rattle.std.specs.List.{AllByRecursion};
 ghost use Rattle.vyrd_text.specs.Written.{is_writable};
 
-use crate::{LogReader, TextFault, read_line, write_line, write_log, write_verdict};
+use crate::{
+    LogReader, TextFault, read_line, read_start, write_line, write_log, write_started,
+    write_verdict,
+};
 use std::alloc::Global;
 use std::process::Abort;
 use std::test::*;
-use vyrd_base::{Args, Entry, Header, Kind, Method, Rule, Subject, Verdict, Why};
+use vyrd_base::{Args, Entry, Header, Kind, Method, Rule, StartWord, Subject, Verdict, Why};
 
 /// The most lines that a reader may be given.
 const MOST: u64 = 268_435_456;
 
 const EMPTY: &[u8] = b"vyrd 1 multiset 1 1\nend\n";
+
+/// A log whose bucket has the value 5 at the start.
+const STARTED: &[u8] = b"vyrd 2 multiset 1 1
+start 0 2
+start 1 5
+0 call delete 5
+0 open
+0 write 0 0
+0 close commit
+0 return 1
+end
+";
 
 const DELETED: &[u8] = b"vyrd 1 multiset 1 1\n0 call delete 5\n0 commit\n0 return 0\nend\n";
 
@@ -29,7 +44,7 @@ fn read_in_two(alloc: Global, max_lines: u64, text: &[u8], cut: usize) -> Answer
     requires lines { (1 ≤ max_lines) × (max_lines ≤ 268435456) }
     requires cut { cut ≤ length text.now }
 {
-    let mut reader = LogReader::new(max_lines);
+    let mut reader = LogReader::new(alloc, max_lines);
     let mut entries = Vec::new(alloc);
     let mut answer = reader.feed(&text[..cut], &mut entries);
     if answer.is_ok() {
@@ -45,7 +60,7 @@ fn read_in_two(alloc: Global, max_lines: u64, text: &[u8], cut: usize) -> Answer
 fn read_bytes(alloc: Global, max_lines: u64, text: &[u8]) -> Answer
     requires { (1 ≤ max_lines) × (max_lines ≤ 268435456) }
 {
-    let mut reader = LogReader::new(max_lines);
+    let mut reader = LogReader::new(alloc, max_lines);
     let mut entries = Vec::new(alloc);
     for byte in text {
         let answer = reader.feed(&[*byte], &mut entries);
@@ -119,7 +134,47 @@ fn limits_of_the_header(rt: HostRuntime) {
         rt.alloc(),
         MOST,
         b"vyrd 2 multiset 1 1\nend\n",
+        (Ok(()), 0),
+    );
+    assert_read(
+        &rt,
+        rt.alloc(),
+        MOST,
+        b"vyrd 3 multiset 1 1\nend\n",
         (malformed(1, Rule::UnknownVersion), 0),
+    );
+}
+
+#[test]
+fn faults_of_starting_words(rt: HostRuntime) {
+    assert_read(&rt, rt.alloc(), MOST, STARTED, (Ok(()), 5));
+    assert_read(
+        &rt,
+        rt.alloc(),
+        MOST,
+        b"vyrd 2 multiset 1 1\nstart 1 5\nstart 0 2\nend\n",
+        (malformed(3, Rule::StartOrder), 0),
+    );
+    assert_read(
+        &rt,
+        rt.alloc(),
+        MOST,
+        b"vyrd 2 multiset 1 1\nstart 0 0\nend\n",
+        (malformed(2, Rule::StartRange), 0),
+    );
+    assert_read(
+        &rt,
+        rt.alloc(),
+        MOST,
+        b"vyrd 1 multiset 1 1\nstart 0 2\nend\n",
+        (malformed(2, Rule::BadEntry), 0),
+    );
+    assert_read(
+        &rt,
+        rt.alloc(),
+        MOST,
+        b"vyrd 2 multiset 1 1\n0 call lookup 5\nstart 0 2\nend\n",
+        (malformed(3, Rule::BadEntry), 1),
     );
 }
 
@@ -164,12 +219,52 @@ fn absent_delete_replies_0(rt: HostRuntime) -> Result<(), Fail> {
     write_log(header, &deleted(), &mut text)?;
     assert_eq!(rt; text.as_slice(), DELETED);
 
-    let mut reader = LogReader::new(MOST);
+    let mut reader = LogReader::new(rt.alloc(), MOST);
     let mut entries = Vec::new(rt.alloc());
     reader.feed(&text, &mut entries)?;
     assert_eq!(rt; entries.as_slice(), deleted().as_slice());
     assert_eq!(rt; reader.header(), Some(header));
     assert!(rt; reader.ended());
+    Ok(())
+}
+
+/// What a reader gives of the text that comes in two pieces, written again.
+fn written_again(alloc: Global, text: &[u8], cut: usize) -> Result<Vec<u8>, Fail>
+    requires { cut ≤ length text.now }
+{
+    let mut reader = LogReader::new(alloc, MOST);
+    let mut entries = Vec::new(alloc);
+    reader.feed(&text[..cut], &mut entries)?;
+    reader.feed(&text[cut..], &mut entries)?;
+    let mut again = Vec::new(alloc);
+    if let Some(header) = reader.header() {
+        write_started(header, reader.start(), &entries, &mut again)?;
+    }
+    Ok(again)
+}
+
+#[test]
+fn starting_words_are_written_as_they_were_read(rt: HostRuntime) -> Result<(), Fail> {
+    for cut in 0..=STARTED.len() {
+        let again = written_again(rt.alloc(), STARTED, cut)?;
+        assert_eq!(rt; again.as_slice(), STARTED, "cut at {cut}");
+    }
+    Ok(())
+}
+
+#[test]
+fn starting_words_are_kept(rt: HostRuntime) -> Result<(), Fail> {
+    let mut reader = LogReader::new(rt.alloc(), MOST);
+    let mut entries = Vec::new(rt.alloc());
+    reader.feed(&STARTED[..35], &mut entries)?;
+    let first = StartWord { word: 0, value: 2 };
+    assert_eq!(rt; reader.start(), [first].as_slice());
+    assert_eq!(rt; read_start(b"start 0 2"), Some(first));
+
+    reader.feed(&STARTED[35..], &mut entries)?;
+    let second = StartWord { word: 1, value: 5 };
+    assert_eq!(rt; reader.start(), [first, second].as_slice());
+    assert_eq!(rt; entries.len(), 5);
     Ok(())
 }
 
@@ -207,11 +302,17 @@ fn verdicts(rt: HostRuntime) -> Result<(), Fail> {
         rule: Rule::BlockRaced,
     };
     write_verdict(&raced, &mut text)?;
+    for rule in [Rule::StartRange, Rule::StartOrder, Rule::StartState] {
+        write_verdict(&Verdict::Malformed { line: 2, rule }, &mut text)?;
+    }
     let lines = b"accepted: 9 entries, 1 commits, 1 observers
 violation at line 3: reply 1 not allowed
 violation at line 14: view differs at key 6
 violation at line 6: observer reply 1 in no state
 malformed at line 6: block raced
+malformed at line 2: start out of range
+malformed at line 2: start word not rising
+malformed at line 2: start stands for no state
 ";
     assert_eq!(rt; text.as_slice(), lines.as_slice());
     Ok(())

@@ -1,14 +1,15 @@
 //! The text of a log, written.
 
-ghost use Rattle.std.specs.Prelude.{◌≡◌, ◌+◌, ◌≤◌, ◌++◌, true, length, take, flat_map, OnOk, OnErr};
+ghost use Rattle.std.specs.Prelude.{◌≡◌, ◌+◌, ◌≤◌, [], ◌++◌, true, length, take, flat_map, OnOk, OnErr};
 ghost use Rattle.std.specs.List.{AllByRecursion};
-ghost use Rattle.vyrd_base.specs.Spelling.{log_text, entry_line, ended_line, header_line, method_name, subject_name};
+ghost use Rattle.vyrd_base.specs.Starts.{may_start};
+ghost use Rattle.vyrd_base.specs.Spelling.{log_text, start_line, entry_line, ended_line, header_line, method_name, subject_name};
 ghost use Rattle.vyrd_text.specs.Spelled.{args_text, call_text, kind_text};
 ghost use Rattle.vyrd_text.specs.Written.{is_padded, is_writable};
 
 use crate::line_buffer::LineBuffer;
 use std::alloc::AllocError;
-use vyrd_base::{Args, Entry, Header, Kind, Method, Subject};
+use vyrd_base::{Args, Entry, Header, Kind, Method, StartWord, Subject};
 
 /// Appends the one spelling of the entry, without a line feed. A refusal leaves `out` unchanged.
 ///
@@ -23,29 +24,55 @@ pub fn write_line(entry: &Entry, out: &mut Vec<u8>) -> Result<(), AllocError>
     out.extend_from_slice(line.as_slice())
 }
 
-/// Appends the text of the log. A refusal leaves `out` unchanged.
+/// Appends the text of a log without starting words. A refusal leaves `out` unchanged.
 ///
 /// Each method is of the header's subject, and arguments that it doesn't have are 0. The time and the memory grow with the
 /// number of entries.
 pub fn write_log(header: Header, entries: &[Entry], out: &mut Vec<u8>) -> Result<(), AllocError>
     requires { AllByRecursion (λ e. is_writable header.subject e ≡ true) entries.now }
-    ensures ok { OnOk result (out.new.items ≡ out.old.items ++ log_text header entries.now) }
+    ensures ok { OnOk result (out.new.items ≡ out.old.items ++ log_text header [] entries.now) }
     ensures err { OnErr result (out.new.items ≡ out.old.items) }
 {
-    let start = out.len();
-    let written = append_log(header, entries, out);
+    write_started(header, &[], entries, out)
+}
+
+/// Appends the text of a log with its starting words. A refusal leaves `out` unchanged.
+///
+/// The words rise, each is below the header's number of plain words and its value is from 1 to
+/// below 2^63; in version 1 there are none. Each method is of the header's subject, and arguments
+/// that it doesn't have are 0. The time and the memory grow with the number of starting words and
+/// entries.
+pub fn write_started(
+    header: Header,
+    start: &[StartWord],
+    entries: &[Entry],
+    out: &mut Vec<u8>,
+) -> Result<(), AllocError>
+    requires start { may_start header start.now ≡ true }
+    requires entries { AllByRecursion (λ e. is_writable header.subject e ≡ true) entries.now }
+    ensures ok { OnOk result (out.new.items ≡ out.old.items ++ log_text header start.now entries.now) }
+    ensures err { OnErr result (out.new.items ≡ out.old.items) }
+{
+    let len = out.len();
+    let written = append_log(header, start, entries, out);
     if written.is_err() {
-        out.truncate(start);
+        out.truncate(len);
     }
     written
 }
 
 /// Appends the text of the log, or a part of it where memory is wanting.
-fn append_log(header: Header, entries: &[Entry], out: &mut Vec<u8>) -> Result<(), AllocError>
-    ensures ok { OnOk result (out.new.items ≡ out.old.items ++ log_text header entries.now) }
+fn append_log(
+    header: Header,
+    start: &[StartWord],
+    entries: &[Entry],
+    out: &mut Vec<u8>,
+) -> Result<(), AllocError>
+    ensures ok { OnOk result (out.new.items ≡ out.old.items ++ log_text header start.now entries.now) }
     ensures err { OnErr result (take (length out.old.items) out.new.items ≡ out.old.items) }
 {
     append_header(header, out)?;
+    append_start(start, out)?;
     append_entries(entries, out)?;
     out.extend_from_slice(b"end\n")
 }
@@ -66,6 +93,33 @@ fn append_header(header: Header, out: &mut Vec<u8>) -> Result<(), AllocError>
     line.push_number(u64::from(header.callers()));
     line.push(b"\n");
     out.extend_from_slice(line.as_slice())
+}
+
+/// Appends the starting words' lines, or some of them where memory is wanting.
+fn append_start(start: &[StartWord], out: &mut Vec<u8>) -> Result<(), AllocError>
+    ensures ok { OnOk result (out.new.items ≡ out.old.items ++ flat_map (λ s. ended_line (start_line s)) start.now) }
+    ensures err { OnErr result (take (length out.old.items) out.new.items ≡ out.old.items) }
+{
+    let mut line = LineBuffer::new();
+    for word in start {
+        line.clear();
+        push_start(*word, &mut line);
+        line.push(b"\n");
+        out.extend_from_slice(line.as_slice())?;
+    }
+    Ok(())
+}
+
+/// Puts the starting word's spelling at the end of the line.
+fn push_start(start: StartWord, line: &mut LineBuffer)
+    requires { length line.old ≡ 0 }
+    ensures text { line.new ≡ line.old ++ start_line start }
+    ensures len { length line.new ≤ 127 }
+{
+    line.push(b"start ");
+    line.push_number(u64::from(start.word));
+    line.push(b" ");
+    line.push_number(start.value);
 }
 
 /// Appends the entries' lines, or some of them where memory is wanting.

@@ -7,8 +7,8 @@ use Rattle.std.proofs.Math.Bool.{or-true}
 use Rattle.vyrd_base.specs.Amounts.{Amounts, collected}
 use Rattle.vyrd_base.specs.TreeView.{right_of, node_parts, damage, chain_parts_from, chain_parts}
 use Rattle.vyrd_base.proofs.TestLaws.{isnt_same, is_same}
-use Rattle.vyrd_view.specs.Added.{added}
-use Rattle.vyrd_view.proofs.AddedLaws.{added-append, added-collected}
+use Rattle.vyrd_base.specs.Added.{added}
+use Rattle.vyrd_base.proofs.AddedLaws.{added-append, added-collected}
 
 -- The flags tell the nodes that were seen, and a node past the flags counts as seen.
 abbrev pub Marks : ℕ → List Bool → List ℕ → Type 0

@@ -1,4 +1,3 @@
-pub mod AddedLaws
 pub mod PartLaws
 pub mod ChainLaws
 pub mod ApartLaws

@@ -7,7 +7,7 @@ use Rattle.vyrd_base.specs.Views.{slot_parts, chunk_at, chunk_parts, is_chunk, s
 use Rattle.vyrd_base.proofs.PlaceLaws.{numbers_below-push}
 use Rattle.vyrd_base.proofs.SumLaws.{given, part_given, given-append}
 use Rattle.vyrd_view.specs.Pairs.{slot_pair, chunk_pair, chunk_amount, chunk_flaw}
-use Rattle.vyrd_view.proofs.AddedLaws.{parts-push}
+use Rattle.vyrd_base.proofs.AddedLaws.{parts-push}
 use Rattle.vyrd_view.proofs.ChunkPairLaws.{pair_even, pair_odd}
 
 -- nothing gives nothing

@@ -14,7 +14,7 @@ use Rattle.vyrd_view.specs.Apart.{IsLeastApart}
 use Rattle.vyrd_view.specs.Rests as rests
 use Rattle.vyrd_view.specs.Homes.{no_home, home_at, is_taken, is_apart, shown_pairs, specified_pairs, first_place, IsWithin, AreHomes, IsHomeOf, IsFoundAt, IsLeastHome}
 use Rattle.vyrd_view.specs.Sided.{AreSettled, IsSettled, shown_at, specified_of}
-use Rattle.vyrd_view.proofs.AddedLaws.{amount_of-added, IsAmounts-added}
+use Rattle.vyrd_base.proofs.AddedLaws.{amount_of-added, IsAmounts-added}
 use Rattle.vyrd_view.proofs.PairLaws.{given-set, other_part}
 use Rattle.vyrd_view.proofs.ShowingLaws.{nothing_given}
 use Rattle.vyrd_view.proofs.HomeLaws.{PairsBy, at_map, no_home_gives, home_gives, free_amounts, apart_is_taken, somewhere, nowhere_of, nowhere_else}

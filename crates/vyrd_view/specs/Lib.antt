@@ -1,4 +1,3 @@
-pub mod Added
 pub mod Apart
 pub mod Rests
 pub mod Sided

@@ -5,7 +5,7 @@ ghost use Rattle.vyrd_base.specs.declared.subject.Subject.TheVariants.{Tree};
 ghost use Rattle.vyrd_base.specs.Amounts.{amount_of, collected};
 ghost use Rattle.vyrd_base.specs.TreeView.{entry_parts, node_parts};
 ghost use Rattle.vyrd_base.specs.Views.{parts_of};
-ghost use Rattle.vyrd_view.specs.Added.{added};
+ghost use Rattle.vyrd_base.specs.Added.{added};
 
 use std::alloc::{AllocError, Global};
 use vyrd_base::AmountMap;

@@ -4,7 +4,7 @@ ghost use Rattle.std.specs.Prelude.{◌≡◌, ◌+◌, ◌*◌, ◌<◌, ◌≤
 ghost use Rattle.vyrd_base.specs.declared.subject.Subject.TheVariants.{Cache};
 ghost use Rattle.vyrd_base.specs.Amounts.{amount_of, collected};
 ghost use Rattle.vyrd_base.specs.Views.{parts_of, chunk_parts};
-ghost use Rattle.vyrd_view.specs.Added.{added};
+ghost use Rattle.vyrd_base.specs.Added.{added};
 
 use crate::chunk::Chunk;
 use std::alloc::{AllocError, Global};

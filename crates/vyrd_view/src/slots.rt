@@ -4,7 +4,7 @@ ghost use Rattle.std.specs.Prelude.{◌≡◌, ◌+◌, ◌*◌, ◌<◌, ◌≤
 ghost use Rattle.vyrd_base.specs.declared.subject.Subject.TheVariants.{Multiset};
 ghost use Rattle.vyrd_base.specs.Amounts.{amount_of, collected};
 ghost use Rattle.vyrd_base.specs.Views.{parts_of};
-ghost use Rattle.vyrd_view.specs.Added.{added};
+ghost use Rattle.vyrd_base.specs.Added.{added};
 
 use std::alloc::{AllocError, Global};
 use vyrd_base::AmountMap;

@@ -15,7 +15,6 @@ use Rattle.vyrd_base.proofs.SplitLaws.{lacks, split-join, lacks-join, number_of_
 use Rattle.vyrd_base.proofs.LineLaws.{is_plain_field, plain_number, plain_spaces, plain_line_feeds}
 use Rattle.vyrd_base.proofs.TestLaws.{both_true, first_true, second_true}
 use Rattle.vyrd_base.proofs.SubjectLaws.{plain_subject, subject_read, one_name}
-use Rattle.vyrd_base.proofs.ReadingLaws.{known_version}
 use Rattle.vyrd_memory.specs.declared.op.Variant.{Variant}
 use Rattle.vyrd_memory.specs.declared.op.Variant.TheVariants.{Correct, Broken}
 use Rattle.vyrd_text.proofs.PartLaws.{one_before_space}
@@ -93,15 +92,16 @@ pub callers_fit : (h : Header) → h.callers < 2 ^ 32
 callers_fit h = small_callers h.size h.callers (sized h)
 
 -- a workload's header and variant are read back from its first line
-pub begun_in-first_line : (h : Header) (variant : Variant) → begun_in (work_header_line h.subject h.size h.callers variant) ≡ Some (begun variant h)
-begun_in-first_line h variant =
+pub begun_in-first_line : (h : Header) (variant : Variant) → h.version ≡ 1 → begun_in (work_header_line h.subject h.size h.callers variant) ≡ Some (begun variant h)
+begun_in-first_line h variant one =
     let s : h.size < 2 ^ 64 = let l = size_fits h in omega (arith, l) in
     let c : h.callers < 2 ^ 64 = let l = callers_fit h in omega (arith, l) in
     begun_known h.subject h.size h.callers variant s c
-    ∙ ap (option_map (begun variant)) (made 1 h.subject h.size h.callers h (known_version h.version (first_true _ _ h.within)) refl refl refl)
+    ∙ ap (option_map (begun variant)) (made 1 h.subject h.size h.callers h one refl refl refl)
 
--- what a first line is read as: a workload of nothing, whose first line it is
+-- what a first line is read as: a workload of nothing, whose first line it is, and whose runs leave logs of version 1
 pub record IsBegun (line : List ℕ) (w : Workload) : Type 0 where
+  pub version : w.header.version ≡ 1
   pub empty : w ≡ begun w.variant w.header
   pub line_is : line ≡ work_header_line w.header.subject w.header.size w.header.callers w.variant
 
@@ -115,6 +115,7 @@ begun_in_sound line w found = from (fields_of line) found
     of_header subject size callers variant false e same f = cc
     of_header subject size callers variant true e same f =
         let is : begun variant (record { version = 1; subject = subject; size = size; callers = callers; within = e }) ≡ w = cc in record {
+          version = ap (λ (x : Workload). x.header.version) (sym is);
           empty = sym is ∙ ap (λ x. begun x.variant x.header) is;
           line_is = same ∙ ap (λ x. work_header_line x.header.subject x.header.size x.header.callers x.variant) is;
         }

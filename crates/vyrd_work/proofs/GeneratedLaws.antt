@@ -72,6 +72,7 @@ count (suc left) i x = ap suc (count left (i + 1) (next_draw x))
 pub generated_keeps : (n : ℕ) → n ≤ 200000 → KeepsLimits (generated n)
 unfolding generated
 generated_keeps n h = record {
+  version = refl;
   ops = all_fit n 0 n;
   args = all_small n 0 n;
   turns = tt;

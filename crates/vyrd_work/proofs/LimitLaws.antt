@@ -94,6 +94,7 @@ turns_more (u ∷ turns) t =
 pub limits_more : (w : Workload) (x : Item) → KeepsLimits w → is_item_of w.header.subject x ≡ true → broken_by w x ≡ None
     → KeepsLimits (with_item w x)
 limits_more w (item.Op o) keeps is none = record {
+  version = keeps.version;
   ops = all_more (λ p. is_op_of w.header p ≡ true) w.ops o keeps.ops (op_fits w o none (op_subject w.header.subject o is));
   args = all_more (λ p. are_small p.op.args ≡ true) w.ops o keeps.args (op_small w.header.subject o is);
   turns = keeps.turns;
@@ -102,6 +103,7 @@ limits_more w (item.Op o) keeps is none = record {
   turn_sum = keeps.turn_sum;
 }
 limits_more w (item.Turns t) keeps is none = record {
+  version = keeps.version;
   ops = keeps.ops;
   args = keeps.args;
   turns = all_more (λ u. is_turn_of w.header u ≡ true) w.turns t keeps.turns (turn_fits w t none (second_true (nat_lt t.caller (2 ^ 32)) _ is));

@@ -11,7 +11,7 @@ use Rattle.vyrd_base.specs.declared.subject.Subject.{Subject}
 use Rattle.vyrd_base.specs.Spelling.{end_line}
 use Rattle.vyrd_base.specs.Reading.{has_any}
 use Rattle.vyrd_base.proofs.LongLines.{long_isnt_end}
-use Rattle.vyrd_text.proofs.LineSteps.{parts_of}
+use Rattle.vyrd_text.proofs.AheadLaws.{parts_of}
 use Rattle.vyrd_work.specs.declared.line.Item.{Item}
 use Rattle.vyrd_work.specs.declared.line.Item.TheVariants as item
 use Rattle.vyrd_work.specs.declared.fault.WorkRule.{WorkRule}
@@ -193,7 +193,7 @@ text_settled line (next ∷ lines) q qs enough = by_begun (begun_in line) refl
         let short = short_first w.header w.variant in
         let same = ap length is.line_is in
         let none = ap lines_in is.empty in
-        lines_settled w 2 next lines q qs (subst KeepsLimits (sym is.empty) (begun_keeps w.header w.variant))
+        lines_settled w 2 next lines q qs (subst KeepsLimits (sym is.empty) (begun_keeps w.header w.variant is.version))
         (omega (arith, enough, length_lines line next lines, short, same, none))
 
     by_begun : (o : Option Workload) → begun_in line ≡ o → From (begun_or_bad o)

@@ -123,8 +123,8 @@ all_lines_are w = ap (λ rest. work_header_line w.header.subject w.header.size w
     (append_assoc (map item_line (items_of w)) (end_line ∷ []) ([] ∷ []))
 
 -- a workload of nothing keeps the limits
-pub begun_keeps : (h : Header) (variant : Variant) → KeepsLimits (begun variant h)
-begun_keeps h variant = record { ops = tt; args = tt; turns = tt; op_count = omega arith; turn_count = omega arith; turn_sum = omega arith }
+pub begun_keeps : (h : Header) (variant : Variant) → h.version ≡ 1 → KeepsLimits (begun variant h)
+begun_keeps h variant one = record { version = one; ops = tt; args = tt; turns = tt; op_count = omega arith; turn_count = omega arith; turn_sum = omega arith }
 
 -- what is read: a workload's text, which keeps the limits
 pub record IsWorkText (bytes : List ℕ) (w : Workload) : Type 0 where
@@ -143,7 +143,7 @@ text_sound (line ∷ next ∷ lines) v e = by_begun (begun_in line) refl e
     found : (w : Workload) → IsBegun line w → lines_read w 2 (next ∷ lines) ≡ Ok v
         → IsWorkText (join_with_byte 10 (line ∷ next ∷ lines)) v
     found w is f =
-        let s = lines_sound w 2 (next ∷ lines) v (subst KeepsLimits (sym is.empty) (begun_keeps w.header w.variant)) f in
+        let s = lines_sound w 2 (next ∷ lines) v (subst KeepsLimits (sym is.empty) (begun_keeps w.header w.variant is.version)) f in
         let items : items_of v ≡ s.more = s.items ∙ ap (λ u. items_of u ++ s.more) is.empty in
         let first : line ≡ work_header_line v.header.subject v.header.size v.header.callers v.variant =
         is.line_is ∙ (λ i. work_header_line (sym s.header i).subject (sym s.header i).size (sym s.header i).callers (sym s.variant i)) in
@@ -267,7 +267,7 @@ all_read w keeps = by_rest (map item_line (items_of w) ++ end_line ∷ [] ∷ []
     by_rest [] some on = cc
     by_rest (next ∷ lines) some on =
         ap (λ o. elim (begun_or_bad o) as (λ _. Result Workload Refusal) [ Ok u ↦ lines_read u 2 (next ∷ lines) | Err rule ↦ refused 1 rule ])
-        (begun_in-first_line w.header w.variant)
+        (begun_in-first_line w.header w.variant keeps.version)
         ∙ on
 
 -- the text of a workload is read as that workload

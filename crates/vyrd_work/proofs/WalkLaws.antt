@@ -6,7 +6,7 @@ use Rattle.std.specs.Str.{bytes_eq}
 use Rattle.std.proofs.lemmas.Slice.Eq.{bytes_eq-Decides}
 use Rattle.vyrd_base.specs.Spelling.{end_line}
 use Rattle.vyrd_base.proofs.SplitLaws.{lacks, split_at, split_whole, bytes_same}
-use Rattle.vyrd_text.proofs.LineSteps.{parts_of}
+use Rattle.vyrd_text.proofs.AheadLaws.{parts_of}
 use Rattle.vyrd_work.specs.declared.fault.WorkRule.{WorkRule}
 use Rattle.vyrd_work.specs.declared.fault.WorkRule.TheVariants.{AfterEnd, BadHeader, BadLine}
 use Rattle.vyrd_work.specs.declared.fault.WorkFault.{WorkFault}

@@ -17,8 +17,9 @@ is_op_of h o = nat_lt o.caller h.callers && (same_subject (subject_of o.op.metho
 abbrev pub is_turn_of : Header → Turn → Bool
 is_turn_of h t = nat_lt t.caller h.callers && (nat_le 1 t.count && nat_le t.count 4000000)
 
--- the workload keeps the limits
+-- the workload keeps the limits: its runs leave logs of version 1
 pub record KeepsLimits (w : Workload) : Type 0 where
+  pub version : w.header.version ≡ 1
   pub ops : AllByRecursion (λ o. is_op_of w.header o ≡ true) w.ops
   pub args : AllByRecursion (λ o. are_small o.op.args ≡ true) w.ops
   pub turns : AllByRecursion (λ t. is_turn_of w.header t ≡ true) w.turns

@@ -8,7 +8,7 @@ use Rattle.vyrd_base.specs.Places.{numbers_below}
 use Rattle.vyrd_base.specs.Layout.{plain_words, plain_words_of, lock_words_of}
 use Rattle.vyrd_base.specs.Amounts.{Amounts, collected}
 use Rattle.vyrd_base.specs.Specification.{start}
-use Rattle.vyrd_base.specs.Words.{effects, value_after, words_after}
+use Rattle.vyrd_base.specs.FirstVersion.{old_effects, old_value_after, old_words_after}
 use Rattle.vyrd_base.specs.Views.{chunk_at, chunk_parts, parts_of, view_of_words}
 use Rattle.vyrd_base.specs.Standing.{is_sound, is_sound_chunk}
 use Rattle.vyrd_base.specs.Histories.{cells_of, is_lock}
@@ -55,32 +55,33 @@ empty_stands h is = record {
 
 -- the view of the words that the log leaves is the state that they stand for
 view_is : (h : Header) (log : List Entry) (state : Amounts) → h.subject ≡ Cache → Stands h (shown_by log) state
-    → view_of_words h (words_after h log) ≡ state
-unfolding view_of_words words_after
+    → view_of_words h (old_words_after h log) ≡ state
+unfolding view_of_words old_words_after
 view_is h log state is s =
-    ap (λ t. collected (parts_of t h.size (map (value_after (effects log)) (numbers_below (plain_words h))))) is
-    ∙ ap collected (flat_map_alike (λ k. chunk_parts h.size k (chunk_at (map (value_after (effects log)) (numbers_below (plain_words h))) k))
+    ap (λ t. collected (parts_of t h.size (map (old_value_after (old_effects log)) (numbers_below (plain_words h))))) is
+    ∙ ap collected (flat_map_alike (λ k. chunk_parts h.size k (chunk_at (map (old_value_after (old_effects log)) (numbers_below (plain_words h))) k))
     (λ k. chunk_parts h.size k (chunk_at (words_in h (shown_by log)) k)) 0 h.size each)
     ∙ ap (λ t. collected (parts_of t h.size (words_in h (shown_by log)))) (sym is)
     ∙ s.shows
   where
-    word : (cell : ℕ) → cell < 5 * h.size → slice_index (map (value_after (effects log)) (numbers_below (plain_words h))) cell ≡ shown_by log cell
-    word cell low = element_below (value_after (effects log)) (plain_words h) cell (subst (λ s. cell < plain_words_of s h.size) (sym is) low)
+    word : (cell : ℕ) → cell < 5 * h.size → slice_index (map (old_value_after (old_effects log)) (numbers_below (plain_words h))) cell ≡ shown_by log cell
+    word cell low = element_below (old_value_after (old_effects log)) (plain_words h) cell (subst (λ s. cell < plain_words_of s h.size) (sym is) low)
 
     each : (k : ℕ) → 0 ≤ k → k < 0 + h.size
-        → chunk_parts h.size k (chunk_at (map (value_after (effects log)) (numbers_below (plain_words h))) k)
+        → chunk_parts h.size k (chunk_at (map (old_value_after (old_effects log)) (numbers_below (plain_words h))) k)
         ≡ chunk_parts h.size k (chunk_at (words_in h (shown_by log)) k)
     each k from to =
         let below : k < h.size = omega (arith, to) in
         ap (chunk_parts h.size k)
-        (same_chunk (chunk_at (map (value_after (effects log)) (numbers_below (plain_words h))) k) (chunk_of (shown_by log) k)
+        (same_chunk (chunk_at (map (old_value_after (old_effects log)) (numbers_below (plain_words h))) k) (chunk_of (shown_by log) k)
         (word (5 * k) (omega (arith, below))) (word (5 * k + 1) (omega (arith, below))) (word (5 * k + 2) (omega (arith, below)))
         (word (5 * k + 3) (omega (arith, below))) (word (5 * k + 4) (omega (arith, below)))
         ∙ sym (chunk_in h (shown_by log) k is below))
 
 -- it fits a header of the cache
-pub cache_fits : (h : Header) → h.subject ≡ Cache → Fits (cache h)
-cache_fits h is = record {
+pub cache_fits : (h : Header) → h.version ≡ 1 → h.subject ≡ Cache → Fits (cache h)
+cache_fits h one is = record {
+  version = one;
   plain = λ cell low. subst (λ s. cell < plain_words_of s h.size) (sym is) low;
   locks = λ cell low. lock_cell h (cell / 5) is (omega (arith, low));
   begins = empty_stands h is;

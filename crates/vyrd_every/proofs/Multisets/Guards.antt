@@ -8,7 +8,7 @@ use Rattle.vyrd_base.specs.Places.{numbers_below}
 use Rattle.vyrd_base.specs.Layout.{plain_words, plain_words_of}
 use Rattle.vyrd_base.specs.Amounts.{Amounts, collected}
 use Rattle.vyrd_base.specs.Specification.{start}
-use Rattle.vyrd_base.specs.Words.{effects, value_after, words_after}
+use Rattle.vyrd_base.specs.FirstVersion.{old_effects, old_value_after, old_words_after}
 use Rattle.vyrd_base.specs.Views.{slot_parts, parts_of, view_of_words}
 use Rattle.vyrd_base.proofs.SumLaws.{given_nothing}
 use Rattle.vyrd_memory.proofs.NumberLists.{element_below, flat_map_alike}
@@ -20,20 +20,20 @@ use Rattle.vyrd_every.specs.Guarded.{multiset}
 
 -- the view of the words that the log leaves is the state that they stand for
 view_is : (h : Header) (log : List Entry) (state : Amounts) → h.subject ≡ Multiset → IsMultiset h (shown_by log) state
-    → view_of_words h (words_after h log) ≡ state
-unfolding view_of_words words_after
+    → view_of_words h (old_words_after h log) ≡ state
+unfolding view_of_words old_words_after
 view_is h log state is m =
-    ap (λ s. collected (parts_of s h.size (map (value_after (effects log)) (numbers_below (plain_words h))))) is
-    ∙ ap collected (flat_map_alike (slot_parts (map (value_after (effects log)) (numbers_below (plain_words h)))) (parts_in (shown_by log)) 0 (4 * h.size) each)
+    ap (λ s. collected (parts_of s h.size (map (old_value_after (old_effects log)) (numbers_below (plain_words h))))) is
+    ∙ ap collected (flat_map_alike (slot_parts (map (old_value_after (old_effects log)) (numbers_below (plain_words h)))) (parts_in (shown_by log)) 0 (4 * h.size) each)
     ∙ collected-is (flat_map (parts_in (shown_by log)) (numbers_below (4 * h.size))) state m.formed m.shows
   where
-    word : (cell : ℕ) → cell < 8 * h.size → slice_index (map (value_after (effects log)) (numbers_below (plain_words h))) cell ≡ shown_by log cell
-    word cell low = element_below (value_after (effects log)) (plain_words h) cell (subst (λ s. cell < plain_words_of s h.size) (sym is) low)
+    word : (cell : ℕ) → cell < 8 * h.size → slice_index (map (old_value_after (old_effects log)) (numbers_below (plain_words h))) cell ≡ shown_by log cell
+    word cell low = element_below (old_value_after (old_effects log)) (plain_words h) cell (subst (λ s. cell < plain_words_of s h.size) (sym is) low)
 
     each : (i : ℕ) → 0 ≤ i → i < 0 + 4 * h.size
-        → slot_parts (map (value_after (effects log)) (numbers_below (plain_words h))) i ≡ parts_in (shown_by log) i
+        → slot_parts (map (old_value_after (old_effects log)) (numbers_below (plain_words h))) i ≡ parts_in (shown_by log) i
     each i from to =
-        ap (λ a. cond (a == 2) ((slice_index (map (value_after (effects log)) (numbers_below (plain_words h))) (2 * i + 1), 1) ∷ []) [])
+        ap (λ a. cond (a == 2) ((slice_index (map (old_value_after (old_effects log)) (numbers_below (plain_words h))) (2 * i + 1), 1) ∷ []) [])
         (word (2 * i) (omega arith))
         ∙ ap (λ v. cond (shown_by log (2 * i) == 2) ((v, 1) ∷ []) []) (word (2 * i + 1) (omega arith))
 
@@ -47,8 +47,9 @@ empty_means h = record {
 }
 
 -- it fits a header of the multiset
-pub multiset_fits : (h : Header) → h.subject ≡ Multiset → Fits (multiset h)
-multiset_fits h is = record {
+pub multiset_fits : (h : Header) → h.version ≡ 1 → h.subject ≡ Multiset → Fits (multiset h)
+multiset_fits h one is = record {
+  version = one;
   plain = λ cell low. subst (λ s. cell < plain_words_of s h.size) (sym is) low;
   locks = λ cell low. is_its_lock h is (cell / 8) (omega (arith, low));
   begins = empty_means h;

@@ -28,6 +28,7 @@ use Rattle.vyrd_every.proofs.Trees.Shown.{view_between}
 
 -- the scripts of all callers are sound and do right from any linked tree on
 pub record AreTreesRight (h : Header) (scripts : List Script) : Type 0 where
+  pub version : h.version ≡ 1
   pub subject : h.subject ≡ Tree
   pub some : 0 < h.size
   pub sound : AreSoundScripts h scripts
@@ -79,7 +80,7 @@ tree_keeping h scripts are = record {
   Holds = λ earlier passed state. (hands : ℕ → TreeHand) × (g : Shape) × (m : Memory) × TreeInvariant h scripts earlier hands g m passed state;
   begins = (λ c. empty_tree_hand, first_shape, shown_by [], tree_begins h scripts are);
   goes_on = λ earlier number c did passed state run inv.
-      let next = tree_next_event h scripts earlier number c did inv.0 inv.1 inv.2 passed state are.sound run inv.3 in
+      let next = tree_next_event h scripts earlier number c did inv.0 inv.1 inv.2 passed state are.version are.sound run inv.3 in
       record { next = next.next; holds_now = (next.hands, next.g, next.m, next.holds); leading = next.leading; returning = next.returning };
   kept = λ earlier passed state inv. inv.3.kept;
   count = λ earlier passed state inv. inv.3.count;

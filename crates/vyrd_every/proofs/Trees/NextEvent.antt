@@ -193,7 +193,7 @@ tree_calm h scripts earlier hands g m passed state sound run inv d low_d held qu
 
 -- one more event, of caller c
 module _ (h : Header) (scripts : List Script) (earlier : List Stamped) (number c : ℕ) (did : Did) (hands : ℕ → TreeHand) (g : Shape) (m : Memory)
-    (passed : List Amounts) (state : Amounts) (sound : AreSoundScripts h scripts)
+    (passed : List Amounts) (state : Amounts) (version : h.version ≡ 1) (sound : AreSoundScripts h scripts)
     (run : IsRun h scripts (record { number = number; caller = c; did = did } ∷ earlier)) (inv : TreeInvariant h scripts earlier hands g m passed state) where
   abbrev e : Stamped
   e = record { number = number; caller = c; did = did }
@@ -314,7 +314,7 @@ module _ (h : Header) (scripts : List Script) (earlier : List Stamped) (number c
       by_did (Took lock) allowed reaches = inv.kept
       by_did (Gave lock) allowed reaches = inv.kept
       by_did (Wrote cell value) allowed reaches = (
-        write_unraced h c cell value (log_in earlier)
+        write_unraced h c cell value (log_in earlier) version inv.kept
             (held_by_none h c cell (log_in earlier) (λ d low_d other. free cell d reaches low_d other))
             (write_kept h c cell value (standing c) (log_in earlier) low allowed (agree c low)),
         inv.kept,

@@ -10,7 +10,7 @@ use Rattle.vyrd_base.specs.Places.{numbers_from, numbers_below}
 use Rattle.vyrd_base.specs.Callers.{has_block}
 use Rattle.vyrd_base.specs.Layout.{plain_words, plain_words_of}
 use Rattle.vyrd_base.specs.Amounts.{Amounts, amount_of, collected}
-use Rattle.vyrd_base.specs.Words.{effects, value_after, words_after}
+use Rattle.vyrd_base.specs.FirstVersion.{old_effects, old_value_after, old_words_after}
 use Rattle.vyrd_base.specs.Views.{view_of_words, parts_of}
 use Rattle.vyrd_base.specs.TreeView.{right_of, node_word, entry_parts, node_parts, damage, chain_parts_from, chain_parts}
 use Rattle.vyrd_base.proofs.SumLaws.{given}
@@ -94,13 +94,13 @@ same_chain size g words others t same (suc left) seen n here =
 -- the view of the words that the log leaves, where its leaves are those of the tree
 pub view_from : (h : Header) (g : Shape) (m : Memory) (log : List Entry) (state : Amounts) → h.subject ≡ Tree → IsLinked h.size g m → ShowsState g m state
     → ((n i : ℕ) → g.linked n ≡ true → level_at m n ≡ 0 → i < 12 → shown_by log (12 * n + i) ≡ m (12 * n + i))
-    → view_of_words h (words_after h log) ≡ state
-unfolding view_of_words words_after
+    → view_of_words h (old_words_after h log) ≡ state
+unfolding view_of_words old_words_after
 view_from h g m log state is t st leaves =
     ap (λ s. collected (parts_of s h.size shown)) is ∙ collected-is (chain_parts h.size shown) state st.formed given_is
   where
     shown : List ℕ
-    shown = map (value_after (effects log)) (numbers_below (plain_words h))
+    shown = map (old_value_after (old_effects log)) (numbers_below (plain_words h))
 
     words : List ℕ
     words = map m (numbers_below (plain_words h))
@@ -109,7 +109,7 @@ view_from h g m log state is t st leaves =
     plain cell low = subst (λ s. cell < plain_words_of s h.size) (sym is) low
 
     shown_word : (cell : ℕ) → cell < 12 * h.size + 2 → slice_index shown cell ≡ shown_by log cell
-    shown_word cell low = element_below (value_after (effects log)) (plain_words h) cell (plain cell low)
+    shown_word cell low = element_below (old_value_after (old_effects log)) (plain_words h) cell (plain cell low)
 
     word : (cell : ℕ) → cell < 12 * h.size + 2 → slice_index words cell ≡ m cell
     word cell low = element_below m (plain_words h) cell (plain cell low)
@@ -149,7 +149,7 @@ view_from h g m log state is t st leaves =
 -- between any two events the state is the view of the log's words
 pub view_between : (h : Header) (scripts : List Script) (earlier : List Stamped) (hands : ℕ → TreeHand) (g : Shape) (m : Memory) (passed : List Amounts)
     (state : Amounts) → h.subject ≡ Tree → AreSoundScripts h scripts → IsRun h scripts earlier → TreeInvariant h scripts earlier hands g m passed state
-    → view_of_words h (words_after h (log_in earlier)) ≡ state
+    → view_of_words h (old_words_after h (log_in earlier)) ≡ state
 view_between h scripts earlier hands g m passed state is sound run inv =
     view_from h g m (log_in earlier) state is inv.tree inv.shows (λ n i of_n leaf low. by_ties n i of_n leaf low inv.ties)
   where

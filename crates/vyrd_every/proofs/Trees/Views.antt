@@ -9,7 +9,7 @@ use Rattle.vyrd_base.specs.declared.log.Entry.{Entry}
 use Rattle.vyrd_base.specs.Places.{numbers_from, numbers_below}
 use Rattle.vyrd_base.specs.Layout.{plain_words, plain_words_of}
 use Rattle.vyrd_base.specs.Amounts.{Amounts, amount_of, collected}
-use Rattle.vyrd_base.specs.Words.{effects, value_after, words_after}
+use Rattle.vyrd_base.specs.FirstVersion.{old_effects, old_value_after, old_words_after}
 use Rattle.vyrd_base.specs.Views.{view_of_words, parts_of}
 use Rattle.vyrd_base.specs.TreeView.{right_of, entry_parts, node_parts, damage, chain_parts_from, chain_parts}
 use Rattle.vyrd_base.proofs.SumLaws.{given, given-append}
@@ -250,16 +250,16 @@ leaf_gives size g words t q n used leaf over =
 
 -- the view of the words that the log leaves is the state that they show
 pub view_is : (h : Header) (g : Shape) (log : List Entry) (state : Amounts) → h.subject ≡ Tree → IsLinked h.size g (shown_by log)
-    → ShowsState g (shown_by log) state → view_of_words h (words_after h log) ≡ state
-unfolding view_of_words words_after
+    → ShowsState g (shown_by log) state → view_of_words h (old_words_after h log) ≡ state
+unfolding view_of_words old_words_after
 view_is h g log state is t st =
     ap (λ s. collected (parts_of s h.size words)) is ∙ collected-is (chain_parts h.size words) state st.formed given_is
   where
     words : List ℕ
-    words = map (value_after (effects log)) (numbers_below (plain_words h))
+    words = map (old_value_after (old_effects log)) (numbers_below (plain_words h))
 
     word : (cell : ℕ) → cell < 12 * h.size + 2 → slice_index words cell ≡ shown_by log cell
-    word cell low = element_below (value_after (effects log)) (plain_words h) cell (subst (λ s. cell < plain_words_of s h.size) (sym is) low)
+    word cell low = element_below (old_value_after (old_effects log)) (plain_words h) cell (subst (λ s. cell < plain_words_of s h.size) (sym is) low)
 
     same : SameNodes h.size (shown_by log) (slice_index words)
     same = record {

@@ -11,7 +11,8 @@ use Rattle.vyrd_base.specs.declared.history.Did.{Did}
 use Rattle.vyrd_base.specs.declared.history.Did.TheVariants.{Read, Wrote, Took, Gave, Marked}
 use Rattle.vyrd_base.specs.Places.{first_answer}
 use Rattle.vyrd_base.specs.Callers.{has_block}
-use Rattle.vyrd_base.specs.Words.{block_writes, given_to, effects, value_after}
+use Rattle.vyrd_base.specs.Words.{block_writes, given_to}
+use Rattle.vyrd_base.specs.FirstVersion.{old_effects, old_value_after}
 use Rattle.vyrd_base.specs.Histories.{logged}
 use Rattle.vyrd_base.proofs.TestLaws.{same_of}
 use Rattle.vyrd_memory.specs.declared.act.Act.{Act}
@@ -91,20 +92,20 @@ shown_more h s k g m c (Read cell value) log block pending reaches = refl
 shown_more h s k g m c (Took lock) log block pending reaches = refl
 shown_more h s k g m c (Gave lock) log block pending reaches = refl
 shown_more h s k g m c (Wrote cell value) log block pending reaches =
-    ap (λ b. (λ w. value_after (cond b [] ((cell, value) ∷ []) ++ effects log) w)) block ∙ by_block s.in_block
+    ap (λ b. (λ w. old_value_after (cond b [] ((cell, value) ∷ []) ++ old_effects log) w)) block ∙ by_block s.in_block
   where
-    by_block : (b : Bool) → (λ w. value_after (cond b [] ((cell, value) ∷ []) ++ effects log) w) ≡ written (cond b [] ((cell, value) ∷ [])) (shown_by log)
+    by_block : (b : Bool) → (λ w. old_value_after (cond b [] ((cell, value) ∷ []) ++ old_effects log) w) ≡ written (cond b [] ((cell, value) ∷ [])) (shown_by log)
     by_block true = refl
-    by_block false = λ i w. one_more cell value (effects log) w i
+    by_block false = λ i w. one_more cell value (old_effects log) w i
 shown_more h s k g m c (Marked (Call method args)) log block pending reaches = refl
 shown_more h s k g m c (Marked (Return reply)) log block pending reaches = refl
 shown_more h s k g m c (Marked (Write word value)) log block pending reaches = absurd reaches
 shown_more h s k g m c (Marked Commit) log block pending reaches = refl
 shown_more h s k g m c (Marked BlockOpen) log block pending reaches = refl
 shown_more h s k g m c (Marked BlockClose) log block pending reaches =
-    more (block_writes c log) (effects log) ∙ ap (λ ws. written ws (shown_by log)) (sym pending)
+    more (block_writes c log) (old_effects log) ∙ ap (λ ws. written ws (shown_by log)) (sym pending)
 shown_more h s k g m c (Marked BlockCommit) log block pending reaches =
-    more (block_writes c log) (effects log) ∙ ap (λ ws. written ws (shown_by log)) (sym pending)
+    more (block_writes c log) (old_effects log) ∙ ap (λ ws. written ws (shown_by log)) (sym pending)
 
 -- Callers see the same writes, where the caller's own weren't seen before and aren't after.
 pub seen_more : (h : Header) (s : Standing) (k : TreeHand) (m : Memory) (act : Act) → k.out ≡ false → out_after h s act k.out ≡ false

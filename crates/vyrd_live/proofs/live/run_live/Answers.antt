@@ -1,5 +1,5 @@
 -- A correct multiset or cache is accepted in every schedule, and its callers' events have room.
-use Rattle.std.proofs.Common.{◌≡◌, ◌<◌, ◌≤◌, true, ap, ◌∙◌, sym, arith, subst, rules}
+use Rattle.std.proofs.Common.{[], ◌≡◌, ◌<◌, ◌≤◌, true, ap, ◌∙◌, sym, arith, subst, rules}
 use Rattle.vyrd_base.specs.Histories.{cells_of, is_legal, log_of}
 use Rattle.vyrd_base.specs.Verdicts.{verdict}
 use Rattle.vyrd_memory.specs.Runs.{PlayToTheEnd}
@@ -25,7 +25,7 @@ returns-in-Ok-judged-clause-every_schedule g c = λ is.
     let legal : is_legal (cells_of w.header) c.in-Ok-judged.run'.history.items ≡ true =
     subst (λ h. is_legal (cells_of w.header) h ≡ true) history c.in-Ok.ensures.legal in
     let parts : PlayToTheEnd (work_scripts w) c.in-Ok-judged.run'.history.items = search rules in
-    c.in-Ok-judged.ensures.verdict ∙ ap (λ h. verdict w.header (log_of h)) history
+    c.in-Ok-judged.ensures.verdict ∙ ap (λ h. verdict w.header [] (log_of h)) history
     ∙ schedule_accepted w c.in-Ok-judged.run'.history.items c.requires.limits is (record { legal = legal; parts = parts })
 
 pub returns-in-Some-verdict-clause-every_schedule : goal.returns-in-Some-verdict-clause-every_schedule
@@ -33,5 +33,5 @@ returns-in-Some-verdict-clause-every_schedule g c = λ is.
     let w = workload_of c.args.work.now in
     let history = c.in-Ok.played.history.items in
     let parts : PlayToTheEnd (work_scripts w) history = search rules in
-    subst (λ v. IfSome v (λ v. v ≡ verdict w.header (log_of history))) c.in-Some-verdict.is c.in-Ok.ensures.verdict
+    subst (λ v. IfSome v (λ v. v ≡ verdict w.header [] (log_of history))) c.in-Some-verdict.is c.in-Ok.ensures.verdict
     ∙ schedule_accepted w history c.requires.limits is (record { legal = c.in-Ok.ensures.legal; parts = parts })

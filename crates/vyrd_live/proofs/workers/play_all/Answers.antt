@@ -1,6 +1,6 @@
 -- The hands that come back are all hands, what they leave is what their workers did, and the verdict beside them is that of the
 -- history's log.
-use Rattle.std.proofs.Common.{◌≡◌, ℕ, ◌<◌, length, sym, ap, ◌∙◌, subst, List, Option, rules, arith}
+use Rattle.std.proofs.Common.{◌≡◌, [], ℕ, ◌<◌, length, sym, ap, ◌∙◌, subst, List, Option, rules, arith}
 use Rattle.std.specs.Prelude.{IfSome}
 use Rattle.std.specs.List.{All}
 use Rattle.std.proofs.lemmas.List.{get_or-map, length-map}
@@ -122,7 +122,7 @@ returns-clause-verdict g c =
     let done = c.in_ok-done.done.items in
     let stopped = c.in_ok-stopped.stopped.items in
     let history = c.in-Ok.closed.history.items in
-    let Right = λ (r : Option Verdict). IfSome r (λ v. v ≡ verdict c.args.header (log_of history)) in
+    let Right = λ (r : Option Verdict). IfSome r (λ v. v ≡ verdict c.args.header [] (log_of history)) in
     let count : length done ≡ length jobs = search rules in
     let worked = worked_all H S A c.args.traced c.args.workers.items jobs done stopped c.in_ok-jobs.ensures.workers c.in_ok-stopped.ensures.stopped count
     (λ i j d low. c.in_ok-done.ensures.each i j d (search rules)) in

@@ -7,6 +7,12 @@ returns-clause-header c = λ r bytes more h low e. growing.header_lasts r bytes 
 pub returns-clause-entries : goal.returns-clause-entries
 returns-clause-entries c = λ r bytes more low. growing.entries_last r bytes more low
 
+pub returns-clause-start : goal.returns-clause-start
+returns-clause-start c = λ r bytes more low. growing.starts_last r bytes more low
+
+pub returns-clause-begun : goal.returns-clause-begun
+returns-clause-begun c = λ r bytes more low begun. growing.starts_stay r bytes more low begun
+
 pub returns-clause-ended : goal.returns-clause-ended
 returns-clause-ended c = λ r bytes more low e. growing.end_lasts r bytes more low e
 

@@ -3,8 +3,8 @@ use Rattle.std.specs.Prelude.{flat_map}
 use Rattle.vyrd_base.specs.Places.{numbers_below}
 use Rattle.vyrd_base.specs.Amounts.{amount_of}
 use Rattle.vyrd_base.specs.TreeView.{count_of}
-use Rattle.vyrd_view.specs.Added.{added}
-use Rattle.vyrd_view.proofs.AddedLaws.{added-push, amount_of-added}
+use Rattle.vyrd_base.specs.Added.{added}
+use Rattle.vyrd_base.proofs.AddedLaws.{added-push, amount_of-added}
 use Rattle.vyrd_view.proofs.PartLaws.{place_parts, places_at_most, node_parts-places, place_is}
 use Rattle.vyrd_view.proofs.chain.add_node.Goals as goal
 

@@ -1,8 +1,8 @@
 use Rattle.std.proofs.Common.{arith, ap, ◌+◌, ◌∙◌}
 use Rattle.vyrd_base.specs.Amounts.{amount_of}
 use Rattle.vyrd_base.specs.Views.{chunk_parts, chunk_at}
-use Rattle.vyrd_view.specs.Added.{added}
-use Rattle.vyrd_view.proofs.AddedLaws.{collected-push}
+use Rattle.vyrd_base.specs.Added.{added}
+use Rattle.vyrd_base.proofs.AddedLaws.{collected-push}
 use Rattle.vyrd_view.proofs.PartLaws.{chunk_is_new, past_is_new}
 use Rattle.vyrd_view.proofs.chunks.chunks.Goals as goal
 

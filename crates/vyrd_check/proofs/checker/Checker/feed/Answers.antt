@@ -1,4 +1,4 @@
-use Rattle.std.proofs.Common.{◌≡◌, Some, [], ◌++◌, take, drop, refl, append_assoc, append-nil, take-append-drop, ap, subst, sym, ◌∙◌}
+use Rattle.std.proofs.Common.{◌≡◌, [], ◌++◌, refl, append_assoc, append-nil, take-append-drop, ap, subst, sym, ◌∙◌}
 use Rattle.vyrd_base.specs.TextVerdicts.{text_verdict_so_far}
 use Rattle.vyrd_check.specs.Checking.{CheckerState, HasChecked, IsLimit}
 use Rattle.vyrd_check.proofs.CheckedLaws.{so_far_is, checked_all, checked_stands}

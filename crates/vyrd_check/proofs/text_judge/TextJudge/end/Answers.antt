@@ -1,11 +1,11 @@
-use Rattle.std.proofs.Common.{◌≡◌, ap, subst, sym, ◌∙◌}
+use Rattle.std.proofs.Common.{ap, subst, sym, ◌∙◌}
 use Rattle.std.proofs.Math.Logic.{∥∥₁_elim}
 use Rattle.vyrd_base.specs.TextVerdicts.{text_verdict}
 use Rattle.vyrd_base.specs.Verdicts.{verdict}
 use Rattle.vyrd_base.specs.declared.verdict.Verdict.TheVariants.{Malformed}
 use Rattle.vyrd_check.specs.LogReadings.{read_so_far}
 use Rattle.vyrd_check.specs.Checking.{Kept, IsJudging, IsUndecided}
-use Rattle.vyrd_check.proofs.ReadingFacts.{whole_faulty, whole_accepted, headless_faulty}
+use Rattle.vyrd_check.proofs.ReadingFacts.{whole_faulty, whole_accepted, not_ended}
 use Rattle.vyrd_check.proofs.EndFacts.{where_same}
 use Rattle.vyrd_check.proofs.text_judge.TextJudge.end.Goals as goal
 
@@ -21,20 +21,19 @@ returns-in-Err-Malformed c = λ bytes u.
 pub unreachable-requires : goal.unreachable-requires
 unreachable-requires c =
     ∥∥₁_elim c.requires.somewhere (λ x y. absurd x) (λ s.
+    let max = c.self.inside.reader.max_lines in
     let before = subst (λ k. IsUndecided k s.0) (sym c.self.view_is) s.1 in
-    let read = before.read in
-    let none = subst (λ judge. IsJudging judge (read_so_far c.self.inside.reader.max_lines s.0).header
-    (read_so_far c.self.inside.reader.max_lines s.0).entries) c.in-None.is before.judging in
-    headless_faulty c.self.inside.reader.max_lines s.0 none (c.in-Ok.ensures.answer s.0 read))
+    let none = subst (λ judge. IsJudging judge (read_so_far max s.0)) c.in-None.is before.judging in
+    not_ended max s.0 none.1 (c.in-Ok.ensures.ended s.0 before.read))
 
 pub returns : goal.returns
 returns c = λ bytes u.
     let max = c.self.inside.reader.max_lines in
     let before = subst (λ k. IsUndecided k bytes) (sym c.self.view_is) u in
-    let entries = (read_so_far max bytes).entries in
-    let has = subst (λ judge. IsJudging judge (read_so_far max bytes).header entries) c.in-Some.is before.judging in
+    let read = read_so_far max bytes in
+    let has = subst (λ judge. IsJudging judge read) c.in-Some.is before.judging in
     let whole = whole_accepted max bytes c.in-Some.judge.kept.header before.nothing
-    (c.in-Ok.ensures.answer bytes before.read) (c.in-Ok.ensures.ended bytes before.read) has.0 in
-    where_same (verdict c.in-Some.judge.kept.header entries) (text_verdict c.args.self.now.reader.max_lines bytes)
+    (c.in-Ok.ensures.answer bytes before.read) (c.in-Ok.ensures.ended bytes before.read) has.header in
+    where_same (verdict c.in-Some.judge.kept.header read.starting read.entries) (text_verdict c.args.self.now.reader.max_lines bytes)
     (whole ∙ ap (λ (k : Kept). text_verdict k.reader.max_lines bytes) c.self.view_is) c.finish-in-Some.result
-    (c.finish-in-Some.ensures.verdict entries has.1)
+    (c.finish-in-Some.ensures.verdict read.starting read.entries has.followed)

@@ -1,68 +1,75 @@
-use Rattle.std.proofs.Common.{◌≡◌, [], ◌++◌, ap, subst, sym, ◌∙◌}
-use Rattle.std.specs.Option.{option_or}
+use Rattle.std.proofs.Common.{◌++◌, ap, subst, sym, ◌∙◌}
 use Rattle.vyrd_base.specs.TextVerdicts.{text_verdict_so_far}
-use Rattle.vyrd_text.specs.Answered.{IsGrownBy}
 use Rattle.vyrd_check.specs.LogReadings.{read_so_far}
 use Rattle.vyrd_check.specs.Checking.{Kept, IsLimit, IsUndecided, IsSomewhere}
 use Rattle.vyrd_check.proofs.ReadingFacts.{first_none}
-use Rattle.vyrd_check.proofs.FedLaws.{Fed, fed_judging, fed_room, fed_answer, fed_undecided}
+use Rattle.vyrd_check.proofs.FedLaws.{Fed, fed_start, fed_ready, fed_room, fed_answer, fed_undecided}
 use Rattle.vyrd_check.proofs.text_judge.TextJudge.take_in.Goals as goal
+
+pub begin-requires : goal.begin-requires
+begin-requires c =
+    let old : Kept = record { reader = c.self.inside.reader; judge = c.self.inside.judge } in
+    record {
+      may_start = fed_start old c.read.new.reader c.args.piece.now c.in_ok-fault.ensures.read (subst IsSomewhere (sym c.self.view_is) c.requires.somewhere);
+    }
 
 pub judge_entries-requires : goal.judge_entries-requires
 judge_entries-requires c =
     let old : Kept = record { reader = c.self.inside.reader; judge = c.self.inside.judge } in
-    let fed : Fed old c.read.new.reader c.begin.new.judge c.args.piece.now c.deref.result.now c.in_ok-fault.fault = record {
+    let entries = c.deref-2.result.now in
+    let fed : Fed old c.read.new.reader c.begin.new.judge c.args.piece.now entries c.in_ok-fault.fault = record {
       limit = c.in_ok-fault.ensures.limit;
       read = c.in_ok-fault.ensures.read;
-      grown = λ bytes read. rw (c.deref.ensures.value, ← c.clear.ensures.items) (c.in_ok-fault.ensures.entries bytes read);
+      grown = λ bytes read. rw (c.deref-2.ensures.value, ← c.clear.ensures.items) (c.in_ok-fault.ensures.entries bytes read);
       faulty = c.in_ok-fault.ensures.fault;
-      judge = rw c.header.ensures.kept at c.in_ok-begin.ensures;
+      judge = rw (c.deref-2.ensures.value, ← c.deref.ensures.value) c.in_ok-begin.ensures;
     } in
-    fed_room old c.read.new.reader c.begin.new.judge c.args.piece.now c.deref.result.now c.in_ok-fault.fault fed
-    (subst (λ (k : Kept). IsLimit k.reader.max_lines) (sym c.self.view_is) c.requires.limit) (subst IsSomewhere (sym c.self.view_is) c.requires.somewhere)
+    let limit : IsLimit old.reader.max_lines = subst (λ (k : Kept). IsLimit k.reader.max_lines) (sym c.self.view_is) c.requires.limit in
+    fed_room old c.read.new.reader c.begin.new.judge c.args.piece.now entries c.in_ok-fault.fault fed
+    limit (subst IsSomewhere (sym c.self.view_is) c.requires.somewhere)
 
 pub returns-clause-answer : goal.returns-clause-answer
 returns-clause-answer c = λ bytes u.
     let old : Kept = record { reader = c.self.inside.reader; judge = c.self.inside.judge } in
-    let fed : Fed old c.read.new.reader c.begin.new.judge c.args.piece.now c.deref.result.now c.in_ok-fault.fault = record {
+    let entries = c.deref-2.result.now in
+    let fed : Fed old c.read.new.reader c.begin.new.judge c.args.piece.now entries c.in_ok-fault.fault = record {
       limit = c.in_ok-fault.ensures.limit;
       read = c.in_ok-fault.ensures.read;
-      grown = λ bytes read. rw (c.deref.ensures.value, ← c.clear.ensures.items) (c.in_ok-fault.ensures.entries bytes read);
+      grown = λ bytes read. rw (c.deref-2.ensures.value, ← c.clear.ensures.items) (c.in_ok-fault.ensures.entries bytes read);
       faulty = c.in_ok-fault.ensures.fault;
-      judge = rw c.header.ensures.kept at c.in_ok-begin.ensures;
+      judge = rw (c.deref-2.ensures.value, ← c.deref.ensures.value) c.in_ok-begin.ensures;
     } in
-    let max = old.reader.max_lines in
-    let before : IsUndecided old bytes = subst (λ k. IsUndecided k bytes) (sym c.self.view_is) u in
-    let limit = subst (λ (k : Kept). IsLimit k.reader.max_lines) (sym c.self.view_is) c.requires.limit in
+    let limit : IsLimit old.reader.max_lines = subst (λ (k : Kept). IsLimit k.reader.max_lines) (sym c.self.view_is) c.requires.limit in
     let piece = c.args.piece.now in
-    let wrong_is = c.in_ok-wrong.ensures.answer (read_so_far max (bytes ++ piece)).header (read_so_far max bytes).entries
-    (fed_judging old c.read.new.reader c.begin.new.judge piece c.deref.result.now c.in_ok-fault.fault fed limit bytes before) in
+    let before : IsUndecided old bytes = subst (λ k. IsUndecided k bytes) (sym c.self.view_is) u in
+    let ready = fed_ready old c.read.new.reader c.begin.new.judge piece entries c.in_ok-fault.fault fed limit bytes before in
+    let all = read_so_far old.reader.max_lines (bytes ++ piece) in
+    let log = (read_so_far old.reader.max_lines bytes).entries in
+    let wrong_is = c.in_ok-wrong.ensures.answer all log (rw c.ended.ensures.kept ready) in
     c.or.ensures
-    ∙ fed_answer old c.read.new.reader c.begin.new.judge piece c.deref.result.now c.in_ok-fault.fault c.in_ok-wrong.wrong fed bytes before.read
-    (rw c.ended.ensures.kept at wrong_is)
+    ∙ fed_answer old c.read.new.reader c.begin.new.judge piece entries c.in_ok-fault.fault c.in_ok-wrong.wrong fed bytes before.read wrong_is
     ∙ ap (λ (k : Kept). text_verdict_so_far k.reader.max_lines (bytes ++ piece)) c.self.view_is
 
 pub returns-clause-undecided : goal.returns-clause-undecided
 returns-clause-undecided c = λ bytes u none.
     let old : Kept = record { reader = c.self.inside.reader; judge = c.self.inside.judge } in
-    let fed : Fed old c.read.new.reader c.begin.new.judge c.args.piece.now c.deref.result.now c.in_ok-fault.fault = record {
+    let entries = c.deref-2.result.now in
+    let fed : Fed old c.read.new.reader c.begin.new.judge c.args.piece.now entries c.in_ok-fault.fault = record {
       limit = c.in_ok-fault.ensures.limit;
       read = c.in_ok-fault.ensures.read;
-      grown = λ bytes read. rw (c.deref.ensures.value, ← c.clear.ensures.items) (c.in_ok-fault.ensures.entries bytes read);
+      grown = λ bytes read. rw (c.deref-2.ensures.value, ← c.clear.ensures.items) (c.in_ok-fault.ensures.entries bytes read);
       faulty = c.in_ok-fault.ensures.fault;
-      judge = rw c.header.ensures.kept at c.in_ok-begin.ensures;
+      judge = rw (c.deref-2.ensures.value, ← c.deref.ensures.value) c.in_ok-begin.ensures;
     } in
-    let max = old.reader.max_lines in
-    let before : IsUndecided old bytes = subst (λ k. IsUndecided k bytes) (sym c.self.view_is) u in
-    let limit = subst (λ (k : Kept). IsLimit k.reader.max_lines) (sym c.self.view_is) c.requires.limit in
+    let limit : IsLimit old.reader.max_lines = subst (λ (k : Kept). IsLimit k.reader.max_lines) (sym c.self.view_is) c.requires.limit in
     let piece = c.args.piece.now in
-    let judging = fed_judging old c.read.new.reader c.begin.new.judge piece c.deref.result.now c.in_ok-fault.fault fed limit bytes before in
-    let header = (read_so_far max (bytes ++ piece)).header in
-    let entries = (read_so_far max bytes).entries in
-    let wrong_is = c.in_ok-wrong.ensures.answer header entries judging in
-    let nothing = fed_answer old c.read.new.reader c.begin.new.judge piece c.deref.result.now c.in_ok-fault.fault c.in_ok-wrong.wrong fed bytes before.read
-    (rw c.ended.ensures.kept at wrong_is) in
-    let nothing_known = sym c.or.ensures ∙ none in
-    fed_undecided old c.read.new.reader c.begin.new.judge c.judge_entries.new.judge piece c.deref.result.now c.in_ok-fault.fault fed bytes before.read
-    (c.in_ok-wrong.ensures.judging header entries judging (first_none c.in_ok-wrong.wrong c.in_ok-fault.fault nothing_known))
-    (sym nothing ∙ nothing_known)
+    let before : IsUndecided old bytes = subst (λ k. IsUndecided k bytes) (sym c.self.view_is) u in
+    let ready = fed_ready old c.read.new.reader c.begin.new.judge piece entries c.in_ok-fault.fault fed limit bytes before in
+    let all = read_so_far old.reader.max_lines (bytes ++ piece) in
+    let log = (read_so_far old.reader.max_lines bytes).entries in
+    let wrong_is = c.in_ok-wrong.ensures.answer all log (rw c.ended.ensures.kept ready) in
+    let known =
+    fed_answer old c.read.new.reader c.begin.new.judge piece entries c.in_ok-fault.fault c.in_ok-wrong.wrong fed bytes before.read wrong_is in
+    let nothing = sym c.or.ensures ∙ none in
+    fed_undecided old c.read.new.reader c.begin.new.judge c.judge_entries.new.judge piece entries c.in_ok-fault.fault fed bytes before.read
+    (c.in_ok-wrong.ensures.judging all log (rw c.ended.ensures.kept ready) (first_none c.in_ok-wrong.wrong c.in_ok-fault.fault nothing)) (sym known ∙ nothing)

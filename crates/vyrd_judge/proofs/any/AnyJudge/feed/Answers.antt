@@ -1,5 +1,4 @@
 use Rattle.std.proofs.Common.{◌∷◌, [], ap, sym, ◌∙◌}
-use Rattle.vyrd_base.specs.Histories.{log_of}
 use Rattle.vyrd_judge.specs.AnyJudges.{judge_in}
 use Rattle.vyrd_judge.proofs.AnyLaws.{answered}
 use Rattle.vyrd_judge.proofs.any.AnyJudge.feed.Goals.{in-Multiset, in-Cache, in-Tree}

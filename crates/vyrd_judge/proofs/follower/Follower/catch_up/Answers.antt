@@ -1,5 +1,6 @@
 use Rattle.std.proofs.Common.{List, ap, subst, ◌∙◌}
 use Rattle.vyrd_base.specs.declared.log.Entry.{Entry}
+use Rattle.vyrd_base.specs.declared.log.StartWord.{StartWord}
 use Rattle.vyrd_base.specs.Verdicts.{first_fault}
 use Rattle.vyrd_judge.specs.Following.{HasTakenIn, AdvanceGives}
 use Rattle.vyrd_judge.proofs.FollowerLaws.{stops_answer, stops_none, may_catch_up_on, ok_value}
@@ -7,23 +8,23 @@ use Rattle.vyrd_judge.proofs.follower.Follower.catch_up.Goals as goal
 
 pub loop-verdict-preserved : goal.loop-verdict-preserved
 loop-verdict-preserved g c =
-    let on = λ (log : List Entry) (t : HasTakenIn c.loop-verdict.self log).
-    subst (AdvanceGives c.loop-verdict.self.header log c.judge_first.new.self) c.in-Goes.is (c.in_ok-judge_first.ensures.gives log t) in
+    let on = λ (starting : List StartWord) (log : List Entry) (t : HasTakenIn c.loop-verdict.self starting log).
+    subst (AdvanceGives c.loop-verdict.self.header starting log c.judge_first.new.self) c.in-Goes.is (c.in_ok-judge_first.ensures.gives starting log t) in
     record {
       header = c.judge_first.ensures.header ∙ c.loop-verdict.invariant.header;
       entries = c.judge_first.ensures.entries ∙ c.loop-verdict.invariant.entries;
-      taken_in = λ log t. on log (c.loop-verdict.invariant.taken_in log t);
+      taken_in = λ starting log t. on starting log (c.loop-verdict.invariant.taken_in starting log t);
       may = may_catch_up_on c.loop-verdict.invariant.may on;
     }
 
 pub returns-in-Stops-clause-answer : goal.returns-in-Stops-clause-answer
-returns-in-Stops-clause-answer g c = λ log t.
-    stops_answer c.loop-verdict.self.header log c.judge_first.new.self c.in-Stops.verdict (subst (AdvanceGives c.loop-verdict.self.header log c.judge_first.new.self) c.in-Stops.is
-    (c.in_ok-judge_first.ensures.gives log (c.loop-verdict.invariant.taken_in log t)))
-    ∙ ap (λ h. first_fault h log) c.loop-verdict.invariant.header
+returns-in-Stops-clause-answer g c = λ starting log t.
+    stops_answer c.loop-verdict.self.header starting log c.judge_first.new.self c.in-Stops.verdict (subst (AdvanceGives c.loop-verdict.self.header starting log c.judge_first.new.self) c.in-Stops.is
+    (c.in_ok-judge_first.ensures.gives starting log (c.loop-verdict.invariant.taken_in starting log t)))
+    ∙ ap (λ h. first_fault h starting log) c.loop-verdict.invariant.header
 
 pub returns-in-Stops-clause-stays : goal.returns-in-Stops-clause-stays
-returns-in-Stops-clause-stays g c = λ log t none.
-    stops_none c.loop-verdict.self.header log c.judge_first.new.self c.in-Stops.verdict (ok_value none)
-    (subst (AdvanceGives c.loop-verdict.self.header log c.judge_first.new.self) c.in-Stops.is
-    (c.in_ok-judge_first.ensures.gives log (c.loop-verdict.invariant.taken_in log t)))
+returns-in-Stops-clause-stays g c = λ starting log t none.
+    stops_none c.loop-verdict.self.header starting log c.judge_first.new.self c.in-Stops.verdict (ok_value none)
+    (subst (AdvanceGives c.loop-verdict.self.header starting log c.judge_first.new.self) c.in-Stops.is
+    (c.in_ok-judge_first.ensures.gives starting log (c.loop-verdict.invariant.taken_in starting log t)))

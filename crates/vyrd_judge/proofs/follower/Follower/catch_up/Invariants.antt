@@ -1,5 +1,6 @@
 use Rattle.std.proofs.Common.{◌≡◌, List, length}
 use Rattle.vyrd_base.specs.declared.log.Entry.{Entry}
+use Rattle.vyrd_base.specs.declared.log.StartWord.{StartWord}
 use Rattle.vyrd_judge.specs.Following.{HasTakenIn, MayCatchUp}
 use Rattle.vyrd_judge.proofs.follower.Follower.catch_up.Given as goal
 
@@ -7,7 +8,7 @@ abbrev pub invariant-loop-verdict : goal.invariant-loop-verdict
 invariant-loop-verdict g l = record {
   header : l.self.header ≡ l.initial.self.header;
   entries : l.self.entries ≡ l.initial.self.entries;
-  taken_in : (log : List Entry) → HasTakenIn l.initial.self log → HasTakenIn l.self log;
+  taken_in : (starting : List StartWord) (log : List Entry) → HasTakenIn l.initial.self starting log → HasTakenIn l.self starting log;
   may : MayCatchUp l.self;
 }
 

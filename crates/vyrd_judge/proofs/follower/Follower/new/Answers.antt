@@ -1,9 +1,46 @@
-use Rattle.std.proofs.Common.{refl}
+use Rattle.std.proofs.Common.{◌<◌, ◌^◌, Some, length, map, refl, ap, sym, subst, ◌∙◌, arith}
+use Rattle.std.specs.Prelude.{All, replicate}
+use Rattle.vyrd_base.specs.Layout.{plain_words}
+use Rattle.vyrd_view.specs.Comparing.{AgreeElsewhere}
+use Rattle.vyrd_judge.specs.Reached.{AreCurrent}
+use Rattle.vyrd_judge.proofs.StartWords.{start_within, start_few, plain_words_few, length-words_at_start, small_at_start, zero_elsewhere}
 use Rattle.vyrd_judge.proofs.FollowerLaws.{first_taken_in}
 use Rattle.vyrd_judge.proofs.follower.Follower.new.Goals as goal
 
+pub new-requires-2-clause-all : goal.new-requires-2-clause-all
+new-requires-2-clause-all g c = ap length c.requires.words ∙ length-words_at_start c.args.header c.args.start.now
+
+pub new-requires-2-clause-values : goal.new-requires-2-clause-values
+new-requires-2-clause-values g c =
+    subst (All (λ value. value < 2 ^ 63)) (sym c.requires.words) (small_at_start c.args.header c.args.start.now c.requires.may_start)
+
+pub new-requires-2-clause-changed : goal.new-requires-2-clause-changed
+new-requires-2-clause-changed g c =
+    subst (All (λ w. w < plain_words c.args.header)) (sym c.in_ok-changed.ensures) (start_within c.args.header c.args.start.now c.requires.may_start)
+
+pub new-requires-2-clause-elsewhere : goal.new-requires-2-clause-elsewhere
+new-requires-2-clause-elsewhere g c =
+    subst (AgreeElsewhere (replicate (plain_words c.args.header) 0) c.args.words.now) (sym c.in_ok-changed.ensures)
+    (subst (λ ws. AgreeElsewhere (replicate (plain_words c.args.header) 0) ws (map (λ s. s.word) c.args.start.now)) (sym c.requires.words)
+    (zero_elsewhere c.args.header c.args.start.now))
+
 pub returns-clause-taken_in : goal.returns-clause-taken_in
 returns-clause-taken_in g c =
-    first_taken_in _ c.args.header c.in_ok-new-4.ensures.header c.in_ok-new.ensures.followed c.in_ok-new.ensures.header
-    c.in_ok-new-2.ensures.words c.in_ok-new-2.ensures.header c.in_ok-new-3.ensures.queued
-    c.in_ok-new-4.ensures.state c.in_ok-new-4.ensures.made c.in_ok-new-4.ensures.closed c.in_ok-new-4.ensures.current c.in_ok-new-3.ensures.waiting c.in_ok-new-2.ensures.cuts refl refl refl (c.in_ok-new-2.ensures.specified, c.in_ok-new-2.ensures.sound)
+    first_taken_in _ c.args.header c.args.start.now c.in_ok-new-4.ensures.header refl
+    (c.requires.state ∙ ap (λ s. Some (g.S.Spec.state s)) (sym c.in_ok-new-4.ensures.spec))
+    c.in_ok-new.ensures.followed c.in_ok-new.ensures.header
+    (c.in_ok-new-2.ensures.words c.args.start.now c.requires.words) c.in_ok-new-2.ensures.header
+    (c.in_ok-new-2.field-0.same_header ∙ c.in_ok-new-2.ensures.header) c.in_ok-new-3.ensures.queued
+    (ap g.S.Spec.made c.in_ok-new-4.ensures.spec ∙ c.requires.made) c.in_ok-new-4.ensures.closed
+    (subst (λ s. AreCurrent (g.S.Spec.state s) c.in_ok-new-4.field-0.watches.items) (sym c.in_ok-new-4.ensures.spec) c.in_ok-new-4.ensures.current)
+    c.in_ok-new-3.ensures.waiting (c.in_ok-new-2.ensures.first ∙ c.requires.words) c.in_ok-new-2.ensures.since refl refl refl
+    (c.in_ok-new-2.ensures.specified ∙ c.in_ok-state.ensures ∙ ap g.S.Spec.state (sym c.in_ok-new-4.ensures.spec), c.in_ok-new-2.ensures.sound)
+
+pub invariant_of-result : goal.invariant_of-result
+invariant_of-result g c = (
+  c.in_ok-new.ensures.header ∙ sym c.in_ok-new-4.ensures.header,
+  c.in_ok-new-2.ensures.header ∙ sym c.in_ok-new-4.ensures.header,
+  c.in_ok-new-3.ensures.header ∙ sym c.in_ok-new-4.ensures.header,
+  omega (arith, start_few c.args.header c.args.start.now c.requires.may_start, plain_words_few c.args.header),
+  omega arith,
+)

@@ -4,14 +4,19 @@ use Rattle.vyrd_base.specs.Verdicts.{first_fault, verdict_so_far}
 use Rattle.vyrd_judge.specs.Queued.{MayQueue}
 use Rattle.vyrd_judge.specs.Following.{Kept, IsFaultless, IsSomewhere}
 use Rattle.vyrd_judge.proofs.StepLaws.{if_ok}
-use Rattle.vyrd_judge.proofs.FollowerLaws.{broken_so_far, may_take, may_queue, few_commits, few_observers, low_caller_of, taken_all, may_catch_up, keeps_by, answer_with, sound_of}
+use Rattle.vyrd_judge.proofs.FollowerLaws.{broken_so_far, may_take, may_queue, low_commits, low_shape, few_commits, few_observers, low_caller_of, taken_all, may_catch_up, keeps_by, answer_with, sound_of}
 use Rattle.vyrd_judge.proofs.follower.Follower.take.Goals as goal
 
+pub step-requires : goal.step-requires
+step-requires g c = record {
+  few = low_shape (subst (λ (k : Kept). k.entries < 2 ^ 62) (sym c.self.view_is) c.requires.few) (subst IsSomewhere (sym c.self.view_is) c.requires.somewhere);
+}
+
 pub returns-in-Err-clause-answer : goal.returns-in-Err-clause-answer
-returns-in-Err-clause-answer g c = λ log f.
-    let was = subst (λ k. IsFaultless k log) (sym c.self.view_is) f in
+returns-in-Err-clause-answer g c = λ starting log f.
+    let was = subst (λ k. IsFaultless k starting log) (sym c.self.view_is) f in
     broken_so_far c.args.entry c.in-Err.fault.rule was (c.in-Err.ensures.fault _ was.taken_in.shape)
-    ∙ ap (λ (k : Kept). verdict_so_far k.header (log ++ c.args.entry ∷ [])) c.self.view_is
+    ∙ ap (λ (k : Kept). verdict_so_far k.header starting (log ++ c.args.entry ∷ [])) c.self.view_is
 
 pub observer_returns-observes-requires : goal.observer_returns-observes-requires
 observer_returns-observes-requires g c =
@@ -20,6 +25,10 @@ observer_returns-observes-requires g c =
 
 pub follow-requires-clause-sound : goal.follow-requires-clause-sound
 follow-requires-clause-sound g c = sound_of (subst IsSomewhere (sym c.self.view_is) c.requires.somewhere)
+
+pub follow-requires-clause-few : goal.follow-requires-clause-few
+follow-requires-clause-few g c =
+    low_commits (subst (λ (k : Kept). k.entries < 2 ^ 62) (sym c.self.view_is) c.requires.few) (subst IsSomewhere (sym c.self.view_is) c.requires.somewhere)
 
 pub follow-requires-clause-may : goal.follow-requires-clause-may
 follow-requires-clause-may g c =
@@ -48,39 +57,39 @@ catch_up-requires g c =
     may_catch_up _ _ c.args.entry (subst (λ (k : Kept). k.entries < 2 ^ 62) (sym c.self.view_is) c.requires.few)
     (subst IsSomewhere (sym c.self.view_is) c.requires.somewhere)
     (taken_all _ _ c.args.entry c.self.inside.queue.header c.is_commit.result c.observer_returns-observes.result
-    c.self.invariant.0 c.self.invariant.1 c.self.invariant.2 c.in_default.ensures.ok c.step.ensures.header c.in_ok-follow.ensures.taken c.follow.ensures.header
-    c.in_ok-follow-2.ensures.taken_up refl refl refl refl c.is_commit.ensures c.counted-self-inside.ensures c.observer_returns-observes.ensures
+    c.self.invariant.0 c.self.invariant.1 c.self.invariant.2 c.in_default.ensures.ok c.step.ensures.header c.in_ok-follow.ensures.taken c.follow.ensures.header c.follow.new.self.same_header
+    c.in_ok-follow-2.ensures.taken_up refl refl refl refl refl c.is_commit.ensures c.counted-self-inside.ensures c.observer_returns-observes.ensures
     c.counted-self-inside-2.ensures refl (c.in_ok-follow.ensures.specified, c.in_ok-follow.ensures.sound))
 
 pub returns-clause-answer : goal.returns-clause-answer
-returns-clause-answer g c = λ log f.
+returns-clause-answer g c = λ starting log f.
     let h = c.self.inside.replay.header in
-    let was = subst (λ k. IsFaultless k log) (sym c.self.view_is) f in
+    let was = subst (λ k. IsFaultless k starting log) (sym c.self.view_is) f in
     let more = log ++ c.args.entry ∷ [] in
-    let same = ap (λ (k : Kept). verdict_so_far k.header more) c.self.view_is in
-    if_ok (λ v. v ≡ first_fault h more) (λ v. v ≡ verdict_so_far c.args.self.now.header more) c.catch_up.result
+    let same = ap (λ (k : Kept). verdict_so_far k.header starting more) c.self.view_is in
+    if_ok (λ v. v ≡ first_fault h starting more) (λ v. v ≡ verdict_so_far c.args.self.now.header starting more) c.catch_up.result
     (λ v is. answer_with v (taken_all _ _ c.args.entry c.self.inside.queue.header c.is_commit.result c.observer_returns-observes.result
-    c.self.invariant.0 c.self.invariant.1 c.self.invariant.2 c.in_default.ensures.ok c.step.ensures.header c.in_ok-follow.ensures.taken c.follow.ensures.header
-    c.in_ok-follow-2.ensures.taken_up refl refl refl refl c.is_commit.ensures c.counted-self-inside.ensures c.observer_returns-observes.ensures
-    c.counted-self-inside-2.ensures refl (c.in_ok-follow.ensures.specified, c.in_ok-follow.ensures.sound) log was.taken_in) is ∙ same)
-    (c.catch_up.ensures.answer more (taken_all _ _ c.args.entry c.self.inside.queue.header c.is_commit.result c.observer_returns-observes.result
-    c.self.invariant.0 c.self.invariant.1 c.self.invariant.2 c.in_default.ensures.ok c.step.ensures.header c.in_ok-follow.ensures.taken c.follow.ensures.header
-    c.in_ok-follow-2.ensures.taken_up refl refl refl refl c.is_commit.ensures c.counted-self-inside.ensures c.observer_returns-observes.ensures
-    c.counted-self-inside-2.ensures refl (c.in_ok-follow.ensures.specified, c.in_ok-follow.ensures.sound) log was.taken_in))
+    c.self.invariant.0 c.self.invariant.1 c.self.invariant.2 c.in_default.ensures.ok c.step.ensures.header c.in_ok-follow.ensures.taken c.follow.ensures.header c.follow.new.self.same_header
+    c.in_ok-follow-2.ensures.taken_up refl refl refl refl refl c.is_commit.ensures c.counted-self-inside.ensures c.observer_returns-observes.ensures
+    c.counted-self-inside-2.ensures refl (c.in_ok-follow.ensures.specified, c.in_ok-follow.ensures.sound) starting log was.taken_in) is ∙ same)
+    (c.catch_up.ensures.answer starting more (taken_all _ _ c.args.entry c.self.inside.queue.header c.is_commit.result c.observer_returns-observes.result
+    c.self.invariant.0 c.self.invariant.1 c.self.invariant.2 c.in_default.ensures.ok c.step.ensures.header c.in_ok-follow.ensures.taken c.follow.ensures.header c.follow.new.self.same_header
+    c.in_ok-follow-2.ensures.taken_up refl refl refl refl refl c.is_commit.ensures c.counted-self-inside.ensures c.observer_returns-observes.ensures
+    c.counted-self-inside-2.ensures refl (c.in_ok-follow.ensures.specified, c.in_ok-follow.ensures.sound) starting log was.taken_in))
 
 pub returns-clause-follows : goal.returns-clause-follows
-returns-clause-follows g c = λ log f is.
+returns-clause-follows g c = λ starting log f is.
     let h = c.self.inside.replay.header in
-    let was = subst (λ k. IsFaultless k log) (sym c.self.view_is) f in
+    let was = subst (λ k. IsFaultless k starting log) (sym c.self.view_is) f in
     let more = log ++ c.args.entry ∷ [] in
     record {
-      taken_in = c.catch_up.ensures.stays more (taken_all _ _ c.args.entry c.self.inside.queue.header c.is_commit.result c.observer_returns-observes.result
-          c.self.invariant.0 c.self.invariant.1 c.self.invariant.2 c.in_default.ensures.ok c.step.ensures.header c.in_ok-follow.ensures.taken c.follow.ensures.header
-          c.in_ok-follow-2.ensures.taken_up refl refl refl refl c.is_commit.ensures c.counted-self-inside.ensures c.observer_returns-observes.ensures
-          c.counted-self-inside-2.ensures refl (c.in_ok-follow.ensures.specified, c.in_ok-follow.ensures.sound) log was.taken_in) is;
-      faultless = ap (λ g'. first_fault g' more) c.catch_up.ensures.header
-          ∙ sym (subst (λ r. IfOk r (λ v. v ≡ first_fault h more)) is (c.catch_up.ensures.answer more (taken_all _ _ c.args.entry c.self.inside.queue.header c.is_commit.result c.observer_returns-observes.result
-          c.self.invariant.0 c.self.invariant.1 c.self.invariant.2 c.in_default.ensures.ok c.step.ensures.header c.in_ok-follow.ensures.taken c.follow.ensures.header
-          c.in_ok-follow-2.ensures.taken_up refl refl refl refl c.is_commit.ensures c.counted-self-inside.ensures c.observer_returns-observes.ensures
-          c.counted-self-inside-2.ensures refl (c.in_ok-follow.ensures.specified, c.in_ok-follow.ensures.sound) log was.taken_in)));
+      taken_in = c.catch_up.ensures.stays starting more (taken_all _ _ c.args.entry c.self.inside.queue.header c.is_commit.result c.observer_returns-observes.result
+          c.self.invariant.0 c.self.invariant.1 c.self.invariant.2 c.in_default.ensures.ok c.step.ensures.header c.in_ok-follow.ensures.taken c.follow.ensures.header c.follow.new.self.same_header
+          c.in_ok-follow-2.ensures.taken_up refl refl refl refl refl c.is_commit.ensures c.counted-self-inside.ensures c.observer_returns-observes.ensures
+          c.counted-self-inside-2.ensures refl (c.in_ok-follow.ensures.specified, c.in_ok-follow.ensures.sound) starting log was.taken_in) is;
+      faultless = ap (λ g'. first_fault g' starting more) c.catch_up.ensures.header
+          ∙ sym (subst (λ r. IfOk r (λ v. v ≡ first_fault h starting more)) is (c.catch_up.ensures.answer starting more (taken_all _ _ c.args.entry c.self.inside.queue.header c.is_commit.result c.observer_returns-observes.result
+          c.self.invariant.0 c.self.invariant.1 c.self.invariant.2 c.in_default.ensures.ok c.step.ensures.header c.in_ok-follow.ensures.taken c.follow.ensures.header c.follow.new.self.same_header
+          c.in_ok-follow-2.ensures.taken_up refl refl refl refl refl c.is_commit.ensures c.counted-self-inside.ensures c.observer_returns-observes.ensures
+          c.counted-self-inside-2.ensures refl (c.in_ok-follow.ensures.specified, c.in_ok-follow.ensures.sound) starting log was.taken_in)));
     }

@@ -5,11 +5,11 @@ use Rattle.vyrd_judge.proofs.OnlineLaws.{stands_on, followed_on}
 use Rattle.vyrd_judge.proofs.online.Judge.feed.Goals as goal
 
 pub returns-in-Some-clause-answer : goal.returns-in-Some-clause-answer
-returns-in-Some-clause-answer g c = λ log f. stands_on (c.args.entry ∷ []) (ap (λ (j : JudgeView). j.so_far) (sym c.self.view_is) ∙ c.in-Some.is) f
+returns-in-Some-clause-answer g c = λ starting log f. stands_on (c.args.entry ∷ []) (ap (λ (j : JudgeView). j.so_far) (sym c.self.view_is) ∙ c.in-Some.is) f
 
 pub returns-in-Some-clause-followed : goal.returns-in-Some-clause-followed
-returns-in-Some-clause-followed g c = λ log f. followed_on (c.args.entry ∷ []) (ap (λ (j : JudgeView). j.so_far) (sym c.self.view_is) ∙ c.in-Some.is) f
+returns-in-Some-clause-followed g c = λ starting log f. followed_on (c.args.entry ∷ []) (ap (λ (j : JudgeView). j.so_far) (sym c.self.view_is) ∙ c.in-Some.is) f
 
 pub invariant_of-self : goal.invariant_of-self
 invariant_of-self g c = λ works none.
-    ∥∥₁_map (c.self.invariant c.if-self.false c.in_default.is) (λ s. (s.0 ++ c.args.entry ∷ [], c.in-Ok.ensures.follows s.0 s.1 (ap Ok none)))
+    ∥∥₁_map (c.self.invariant c.if-self.false c.in_default.is) (λ s. (s.0, s.1 ++ c.args.entry ∷ [], c.in-Ok.ensures.follows s.0 s.1 s.2 (ap Ok none)))

@@ -1,4 +1,4 @@
-use Rattle.std.proofs.Common.{◌∷◌, ◌++◌, [], take, ap, sym, subst, ◌∙◌, arith, append_assoc}
+use Rattle.std.proofs.Common.{◌++◌, take, ap, sym, subst, ◌∙◌, arith, append_assoc}
 use Rattle.std.proofs.lemmas.List.{take_more}
 use Rattle.vyrd_base.specs.Verdicts.{verdict_so_far}
 use Rattle.vyrd_judge.specs.Following.{JudgeView, HasFollowed}
@@ -11,9 +11,9 @@ loop-entry-preserved g c =
     let es = c.args.entries.now in
     let i = c.loop-entry.entry-index in
     record {
-      followed = λ log f. subst (HasFollowed c.feed.new.self)
+      followed = λ starting log f. subst (HasFollowed c.feed.new.self starting)
           (append_assoc log (take i es) _ ∙ ap (λ xs. log ++ xs) (sym (take_more es i _ c.loop-entry-test.true)))
-          (c.in_ok-feed.ensures.followed (log ++ take i es) (c.loop-entry.invariant.followed log f));
+          (c.in_ok-feed.ensures.followed starting (log ++ take i es) (c.loop-entry.invariant.followed starting log f));
       header = c.feed.ensures.header ∙ c.loop-entry.invariant.header;
       counted = omega (arith, c.feed.ensures.counted, c.loop-entry.invariant.counted);
       so_far = still_known c.args.self.now c.loop-entry.self c.feed.new.self c.in_ok-feed.field-0 c.loop-entry.invariant.so_far c.in_ok-feed.ensures.fails_again
@@ -21,15 +21,15 @@ loop-entry-preserved g c =
     }
 
 pub returns-clause-followed : goal.returns-clause-followed
-returns-clause-followed g c = λ log f. subst (λ xs. HasFollowed c.loop-entry.self (log ++ xs))
+returns-clause-followed g c = λ starting log f. subst (λ xs. HasFollowed c.loop-entry.self starting (log ++ xs))
     (take_past c.args.entries.now c.loop-entry.entry-index c.loop-entry.auto.entry-index-end c.loop-entry-test.false)
-    (c.loop-entry.invariant.followed log f)
+    (c.loop-entry.invariant.followed starting log f)
 
 pub returns-clause-answer : goal.returns-clause-answer
-returns-clause-answer g c = λ log f.
+returns-clause-answer g c = λ starting log f.
     ap (λ (j : JudgeView). j.so_far) c.self.view_is
-    ∙ so_far_is_known (returns-clause-followed g c log f)
-    ∙ ap (λ h. verdict_so_far h (log ++ c.args.entries.now)) c.loop-entry.invariant.header
+    ∙ so_far_is_known (returns-clause-followed g c starting log f)
+    ∙ ap (λ h. verdict_so_far h starting (log ++ c.args.entries.now)) c.loop-entry.invariant.header
 
 pub returns-in_err-feed-clause-stays : goal.returns-in_err-feed-clause-stays
 returns-in_err-feed-clause-stays g c = on_error c.from_residual.result

@@ -1,12 +1,13 @@
 use Rattle.std.proofs.Common.{◌≡◌, ◌≤◌, ◌+◌, ◌++◌, List, take}
 use Rattle.vyrd_base.specs.declared.log.Entry.{Entry}
+use Rattle.vyrd_base.specs.declared.log.StartWord.{StartWord}
 use Rattle.vyrd_judge.specs.Following.{HasFollowed}
 use Rattle.vyrd_judge.proofs.OnlineLaws.{StaysOrStands}
 use Rattle.vyrd_judge.proofs.online.Judge.follow.Given as goal
 
 abbrev pub invariant-loop-entry : goal.invariant-loop-entry
 invariant-loop-entry g l = record {
-  followed : (log : List Entry) → HasFollowed l.initial.self log → HasFollowed l.self (log ++ take l.entry-index l.fn.entries);
+  followed : (starting : List StartWord) (log : List Entry) → HasFollowed l.initial.self starting log → HasFollowed l.self starting (log ++ take l.entry-index l.fn.entries);
   header : l.self.kept.header ≡ l.initial.self.kept.header;
   counted : l.self.kept.entries ≤ l.initial.self.kept.entries + l.entry-index;
   so_far : StaysOrStands l.initial.self l.self;

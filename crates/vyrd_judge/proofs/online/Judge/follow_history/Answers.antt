@@ -1,19 +1,17 @@
-use Rattle.std.proofs.Common.{◌≡◌, inl, ◌∷◌, ◌++◌, [], List, Option, Some, None, take, ap, sym, subst, ◌∙◌, refl, arith, append_assoc, append-nil}
-use Rattle.std.specs.Prelude.{get_or}
+use Rattle.std.proofs.Common.{inl, ◌∷◌, ◌++◌, [], take, ap, sym, subst, ◌∙◌, refl, arith, append_assoc, append-nil}
 use Rattle.std.specs.List.{cons_option}
 use Rattle.std.proofs.lemmas.List.{take_all}
-use Rattle.vyrd_base.specs.declared.log.Entry.{Entry}
 use Rattle.vyrd_base.specs.Verdicts.{verdict_so_far}
-use Rattle.vyrd_base.specs.Histories.{logged, log_of}
+use Rattle.vyrd_base.specs.Histories.{log_of}
 use Rattle.vyrd_judge.specs.Following.{JudgeView, HasFollowed}
 use Rattle.vyrd_judge.proofs.OnlineLaws.{so_far_is_known, StaysOrStands, still_known, refused_stays, on_error}
-use Rattle.vyrd_judge.proofs.HistoryLaws.{log_of_none, log_more, past}
+use Rattle.vyrd_judge.proofs.HistoryLaws.{log_of_none, log_more}
 use Rattle.vyrd_judge.proofs.online.Judge.follow_history.Goals.{in-Some+in_ok-feed, in_default}
 use Rattle.vyrd_judge.proofs.online.Judge.follow_history.Goals as goal
 
 pub loop-event-init : goal.loop-event-init
 loop-event-init g c = record {
-  followed = λ log f. subst (HasFollowed c.args.self.now) (sym (ap (λ xs. log ++ xs) log_of_none ∙ append-nil log)) f;
+  followed = λ starting log f. subst (HasFollowed c.args.self.now starting) (sym (ap (λ xs. log ++ xs) log_of_none ∙ append-nil log)) f;
   header = refl;
   counted = omega arith;
   so_far = inl refl;
@@ -26,12 +24,12 @@ loop-event-preserved g c =
     let log_before = log_of (take i es) in
     elim c.match-entry_of.branch [
       | in-Some+in_ok-feed w ↦ record {
-        followed = λ log f. subst (HasFollowed c.match-entry_of.self)
+        followed = λ starting log f. subst (HasFollowed c.match-entry_of.self starting)
             (append_assoc log log_before (w.in-Some.entry ∷ [])
             ∙ ap (λ o. log ++ (log_before ++ cons_option o [])) (sym w.in-Some.is ∙ c.entry_of.ensures)
             ∙ ap (λ xs. log ++ xs) (sym (log_more es i c.loop-event-test.true)))
-            (subst (λ j. HasFollowed j ((log ++ log_before) ++ w.in-Some.entry ∷ [])) (sym w.self-is)
-            (w.in_ok-feed.ensures.followed (log ++ log_before) (c.loop-event.invariant.followed log f)));
+            (subst (λ j. HasFollowed j starting ((log ++ log_before) ++ w.in-Some.entry ∷ [])) (sym w.self-is)
+            (w.in_ok-feed.ensures.followed starting (log ++ log_before) (c.loop-event.invariant.followed starting log f)));
         header = ap (λ (j : JudgeView). j.kept.header) w.self-is ∙ w.feed.ensures.header ∙ c.loop-event.invariant.header;
         counted = omega (arith, ap (λ (j : JudgeView). j.kept.entries) w.self-is, w.feed.ensures.counted, c.loop-event.invariant.counted);
         so_far = subst (StaysOrStands c.args.self.now) (sym w.self-is)
@@ -39,11 +37,11 @@ loop-event-preserved g c =
             w.in_ok-feed.ensures.fails_again w.in_ok-feed.ensures.stands w.in_ok-feed.ensures.so_far w.in_ok-feed.ensures.has_failed);
       }
       | in_default w ↦ record {
-        followed = λ log f. subst (HasFollowed c.match-entry_of.self)
+        followed = λ starting log f. subst (HasFollowed c.match-entry_of.self starting)
             (ap (λ xs. log ++ xs) (sym (append-nil log_before)
             ∙ ap (λ o. log_before ++ cons_option o []) (sym w.in_default.is ∙ c.entry_of.ensures)
             ∙ sym (log_more es i c.loop-event-test.true)))
-            (subst (λ j. HasFollowed j (log ++ log_before)) (sym w.self-is) (c.loop-event.invariant.followed log f));
+            (subst (λ j. HasFollowed j starting (log ++ log_before)) (sym w.self-is) (c.loop-event.invariant.followed starting log f));
         header = ap (λ (j : JudgeView). j.kept.header) w.self-is ∙ c.loop-event.invariant.header;
         counted = omega (arith, ap (λ (j : JudgeView). j.kept.entries) w.self-is, c.loop-event.invariant.counted);
         so_far = subst (StaysOrStands c.args.self.now) (sym w.self-is) c.loop-event.invariant.so_far;
@@ -51,15 +49,15 @@ loop-event-preserved g c =
     ]
 
 pub returns-clause-followed : goal.returns-clause-followed
-returns-clause-followed g c = λ log f. subst (λ xs. HasFollowed c.loop-event.self (log ++ log_of xs))
+returns-clause-followed g c = λ starting log f. subst (λ xs. HasFollowed c.loop-event.self starting (log ++ log_of xs))
     (take_all c.loop-event.event-index c.args.history.now c.loop-event-test.false)
-    (c.loop-event.invariant.followed log f)
+    (c.loop-event.invariant.followed starting log f)
 
 pub returns-clause-answer : goal.returns-clause-answer
-returns-clause-answer g c = λ log f.
+returns-clause-answer g c = λ starting log f.
     ap (λ (j : JudgeView). j.so_far) c.self.view_is
-    ∙ so_far_is_known (returns-clause-followed g c log f)
-    ∙ ap (λ h. verdict_so_far h (log ++ log_of c.args.history.now)) c.loop-event.invariant.header
+    ∙ so_far_is_known (returns-clause-followed g c starting log f)
+    ∙ ap (λ h. verdict_so_far h starting (log ++ log_of c.args.history.now)) c.loop-event.invariant.header
 
 pub returns-in_err-feed-clause-stays : goal.returns-in_err-feed-clause-stays
 returns-in_err-feed-clause-stays g c = on_error c.from_residual.result

@@ -1,5 +1,6 @@
 use Rattle.std.proofs.Common.{◌≡◌, ◌≤◌, ◌+◌, ◌++◌, List, take}
 use Rattle.vyrd_base.specs.declared.log.Entry.{Entry}
+use Rattle.vyrd_base.specs.declared.log.StartWord.{StartWord}
 use Rattle.vyrd_base.specs.Histories.{log_of}
 use Rattle.vyrd_judge.specs.Following.{HasFollowed}
 use Rattle.vyrd_judge.proofs.OnlineLaws.{StaysOrStands}
@@ -7,7 +8,7 @@ use Rattle.vyrd_judge.proofs.online.Judge.follow_history.Given as goal
 
 abbrev pub invariant-loop-event : goal.invariant-loop-event
 invariant-loop-event g l = record {
-  followed : (log : List Entry) → HasFollowed l.initial.self log → HasFollowed l.self (log ++ log_of (take l.event-index l.fn.history));
+  followed : (starting : List StartWord) (log : List Entry) → HasFollowed l.initial.self starting log → HasFollowed l.self starting (log ++ log_of (take l.event-index l.fn.history));
   header : l.self.kept.header ≡ l.initial.self.kept.header;
   counted : l.self.kept.entries ≤ l.initial.self.kept.entries + l.event-index;
   so_far : StaysOrStands l.initial.self l.self;

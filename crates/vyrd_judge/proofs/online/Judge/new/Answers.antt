@@ -1,9 +1,7 @@
-use Rattle.std.proofs.Common.{[]}
-use Rattle.vyrd_judge.proofs.OnlineLaws.{faultless_first}
+use Rattle.std.proofs.Common.{Some, ap, sym, ◌∙◌}
+use Rattle.vyrd_base.proofs.NoStart.{state_at_start-none}
 use Rattle.vyrd_judge.proofs.online.Judge.new.Goals as goal
 
-pub invariant_of-result : goal.invariant_of-result
-invariant_of-result g c = λ works none. ∣ ([], faultless_first c.in_ok-new.ensures.taken_in) ∣₁
-
-pub returns-clause-followed : goal.returns-clause-followed
-returns-clause-followed g c = record { follows = faultless_first c.in_ok-new.ensures.taken_in }
+pub begin-requires-clause-state : goal.begin-requires-clause-state
+begin-requires-clause-state g c =
+    state_at_start-none c.args.header ∙ ap Some (sym c.in_ok-spec.ensures.state)

@@ -32,35 +32,35 @@ pub end-requires : goal.end-requires
 end-requires g c = record { caller = returns_caller c.in-Returns.is c.requires.may }
 
 pub returns-in-Begins-clause-gives : goal.returns-in-Begins-clause-gives
-returns-in-Begins-clause-gives g c = λ log xs j known.
+returns-in-Begins-clause-gives g c = λ starting log xs j known.
     let h = c.args.self.now.header in
     let old = c.args.self.now in
     let done = judged_begins c.in-Begins.is (sym old.watches.ok.0 ∙ old.callers) j in
     let same_spec = c.begin.ensures.spec in
-    subst (λ s. Judged h log (g.S.Spec.state s) (g.S.Spec.made s) c.begin.new.self.watches.items xs c.args.views.now.cuts) (sym same_spec)
-    (subst (λ ws. Judged h log (g.S.Spec.state old.spec) (g.S.Spec.made old.spec) ws xs c.args.views.now.cuts) (sym c.begin.ensures.watches) done)
+    subst (λ s. Judged h starting log (g.S.Spec.state s) (g.S.Spec.made s) c.begin.new.self.watches.items xs c.args.views.now.first c.args.views.now.since) (sym same_spec)
+    (subst (λ ws. Judged h starting log (g.S.Spec.state old.spec) (g.S.Spec.made old.spec) ws xs c.args.views.now.first c.args.views.now.since) (sym c.begin.ensures.watches) done)
 
 pub returns-in-None-clause-gives : goal.returns-in-None-clause-gives
-returns-in-None-clause-gives g c = λ log xs j known.
+returns-in-None-clause-gives g c = λ starting log xs j known.
     judged_waits (c.in-Commits.is ∙ ap (Commits c.in-Commits.method c.in-Commits.args) c.in-None.is) j
 
 pub returns-in-Some-clause-gives : goal.returns-in-Some-clause-gives
-returns-in-Some-clause-gives g c = λ log xs j known.
-    judged_commits (g.S.Spec.state c.commit.new.self.spec) (g.S.Spec.made c.commit.new.self.spec) c.commit.new.self.watches.items c.commit.new.views.cuts
+returns-in-Some-clause-gives g c = λ starting log xs j known.
+    judged_commits (g.S.Spec.state c.commit.new.self.spec) (g.S.Spec.made c.commit.new.self.spec) c.commit.new.self.watches.items c.commit.new.views.first c.commit.new.views.since
     c.commit.result (c.in-Commits.is ∙ ap (Commits c.in-Commits.method c.in-Commits.args) c.in-Some.is) j
-    (λ words rest cut. c.commit.ensures.leads words rest cut known)
+    (λ part rest is. c.commit.ensures.leads part rest is known)
 
 pub returns-then-end-clause-gives : goal.returns-then-end-clause-gives
-returns-then-end-clause-gives g c = λ log xs j known.
+returns-then-end-clause-gives g c = λ starting log xs j known.
     let h = c.args.self.now.header in
     let old = c.args.self.now in
     let seen = watch_there c.in-Returns.is (sym old.watches.ok.0 ∙ old.callers) j in
     let done = judged_answered seen.0 c.in-Returns.is seen.1 (sym (c.end.ensures.answered seen.0 seen.1) ∙ c.if-end.true) j in
-    subst (λ s. Judged h log (g.S.Spec.state s) (g.S.Spec.made s) c.end.new.self.watches.items xs c.args.views.now.cuts) (sym c.end.ensures.spec)
-    (subst (λ ws. Judged h log (g.S.Spec.state old.spec) (g.S.Spec.made old.spec) ws xs c.args.views.now.cuts) (sym (c.end.ensures.watches seen.0 seen.1)) done)
+    subst (λ s. Judged h starting log (g.S.Spec.state s) (g.S.Spec.made s) c.end.new.self.watches.items xs c.args.views.now.first c.args.views.now.since) (sym c.end.ensures.spec)
+    (subst (λ ws. Judged h starting log (g.S.Spec.state old.spec) (g.S.Spec.made old.spec) ws xs c.args.views.now.first c.args.views.now.since) (sym (c.end.ensures.watches seen.0 seen.1)) done)
 
 pub returns-else-end-clause-gives : goal.returns-else-end-clause-gives
-returns-else-end-clause-gives g c = λ log xs j known.
+returns-else-end-clause-gives g c = λ starting log xs j known.
     let old = c.args.self.now in
     let seen = watch_there c.in-Returns.is (sym old.watches.ok.0 ∙ old.callers) j in
     judged_unanswered seen.0 c.in-Returns.is seen.1 (sym (c.end.ensures.answered seen.0 seen.1) ∙ c.if-end.false) j

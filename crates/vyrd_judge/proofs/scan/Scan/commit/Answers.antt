@@ -1,7 +1,6 @@
 use Rattle.std.proofs.Common.{◌≡◌, Ok, Some, sym, ap, ◌∙◌, slice_get}
 use Rattle.vyrd_base.specs.Amounts.{first_difference}
 use Rattle.vyrd_base.specs.Views.{view_of_words}
-use Rattle.vyrd_base.specs.Words.{words_after}
 use Rattle.vyrd_judge.specs.Outcomes.{CommitFaults, CommitGoes}
 use Rattle.vyrd_judge.proofs.KeptFacts.{method_subject, method_args}
 use Rattle.vyrd_base.specs.declared.verdict.Why.TheVariants.{Reply, View}
@@ -19,9 +18,9 @@ step-requires-clause-args g c =
     (c.requires.allowed c.args.caller c.in-Some.execution c.requires.caller c.in-Some.ensures))
 
 pub returns-then-not-branch-clause-gives : goal.returns-then-not-branch-clause-gives
-returns-then-not-branch-clause-gives g c = λ earlier x followed is.
+returns-then-not-branch-clause-gives g c = λ x is.
     let h = c.args.self.now.header in
-    let shown = view_of_words h (words_after h earlier) in
+    let shown = view_of_words h c.args.self.now.effects.words.items in
     let before = g.S.Spec.state c.args.self.now.spec in
     let none = c.in_ok-step.ensures.refused (ap Ok c.if-not-branch.true) in
     for_execution (λ y. CommitFaults shown y before (Reply c.in-Some-reply.reply)) (slice_get c.args.self.now.executions.items c.args.caller)
@@ -29,33 +28,31 @@ returns-then-not-branch-clause-gives g c = λ earlier x followed is.
     (refused shown c.in-Some.execution c.in-Some-reply.reply before c.in-Some-reply.is none)
 
 pub returns-in-Some-first_difference-clause-gives : goal.returns-in-Some-first_difference-clause-gives
-returns-in-Some-first_difference-clause-gives g c = λ earlier x followed is.
+returns-in-Some-first_difference-clause-gives g c = λ x is.
     let h = c.args.self.now.header in
     let before = g.S.Spec.state c.args.self.now.spec in
     let after = g.S.Spec.state c.step.new.self in
     let next = c.in_ok-step.ensures.allowed (ap Ok c.if-not-branch.false) in
-    let shown : c.in_ok-shown.shown ≡ view_of_words h (words_after h earlier) =
-    c.in_ok-shown.ensures ∙ ap (view_of_words h) (c.words.ensures.words ∙ followed.words
-    ∙ ap (λ k. words_after k earlier) c.args.self.now.shadow_header) in
-    let first : first_difference (view_of_words h (words_after h earlier)) after ≡ Some c.in-Some-first_difference.key =
+    let shown : c.in_ok-shown.shown ≡ view_of_words h c.args.self.now.effects.words.items =
+    c.in_ok-shown.ensures ∙ ap (view_of_words h) c.words.ensures in
+    let first : first_difference (view_of_words h c.args.self.now.effects.words.items) after ≡ Some c.in-Some-first_difference.key =
     (λ i. first_difference (sym shown i) (sym c.in_ok-after.ensures i)) ∙ sym c.in-Some-first_difference.ensures in
-    for_execution (λ y. CommitFaults (view_of_words h (words_after h earlier)) y before (View c.in-Some-first_difference.key))
+    for_execution (λ y. CommitFaults (view_of_words h c.args.self.now.effects.words.items) y before (View c.in-Some-first_difference.key))
     (slice_get c.args.self.now.executions.items c.args.caller)
     c.in-Some.execution x c.in-Some.ensures is
-    (differs (view_of_words h (words_after h earlier)) c.in-Some.execution c.in-Some-reply.reply before after c.in-Some-first_difference.key c.in-Some-reply.is next first)
+    (differs (view_of_words h c.args.self.now.effects.words.items) c.in-Some.execution c.in-Some-reply.reply before after c.in-Some-first_difference.key c.in-Some-reply.is next first)
 
 pub returns-clause-gives : goal.returns-clause-gives
-returns-clause-gives g c = λ earlier x followed is.
+returns-clause-gives g c = λ x is.
     let h = c.args.self.now.header in
     let before = g.S.Spec.state c.args.self.now.spec in
     let after = g.S.Spec.state c.step.new.self in
     let old = c.args.self.now.executions.items in
     let next = c.in_ok-step.ensures.allowed (ap Ok c.if-not-branch.false) in
-    let shown : c.in_ok-shown.shown ≡ view_of_words h (words_after h earlier) =
-    c.in_ok-shown.ensures ∙ ap (view_of_words h) (c.words.ensures.words ∙ followed.words
-    ∙ ap (λ k. words_after k earlier) c.args.self.now.shadow_header) in
+    let shown : c.in_ok-shown.shown ≡ view_of_words h c.args.self.now.effects.words.items =
+    c.in_ok-shown.ensures ∙ ap (view_of_words h) c.words.ensures in
     let none = is_none c.first_difference.result c.in_default-first_difference.not-Some in
-    for_execution (λ y. CommitGoes (view_of_words h (words_after h earlier)) y before after old c.see.new.executions.items)
+    for_execution (λ y. CommitGoes (view_of_words h c.args.self.now.effects.words.items) y before after old c.see.new.executions.items)
     (slice_get old c.args.caller)
     c.in-Some.execution x c.in-Some.ensures is
     (record {

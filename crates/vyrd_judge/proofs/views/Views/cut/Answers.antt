@@ -1,10 +1,18 @@
 use Rattle.std.proofs.Common.{◌++◌, ◌∷◌, [], ap, ◌∙◌}
-use Rattle.vyrd_judge.specs.Cuts.{Cuts, cuts_of}
-use Rattle.vyrd_judge.proofs.CutLaws.{cuts_push}
+use Rattle.vyrd_judge.specs.Cuts.{Cuts, first_of, since_of}
+use Rattle.vyrd_judge.proofs.CutLaws.{first_push, since_push}
 use Rattle.vyrd_judge.proofs.views.Views.cut.Goals as goal
 
-pub returns-clause-cuts : goal.returns-clause-cuts
-returns-clause-cuts c =
-    ap (λ ks. cuts_of c.self.inside.words.items ks c.self.inside.writes.items) c.in_ok-push_back.ensures.items
-    ∙ cuts_push c.self.inside.words.items c.self.inside.counts.items c.self.inside.tail c.self.inside.writes.items c.self.invariant.0.counted
-    ∙ ap (λ (v : Cuts). v.cuts ++ v.now ∷ []) c.self.view_is
+pub returns-clause-first : goal.returns-clause-first
+returns-clause-first c =
+    let i = c.self.inside in
+    ap (λ ks. first_of i.words.items ks i.writes.items) c.in_ok-push_back.ensures.items
+    ∙ first_push i.words.items i.counts.items i.tail i.writes.items c.self.invariant.0.counted
+    ∙ ap (λ (v : Cuts). v.first) c.self.view_is
+
+pub returns-clause-since : goal.returns-clause-since
+returns-clause-since c =
+    let i = c.self.inside in
+    ap (λ ks. since_of ks i.writes.items) c.in_ok-push_back.ensures.items
+    ∙ since_push i.counts.items i.tail i.writes.items c.self.invariant.0.counted
+    ∙ ap (λ (v : Cuts). v.since ++ [] ∷ []) c.self.view_is

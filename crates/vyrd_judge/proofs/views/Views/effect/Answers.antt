@@ -1,9 +1,28 @@
-use Rattle.std.proofs.Common.{◌<◌, set, ap, sym, ◌∙◌, subst, arith}
+use Rattle.std.proofs.Common.{◌≡◌, ◌<◌, ◌∷◌, [], ap, sym, ◌∙◌, subst, arith}
 use Rattle.vyrd_base.specs.Layout.{plain_words}
-use Rattle.vyrd_shadow.specs.Blocks.{with_writes}
-use Rattle.vyrd_judge.specs.Cuts.{Cuts, cuts_of}
-use Rattle.vyrd_judge.proofs.CutLaws.{one_waits, now_more, cuts_stay}
+use Rattle.vyrd_judge.specs.Cuts.{Cuts, first_of, since_of, first_with, with_part}
+use Rattle.vyrd_judge.proofs.CutLaws.{one_waits, first_more, since_more, none_since, some_wait, first_at_once, since_at_once}
 use Rattle.vyrd_judge.proofs.views.Views.effect.Goals as goal
+
+pub take_effect-requires-clause-none_waits : goal.take_effect-requires-clause-none_waits
+take_effect-requires-clause-none_waits c =
+    let i = c.self.inside in
+    ap (λ (v : Cuts). v.since) (sym c.self.view_is) ∙ none_since i.counts.items i.writes.items i.counts.len i.counts.ok.0 (sym c.is_empty.ensures ∙ c.if-is_empty.true)
+
+pub returns-then-is_empty-clause-first : goal.returns-then-is_empty-clause-first
+returns-then-is_empty-clause-first c =
+    let i = c.self.inside in
+    let none : c.args.self.now.since ≡ [] = ap (λ (v : Cuts). v.since) (sym c.self.view_is)
+    ∙ none_since i.counts.items i.writes.items i.counts.len i.counts.ok.0 (sym c.is_empty.ensures ∙ c.if-is_empty.true) in
+    first_at_once c.take_effect.result c.take_effect.new.self.first c.args.self.now.first c.args.self.now.since c.args.word c.args.value none
+    c.take_effect.ensures.first
+
+pub returns-then-is_empty-clause-since : goal.returns-then-is_empty-clause-since
+returns-then-is_empty-clause-since c =
+    let i = c.self.inside in
+    let none : c.args.self.now.since ≡ [] = ap (λ (v : Cuts). v.since) (sym c.self.view_is)
+    ∙ none_since i.counts.items i.writes.items i.counts.len i.counts.ok.0 (sym c.is_empty.ensures ∙ c.if-is_empty.true) in
+    since_at_once c.take_effect.result c.take_effect.new.self.since c.args.self.now.since c.args.word c.args.value none c.take_effect.ensures.since
 
 pub invariant_of-self-else-is_empty : goal.invariant_of-self-else-is_empty
 invariant_of-self-else-is_empty c =
@@ -14,16 +33,18 @@ invariant_of-self-else-is_empty c =
       c.self.invariant.1,
     )
 
-pub returns-in_ok-push_back-clause-now : goal.returns-in_ok-push_back-clause-now
-returns-in_ok-push_back-clause-now c =
+pub returns-in_ok-push_back-clause-first : goal.returns-in_ok-push_back-clause-first
+returns-in_ok-push_back-clause-first c =
     let i = c.self.inside in
-    ap (with_writes i.words.items) c.in_ok-push_back.ensures.items
-    ∙ now_more i.words.items i.writes.items c.args.word c.args.value
-    ∙ ap (λ (v : Cuts). set v.now c.args.word c.args.value) c.self.view_is
+    ap (first_of i.words.items i.counts.items) c.in_ok-push_back.ensures.items
+    ∙ first_more i.words.items i.counts.items i.writes.items ((c.args.word, c.args.value) ∷ []) (omega (arith, c.self.invariant.0.counted))
+    (some_wait i.counts.items i.counts.len i.counts.ok.0 (sym c.is_empty.ensures ∙ c.if-is_empty.false))
+    ∙ ap (λ (v : Cuts). first_with 0 ((c.args.word, c.args.value) ∷ []) v.first v.since) c.self.view_is
 
-pub returns-in_ok-push_back-clause-cuts : goal.returns-in_ok-push_back-clause-cuts
-returns-in_ok-push_back-clause-cuts c =
+pub returns-in_ok-push_back-clause-since : goal.returns-in_ok-push_back-clause-since
+returns-in_ok-push_back-clause-since c =
     let i = c.self.inside in
-    ap (cuts_of i.words.items i.counts.items) c.in_ok-push_back.ensures.items
-    ∙ cuts_stay i.words.items i.counts.items i.writes.items _ (omega (arith, c.self.invariant.0.counted))
-    ∙ ap (λ (v : Cuts). v.cuts) c.self.view_is
+    ap (since_of i.counts.items) c.in_ok-push_back.ensures.items
+    ∙ since_more i.counts.items i.writes.items ((c.args.word, c.args.value) ∷ []) (omega (arith, c.self.invariant.0.counted))
+    (some_wait i.counts.items i.counts.len i.counts.ok.0 (sym c.is_empty.ensures ∙ c.if-is_empty.false))
+    ∙ ap (λ (v : Cuts). with_part 0 ((c.args.word, c.args.value) ∷ []) v.since) c.self.view_is

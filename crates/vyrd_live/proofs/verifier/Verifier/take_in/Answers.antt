@@ -35,7 +35,7 @@ returns-in-Ok-clause-answer c = λ taken t.
     let judging = (taken_in c taken t).judging (sym c.if-is_some.ensures) in
     let header : c.follow.new.judge.kept.header ≡ c.args.self.now.header
     = c.in-Ok.ensures.header ∙ ap (λ (v : VerifierView). v.header) c.self.view_is in
-    c.so_far.ensures ∙ so_far_is_known judging.taking.judged ∙ ap (λ (h : Header). verdict_so_far h (log_of events)) header
+    c.so_far.ensures ∙ so_far_is_known judging.taking.judged ∙ ap (λ (h : Header). verdict_so_far h [] (log_of events)) header
 
 pub returns-in-Ok-clause-taken : goal.returns-in-Ok-clause-taken
 returns-in-Ok-clause-taken c = taken_in c

@@ -2,6 +2,9 @@ use Rattle.std.proofs.Common.{◌≡◌, ◌<◌, ◌-◌, ◌++◌, true, [], l
 use Rattle.std.specs.Prelude.{unwrap_or}
 use Rattle.std.specs.Map.{keys_of}
 use Rattle.std.proofs.lemmas.List.{get_or_read}
+use Rattle.vyrd_base.specs.declared.log.Kind.TheVariants.{BlockClose, BlockCommit}
+use Rattle.vyrd_base.specs.Shape.{broken_rule}
+use Rattle.vyrd_base.proofs.BlockLaws.{entry}
 use Rattle.vyrd_shadow.specs.Following.{Kept, HasFollowed, is_open}
 use Rattle.vyrd_shadow.proofs.SoundLaws.{sound_closed, effect_is}
 use Rattle.vyrd_shadow.proofs.FollowLaws.{followed_close, followed_commit}
@@ -23,9 +26,9 @@ invariant_of-self c = let s = c.self.inside in
     (s.count - c.len.result) _ counts c.end.ensures.capacity)
 
 pub returns-clause-closed : goal.returns-clause-closed
-returns-clause-closed c = λ earlier followed. let s = c.self.inside in
+returns-clause-closed c = λ starting earlier followed keeps. let s = c.self.inside in
     let kept : Kept = record { header = s.header; words = s.words.items; blocks = s.blocks.items; changed = s.changed.items } in
-    let inside : HasFollowed kept earlier = rw c.self.view_is followed in
+    let inside : HasFollowed kept starting earlier = rw c.self.view_is followed in
     let low : c.args.caller < s.header.callers = rw (← c.self.view_is) at c.requires.caller in
     let low_here : c.args.caller < length s.blocks.items = omega (arith, low, c.self.invariant.all_blocks) in
     let opened = subst (λ (k : Kept). is_open k c.args.caller ≡ true) (sym c.self.view_is) c.requires.opened in
@@ -34,12 +37,13 @@ returns-clause-closed c = λ earlier followed. let s = c.self.inside in
     let effect = effect_is s.words.len c.end.new.words c.deref_mut.result.now s.words.items c.index_mut-block.result.now block
     (omega arith) c.deref_mut.ensures.value read c.end.ensures.words in
     rw (effect, c.end.ensures.closed)
-    (followed_close kept earlier c.args.caller c.end.new.changed.items low low_here c.self.invariant.all_words opened inside)
+    (followed_close kept starting earlier c.args.caller c.end.new.changed.items low low_here c.self.invariant.all_words opened inside
+    (subst (λ (k : Kept). broken_rule k.header earlier (entry c.args.caller BlockClose) ≡ None) (sym c.self.view_is) keeps))
 
 pub returns-clause-committed : goal.returns-clause-committed
-returns-clause-committed c = λ earlier followed. let s = c.self.inside in
+returns-clause-committed c = λ starting earlier followed keeps. let s = c.self.inside in
     let kept : Kept = record { header = s.header; words = s.words.items; blocks = s.blocks.items; changed = s.changed.items } in
-    let inside : HasFollowed kept earlier = rw c.self.view_is followed in
+    let inside : HasFollowed kept starting earlier = rw c.self.view_is followed in
     let low : c.args.caller < s.header.callers = rw (← c.self.view_is) at c.requires.caller in
     let low_here : c.args.caller < length s.blocks.items = omega (arith, low, c.self.invariant.all_blocks) in
     let opened = subst (λ (k : Kept). is_open k c.args.caller ≡ true) (sym c.self.view_is) c.requires.opened in
@@ -48,4 +52,5 @@ returns-clause-committed c = λ earlier followed. let s = c.self.inside in
     let effect = effect_is s.words.len c.end.new.words c.deref_mut.result.now s.words.items c.index_mut-block.result.now block
     (omega arith) c.deref_mut.ensures.value read c.end.ensures.words in
     rw (effect, c.end.ensures.closed)
-    (followed_commit kept earlier c.args.caller c.end.new.changed.items low low_here c.self.invariant.all_words opened inside)
+    (followed_commit kept starting earlier c.args.caller c.end.new.changed.items low low_here c.self.invariant.all_words opened inside
+    (subst (λ (k : Kept). broken_rule k.header earlier (entry c.args.caller BlockCommit) ≡ None) (sym c.self.view_is) keeps))

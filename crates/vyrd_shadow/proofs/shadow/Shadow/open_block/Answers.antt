@@ -1,20 +1,24 @@
-use Rattle.std.proofs.Common.{◌<◌, arith}
-use Rattle.vyrd_shadow.specs.Following.{HasFollowed}
+use Rattle.std.proofs.Common.{◌≡◌, ◌<◌, None, subst, sym, arith}
+use Rattle.vyrd_base.specs.declared.log.Kind.TheVariants.{BlockOpen}
+use Rattle.vyrd_base.specs.Shape.{broken_rule}
+use Rattle.vyrd_base.proofs.BlockLaws.{entry}
+use Rattle.vyrd_shadow.specs.Following.{Kept, HasFollowed}
 use Rattle.vyrd_shadow.proofs.FollowLaws.{followed_open}
 use Rattle.vyrd_shadow.proofs.shadow.Shadow.open_block.Goals as goal
 
 pub returns-clause-followed : goal.returns-clause-followed
-returns-clause-followed c = λ earlier followed. let s = c.self.inside in
+returns-clause-followed c = λ starting earlier followed keeps. let s = c.self.inside in
     let low : c.args.caller < s.header.callers = rw (← c.self.view_is) at c.requires.caller in
     let inside : HasFollowed (record {
       header = s.header;
       words = s.words.items;
       blocks = s.blocks.items;
       changed = s.changed.items;
-    }) earlier = rw c.self.view_is followed in
+    }) starting earlier = rw c.self.view_is followed in
     rw c.open.ensures (followed_open (record {
       header = s.header;
       words = s.words.items;
       blocks = s.blocks.items;
       changed = s.changed.items;
-    }) earlier c.args.caller (omega (arith, low, c.self.invariant.all_blocks)) inside)
+    }) starting earlier c.args.caller (omega (arith, low, c.self.invariant.all_blocks)) inside
+    (subst (λ (k : Kept). broken_rule k.header earlier (entry c.args.caller BlockOpen) ≡ None) (sym c.self.view_is) keeps))

@@ -8,23 +8,23 @@ use Rattle.vyrd_shadow.proofs.FollowLaws.{followed_through, followed_kept, on_ok
 use Rattle.vyrd_shadow.proofs.shadow.Shadow.write.Goals as goal
 
 pub returns-then-is_open-clause-followed : goal.returns-then-is_open-clause-followed
-returns-then-is_open-clause-followed c = λ earlier followed. let s = c.self.inside in let now = c.args.self.now in
+returns-then-is_open-clause-followed c = λ starting earlier followed keeps. let s = c.self.inside in let now = c.args.self.now in
     let low : c.args.caller < s.header.callers = rw (← c.self.view_is) at c.requires.caller in
     let low_here : c.args.caller < length s.blocks.items = omega (arith, low, c.self.invariant.all_blocks) in
     let read = get_or_read s.blocks.items c.args.caller c.index.result.now low_here c.index.ensures None in
     let low' : c.args.caller < length now.blocks = rw (← c.self.view_is) low_here in
     let opened : is_open now c.args.caller ≡ true = rw (← c.self.view_is) (ap is_some (sym read) ∙ sym c.if-is_open.ensures) in
     on_ok c.keep.result c.keep.ensures.ok
-    (λ is. subst (λ kept. HasFollowed kept (entry c.args.caller (Write c.args.word c.args.value) ∷ earlier)) (sym is)
-    (followed_kept now earlier c.args.caller c.args.word c.args.value c.requires.caller low' opened followed))
+    (λ is. subst (λ kept. HasFollowed kept starting (entry c.args.caller (Write c.args.word c.args.value) ∷ earlier)) (sym is)
+    (followed_kept now starting earlier c.args.caller c.args.word c.args.value c.requires.caller low' opened followed keeps))
 
 pub returns-else-is_open-clause-followed : goal.returns-else-is_open-clause-followed
-returns-else-is_open-clause-followed c = λ earlier followed. let s = c.self.inside in let now = c.args.self.now in
+returns-else-is_open-clause-followed c = λ starting earlier followed keeps. let s = c.self.inside in let now = c.args.self.now in
     let low : c.args.caller < s.header.callers = rw (← c.self.view_is) at c.requires.caller in
     let low_here : c.args.caller < length s.blocks.items = omega (arith, low, c.self.invariant.all_blocks) in
     let read = get_or_read s.blocks.items c.args.caller c.index.result.now low_here c.index.ensures None in
     let closed : is_open now c.args.caller ≡ false = rw (← c.self.view_is) (ap is_some (sym read) ∙ sym c.if-is_open.ensures) in
     on_ok c.write_through.result c.write_through.ensures.ok
-    (λ is. subst (λ kept. HasFollowed kept (entry c.args.caller (Write c.args.word c.args.value) ∷ earlier)) (sym is)
-    (followed_through now earlier c.args.caller c.args.word c.args.value
-    (now.changed ++ c.args.word ∷ []) c.requires.caller c.requires.word closed followed))
+    (λ is. subst (λ kept. HasFollowed kept starting (entry c.args.caller (Write c.args.word c.args.value) ∷ earlier)) (sym is)
+    (followed_through now starting earlier c.args.caller c.args.word c.args.value
+    (now.changed ++ c.args.word ∷ []) c.requires.caller c.requires.word closed followed keeps))

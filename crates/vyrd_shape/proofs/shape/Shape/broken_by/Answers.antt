@@ -5,15 +5,15 @@ use Rattle.vyrd_base.specs.declared.verdict.Rule.TheVariants.{CallerRange}
 use Rattle.vyrd_base.specs.Shape.{checks_of, first_broken}
 use Rattle.vyrd_shape.specs.Phases.{phase_of}
 use Rattle.vyrd_shape.specs.Following.{HasFollowed}
-use Rattle.vyrd_shape.proofs.ShapeLaws.{phase_is}
+use Rattle.vyrd_shape.proofs.ShapeLaws.{kept_by, phase_is}
 use Rattle.vyrd_shape.proofs.shape.Shape.broken_by.Goals as goal
 
 pub returns-clause-rule : goal.returns-clause-rule
 returns-clause-rule c = λ earlier followed. let s = c.self.inside in let who = c.args.entry.now.caller in
     let low : who < s.header.callers = omega arith in
     let within : nat_le s.header.callers who ≡ false = grind (arith, nat_tests) in
-    let inside : HasFollowed (record { header = s.header; phases = s.phases.items; holders = s.holders.by_word }) earlier =
-    rw c.self.view_is followed in
+    let now = kept_by s.header s.entries s.phases.items s.holders s.stamps in
+    let inside : HasFollowed now earlier = rw c.self.view_is followed in
     let is = phase_is s.phases.items who c.index-phase.result.now (phase_of who earlier) c.index-phase.ensures (inside.phases who low) in
     let now : nat_le c.args.self.now.header.callers who ≡ false = rw (← c.self.view_is) within in
     c.broken_in.ensures.rule earlier followed is

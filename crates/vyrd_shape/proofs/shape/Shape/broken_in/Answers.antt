@@ -7,8 +7,10 @@ returns-in-Return-clause-rule c = λ earlier followed is. let h = c.args.self.no
     c.return_rule.ensures h who c.in-Return.field-0 earlier is ∙ ap (λ kind. first_broken (checks_of h earlier who kind)) (sym c.in-Return.is)
 
 pub returns-in-Commit-clause-rule : goal.returns-in-Commit-clause-rule
-returns-in-Commit-clause-rule c = λ earlier followed is. let h = c.args.self.now.header in let who = c.args.entry.now.caller in
-    c.commit_rule.ensures h who earlier is ∙ ap (λ kind. first_broken (checks_of h earlier who kind)) (sym c.in-Commit.is)
+returns-in-Commit-clause-rule c = λ earlier followed is.
+    let h = c.self.inside.header in let who = c.args.entry.now.caller in
+    rw (← c.self.view_is) (c.commit_rule.ensures who earlier is
+    ∙ ap (λ kind. first_broken (checks_of h earlier who kind)) (sym c.in-Commit.is))
 
 pub returns-in-BlockOpen-clause-rule : goal.returns-in-BlockOpen-clause-rule
 returns-in-BlockOpen-clause-rule c = λ earlier followed is. let h = c.args.self.now.header in let who = c.args.entry.now.caller in

@@ -3,33 +3,25 @@ use Rattle.std.specs.Prelude.{is_some}
 use Rattle.std.specs.List.{list_any}
 use Rattle.vyrd_base.specs.Verdicts.{is_call_open}
 use Rattle.vyrd_shape.specs.Following.{HasFollowed}
-use Rattle.vyrd_shape.proofs.ShapeLaws.{call_open_is}
+use Rattle.vyrd_shape.proofs.ShapeLaws.{kept_by, call_open_is}
 use Rattle.vyrd_shape.proofs.shape.Shape.end.Goals as goal
 
 pub returns-then-is_any_open : goal.returns-then-is_any_open
 returns-then-is_any_open c = λ earlier followed. let s = c.self.inside in
-    let inside : HasFollowed (record { header = s.header; phases = s.phases.items; holders = s.holders.by_word }) earlier =
-    rw c.self.view_is followed in
+    let now = kept_by s.header s.entries s.phases.items s.holders s.stamps in
+    let inside : HasFollowed now earlier = rw c.self.view_is followed in
     let is : is_call_open s.header earlier
-    ≡ true = sym (call_open_is (record {
-      header = s.header;
-      phases = s.phases.items;
-      holders = s.holders.by_word;
-    }) earlier c.self.invariant.enough_phases inside)
+    ≡ true = sym (call_open_is now earlier c.self.invariant.enough_phases inside)
     ∙ ap (λ phases. list_any (λ phase. is_some phase.open_method) phases) (sym c.deref.ensures.value) ∙ sym c.is_any_open.ensures
     ∙ c.if-is_any_open.true in
     (rw (← c.self.view_is) is, refl)
 
 pub returns-else-is_any_open : goal.returns-else-is_any_open
 returns-else-is_any_open c = λ earlier followed. let s = c.self.inside in
-    let inside : HasFollowed (record { header = s.header; phases = s.phases.items; holders = s.holders.by_word }) earlier =
-    rw c.self.view_is followed in
+    let now = kept_by s.header s.entries s.phases.items s.holders s.stamps in
+    let inside : HasFollowed now earlier = rw c.self.view_is followed in
     let is : is_call_open s.header earlier
-    ≡ false = sym (call_open_is (record {
-      header = s.header;
-      phases = s.phases.items;
-      holders = s.holders.by_word;
-    }) earlier c.self.invariant.enough_phases inside)
+    ≡ false = sym (call_open_is now earlier c.self.invariant.enough_phases inside)
     ∙ ap (λ phases. list_any (λ phase. is_some phase.open_method) phases) (sym c.deref.ensures.value) ∙ sym c.is_any_open.ensures
     ∙ c.if-is_any_open.false in
     rw (← c.self.view_is) is

@@ -1,5 +1,6 @@
-use Rattle.std.proofs.Common.{Ok, ap, arith}
-use Rattle.vyrd_spec.proofs.StepLaws.{next_state-formed, next_state-counts}
+use Rattle.std.proofs.Common.{Ok, ap, arith, ◌+◌}
+use Rattle.vyrd_spec.specs.Bounds.{most_after}
+use Rattle.vyrd_spec.proofs.StepLaws.{next_state-formed, next_state-counts, weaker_counts}
 use Rattle.vyrd_spec.proofs.multiset.MultisetSpecSpec.step.Goals as goal
 
 pub invariant_of-self-then-allowed-clause-few : goal.invariant_of-self-then-allowed-clause-few
@@ -13,5 +14,7 @@ invariant_of-self-then-allowed-clause-formed c =
 pub invariant_of-self-then-allowed-clause-small : goal.invariant_of-self-then-allowed-clause-small
 invariant_of-self-then-allowed-clause-small c =
     let numbers = c.in_ok-allowed.ensures.numbers in
-    next_state-counts c.args.self.now.made c.args.method c.args.args c.args.reply c.args.self.now.amounts c.next.new.counts c.requires.subject numbers.0 numbers.1 c.args.self.now.small
-    (c.in_ok-allowed.ensures.allowed (ap Ok c.if-allowed.true))
+    let most = most_after c.args.self.now.made in
+    weaker_counts (most + 2) (most_after (c.args.self.now.made + 1)) c.next.new.counts (omega arith)
+    (next_state-counts most c.args.method c.args.args c.args.reply c.args.self.now.amounts c.next.new.counts c.requires.subject numbers.0 numbers.1
+    c.args.self.now.small (c.in_ok-allowed.ensures.allowed (ap Ok c.if-allowed.true)))

@@ -1,40 +1,24 @@
-use Rattle.std.proofs.Common.{◌≡◌, ℕ, List, Some, None, true, false, refl, subst, sym, ◌∙◌, ap}
+use Rattle.std.proofs.Common.{◌≡◌, ℕ, List, true, ap, sym, subst}
+use Rattle.std.specs.Prelude.{OnOk}
 use Rattle.vyrd_base.specs.Reading.{reading}
 use Rattle.vyrd_text.specs.Answered.{IsAnswer}
 use Rattle.vyrd_text.specs.Readers.{ReaderState, HasRead, whole}
-use Rattle.vyrd_text.specs.ReaderView.{state_of}
-use Rattle.vyrd_text.proofs.ViewLaws.{fault_none, fault_some, header_of_ended, rule_none, rule_some}
-use Rattle.vyrd_text.proofs.ReadLaws.{fault_at_end, fine_at_end, ended_at_end, unfinished_at_end}
+use Rattle.vyrd_text.specs.LogView.{reader_of}
+use Rattle.vyrd_text.proofs.ReadLaws.{noticed_of, whole_read}
 use Rattle.vyrd_text.proofs.reader.LogReader.finish.Goals as goal
-use Rattle.vyrd_text.proofs.reader.LogReader.finish.Goals.{then-is_empty, else-is_empty}
-
-pub returns-then-is_some-clause-answer : goal.returns-then-is_some-clause-answer
-returns-then-is_some-clause-answer c = λ bytes has.
-    let f = fault_some c.self.inside.fault (sym c.if-is_some.ensures) in
-    subst (λ o. IsAnswer c.answer.result o)
-    (fault_at_end c.args.self.now bytes has f.0 (ap (λ (s : ReaderState). s.fault) (sym c.self.view_is) ∙ f.1)) c.answer.ensures
-
-pub returns-then-self-clause-answer : goal.returns-then-self-clause-answer
-returns-then-self-clause-answer c =
-    let h = header_of_ended (state_of c.self.inside) c.self.invariant c.if-self.true in
-    subst (λ (s : ReaderState). (bytes : List ℕ) → HasRead s bytes → (reading (whole s) bytes).fault ≡ None) c.self.view_is
-    (λ bytes has. fine_at_end (state_of c.self.inside) bytes has (fault_none c.self.inside.fault (sym c.if-is_some.ensures)) h.0 h.1 c.if-self.true)
-
-pub returns-then-self-clause-ended : goal.returns-then-self-clause-ended
-returns-then-self-clause-ended c =
-    let h = header_of_ended (state_of c.self.inside) c.self.invariant c.if-self.true in
-    subst (λ (s : ReaderState). (bytes : List ℕ) → HasRead s bytes → (reading (whole s) bytes).ended ≡ true) c.self.view_is
-    (λ bytes has. ended_at_end (state_of c.self.inside) bytes has (fault_none c.self.inside.fault (sym c.if-is_some.ensures)) h.0 h.1 c.if-self.true)
 
 pub returns-clause-answer : goal.returns-clause-answer
 returns-clause-answer c =
-    subst (λ (s : ReaderState). (bytes : List ℕ) → HasRead s bytes
-    → (reading (whole s) bytes).fault ≡ Some (record { line = c.self.inside.line; rule = c.if-is_empty.rule })) c.self.view_is
+    subst (λ (s : ReaderState). (bytes : List ℕ) → HasRead s bytes → IsAnswer c.finish.result (reading (whole s) bytes).fault) c.self.view_is
     (λ bytes has.
-    unfinished_at_end (state_of c.self.inside) bytes has
-    (fault_none c.self.inside.fault (sym c.if-is_some.ensures)) c.self.invariant.one_line c.if-self.false (λ none. (c.self.invariant.first none).0)
-    ∙ ap (λ r. Some (record { line = c.self.inside.line; rule = r }))
-    (elim c.if-is_empty.branch [
-      | then-is_empty w ↦ rule_none c.self.inside.unfinished (w.if-is_empty.ensures.0 refl) ∙ sym w.rule-is
-      | else-is_empty w ↦ rule_some c.self.inside.unfinished (λ e. let x : false ≡ true = w.if-is_empty.ensures.1 e in cc) ∙ sym w.rule-is
-    ]))
+    let r : ReaderState = reader_of c.self.inside in
+    subst (λ o. IsAnswer c.finish.result o) (sym (ap (λ read. read.fault) (whole_read r bytes has)))
+    (c.finish.ensures.answer (noticed_of r bytes has)))
+
+pub returns-clause-ended : goal.returns-clause-ended
+returns-clause-ended c =
+    subst (λ (s : ReaderState). (bytes : List ℕ) → HasRead s bytes → OnOk c.finish.result ((reading (whole s) bytes).ended ≡ true)) c.self.view_is
+    (λ bytes has.
+    let r : ReaderState = reader_of c.self.inside in
+    subst (λ b. OnOk c.finish.result (b ≡ true)) (sym (ap (λ read. read.ended) (whole_read r bytes has)))
+    (c.finish.ensures.ended (noticed_of r bytes has)))

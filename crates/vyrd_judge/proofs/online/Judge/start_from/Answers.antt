@@ -1,0 +1,43 @@
+use Rattle.std.proofs.Common.{◌≡◌, ℕ, ◌<◌, ◌^◌, ◌++◌, List, length, Option, ap, subst, sym, ◌∙◌}
+use Rattle.std.specs.Prelude.{replicate, is_none, All}
+use Rattle.std.specs.Option.{option_map}
+use Rattle.vyrd_base.specs.declared.header.Header.{Header}
+use Rattle.vyrd_base.specs.declared.log.StartWord.{StartWord}
+use Rattle.vyrd_base.specs.Amounts.{Amounts}
+use Rattle.vyrd_base.specs.Layout.{lock_words}
+use Rattle.vyrd_base.specs.Standing.{state_of_words}
+use Rattle.vyrd_base.specs.Starts.{words_at_start, state_at_start}
+use Rattle.vyrd_judge.proofs.StartWords.{length-words_at_start, small_at_start}
+use Rattle.vyrd_judge.proofs.online.Judge.start_from.Goals as goal
+
+-- the state at the start is that of the specification that was found
+state_found : (h : Header) (starting : List StartWord) (words : List ℕ) (o : Option Amounts)
+    → words ≡ words_at_start h starting → o ≡ state_of_words h (words ++ replicate (lock_words h) 0)
+    → state_at_start h starting ≡ o
+unfolding state_at_start
+state_found h starting words o same found =
+    ap (λ ws. state_of_words h (ws ++ replicate (lock_words h) 0)) (sym same) ∙ sym found
+
+pub start_from-requires-clause-count : goal.start_from-requires-clause-count
+start_from-requires-clause-count g c =
+    ap length (c.deref.ensures.value ∙ c.in_ok-words.ensures) ∙ length-words_at_start c.args.header c.args.start.now
+
+pub start_from-requires-clause-small : goal.start_from-requires-clause-small
+start_from-requires-clause-small g c =
+    subst (All (λ value. value < 2 ^ 63)) (sym (c.deref.ensures.value ∙ c.in_ok-words.ensures))
+    (small_at_start c.args.header c.args.start.now c.requires.may_start)
+
+pub returns-in_default-clause-none : goal.returns-in_default-clause-none
+returns-in_default-clause-none g c =
+    sym (ap is_none (state_found c.args.header c.args.start.now c.deref.result.now _ (c.deref.ensures.value ∙ c.in_ok-words.ensures)
+    c.in_ok-spec.ensures.state ∙ ap (option_map g.S.Spec.state) c.in_default.is))
+
+pub begin-requires-clause-state : goal.begin-requires-clause-state
+begin-requires-clause-state g c =
+    state_found c.args.header c.args.start.now c.deref.result.now _ (c.deref.ensures.value ∙ c.in_ok-words.ensures)
+    c.in_ok-spec.ensures.state ∙ ap (option_map g.S.Spec.state) c.in-Some.is
+
+pub returns-clause-none : goal.returns-clause-none
+returns-clause-none g c =
+    sym (ap is_none (state_found c.args.header c.args.start.now c.deref.result.now _ (c.deref.ensures.value ∙ c.in_ok-words.ensures)
+    c.in_ok-spec.ensures.state ∙ ap (option_map g.S.Spec.state) c.in-Some.is))

@@ -1,0 +1,212 @@
+-- What the leaves of a tree give, entry by entry and node by node.
+use Rattle.std.proofs.Common.{◌≡◌, ◌≢◌, ℕ, zero, suc, ◌+◌, ◌-◌, ◌*◌, ◌^◌, ◌<◌, ◌≤◌, min, Bool, true, false, cond, ◌&&◌, ◌||◌, List, [], ◌∷◌, ◌++◌, refl, ap, ◌∙◌, sym, subst, arith}
+use Rattle.std.specs.Prelude.{◌==◌, nat_lt, nat_le, flat_map, map, slice_index}
+use Rattle.std.specs.List.{list_all, list_any, AllByRecursion}
+use Rattle.vyrd_base.specs.Added.{added}
+use Rattle.vyrd_base.specs.Places.{numbers_from, numbers_below}
+use Rattle.vyrd_base.specs.Amounts.{Amounts, amount_of, plus_amount, collected}
+use Rattle.vyrd_base.specs.TreeView.{level_of, count_of, bound_of, right_of, entries_of, entry_parts, node_parts, damage, chain_parts_from, chain_parts}
+use Rattle.vyrd_base.specs.Trees.{last_of, low_of, is_leaf_entry}
+use Rattle.vyrd_base.proofs.AddedLaws.{amount_of-added, added-append, added-collected}
+use Rattle.vyrd_base.proofs.SumLaws.{given, given_at_most}
+use Rattle.vyrd_base.proofs.TestLaws.{first_true, second_true, below_of, isnt_same, isnt_at_most, is_same}
+use Rattle.vyrd_spec.specs.Bounds.{AllAmounts}
+use Rattle.vyrd_spec.specs.NodeKeys.{entry_at}
+use Rattle.vyrd_spec.proofs.RowLaws.{each_passes}
+use Rattle.vyrd_spec.proofs.NodeLaws.{all_entries}
+use Rattle.vyrd_spec.proofs.StepLaws.{AllAmounts-with_amount}
+use Rattle.vyrd_spec.proofs.TreeWordLaws.{IsTreeOf, LeadsOn, leads_on}
+
+-- the numbers of a leaf's entry
+pub low_numbers : (key value : ℕ) → is_leaf_entry (key, value) ≡ true → (key < 2 ^ 32) × (value < 2 ^ 32)
+low_numbers key value sound = (
+  below_of key (2 ^ 32) (first_true (nat_lt key (2 ^ 32)) (nat_lt value (2 ^ 32)) sound),
+  below_of value (2 ^ 32) (second_true (nat_lt key (2 ^ 32)) (nat_lt value (2 ^ 32)) sound),
+)
+
+pub entry_is : (key value : ℕ) → is_leaf_entry (key, value) ≡ true → entry_parts (key, value) ≡ (key, 2 ^ 32 + value) ∷ []
+entry_is key value sound = ap (λ b. cond b ((key, 2 ^ 32 + value) ∷ []) damage) sound
+
+one_at_most : (q k a : ℕ) → given q ((k, a) ∷ []) ≤ a
+one_at_most q k a = by_key (q == k)
+  where
+    by_key : (b : Bool) → cond b a 0 + 0 ≤ a
+    by_key true = omega arith
+    by_key false = omega arith
+
+entry_at_most : (q : ℕ) (entry : ℕ × ℕ) → given q (entry_parts entry) ≤ 2 ^ 33
+entry_at_most q (key, value) = by_value (nat_lt key (2 ^ 32)) (nat_lt value (2 ^ 32)) refl
+  where
+    by_value : (a b : Bool) → nat_lt value (2 ^ 32) ≡ b → given q (cond (a && b) ((key, 2 ^ 32 + value) ∷ []) damage) ≤ 2 ^ 33
+    by_value true true e = omega (arith, one_at_most q key (2 ^ 32 + value), below_of value (2 ^ 32) e)
+    by_value true false e = omega (arith, one_at_most q (2 ^ 33) 1)
+    by_value false b e = omega (arith, one_at_most q (2 ^ 33) 1)
+
+-- the parts of the entry in this place of a node
+abbrev pub place_parts : List ℕ → ℕ → ℕ → List (ℕ × ℕ)
+place_parts words n j = entry_parts (entry_at words n j)
+
+places_from : (words : List ℕ) (n k m : ℕ) → flat_map entry_parts (map (entry_at words n) (numbers_from k m)) ≡ flat_map (place_parts words n) (numbers_from k m)
+places_from words n k zero = refl
+places_from words n k (suc m) = ap (λ xs. place_parts words n k ++ xs) (places_from words n (k + 1) m)
+
+-- a node's parts, place by place
+pub node_places : (words : List ℕ) (n : ℕ) → node_parts words n ≡ flat_map (place_parts words n) (numbers_below (min (count_of words n) 4))
+node_places words n = places_from words n 0 (min (count_of words n) 4)
+
+pub places_at_most : (words : List ℕ) (n m q : ℕ) → given q (flat_map (place_parts words n) (numbers_below m)) ≤ m * 2 ^ 33
+places_at_most words n m q = given_at_most (place_parts words n) (2 ^ 33) q 0 m (λ j. entry_at_most q (entry_at words n j))
+
+-- the words of an entry, as they are read
+pub read_at : (words : List ℕ) (n j : ℕ) → entry_at words n j ≡ (slice_index words (12 * n + 4 + j), slice_index words (12 * n + 8 + j))
+read_at words n j =
+    let key : 12 * n + (4 + j) ≡ 12 * n + 4 + j = omega arith in
+    let value : 12 * n + (8 + j) ≡ 12 * n + 8 + j = omega arith in
+    λ i. (slice_index words (key i), slice_index words (value i))
+
+pub entry_sound : (words : List ℕ) (n j : ℕ) → list_all is_leaf_entry (entries_of words n) ≡ true → j < min (count_of words n) 4
+    → is_leaf_entry (slice_index words (12 * n + 4 + j), slice_index words (12 * n + 8 + j)) ≡ true
+entry_sound words n j all low =
+    ap is_leaf_entry (sym (read_at words n j))
+    ∙ each_passes (λ i. is_leaf_entry (entry_at words n i)) (min (count_of words n) 4) j (sym (all_entries is_leaf_entry words n) ∙ all) low
+
+-- a node adds little
+pub node_grows : (words : List ℕ) (n turn q : ℕ) (s t : Amounts) → t ≡ added s (node_parts words n)
+    → amount_of s q ≤ turn * 2 ^ 35 → amount_of t q ≤ (turn + 1) * 2 ^ 35
+node_grows words n turn q s t more few =
+    let four : min (count_of words n) 4 ≤ 4 = omega arith in
+    omega (
+      arith,
+      ap (λ x. amount_of x q) more ∙ amount_of-added (node_parts words n) s q,
+      ap (given q) (node_places words n),
+      places_at_most words n (min (count_of words n) 4) q,
+      four,
+      few,
+    )
+
+-- keys of 32 bits, each with 2^32 at least
+abbrev pub AreLeafAmounts : Amounts → Type 0
+AreLeafAmounts s = AllAmounts (λ key amount. (key < 2 ^ 32) × (2 ^ 32 ≤ amount)) s
+
+entries_small : (entries : List (ℕ × ℕ)) (s : Amounts) → list_all is_leaf_entry entries ≡ true → AreLeafAmounts s
+    → AreLeafAmounts (added s (flat_map entry_parts entries))
+entries_small [] s all small = small
+entries_small (entry ∷ entries) s all small =
+    let sound = first_true (is_leaf_entry entry) (list_all is_leaf_entry entries) all in
+    let numbers = low_numbers entry.0 entry.1 sound in
+    subst (λ parts. AreLeafAmounts (added s (parts ++ flat_map entry_parts entries))) (sym (entry_is entry.0 entry.1 sound))
+    (entries_small entries (plus_amount s entry.0 (2 ^ 32 + entry.1)) (second_true (is_leaf_entry entry) (list_all is_leaf_entry entries) all)
+    (AllAmounts-with_amount (λ key amount. (key < 2 ^ 32) × (2 ^ 32 ≤ amount)) s entry.0 (amount_of s entry.0 + (2 ^ 32 + entry.1)) small
+    (λ some. (numbers.0, omega arith))))
+
+pub node_small : (words : List ℕ) (n : ℕ) (s t : Amounts) → t ≡ added s (node_parts words n)
+    → list_all is_leaf_entry (entries_of words n) ≡ true → AreLeafAmounts s → AreLeafAmounts t
+node_small words n s t more all small = subst AreLeafAmounts (sym more) (entries_small (entries_of words n) s all small)
+
+pub nothing_small : (s : Amounts) → s ≡ [] → AreLeafAmounts s
+nothing_small s none = λ key some. absurd (some (ap (λ x. amount_of x key) none))
+
+-- a node before this one on the chain
+abbrev IsBefore : List ℕ → ℕ → ℕ → ℕ → Type 0
+IsBefore words last from m = (low_of last words m < bound_of words m) × (bound_of words m ≤ from)
+
+-- what was added so far, with the chain from this node on, is what the whole chain shows
+pub record LeafWalk (size : ℕ) (words : List ℕ) (values : Amounts) (left node : ℕ) : Type 0 where
+  pub seen : List ℕ
+  pub rest : added values (chain_parts_from size words left seen node) ≡ collected (chain_parts size words)
+  pub in_use : node ≤ last_of size words
+  pub leaf : level_of words node ≡ 0
+  pub before : AllByRecursion (IsBefore words (last_of size words) (low_of (last_of size words) words node)) seen
+
+pub walk_begins : (size : ℕ) (words : List ℕ) (values : Amounts) (left : ℕ) → IsTreeOf size words → values ≡ [] → left ≡ size
+    → LeafWalk size words values left 0
+walk_begins size words values left tree none all = record {
+  seen = [];
+  rest = ap (λ s. added s (chain_parts_from size words left [] 0)) none ∙ ap (λ n. added [] (chain_parts_from size words n [] 0)) all
+      ∙ added-collected (chain_parts size words);
+  in_use = omega arith;
+  leaf = tree.zero_leaf;
+  before = tt;
+}
+
+-- what follows a node, by whether the chain ends there and whether its link goes back or past the nodes
+abbrev after_node : ℕ → List ℕ → ℕ → List ℕ → ℕ → Bool → Bool → List (ℕ × ℕ)
+after_node size words left seen n ends back = elim ends [
+  | true ↦ []
+  | false ↦ elim back [
+    | true ↦ damage
+    | false ↦ chain_parts_from size words left (n ∷ seen) (right_of words n)
+  ]
+]
+
+-- whether the link of a node goes past the nodes or back
+abbrev goes_back : ℕ → List ℕ → List ℕ → ℕ → Bool
+goes_back size words seen n = nat_le size (right_of words n) || list_any (λ m. m == right_of words n) (n ∷ seen)
+
+onward : (size : ℕ) (words : List ℕ) (values t : Amounts) (left n : ℕ) (walk : LeafWalk size words values (suc left) n) (ends back : Bool)
+    → t ≡ added values (node_parts words n) → (right_of words n == 0) ≡ ends → goes_back size words walk.seen n ≡ back
+    → added t (after_node size words left walk.seen n ends back) ≡ collected (chain_parts size words)
+onward size words values t left n walk ends back more is_end is_back =
+    ap (λ s. added s (after_node size words left walk.seen n ends back)) more
+    ∙ sym (added-append (node_parts words n) (after_node size words left walk.seen n ends back) values)
+    ∙ sym (ap (λ b. added values (node_parts words n ++ after_node size words left walk.seen n b (goes_back size words walk.seen n))) is_end
+    ∙ ap (λ b. added values (node_parts words n ++ after_node size words left walk.seen n ends b)) is_back)
+    ∙ walk.rest
+
+-- at the node where the chain ends
+pub walk_ends : (size : ℕ) (words : List ℕ) (values t : Amounts) (left n : ℕ) → LeafWalk size words values (suc left) n
+    → t ≡ added values (node_parts words n) → right_of words n ≡ 0 → t ≡ collected (chain_parts size words)
+walk_ends size words values t left n walk more ends =
+    onward size words values t left n walk true (goes_back size words walk.seen n) more (is_same (right_of words n) 0 ends) refl
+
+-- no node that was seen is this one
+unseen : (last : ℕ) (words : List ℕ) (from right : ℕ) (seen : List ℕ) → AllByRecursion (IsBefore words last from) seen
+    → from < low_of last words right → list_any (λ m. m == right) seen ≡ false
+unseen last words from right [] before above = refl
+unseen last words from right (m ∷ seen) before above =
+    ap (λ b. b || list_any (λ k. k == right) seen)
+    (isnt_same m right (λ same. absurd (omega (arith, before.0.0, before.0.1, above, ap (low_of last words) same))))
+    ∙ unseen last words from right seen before.1 above
+
+raised : (last : ℕ) (words : List ℕ) (from to : ℕ) (seen : List ℕ) → from ≤ to → AllByRecursion (IsBefore words last from) seen
+    → AllByRecursion (IsBefore words last to) seen
+raised last words from to [] le before = tt
+raised last words from to (m ∷ seen) le before = ((before.0.0, omega (arith, le, before.0.1)), raised last words from to seen le before.1)
+
+-- at any other node
+pub walk_goes_on : (size : ℕ) (words : List ℕ) (values t : Amounts) (left n : ℕ) → IsTreeOf size words
+    → LeafWalk size words values (suc left) n → t ≡ added values (node_parts words n) → right_of words n ≢ 0
+    → LeafWalk size words t left (right_of words n)
+walk_goes_on size words values t left n tree walk more on =
+    let last : ℕ = last_of size words in
+    let right : ℕ = right_of words n in
+    let leads : LeadsOn last words n = leads_on size words n tree walk.in_use on in
+    let rises : low_of last words n < low_of last words right = omega (arith, leads.above, leads.begins) in
+    let other : (n == right) ≡ false = isnt_same n right (λ same. absurd (omega (arith, rises, ap (low_of last words) same))) in
+    let within : nat_le size right ≡ false = isnt_at_most size right (omega (arith, leads.in_use, tree.last_low)) in
+    let new : goes_back size words walk.seen n ≡ false =
+    ap (λ b. b || list_any (λ m. m == right) (n ∷ walk.seen)) within
+    ∙ ap (λ b. b || list_any (λ m. m == right) walk.seen) other
+    ∙ unseen last words (low_of last words n) right walk.seen walk.before rises in
+    record {
+      seen = n ∷ walk.seen;
+      rest = onward size words values t left n walk false false more (isnt_same right 0 on) new;
+      in_use = leads.in_use;
+      leaf = leads.same_level ∙ walk.leaf;
+      before = (
+        (leads.above, omega (arith, leads.begins)),
+        raised last words (low_of last words n) (low_of last words right) walk.seen (omega (arith, rises)) walk.before,
+      );
+    }
+
+-- before the last turn a node is left
+pub walk_left : (size : ℕ) (words : List ℕ) (values : Amounts) (turn n : ℕ) → turn < size → LeafWalk size words values (size - turn) n
+    → LeafWalk size words values (suc (size - (turn + 1))) n
+walk_left size words values turn n more walk =
+    let one : size - turn ≡ suc (size - (turn + 1)) = omega arith in subst (λ left. LeafWalk size words values left n) one walk
+
+-- after the last turn nothing is left
+pub walk_stops : (size : ℕ) (words : List ℕ) (values : Amounts) (left n : ℕ) → left ≡ 0 → LeafWalk size words values left n
+    → values ≡ collected (chain_parts size words)
+walk_stops size words values left n none walk =
+    ap (λ k. added values (chain_parts_from size words k walk.seen n)) (sym none) ∙ walk.rest

@@ -1,0 +1,49 @@
+-- When words stand for a state, and for which, of each subject.
+use Rattle.std.proofs.Common.{◌≡◌, ℕ, ◌≤◌, true, false, ◌++◌, List, length, Some, None, ap, ◌∙◌, sym, arith}
+use Rattle.std.specs.Prelude.{nat_le, replicate}
+use Rattle.std.specs.Bool.{then_some}
+use Rattle.vyrd_base.specs.declared.header.Header.{Header}
+use Rattle.vyrd_base.specs.declared.subject.Subject.{Subject}
+use Rattle.vyrd_base.specs.Layout.{plain_words, plain_words_of, lock_words}
+use Rattle.vyrd_base.specs.Amounts.{Amounts, collected}
+use Rattle.vyrd_base.specs.Views.{parts_of, view_of_words}
+use Rattle.vyrd_base.specs.Standing.{is_sound, state_of_words}
+use Rattle.vyrd_base.specs.Limits.{is_known_version}
+use Rattle.vyrd_base.proofs.TestLaws.{at_most_of, first_true, second_true}
+use Rattle.vyrd_base.proofs.StartLaws.{with_free_locks}
+
+-- the words of a header are as many as its subject has
+pub many_words : (h : Header) (subject : Subject) (words : List ℕ) → h.subject ≡ subject → length words ≡ plain_words h
+    → length words ≡ plain_words_of subject h.size
+many_words h subject words of many = many ∙ ap (λ s. plain_words_of s h.size) of
+
+-- words that aren't sound stand for no state
+pub no_state : (h : Header) (subject : Subject) (words : List ℕ) → h.subject ≡ subject → length words ≡ plain_words h
+    → is_sound subject h.size words ≡ false → None ≡ state_of_words h (words ++ replicate (lock_words h) 0)
+no_state h subject words of many unsound =
+    sym (with_free_locks h words many
+    ∙ ap (λ b. then_some b (view_of_words h words)) (ap (λ s. is_sound s h.size words) of ∙ unsound))
+
+-- what the words of a subject show
+shown : (h : Header) (subject : Subject) (words : List ℕ) → h.subject ≡ subject
+    → view_of_words h words ≡ collected (parts_of subject h.size words)
+unfolding view_of_words
+shown h subject words of = ap (λ x. collected (parts_of x h.size words)) of
+
+-- sound words stand for the state that they show
+pub a_state : (h : Header) (subject : Subject) (words : List ℕ) (s : Amounts) → h.subject ≡ subject → length words ≡ plain_words h
+    → is_sound subject h.size words ≡ true → s ≡ collected (parts_of subject h.size words)
+    → Some s ≡ state_of_words h (words ++ replicate (lock_words h) 0)
+a_state h subject words s of many sound is =
+    sym (with_free_locks h words many
+    ∙ ap (λ b. then_some b (view_of_words h words)) (ap (λ x. is_sound x h.size words) of ∙ sound)
+    ∙ ap Some (shown h subject words of ∙ sym is))
+
+-- a header's size is at most 1,024
+pub few_parts : (h : Header) (size : ℕ) → size ≡ h.size → size ≤ 1024
+few_parts h size is = omega (
+  arith,
+  is,
+  at_most_of h.size 1024 (second_true (nat_le 1 h.size) _ (first_true _ _ (first_true _ _
+      (second_true (is_known_version h.version) _ h.within)))),
+)

@@ -1,0 +1,39 @@
+use Rattle.std.proofs.Common.{◌≡◌, arith, ap, sym, ◌∙◌, ◌+◌, ◌*◌, min}
+use Rattle.std.specs.Prelude.{flat_map, slice_index}
+use Rattle.vyrd_base.specs.Added.{added}
+use Rattle.vyrd_base.specs.Places.{numbers_below}
+use Rattle.vyrd_base.specs.Amounts.{amount_of}
+use Rattle.vyrd_base.specs.TreeView.{count_of, entry_parts}
+use Rattle.vyrd_base.proofs.AddedLaws.{added-push, amount_of-added}
+use Rattle.vyrd_spec.proofs.LeafLaws.{place_parts, places_at_most, node_places, read_at, entry_sound}
+use Rattle.vyrd_spec.proofs.leaves.add_leaf.Goals as goal
+
+pub add_entry-requires : goal.add_entry-requires
+add_entry-requires c =
+    let words = c.args.words.now in
+    let leaf = c.args.leaf in
+    let place = c.loop-place.place in
+    let key = slice_index words (12 * leaf + 4 + place) in
+    record {
+      sound = entry_sound words leaf place c.requires.sound (omega arith);
+      few = omega (
+        arith,
+        ap (λ s. amount_of s key) c.loop-place.invariant
+            ∙ amount_of-added (flat_map (place_parts words leaf) (numbers_below place)) c.args.values.now key,
+        places_at_most words leaf place key,
+        c.requires.few key,
+      );
+    }
+
+pub loop-place-preserved : goal.loop-place-preserved
+loop-place-preserved c =
+    let words = c.args.words.now in
+    added-push (place_parts words c.args.leaf) c.loop-place.place c.args.values.now c.loop-place.values c.add_entry.new.values c.loop-place.invariant
+    (c.in_ok-add_entry.ensures ∙ ap (λ entry. added c.loop-place.values (entry_parts entry)) (sym (read_at words c.args.leaf c.loop-place.place)))
+
+pub returns : goal.returns
+returns c =
+    let words = c.args.words.now in
+    let all : c.loop-place.place ≡ min (count_of words c.args.leaf) 4 = omega arith in
+    c.loop-place.invariant ∙ ap (λ m. added c.args.values.now (flat_map (place_parts words c.args.leaf) (numbers_below m))) all
+    ∙ sym (ap (added c.args.values.now) (node_places words c.args.leaf))

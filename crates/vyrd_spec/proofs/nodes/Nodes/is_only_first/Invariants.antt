@@ -1,0 +1,8 @@
+use Rattle.std.proofs.Common.{◌≡◌}
+use Rattle.std.specs.Prelude.{count_by}
+use Rattle.vyrd_base.specs.Places.{numbers_below}
+use Rattle.vyrd_spec.specs.NodeKeys.{is_first_of}
+use Rattle.vyrd_spec.proofs.nodes.Nodes.is_only_first.Given as goal
+
+abbrev pub invariant-loop-other : goal.invariant-loop-other
+invariant-loop-other l = l.firsts ≡ count_by (is_first_of l.self.last l.self.words.now l.level) (numbers_below l.other)

@@ -1,0 +1,23 @@
+use Rattle.std.proofs.Common.{ap, ◌∙◌, sym, subst}
+use Rattle.vyrd_base.specs.declared.subject.Subject.TheVariants.{Tree}
+use Rattle.vyrd_base.specs.Amounts.{IsAmounts, collected}
+use Rattle.vyrd_base.specs.Standing.{is_sound}
+use Rattle.vyrd_base.specs.Views.{parts_of}
+use Rattle.vyrd_base.proofs.SumLaws.{IsAmounts-collected}
+use Rattle.vyrd_spec.proofs.StartFromLaws.{no_state, a_state}
+use Rattle.vyrd_spec.proofs.tree.TreeSpecSpec.start_from.Goals as goal
+
+pub invariant_of-result-clause-formed : goal.invariant_of-result-clause-formed
+invariant_of-result-clause-formed c =
+    subst IsAmounts (sym c.in_ok-values.ensures.values) (IsAmounts-collected (parts_of Tree c.size-size.result c.args.words.now))
+
+pub returns-then-not-branch-clause-state : goal.returns-then-not-branch-clause-state
+returns-then-not-branch-clause-state c =
+    no_state c.args.header Tree c.args.words.now c.requires.subject c.requires.count
+    (ap (λ n. is_sound Tree n c.args.words.now) (sym c.size-size.ensures) ∙ sym c.in_ok-is_tree.ensures ∙ c.if-not-branch.true)
+
+pub returns-clause-state : goal.returns-clause-state
+returns-clause-state c =
+    a_state c.args.header Tree c.args.words.now c.in_ok-values.field-0 c.requires.subject c.requires.count
+    (ap (λ n. is_sound Tree n c.args.words.now) (sym c.size-size.ensures) ∙ sym c.in_ok-is_tree.ensures ∙ c.if-not-branch.false)
+    (c.in_ok-values.ensures.values ∙ ap (λ n. collected (parts_of Tree n c.args.words.now)) c.size-size.ensures)

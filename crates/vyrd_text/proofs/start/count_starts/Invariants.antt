@@ -1,0 +1,14 @@
+use Rattle.std.proofs.Common.{◌≡◌, ◌≤◌, ◌+◌, length}
+use Rattle.std.specs.Prelude.{◌==◌}
+use Rattle.std.specs.List.{slice_split}
+use Rattle.vyrd_text.specs.Ahead.{front_starts}
+use Rattle.vyrd_text.proofs.start.count_starts.Given as goal
+
+abbrev pub invariant-loop-line : goal.invariant-loop-line
+invariant-loop-line l = record {
+  counted : l.count + front_starts (slice_split (λ b. b == 10) l.rest) ≡ front_starts (slice_split (λ b. b == 10) l.text);
+  few : l.count + length l.rest ≤ length l.text;
+}
+
+abbrev pub decreases-loop-line : goal.decreases-loop-line
+decreases-loop-line l = length l.rest
