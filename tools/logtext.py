@@ -14,6 +14,9 @@ METHODS = {
 }
 OBSERVERS = {"lookup", "read"}
 
+# How many words a structure has for each unit of its size, and beside them.
+WORDS = {"multiset": (8, 0), "cache": (5, 0), "tree": (12, 2)}
+
 ANSWER = re.compile(
     r"(?:accepted: \d+ entries, \d+ commits, \d+ observers"
     r"|violation at line \d+: (?:reply \d+ not allowed|view differs at key \d+|observer reply \d+ in no state)"
@@ -35,7 +38,8 @@ class Entry:
 
 
 class Log:
-    """The text of a log and the answer about it. `lines` has the lines from 1 on, and `entries` those that can be read."""
+    """The text of a log and the answer about it. `lines` has the lines from 1 on, `starting` the words and values of the
+    starting lines, and `entries` the lines after the header that can be read as one."""
 
     def __init__(self, text, answer):
         self.lines = text.split("\n")
@@ -44,9 +48,10 @@ class Log:
             self.lines.pop()
         self.answer = answer
         header = (self.lines or [""])[0].split(" ")
-        is_whole = len(header) == 5 and header[2] in METHODS and header[3].isdigit() and header[4].isdigit()
+        is_whole = len(header) == 5 and header[2] in METHODS and header[3].isdecimal() and header[4].isdecimal()
         self.subject = header[2] if is_whole else None
         self.size = int(header[3]) if is_whole else 0
+        self.starting = starting_words(self.lines[1:]) if is_whole and header[1] == "2" else []
         read = (entry_of(line, text) for line, text in enumerate(self.lines[1:], 2))
         self.entries = [entry for entry in read if entry]
 
@@ -68,17 +73,34 @@ class Execution:
         return " ".join([self.method, *map(str, self.arguments)])
 
 
+def starting_words(lines):
+    """The words and values of the starting lines with which these lines begin."""
+    words = []
+    for text in lines:
+        name, *numbers = text.split(" ")
+        if name != "start" or [number.isdecimal() for number in numbers] != [True, True]:
+            break
+        words.append((int(numbers[0]), int(numbers[1])))
+    return words
+
+
+def words_in(subject, size):
+    """How many words a structure has."""
+    each, beside = WORDS[subject]
+    return each * size + beside
+
+
 def entry_of(line, text):
     """The entry on a line, or None where it hasn't the form of one."""
     fields = text.split(" ")
-    if len(fields) < 2 or not fields[0].isdigit():
+    if len(fields) < 2 or not fields[0].isdecimal():
         return None
     kind, rest = fields[1], fields[2:]
     if kind == "close" and rest == ["commit"]:
         return Entry(line, text, "close commit", None, [])
     method = rest.pop(0) if kind == "call" and rest else None
     wanted = {"call": len(rest), "return": 1, "write": 2, "commit": 0, "open": 0, "close": 0}.get(kind)
-    if len(rest) != wanted or not all(field.isdigit() for field in rest) or (kind == "call" and not method):
+    if len(rest) != wanted or not all(field.isdecimal() for field in rest) or (kind == "call" and not method):
         return None
     return Entry(line, text, kind, method, [int(field) for field in rest])
 

@@ -7,10 +7,10 @@ SHOWN = 1 << 32  # what an entry of a tree adds to its value
 
 
 class Words:
-    """The words of a structure. They change with the effects of writes."""
+    """The words of a structure. They begin as the starting words say, and change with the effects of writes."""
 
-    def __init__(self, subject, size):
-        self.subject, self.size, self.values = subject, size, {}
+    def __init__(self, subject, size, starting):
+        self.subject, self.size, self.values = subject, size, dict(starting)
 
     def __getitem__(self, word):
         return self.values.get(word, 0)
@@ -34,6 +34,20 @@ class Words:
     def amount(self, key):
         """The amount that the words show at a key."""
         return {"multiset": self._elements, "cache": self._chunk, "tree": self._leaves}[self.subject](key)
+
+    def faults(self):
+        """What slots and chunks never have between two operations. A tree's nodes aren't looked at."""
+        if self.subject == "multiset":
+            for i in range(4 * self.size):
+                state, value = self[2 * i], self[2 * i + 1]
+                if state == 2 and value % self.size != i // 4:
+                    other = value % self.size
+                    yield f"slot {i} is in bucket {i // 4}, and its value {value} belongs in bucket {other}"
+        elif self.subject == "cache":
+            for chunk in range(self.size):
+                damage = self.amount(self.size + chunk)
+                if damage:
+                    yield f"chunk {chunk}: {told(self.subject, self.size, self.size + chunk, damage)}"
 
     def _elements(self, key):
         return sum(self[2 * i] == 2 and self[2 * i + 1] == key for i in range(4 * self.size))
