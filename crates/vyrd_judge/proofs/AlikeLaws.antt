@@ -38,7 +38,7 @@ map_set g new k (suc n) (suc i) v at others =
     λ j. first j ∷ rest j
 
 -- one write more
-one_write : (h : Header) (starting : List StartWord) (effects : List (ℕ × ℕ)) (w v : ℕ)
+pub one_write : (h : Header) (starting : List StartWord) (effects : List (ℕ × ℕ)) (w v : ℕ)
     → set (words_with h starting effects) w v ≡ words_with h starting ((w, v) ∷ effects)
 one_write h starting effects w v =
     sym (map_set (value_after starting effects) (value_after starting ((w, v) ∷ effects)) 0 (plain_words h) w v

@@ -1,7 +1,6 @@
 -- How the writes of a block, and the words, are found entry by entry.
 use Rattle.std.proofs.Common.{◌≡◌, ◌⊎◌, inl, inr, ℕ, zero, suc, ◌+◌, ◌<◌, ◌≤◌, Bool, true, false, cond, List, [], ◌∷◌, ◌++◌, length, map, take, drop, replicate, Option, Some, None, slice_get, refl, ap, subst, ◌∙◌, sym, arith, append-nil, append_assoc, drop-cons}
-use Rattle.std.specs.Prelude.{◌≢◌, ◌==◌, slice_set, option_map, unwrap_or}
-use Rattle.std.specs.Option.{option_or}
+use Rattle.std.specs.Prelude.{◌≢◌, ◌==◌, slice_set, option_map}
 use Rattle.std.proofs.lemmas.List.{drop-append-le, length-take}
 use Rattle.std.specs.Option.{option_map_or}
 use Rattle.std.proofs.Math.Seq.{take-add}
@@ -10,19 +9,20 @@ use Rattle.vyrd_base.specs.declared.header.Header.{Header}
 use Rattle.vyrd_base.specs.declared.log.Kind.{Kind}
 use Rattle.vyrd_base.specs.declared.log.Kind.TheVariants.{Call, Return, Write, Commit, BlockOpen, BlockClose, BlockCommit}
 use Rattle.vyrd_base.specs.declared.log.Entry.{Entry}
-use Rattle.vyrd_base.specs.Places.{newest_first, first_answer, numbers_from}
+use Rattle.vyrd_base.specs.Places.{newest_first, numbers_from}
 use Rattle.vyrd_base.specs.Shape.{broken_rule}
 use Rattle.vyrd_base.specs.Front.{first_break}
 use Rattle.vyrd_base.specs.Callers.{has_block, has_inner_commit}
 use Rattle.vyrd_base.specs.Layout.{plain_words}
-use Rattle.vyrd_base.specs.Words.{block_writes, ahead_at, writes_ahead, effects_at, given_to, value_after, words_with}
-use Rattle.vyrd_base.proofs.TestLaws.{same_of, is_same, same_number, isnt_same}
+use Rattle.vyrd_base.specs.Words.{block_writes, ahead_at, writes_ahead, effects_at, value_after, words_with}
+use Rattle.vyrd_base.proofs.TestLaws.{same_of, is_same, isnt_same}
 use Rattle.vyrd_base.proofs.BlockLaws.{entry}
 use Rattle.vyrd_base.proofs.ShadowLaws.{close_kept, block_commit_kept}
 use Rattle.vyrd_judge.specs.declared.effects.Block.{Block}
 use Rattle.vyrd_judge.specs.OpenBlocks.{written_by, writes_in, IsOpenBlock}
 use Rattle.vyrd_judge.proofs.KeptFacts.{rules_at, write_kept}
 use Rattle.vyrd_judge.proofs.ExecutionLaws.{take_one_more}
+use Rattle.vyrd_judge.proofs.AlikeLaws.{one_write}
 
 -- the writes among two lists of entries, one after the other
 pub writes_in-append : (c : ℕ) (xs ys : List Entry)
@@ -44,46 +44,10 @@ writes_in-next c front from at e order here =
     ∙ ap (writes_in c) (drop-append-le from (take at front) (e ∷ []) long)
     ∙ writes_in-append c (drop from (take at front)) (e ∷ [])
 
-cons_eq : {A : Type 0} {x y : A} {xs ys : List A} → x ≡ y → xs ≡ ys → x ∷ xs ≡ y ∷ ys
-cons_eq e f = λ i. e i ∷ f i
-
-found : (w v : ℕ) (writes : List (ℕ × ℕ)) → value_after [] ((w, v) ∷ writes) w ≡ v
-found w v writes = ap
-    (λ b. unwrap_or (option_or (cond b (Some v) None) (first_answer (given_to w) writes)) 0)
-    (same_number w)
-
-passed : (w v q : ℕ) (writes : List (ℕ × ℕ)) → w ≢ q
-    → value_after [] ((w, v) ∷ writes) q ≡ value_after [] writes q
-passed w v q writes other =
-    ap (λ b. unwrap_or (option_or (cond b (Some v) None) (first_answer (given_to q) writes)) 0)
-    (isnt_same w q other)
-
--- a map over later numbers only
-map_same : (g new : ℕ → ℕ) (k n bound : ℕ) → bound ≤ k → ((q : ℕ) → bound ≤ q → new q ≡ g q)
-    → map new (numbers_from k n) ≡ map g (numbers_from k n)
-map_same g new k zero bound low same = refl
-map_same g new k (suc n) bound low same =
-    cons_eq (same k low) (map_same g new (k + 1) n bound (omega arith) same)
-
--- a map over numbers that changes at one of them alone
-map_set : (g new : ℕ → ℕ) (k n i j v : ℕ) → i < n → k + i ≡ j → new j ≡ v
-    → ((q : ℕ) → j ≢ q → new q ≡ g q)
-    → map new (numbers_from k n) ≡ slice_set (map g (numbers_from k n)) i v
-map_set g new k zero i j v within place at others = absurd (omega arith)
-map_set g new k (suc n) zero j v within place at others =
-    let first : new k ≡ v = ap new (omega arith) ∙ at in
-    cons_eq first (map_same g new (k + 1) n (k + 1) (omega arith) (λ q far. others q (omega arith)))
-map_set g new k (suc n) (suc i) j v within place at others =
-    cons_eq (others k (omega arith))
-    (map_set g new (k + 1) n i j v (omega arith) (omega arith) at others)
-
 -- one more effect changes its own word alone
 pub one_effect : (h : Header) (w v : ℕ) (writes : List (ℕ × ℕ)) → w < plain_words h
     → words_with h [] ((w, v) ∷ writes) ≡ slice_set (words_with h [] writes) w v
-one_effect h w v writes within =
-    map_set (value_after [] writes) (value_after [] ((w, v) ∷ writes)) 0 (plain_words h) w w v
-    within (omega arith)
-    (found w v writes) (λ q other. passed w v q writes other)
+one_effect h w v writes within = sym (one_write h [] writes w v)
 
 -- before any effect all words are 0
 no_effect : (k n : ℕ) → map (value_after [] []) (numbers_from k n) ≡ replicate n 0

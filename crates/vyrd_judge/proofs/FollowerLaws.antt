@@ -41,7 +41,6 @@ use Rattle.vyrd_judge.specs.Queued.{HasQueued, HasTakenUp, MayQueue}
 use Rattle.vyrd_judge.specs.Judged.{Judged, MayJudge}
 use Rattle.vyrd_judge.specs.declared.outcome.Advance.TheVariants.{Stops}
 use Rattle.vyrd_judge.specs.Following.{Kept, HasTakenIn, IsFaultless, IsSomewhere, MayCatchUp, AdvanceGives}
-use Rattle.vyrd_judge.proofs.StepLaws.{length-newest_first_onto}
 use Rattle.vyrd_judge.proofs.FrontLaws.{kept-push, front_at_break, break_at_break, nothing_broken}
 use Rattle.vyrd_judge.proofs.VerdictFacts.{sound_start, so_far_kept, so_far_break, at_end_open, at_end_accepted}
 use Rattle.vyrd_judge.proofs.JudgedLaws.{judged_more, judged_head, judged_all}
@@ -289,12 +288,6 @@ pub low_commits : {k : Kept} → k.entries < 2 ^ 62 → IsSomewhere k → k.comm
 low_commits {k} few somewhere = below_of _ _ (∥∥₁_elim somewhere (Bool-set _ _) (λ s.
     let low : k.commits < 2 ^ 62 = omega (arith, few, s.2.taken_in.commits, s.2.taken_in.entries, count_few (λ x. is_commit x.kind) s.1) in
     is_below k.commits (2 ^ 62) low))
-
--- the shape has counted the entries too
-pub low_shape : {k : Kept} → k.entries < 2 ^ 62 → IsSomewhere k → k.shape.entries < 2 ^ 62
-low_shape {k} few somewhere = below_of _ _ (∥∥₁_elim somewhere (Bool-set _ _) (λ s.
-    let low : k.shape.entries < 2 ^ 62 = omega (arith, few, s.2.taken_in.shape.entries, s.2.taken_in.entries, length-newest_first_onto [] s.1) in
-    is_below k.shape.entries (2 ^ 62) low))
 
 pub few_observers : {k : Kept} → k.entries < 2 ^ 62 → IsSomewhere k → k.observers + 1 < 2 ^ 64
 few_observers {k} few somewhere = below_of _ _ (∥∥₁_elim somewhere (Bool-set _ _) (λ s.

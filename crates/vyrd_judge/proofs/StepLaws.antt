@@ -184,11 +184,11 @@ pub fault_goes : (h : Header) (front : List Entry) (at : ℕ) (e : Entry) → sl
     → fault_from h front at ≡ fault_from h front (at + 1)
 fault_goes h front at e here fault = fault_here h front at e None here fault
 
-pub length-newest_first_onto : (earlier xs : List Entry) → length (newest_first_onto earlier xs) ≡ length earlier + length xs
+length-newest_first_onto : (earlier xs : List Entry) → length (newest_first_onto earlier xs) ≡ length earlier + length xs
 length-newest_first_onto earlier [] = omega arith
 length-newest_first_onto earlier (x ∷ xs) = length-newest_first_onto (x ∷ earlier) xs ∙ omega arith
 
-pub length-newest_first : (front : List Entry) (at : ℕ) → at ≤ length front → length (newest_first (take at front)) ≡ at
+length-newest_first : (front : List Entry) (at : ℕ) → at ≤ length front → length (newest_first (take at front)) ≡ at
 length-newest_first front at within = length-newest_first_onto [] (take at front) ∙ omega (arith, length-take at front)
 
 -- a place that is a fault

@@ -1,6 +1,6 @@
 //! The well-formed front of a log: its longest beginning in which each entry keeps the rules of shape.
 
-ghost use Rattle.std.specs.Prelude.{◌≡◌, ◌<◌, ◌≤◌, ◌^◌, ℕ, true, false, length, take, Option, Some, None, IfOk, slice_get};
+ghost use Rattle.std.specs.Prelude.{◌≡◌, ◌<◌, ◌≤◌, false, length, take, Option, Some, None, IfOk, slice_get};
 ghost use Rattle.vyrd_base.specs.Places.{newest_first};
 ghost use Rattle.vyrd_base.specs.Front.{front, first_break};
 ghost use Rattle.vyrd_base.specs.Verdicts.{is_call_open};
@@ -26,7 +26,6 @@ pub(crate) fn front_of(
     header: Header,
     entries: &[Entry],
 ) -> Result<Front, AllocError>
-    requires few { length entries.now < 2 ^ 62 }
     ensures within { IfOk result (λ f. f.len ≤ length entries.now) }
     ensures front { IfOk result (λ f. take f.len entries.now ≡ front header entries.now) }
     ensures broken { IfOk result (λ f. f.broken ≡ first_break header entries.now) }

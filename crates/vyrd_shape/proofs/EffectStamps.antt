@@ -1,6 +1,6 @@
--- When a write last took effect on a word: what one more entry changes, and which words are passed.
+-- Where a write last took effect on a word: what one more entry changes, and which words are passed.
 use Rattle.std.proofs.Common.{◌≡◌, ℕ, ◌+◌, ◌≤◌, max, Bool, true, false, cond, not, ◌&&◌, ◌||◌, List, [], ◌∷◌, ◌++◌, length, Some, None, refl, ap, ◌∙◌, sym, subst, arith}
-use Rattle.std.specs.Prelude.{◌==◌, nat_lt, is_some, unwrap_or}
+use Rattle.std.specs.Prelude.{◌==◌, nat_lt, is_some}
 use Rattle.std.specs.Option.{option_or}
 use Rattle.std.proofs.lemmas.List.Folds.{list_any-append}
 use Rattle.std.proofs.Math.Bool.{and-false}
@@ -10,37 +10,37 @@ use Rattle.vyrd_base.specs.declared.log.Kind.TheVariants.{Call, Return, Write, C
 use Rattle.vyrd_base.specs.declared.log.Entry.{Entry}
 use Rattle.vyrd_base.specs.Places.{first_answer}
 use Rattle.vyrd_base.specs.Callers.{has_block, has_inner_commit, holds_word}
-use Rattle.vyrd_base.specs.Shape.{checks_at, broken_rule}
+use Rattle.vyrd_base.specs.Shape.{broken_rule}
 use Rattle.vyrd_base.specs.Words.{block_writes, effects_at, effects_of_others, given_to, is_lone_commit}
 use Rattle.vyrd_base.proofs.BlockLaws.{entry, by_same, wrote, wrote_is}
 use Rattle.vyrd_base.proofs.EffectLaws.{SameEffects, MoreAtCommit, ends_block, same_after, more_after, own_inner, other_inner, committed_since_open, never}
 use Rattle.vyrd_base.proofs.EffectLaws.MoreAt.{at_commit, own, other}
-use Rattle.vyrd_base.proofs.ShadowLaws.{WellFormed, all_kept, close_kept, block_commit_kept}
+use Rattle.vyrd_base.proofs.ShadowLaws.{WellFormed, close_kept, block_commit_kept}
 use Rattle.vyrd_base.proofs.TestLaws.{same_number, is_same, is_below, isnt_below, first_true}
-use Rattle.vyrd_shape.specs.Stamps.{has_write, last_stamp, commit_stamp, inner_stamp, takes_effect}
+use Rattle.vyrd_shape.specs.Stamps.{has_write, last_effect, last_commit, takes_effect}
 use Rattle.vyrd_shape.proofs.StampLaws.{raised_if}
 
 -- stamps go up to how many entries there are
-pub last_stamp_low : (w : ℕ) (earlier later : List Entry)
-    → last_stamp w earlier later ≤ length earlier
-last_stamp_low w [] later = omega arith
-last_stamp_low w (e ∷ earlier) later =
-    let before = last_stamp_low w earlier (e ∷ later) in
+pub last_effect_low : (w : ℕ) (earlier later : List Entry)
+    → last_effect w earlier later ≤ length earlier
+last_effect_low w [] later = omega arith
+last_effect_low w (e ∷ earlier) later =
+    let before = last_effect_low w earlier (e ∷ later) in
     elim (has_write w (effects_at earlier e.caller e.kind later))
-    as (λ b. cond b (length earlier + 1) (last_stamp w earlier (e ∷ later)) ≤ length (e ∷ earlier))
+    as (λ b. cond b (length earlier + 1) (last_effect w earlier (e ∷ later)) ≤ length (e ∷ earlier))
     [ true ↦ omega arith | false ↦ omega arith ]
 
-pub commit_stamp_low : (c : ℕ) (earlier : List Entry) → commit_stamp c earlier ≤ length earlier
-commit_stamp_low c [] = omega arith
-commit_stamp_low c (e ∷ earlier) =
-    let before = commit_stamp_low c earlier in
+pub last_commit_low : (c : ℕ) (earlier : List Entry) → last_commit c earlier ≤ length earlier
+last_commit_low c [] = omega arith
+last_commit_low c (e ∷ earlier) =
+    let before = last_commit_low c earlier in
     elim ((e.caller == c) && is_lone_commit e.kind)
-    as (λ b. cond b (length earlier + 1) (commit_stamp c earlier) ≤ length (e ∷ earlier))
+    as (λ b. cond b (length earlier + 1) (last_commit c earlier) ≤ length (e ∷ earlier))
     [ true ↦ omega arith | false ↦ omega arith ]
 
 -- the same effects, the same stamps
 pub same_stamp : (w : ℕ) (earlier later later' : List Entry) → SameEffects earlier later later'
-    → last_stamp w earlier later ≡ last_stamp w earlier later'
+    → last_effect w earlier later ≡ last_effect w earlier later'
 same_stamp w [] later later' same = refl
 same_stamp w (e ∷ earlier) later later' same =
     let before = same_stamp w earlier (e ∷ later) (e ∷ later') same.1 in
@@ -49,21 +49,21 @@ same_stamp w (e ∷ earlier) later later' same =
 -- the last lone commit of the caller, after another's entry, after one that is no such commit, and
 -- at one
 pub commit_other : (c : ℕ) (e : Entry) (earlier : List Entry) → (e.caller == c) ≡ false
-    → commit_stamp c (e ∷ earlier) ≡ commit_stamp c earlier
+    → last_commit c (e ∷ earlier) ≡ last_commit c earlier
 commit_other c e earlier apart =
-    ap (λ b. cond (b && is_lone_commit e.kind) (length earlier + 1) (commit_stamp c earlier)) apart
+    ap (λ b. cond (b && is_lone_commit e.kind) (length earlier + 1) (last_commit c earlier)) apart
 
-commit_none : (c : ℕ) (e : Entry) (earlier : List Entry) → is_lone_commit e.kind ≡ false
-    → commit_stamp c (e ∷ earlier) ≡ commit_stamp c earlier
+pub commit_none : (c : ℕ) (e : Entry) (earlier : List Entry) → is_lone_commit e.kind ≡ false
+    → last_commit c (e ∷ earlier) ≡ last_commit c earlier
 commit_none c e earlier alone =
-    ap (λ b. cond b (length earlier + 1) (commit_stamp c earlier))
+    ap (λ b. cond b (length earlier + 1) (last_commit c earlier))
     (ap (λ b. (e.caller == c) && b) alone ∙ and-false (e.caller == c))
 
-commit_here : (c : ℕ) (e : Entry) (earlier : List Entry) → e.caller ≡ c
-    → is_lone_commit e.kind ≡ true → commit_stamp c (e ∷ earlier) ≡ length earlier + 1
+pub commit_here : (c : ℕ) (e : Entry) (earlier : List Entry) → e.caller ≡ c
+    → is_lone_commit e.kind ≡ true → last_commit c (e ∷ earlier) ≡ length earlier + 1
 commit_here c e earlier same alone =
     let owned : (e.caller == c) ≡ true = is_same e.caller c same in
-    λ i. cond (owned i && alone i) (length earlier + 1) (commit_stamp c earlier)
+    λ i. cond (owned i && alone i) (length earlier + 1) (last_commit c earlier)
 
 -- raising a stamp does nothing where it is greater already
 kept_high : (b : Bool) (stamp old : ℕ) → stamp ≤ old → old ≡ raised_if b stamp old
@@ -73,8 +73,8 @@ kept_high false stamp old high = refl
 -- Where the writes take effect at the caller's last lone commit too, the stamps of their words are
 -- raised to its stamp.
 abbrev RaisedAtCommit : ℕ → ℕ → List (ℕ × ℕ) → List Entry → List Entry → List Entry → Type 0
-RaisedAtCommit w c writes earlier later later' = last_stamp w earlier later'
-    ≡ raised_if (has_write w writes) (commit_stamp c earlier) (last_stamp w earlier later)
+RaisedAtCommit w c writes earlier later later' = last_effect w earlier later'
+    ≡ raised_if (has_write w writes) (last_commit c earlier) (last_effect w earlier later)
 
 pub more_stamp : (w c : ℕ) (writes : List (ℕ × ℕ)) (earlier later later' : List Entry)
     → MoreAtCommit c writes earlier later later' → RaisedAtCommit w c writes earlier later later'
@@ -83,7 +83,7 @@ more_stamp w c writes (e ∷ earlier) later later' =
     by_entry (more_stamp w c writes earlier (e ∷ later) (e ∷ later'))
   where
     old : ℕ
-    old = last_stamp w earlier (e ∷ later)
+    old = last_effect w earlier (e ∷ later)
 
     next : ℕ
     next = length earlier + 1
@@ -96,7 +96,7 @@ more_stamp w c writes (e ∷ earlier) later later' =
         → MoreAtCommit c writes (e ∷ earlier) later later'
         → RaisedAtCommit w c writes (e ∷ earlier) later later'
     by_entry before (at_commit same alone none all same_before) =
-        let low = last_stamp_low w earlier (e ∷ later) in
+        let low = last_effect_low w earlier (e ∷ later) in
         let high : next ≡ max old next = omega arith in
         let before' = sym (same_stamp w earlier (e ∷ later) (e ∷ later') same_before) in
         let here = commit_here c e earlier same (ap is_lone_commit alone) in
@@ -109,14 +109,14 @@ more_stamp w c writes (e ∷ earlier) later later' =
     by_entry before (other apart same more) =
         (λ i. cond (has_write w (sym same i)) next (before more i))
         ∙ by_write (has_write w (effects_at earlier e.caller e.kind later))
-        ∙ ap (λ n. raised_if raises n (last_stamp w (e ∷ earlier) later))
+        ∙ ap (λ n. raised_if raises n (last_effect w (e ∷ earlier) later))
         (sym (commit_other c e earlier apart))
       where
-        by_write : (b : Bool) → cond b next (raised_if raises (commit_stamp c earlier) old)
-            ≡ raised_if raises (commit_stamp c earlier) (cond b next old)
+        by_write : (b : Bool) → cond b next (raised_if raises (last_commit c earlier) old)
+            ≡ raised_if raises (last_commit c earlier) (cond b next old)
         by_write true =
-            let low = commit_stamp_low c earlier in
-            kept_high raises (commit_stamp c earlier) next (omega arith)
+            let low = last_commit_low c earlier in
+            kept_high raises (last_commit c earlier) next (omega arith)
         by_write false = refl
 
 -- what an entry lets take effect at once
@@ -146,19 +146,18 @@ held_is : (c w : ℕ) (earlier : List Entry) → has_block c earlier ≡ true
 held_is c w earlier inside = ap (λ b. b && wrote c w earlier) inside
     ∙ wrote_is c w earlier inside ∙ answered w (block_writes c earlier)
 
--- the stamp of the writes that take effect once an entry of the caller stands
-abbrev effect_stamp_by : Bool → ℕ → List Entry → ℕ
-effect_stamp_by inner c earlier =
-    unwrap_or (cond inner (Some (commit_stamp c earlier)) None) (length earlier + 1)
+-- where the writes take effect that do so once an entry of the caller stands
+abbrev effect_place_by : Bool → ℕ → List Entry → ℕ
+effect_place_by inner c earlier = cond inner (last_commit c earlier) (length earlier + 1)
 
-abbrev pub effect_stamp : ℕ → List Entry → ℕ
-effect_stamp c earlier = unwrap_or (inner_stamp c earlier) (length earlier + 1)
+abbrev pub effect_place : ℕ → List Entry → ℕ
+effect_place c earlier = effect_place_by (has_inner_commit c earlier) c earlier
 
 -- One more entry raises the stamps of the words on which it lets writes take effect.
 abbrev pub Raises : List ℕ → ℕ → ℕ → Kind → List Entry → Type 0
-Raises holders w c kind earlier = last_stamp w (entry c kind ∷ earlier) []
-    ≡ raised_if (takes_effect holders (has_block c earlier) c kind w) (effect_stamp c earlier)
-    (last_stamp w earlier [])
+Raises holders w c kind earlier = last_effect w (entry c kind ∷ earlier) []
+    ≡ raised_if (takes_effect holders (has_block c earlier) c kind w) (effect_place c earlier)
+    (last_effect w earlier [])
 
 -- an entry that ends no block
 raises_now : (h : Header) (holders : List ℕ) (w c : ℕ) (kind : Kind) (earlier : List Entry)
@@ -167,18 +166,18 @@ raises_now : (h : Header) (holders : List ℕ) (w c : ℕ) (kind : Kind) (earlie
     → has_write w (effects_at earlier c kind []) ≡ taking
     → (taking ≡ true → has_inner_commit c earlier ≡ false) → Raises holders w c kind earlier
 raises_now h holders w c kind earlier wf quiet true takes written outside =
-    let old = last_stamp w earlier [] in
+    let old = last_effect w earlier [] in
     let next = length earlier + 1 in
-    let low = last_stamp_low w earlier [] in
+    let low = last_effect_low w earlier [] in
     let high : next ≡ max old next = omega arith in
-    ap (λ b. cond b next (last_stamp w earlier (entry c kind ∷ []))) written ∙ high
-    ∙ (λ i. raised_if (sym takes i) (effect_stamp_by (sym (outside refl) i) c earlier) old)
+    ap (λ b. cond b next (last_effect w earlier (entry c kind ∷ []))) written ∙ high
+    ∙ (λ i. raised_if (sym takes i) (effect_place_by (sym (outside refl) i) c earlier) old)
 raises_now h holders w c kind earlier wf quiet false takes written outside =
     let e = entry c kind in
     let same = same_after h earlier e wf (ap (λ b. b && has_inner_commit c earlier) quiet) in
-    ap (λ b. cond b (length earlier + 1) (last_stamp w earlier (e ∷ []))) written
+    ap (λ b. cond b (length earlier + 1) (last_effect w earlier (e ∷ []))) written
     ∙ sym (same_stamp w earlier [] (e ∷ []) same)
-    ∙ ap (λ b. raised_if b (effect_stamp c earlier) (last_stamp w earlier [])) (sym takes)
+    ∙ ap (λ b. raised_if b (effect_place c earlier) (last_effect w earlier [])) (sym takes)
 
 -- the end of a block, with a lone commit in it and without one
 raises_end : (h : Header) (holders : List ℕ) (w c : ℕ) (kind : Kind) (earlier : List Entry)
@@ -189,13 +188,13 @@ raises_end : (h : Header) (holders : List ℕ) (w c : ℕ) (kind : Kind) (earlie
 raises_end h holders w c kind earlier wf ends takes effect inner is =
     ap (λ writes. cond (has_write w writes) next behind)
     (effect ∙ ap (λ b. cond b [] writes) is) ∙ by_inner inner is
-    ∙ (λ i. raised_if (sym takes i) (effect_stamp_by (sym is i) c earlier) old)
+    ∙ (λ i. raised_if (sym takes i) (effect_place_by (sym is i) c earlier) old)
   where
     old : ℕ
-    old = last_stamp w earlier []
+    old = last_effect w earlier []
 
     behind : ℕ
-    behind = last_stamp w earlier (entry c kind ∷ [])
+    behind = last_effect w earlier (entry c kind ∷ [])
 
     next : ℕ
     next = length earlier + 1
@@ -204,12 +203,12 @@ raises_end h holders w c kind earlier wf ends takes effect inner is =
     writes = block_writes c earlier
 
     at_end : (b : Bool) → behind ≡ old → cond b next behind ≡ raised_if b next old
-    at_end true same = let low = last_stamp_low w earlier [] in omega arith
+    at_end true same = let low = last_effect_low w earlier [] in omega arith
     at_end false same = same
 
     by_inner : (b : Bool) → has_inner_commit c earlier ≡ b
         → cond (has_write w (cond b [] writes)) next behind
-        ≡ raised_if (has_write w writes) (effect_stamp_by b c earlier) old
+        ≡ raised_if (has_write w writes) (effect_place_by b c earlier) old
     by_inner true is' = more_stamp w c writes earlier [] (entry c kind ∷ [])
         (more_after h earlier (entry c kind) wf (λ i. ends i && is' i))
     by_inner false is' = at_end (has_write w writes) (sym (same_stamp w earlier []
@@ -252,7 +251,7 @@ stamp_next h holders w c (Write word value) earlier wf kept held =
 -- effect at the commit.
 abbrev PassedAt : ℕ → ℕ → List Entry → List Entry → Type 0
 PassedAt c w earlier later = has_write w (effects_of_others c earlier later)
-    ≡ nat_lt (commit_stamp c earlier) (last_stamp w earlier later)
+    ≡ nat_lt (last_commit c earlier) (last_effect w earlier later)
 
 abbrev PassedIs : ℕ → ℕ → List Entry → Type 0
 PassedIs c w earlier =
@@ -271,7 +270,7 @@ passed_quiet c w kind earlier later alone none inner so =
     (cond (owned i) (cond (alone i) [] others) (effects_at earlier c kind later ++ others)))
     ∙ so (e ∷ later) inner
     ∙ (λ i. nat_lt (sym last i)
-    (cond (has_write w (sym none i)) (length earlier + 1) (last_stamp w earlier (e ∷ later))))
+    (cond (has_write w (sym none i)) (length earlier + 1) (last_effect w earlier (e ∷ later))))
 
 passed_own : (c w : ℕ) (kind : Kind) (earlier : List Entry) → PassedIs c w earlier
     → PassedIs c w (entry c kind ∷ earlier)
@@ -290,10 +289,10 @@ passed_own c w Commit earlier so later inner =
     let e = entry c Commit in
     let others = effects_of_others c earlier (e ∷ later) in
     let owned : (c == c) ≡ true = same_number c in
-    let low = last_stamp_low w (e ∷ earlier) later in
+    let low = last_effect_low w (e ∷ earlier) later in
     let here = commit_here c e earlier refl refl in
     (λ i. has_write w (cond (owned i) [] (effects_at earlier c Commit later ++ others)))
-    ∙ sym (isnt_below (commit_stamp c (e ∷ earlier)) (last_stamp w (e ∷ earlier) later)
+    ∙ sym (isnt_below (last_commit c (e ∷ earlier)) (last_effect w (e ∷ earlier) later)
     (omega arith))
 passed_own c w BlockOpen earlier so later inner = never (own_inner c BlockOpen earlier) inner
 passed_own c w BlockClose earlier so later inner = never (own_inner c BlockClose earlier) inner
@@ -306,7 +305,7 @@ passed_other c w e earlier apart so later inner =
     ∙ list_any-append (λ (write : ℕ × ℕ). write.0 == w) here others
     ∙ by_write (has_write w here)
     (so (e ∷ later) (sym (other_inner c e.caller e.kind earlier apart) ∙ inner))
-    ∙ ap (λ n. nat_lt n (last_stamp w (e ∷ earlier) later)) (sym (commit_other c e earlier apart))
+    ∙ ap (λ n. nat_lt n (last_effect w (e ∷ earlier) later)) (sym (commit_other c e earlier apart))
   where
     here : List (ℕ × ℕ)
     here = effects_at earlier e.caller e.kind later
@@ -315,11 +314,11 @@ passed_other c w e earlier apart so later inner =
     others = effects_of_others c earlier (e ∷ later)
 
     by_write : (b : Bool) → PassedAt c w earlier (e ∷ later) → (b || has_write w others)
-        ≡ nat_lt (commit_stamp c earlier)
-        (cond b (length earlier + 1) (last_stamp w earlier (e ∷ later)))
+        ≡ nat_lt (last_commit c earlier)
+        (cond b (length earlier + 1) (last_effect w earlier (e ∷ later)))
     by_write true before =
-        let low = commit_stamp_low c earlier in
-        sym (is_below (commit_stamp c earlier) (length earlier + 1) (omega arith))
+        let low = last_commit_low c earlier in
+        sym (is_below (last_commit c earlier) (length earlier + 1) (omega arith))
     by_write false before = before
 
 pub passed_by_stamp : (c w : ℕ) (earlier : List Entry) → PassedIs c w earlier
@@ -331,35 +330,3 @@ passed_by_stamp c w (e ∷ earlier) = step (passed_by_stamp c w earlier)
         (λ same. subst (λ d. PassedIs c w (entry d e.kind ∷ earlier)) (sym same)
         (passed_own c w e.kind earlier so))
         (λ other. passed_other c w e earlier other so)
-
--- in version 1 no block has a lone commit in it
-abbrev NoInner : ℕ → List Entry → Type 0
-NoInner c earlier = has_inner_commit c earlier ≡ false
-
-no_inner_own : (h : Header) (c : ℕ) (kind : Kind) (earlier : List Entry)
-    → (h.version == 1) ≡ true → broken_rule h earlier (entry c kind) ≡ None → NoInner c earlier
-    → NoInner c (entry c kind ∷ earlier)
-no_inner_own h c (Call method args) earlier first kept so =
-    own_inner c (Call method args) earlier ∙ so
-no_inner_own h c (Return reply) earlier first kept so = own_inner c (Return reply) earlier ∙ so
-no_inner_own h c (Write word value) earlier first kept so =
-    own_inner c (Write word value) earlier ∙ so
-no_inner_own h c Commit earlier first kept so =
-    let outside = (all_kept (checks_at h earlier (entry c Commit)) kept).1.1.1.1.0 in
-    own_inner c Commit earlier
-    ∙ ap (λ b. b && true) (sym (ap (λ b. b && has_block c earlier) first) ∙ outside)
-no_inner_own h c BlockOpen earlier first kept so = own_inner c BlockOpen earlier
-no_inner_own h c BlockClose earlier first kept so = own_inner c BlockClose earlier
-no_inner_own h c BlockCommit earlier first kept so = own_inner c BlockCommit earlier
-
-pub no_inner : (h : Header) (c : ℕ) (earlier : List Entry) → (h.version == 1) ≡ true
-    → WellFormed h earlier → NoInner c earlier
-no_inner h c [] first wf = refl
-no_inner h c (e ∷ earlier) first wf = step (no_inner h c earlier first wf.1)
-  where
-    step : NoInner c earlier → NoInner c (e ∷ earlier)
-    step so = by_same e.caller c
-        (λ same. subst (λ d. broken_rule h earlier (entry d e.kind) ≡ None
-        → NoInner c (entry d e.kind ∷ earlier)) (sym same)
-        (λ kept. no_inner_own h c e.kind earlier first kept so) wf.0)
-        (λ other. other_inner c e.caller e.kind earlier other ∙ so)

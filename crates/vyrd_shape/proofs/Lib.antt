@@ -3,3 +3,4 @@ pub mod RuleLaws
 pub mod ShapeLaws
 pub mod StampLaws
 pub mod EffectStamps
+pub mod OrderLaws

@@ -1,7 +1,7 @@
 -- How phases and holders go on with one more entry.
 use Rattle.std.proofs.Common.{◌≡◌, ◌≢◌, ℕ, suc, zero, ◌+◌, ◌-◌, ◌<◌, ◌≤◌, Bool, true, false, cond, not, ◌&&◌, ◌||◌, List, [], ◌∷◌, length, map, Option, Some, None, refl, ap, ◌∙◌, sym, subst, arith, get_or, set, slice_get, get_or-set_other, get_or-set_same}
 use Rattle.std.specs.Prelude.{◌==◌, nat_lt, unwrap_or, option_map, is_some, is_none, IfNone, replicate}
-use Rattle.std.specs.Option.{option_or, option_flatten, option_map_or}
+use Rattle.std.specs.Option.{option_or, option_flatten}
 use Rattle.std.specs.Bool.{then_some}
 use Rattle.std.proofs.lemmas.Option.{get_or_from_slice_get}
 use Rattle.vyrd_base.specs.declared.verdict.Rule.TheVariants.{BlockRaced}
@@ -23,23 +23,24 @@ use Rattle.vyrd_base.proofs.TestLaws.{flipped, same_of}
 use Rattle.vyrd_base.proofs.EffectLaws.{never}
 use Rattle.vyrd_base.proofs.ListLaws.{zeros}
 use Rattle.vyrd_base.proofs.ShadowLaws.{holds_other, open_kept}
+use Rattle.vyrd_base.proofs.VersionWords.{no_inner_commit}
 use Rattle.vyrd_shape.specs.declared.phase.Phase.{Phase}
 use Rattle.vyrd_shape.specs.Phases.{phase_of}
 use Rattle.vyrd_shape.specs.Holding.{Holding, released, is_held_by_another, holders_after}
 use Rattle.vyrd_shape.specs.Following.{Kept, HasFollowed}
-use Rattle.vyrd_shape.specs.Stamps.{AreRaised, has_write, last_stamp, commit_stamp, inner_stamp, takes_effect}
-use Rattle.vyrd_shape.proofs.StampLaws.{raised_if}
-use Rattle.vyrd_shape.proofs.EffectStamps.{commit_other, effect_stamp, stamp_next, passed_by_stamp, no_inner}
+use Rattle.vyrd_shape.specs.Stamps.{AreOrdered, CommitStamps, has_write, last_commit, last_effect}
+use Rattle.vyrd_shape.proofs.EffectStamps.{passed_by_stamp}
+use Rattle.vyrd_shape.proofs.OrderLaws.{ordered_none}
 use Rattle.vyrd_shape.proofs.ChainLaws.{at_most_set, released_at, released_own, released_other, released_le, differs}
 use Rattle.vyrd_shape.proofs.RuleLaws.{not_held}
 
 -- what a shape with these fields keeps
-abbrev pub kept_by : Header → ℕ → List Phase → Holding → List ℕ → Kept
-kept_by header entries phases holding stamps = record {
+abbrev pub kept_by : Header → List Phase → Holding → CommitStamps → List ℕ → Kept
+kept_by header phases holding commits stamps = record {
   header = header;
-  entries = entries;
   phases = phases;
   holders = holding.by_word;
+  commits = commits;
   stamps = stamps;
 }
 
@@ -50,12 +51,11 @@ phase_of-other c d kind earlier e =
     let commit = other_answer c d commit_or_call kind earlier e in
     let block = other_answer c d open_or_close kind earlier e in
     let inner = other_answer c d commit_or_open kind earlier e in
-    let last = commit_other c (entry d kind) earlier e in
     λ i. record {
       open_method = option_map (λ called. called.method) (option_flatten (call i));
       committed = unwrap_or (commit i) false;
       in_block = unwrap_or (block i) false;
-      inner = cond (unwrap_or (block i) false && unwrap_or (inner i) false) (Some (last i)) None;
+      inner = unwrap_or (block i) false && unwrap_or (inner i) false;
     }
 
 slice_get-set_same : {A : Type 0} (xs : List A) (i : ℕ) (x : A) → i < length xs → slice_get (set xs i x) i ≡ Some x
@@ -271,21 +271,20 @@ high_next by_word inside c n (Write word value) low high w =
     ]
 
 -- one more entry that keeps the rules
-pub followed_next : (kept : Kept) (earlier : List Entry) (c : ℕ) (kind : Kind) (next : Phase)
-    (stamps : List ℕ)
+pub followed_by : (kept : Kept) (earlier : List Entry) (c : ℕ) (kind : Kind) (next : Phase)
+    (commits : CommitStamps) (stamps : List ℕ)
     → c < kept.header.callers → length kept.phases ≡ kept.header.callers → length kept.holders ≡ plain_words kept.header
     → next ≡ phase_of c (entry c kind ∷ earlier)
-    → AreRaised (takes_effect kept.holders (has_block c earlier) c kind) (effect_stamp c earlier)
-    kept.stamps stamps
+    → AreOrdered kept.header commits stamps (entry c kind ∷ earlier)
     → broken_rule kept.header earlier (entry c kind) ≡ None → HasFollowed kept earlier
     → HasFollowed (record {
       header = kept.header;
-      entries = kept.entries + 1;
       phases = set kept.phases c next;
       holders = holders_after kept.holders (has_block c earlier) c kind;
+      commits = commits;
       stamps = stamps;
     }) (entry c kind ∷ earlier)
-followed_next kept earlier c kind next stamps low phases words is raised rules followed =
+followed_by kept earlier c kind next commits stamps low phases words is ordered rules followed =
     let before : Before kept.header kept.holders c kind earlier = record {
       rules = rules;
       words = words;
@@ -294,17 +293,10 @@ followed_next kept earlier c kind next stamps low phases words is raised rules f
     } in
     record {
       rules = (rules, followed.rules);
-      entries = omega (arith, followed.entries);
       phases = phases_next kept.header.callers kept.phases earlier c kind next (omega arith) is followed.phases;
       holders = held_next kept.header kept.holders c kind earlier before;
       callers = high_next kept.holders (has_block c earlier) c kept.header.callers kind low followed.callers;
-      stamps = λ w low_w plain.
-          let low_w' : w < length kept.stamps = omega (arith, raised.lengths) in
-          let effect = takes_effect kept.holders (has_block c earlier) c kind w in
-          raised.stamps w low_w'
-          ∙ ap (raised_if effect (effect_stamp c earlier)) (followed.stamps w low_w' plain)
-          ∙ sym (stamp_next kept.header kept.holders w c kind earlier followed.rules rules
-          (followed.holders c w low plain));
+      order = ordered;
     }
 
 -- nothing has been followed
@@ -316,18 +308,17 @@ starting (suc n) (suc c) start low = starting n c start (omega arith)
 pub followed_none : (h : Header) (start : Phase) (n m : ℕ) → ((c : ℕ) → start ≡ phase_of c [])
     → HasFollowed (record {
       header = h;
-      entries = 0;
       phases = replicate h.callers start;
       holders = replicate n 0;
+      commits = record { by_caller = replicate h.callers 0; next = 1 };
       stamps = replicate m 0;
     }) []
 followed_none h start n m is = record {
   rules = tt;
-  entries = refl;
   phases = λ c low. starting h.callers c start low ∙ ap Some (is c);
   holders = λ c w low low_w. (let e : (0 == c + 1) ≡ false = grind (arith, nat_tests) in sym e) ∙ ap (λ x. x == c + 1) (sym (zeros n w));
   callers = λ w. omega (arith, zeros n w);
-  stamps = λ w low plain. zeros m w;
+  order = ordered_none h h.callers m;
 }
 
 -- a test of numbers that is the same at each
@@ -345,31 +336,33 @@ raced_is kept earlier holding c w callers words low followed =
     ∙ (λ i. is_held_by_another (record { callers = sym callers i; by_word = sym words i }) c w)
 
 -- whether the word is passed, by the definition and by the stamps
-abbrev pub passed_by : List ℕ → ℕ → Option ℕ → Bool
-passed_by stamps w inner = option_map_or (λ commit. nat_lt commit (get_or stamps w 0)) inner false
-
 pub passed_is : (kept : Kept) (earlier : List Entry) (c w : ℕ)
     → ((kept.header.version == 1) ≡ false → length kept.stamps ≡ plain_words kept.header)
-    → w < plain_words kept.header → HasFollowed kept earlier
-    → is_passed c w earlier ≡ passed_by kept.stamps w (inner_stamp c earlier)
-passed_is kept earlier c w enough low followed = by_inner (has_inner_commit c earlier) refl
+    → c < kept.header.callers → w < plain_words kept.header → HasFollowed kept earlier
+    → is_passed c w earlier
+    ≡ (has_inner_commit c earlier && nat_lt (get_or kept.commits.by_caller c 0) (get_or kept.stamps w 0))
+passed_is kept earlier c w enough low_c low followed = by_inner (has_inner_commit c earlier) refl
   where
+    later : Bool
+    later = nat_lt (get_or kept.commits.by_caller c 0) (get_or kept.stamps w 0)
+
     by_version : (b : Bool) → (kept.header.version == 1) ≡ b → has_inner_commit c earlier ≡ true
-        → get_or kept.stamps w 0 ≡ last_stamp w earlier []
-    by_version true first inner = never (no_inner kept.header c earlier first followed.rules) inner
-    by_version false later inner = followed.stamps w (omega (arith, enough later)) low
+        → later ≡ nat_lt (last_commit c earlier) (last_effect w earlier [])
+    by_version true first inner = never
+        (no_inner_commit kept.header c earlier (same_of kept.header.version 1 first) followed.rules) inner
+    by_version false second inner =
+        followed.order.words c w low_c (omega (arith, enough second)) low inner
 
     by_inner : (b : Bool) → has_inner_commit c earlier ≡ b
-        → is_passed c w earlier ≡ passed_by kept.stamps w (inner_stamp c earlier)
+        → is_passed c w earlier ≡ (has_inner_commit c earlier && later)
     by_inner true inner =
         ap (λ b. b && has_write w (effects_of_others c earlier [])) inner
         ∙ passed_by_stamp c w earlier [] inner
-        ∙ ap (nat_lt (commit_stamp c earlier))
-        (sym (by_version (kept.header.version == 1) refl inner))
-        ∙ ap (λ b. passed_by kept.stamps w (cond b (Some (commit_stamp c earlier)) None)) (sym inner)
+        ∙ sym (by_version (kept.header.version == 1) refl inner)
+        ∙ ap (λ b. b && later) (sym inner)
     by_inner false none =
         ap (λ b. b && has_write w (effects_of_others c earlier [])) none
-        ∙ ap (λ b. passed_by kept.stamps w (cond b (Some (commit_stamp c earlier)) None)) (sym none)
+        ∙ ap (λ b. b && later) (sym none)
 
 -- whether some execution is open, by the phases and by the definition
 open_is : (earlier : List Entry) (phases : List Phase) (k : ℕ) → ((i : ℕ) → i < length phases → slice_get phases i ≡ Some (phase_of (k + i) earlier))

@@ -1,6 +1,6 @@
 //! Which caller's open block has written each word.
 
-ghost use Rattle.std.specs.Prelude.{◌≡◌, ℕ, ◌+◌, ◌<◌, ◌≤◌, ◌^◌, ◌==◌, map, length, slice_index, slice_set, replicate, IfOk, if◌then◌else◌};
+ghost use Rattle.std.specs.Prelude.{◌≡◌, ◌+◌, ◌<◌, ◌==◌, map, length, slice_index, slice_set, replicate, IfOk, if◌then◌else◌};
 ghost use Rattle.vyrd_shape.specs.Holding.{released, holders_after, is_held_by_another, IsLinked, IsWordBelow};
 ghost use Rattle.vyrd_shape.specs.Stamps.{takes_effect, AreRaised};
 

@@ -4,6 +4,7 @@
 //! before it, and which rule is the first that it breaks, as `broken_rule` of `vyrd_base` defines it.
 #![tactic(auto)]
 
+mod commits;
 mod holders;
 mod phase;
 mod shape;

@@ -1,12 +1,13 @@
 //! What one caller is in the middle of.
 
-ghost use Rattle.std.specs.Prelude.{◌≡◌, ℕ, ◌+◌, ◌<◌, ◌^◌, List, [], ◌∷◌, length, unwrap_or, IfNone};
+ghost use Rattle.std.specs.Prelude.{◌≡◌, ℕ, ◌<◌, ◌^◌, List, [], ◌∷◌, ◌&&◌, IfNone};
 ghost use Rattle.std.specs.Option.{option_or};
 ghost use Rattle.std.specs.Bool.{then_some};
 ghost use Rattle.vyrd_base.specs.Layout.{plain_words};
 ghost use Rattle.vyrd_base.specs.declared.header.Header.{Header};
 ghost use Rattle.vyrd_base.specs.declared.log.Entry.{Entry};
 ghost use Rattle.vyrd_base.specs.Shape.{checks_of, first_broken, is_raced};
+ghost use Rattle.vyrd_base.specs.Words.{is_lone_commit};
 
 use vyrd_base::{Args, Header, Kind, Method, Rule};
 
@@ -19,8 +20,8 @@ pub(crate) struct Phase {
     pub committed: bool,
     /// Whether it has an open block.
     pub in_block: bool,
-    /// The stamp of the lone commit inside its open block. `Stamps` says what a stamp is.
-    pub inner: Option<u64>,
+    /// Whether a lone commit stands inside its open block.
+    pub inner: bool,
 }
 
 impl Phase {
@@ -34,15 +35,14 @@ impl Phase {
             open_method: None,
             committed: false,
             in_block: false,
-            inner: None,
+            inner: false,
         }
     }
 
-    /// The phase after an entry of the caller with this stamp.
+    /// The phase after an entry of the caller.
     #[inline(always)]
-    pub fn after(self, kind: Kind, stamp: u64) -> Phase
+    pub fn after(self, kind: Kind) -> Phase
         ensures { (c : ℕ) (earlier : List Entry) → self ≡ phase_of c earlier
-            → stamp ≡ length earlier + 1
             → result ≡ phase_of c (record { caller = c; kind = kind } ∷ earlier) }
     {
         let mut next = self;
@@ -58,35 +58,31 @@ impl Phase {
             Kind::Write(_, _) => {}
             Kind::Commit => {
                 next.committed = true;
-                if self.in_block {
-                    next.inner = Some(stamp);
-                }
+                next.inner = self.in_block;
             }
             Kind::BlockOpen => {
                 next.in_block = true;
-                next.inner = None;
+                next.inner = false;
             }
             Kind::BlockClose => {
                 next.in_block = false;
-                next.inner = None;
+                next.inner = false;
             }
             Kind::BlockCommit => {
                 next.committed = true;
                 next.in_block = false;
-                next.inner = None;
+                next.inner = false;
             }
         }
         next
     }
 
-    /// When the writes of the caller's block took effect, once an entry with this stamp ends it: at
-    /// the lone commit inside the block, and at the end itself where there is none. Outside a block
-    /// a write takes effect at once.
+    /// Whether an entry of the caller of this kind is a lone commit inside its block.
     #[inline(always)]
-    pub fn effect_stamp(self, stamp: u64) -> u64
-        ensures { result ≡ unwrap_or self.inner stamp }
+    pub fn commits_inside(self, kind: Kind) -> bool
+        ensures { result ≡ (self.in_block && is_lone_commit kind) }
     {
-        self.inner.unwrap_or(stamp)
+        self.in_block && matches!(kind, Kind::Commit)
     }
 
     /// The first rule that a call breaks.

@@ -1,6 +1,6 @@
 //! The rules of shape, one entry at a time.
 
-ghost use Rattle.std.specs.Prelude.{◌≡◌, ℕ, ◌+◌, ◌<◌, ◌^◌, true, false, length, List, [], ◌∷◌, Some, None, is_some, IfOk, IfErr, IfNone, OnOk, OnErr, MatchResult};
+ghost use Rattle.std.specs.Prelude.{◌≡◌, ◌<◌, true, false, List, [], ◌∷◌, Some, None, is_some, IfOk, IfErr, IfNone, OnOk, OnErr, MatchResult};
 ghost use Rattle.std.specs.List.{list_any};
 ghost use Rattle.vyrd_base.specs.declared.log.Entry.{Entry};
 ghost use Rattle.vyrd_base.specs.Layout.{plain_words};
@@ -10,7 +10,9 @@ ghost use Rattle.vyrd_base.specs.Words.{is_passed};
 ghost use Rattle.vyrd_shape.specs.Phases.{phase_of};
 ghost use Rattle.vyrd_shape.specs.Holding.{IsWordBelow};
 ghost use Rattle.vyrd_shape.specs.Following.{HasFollowed, IsInRange};
+ghost use Rattle.vyrd_shape.specs.Stamps.{effect_stamp};
 
+use crate::commits::Commits;
 use crate::holders::Holders;
 use crate::phase::Phase;
 use crate::stamps::Stamps;
@@ -35,16 +37,15 @@ impl fmt::Display for ShapeFault {
 
 impl Error for ShapeFault {}
 
-/// What the rules of shape need to know of the entries so far: for each caller what it is in the middle of, and for each word
-/// which caller's open block has written it and when a write last took effect on it.
+/// What the rules of shape need to know of the entries so far: for each caller what it is in the middle of, for each word
+/// which caller's open block has written it, and what came first, a lone commit inside a block or the last effect on a word.
 #[derive(Drop)]
 pub struct Shape {
     header: Header,
-    /// How many entries were followed.
-    entries: u64,
     /// By caller.
     phases: Vec<Phase>,
     holders: Holders,
+    commits: Commits,
     /// Of no word in version 1, where no block has a lone commit inside it.
     stamps: Stamps,
 }
@@ -56,13 +57,13 @@ impl Model for Shape {
 
     ghost view = { λ s. record {
       header = s.header;
-      entries = s.entries;
       phases = s.phases.items;
       holders = s.holders.by_word;
+      commits = s.commits;
       stamps = s.stamps;
     } };
 
-    ghost invariant = { λ s. IsComplete s.header s.phases.items s.holders s.stamps };
+    ghost invariant = { λ s. IsComplete s.header s.phases.items s.holders s.commits s.stamps };
 }
 
 impl Shape {
@@ -70,14 +71,13 @@ impl Shape {
     pub fn new(alloc: Global, header: Header) -> Result<Shape, AllocError>
         ensures followed { IfOk result (λ s. HasFollowed s []) }
         ensures header { IfOk result (λ s. s.header ≡ header) }
-        ensures entries { IfOk result (λ s. s.entries ≡ 0) }
     {
         let words = header.plain_words();
         Ok(Shape {
             header,
-            entries: 0,
             phases: vec![in alloc; Phase::start(); header.callers() as usize]?,
             holders: Holders::new(alloc, words, header.callers())?,
+            commits: Commits::new(alloc, header.callers())?,
             stamps: Stamps::new(alloc, if header.version() == 1 { 0 } else { words })?,
         })
     }
@@ -86,10 +86,8 @@ impl Shape {
     /// linear in the number of words that the block has written, and any other entry takes constant time. No memory is taken.
     #[inline(always)]
     pub fn step(&mut self, entry: &Entry) -> Result<(), ShapeFault>
-        requires few { self.old.entries < 2 ^ 62 }
         ensures ok { (earlier : List Entry) → HasFollowed self.old earlier → OnOk result ((broken_rule self.old.header earlier entry.now ≡ None) × HasFollowed self.new (entry.now ∷ earlier)) }
         ensures fault { (earlier : List Entry) → HasFollowed self.old earlier → IfErr result (λ f. broken_rule self.old.header earlier entry.now ≡ Some f.rule) }
-        ensures entries { OnOk result (self.new.entries ≡ self.old.entries + 1) }
         ensures refused { OnErr result (self.new ≡ self.old) }
         ensures header { self.new.header ≡ self.old.header }
     {
@@ -133,6 +131,7 @@ impl Shape {
     /// The first rule after that of the callers that the entry of a caller in this phase breaks.
     #[inline(always)]
     fn broken_in(&self, phase: Phase, entry: &Entry) -> Option<Rule>
+        requires { entry.now.caller < self.now.header.callers }
         ensures rule { (earlier : List Entry) → HasFollowed self.now earlier → phase ≡ phase_of entry.now.caller earlier →
             result ≡ first_broken (checks_of self.now.header earlier entry.now.caller entry.now.kind) }
         ensures word { IfNone result (IsWordBelow (plain_words self.now.header) entry.now.kind) }
@@ -151,6 +150,7 @@ impl Shape {
     /// The first rule that a write breaks, of a caller in this phase.
     #[inline(always)]
     fn broken_by_write(&self, phase: Phase, caller: u32, word: u32, value: u64) -> Option<Rule>
+        requires { caller < self.now.header.callers }
         ensures rule { (earlier : List Entry) → HasFollowed self.now earlier → phase ≡ phase_of caller earlier →
             result ≡ first_broken (checks_of self.now.header earlier caller (Kind.Write word value)) }
         ensures word { IfNone result (word < plain_words self.now.header) }
@@ -166,47 +166,56 @@ impl Shape {
     /// Whether another caller holds the word, or it is passed for the caller, whose phase this is.
     #[inline(always)]
     fn is_raced(&self, phase: Phase, caller: u32, word: u32) -> bool
-        requires { word < plain_words self.now.header }
+        requires caller { caller < self.now.header.callers }
+        requires word { word < plain_words self.now.header }
         ensures { (earlier : List Entry) → HasFollowed self.now earlier
             → phase ≡ phase_of caller earlier
             → result ≡ is_raced self.now.header caller word earlier }
     {
-        self.holders.is_held_by_another(caller, word) || self.is_passed(phase, word)
+        self.holders.is_held_by_another(caller, word) || self.is_passed(phase, caller, word)
     }
 
-    /// Whether the word is passed for a caller in this phase.
+    /// Whether the word is passed for the caller, whose phase this is.
     #[inline(always)]
-    fn is_passed(&self, phase: Phase, word: u32) -> bool
-        requires { word < plain_words self.now.header }
-        ensures { (c : ℕ) (earlier : List Entry) → HasFollowed self.now earlier
-            → phase ≡ phase_of c earlier → result ≡ is_passed c word earlier }
+    fn is_passed(&self, phase: Phase, caller: u32, word: u32) -> bool
+        requires caller { caller < self.now.header.callers }
+        requires word { word < plain_words self.now.header }
+        ensures { (earlier : List Entry) → HasFollowed self.now earlier
+            → phase ≡ phase_of caller earlier → result ≡ is_passed caller word earlier }
     {
-        match phase.inner {
-            Some(commit) => self.stamps.is_later(word, commit),
-            None => false,
-        }
+        phase.inner && self.stamps.is_later(word, self.commits.of(caller))
     }
 
     /// Follows an entry that breaks no rule.
     #[inline(always)]
     fn follow(&mut self, entry: &Entry)
         requires in_range { IsInRange self.old.header entry.now }
-        requires few { self.old.entries < 2 ^ 62 }
         ensures followed { (earlier : List Entry) → HasFollowed self.old earlier → broken_rule self.old.header earlier entry.now ≡ None → HasFollowed self.new (entry.now ∷ earlier) }
-        ensures entries { self.new.entries ≡ self.old.entries + 1 }
         ensures header { self.new.header ≡ self.old.header }
     {
         let place = entry.caller as usize;
         let phase = self.phases[place];
-        let stamp = self.entries + 1;
-        self.holders.follow(
-            phase.in_block,
-            entry,
-            phase.effect_stamp(stamp),
-            &mut self.stamps,
-        );
-        self.phases[place] = phase.after(entry.kind, stamp);
-        self.entries = stamp;
+        let stamp = self.effect_stamp(phase, entry.caller);
+        self.holders
+            .follow(phase.in_block, entry, stamp, &mut self.stamps);
+        if phase.commits_inside(entry.kind) {
+            self.commits.add(entry.caller, &mut self.stamps);
+        }
+        self.phases[place] = phase.after(entry.kind);
+    }
+
+    /// When the writes take effect that do so once an entry of the caller, whose phase this is, stands: at the lone commit inside
+    /// its block, and where there is none at that entry.
+    #[inline(always)]
+    fn effect_stamp(&self, phase: Phase, caller: u32) -> u64
+        requires { caller < self.now.header.callers }
+        ensures { result ≡ effect_stamp self.now.commits phase.inner caller }
+    {
+        if phase.inner {
+            self.commits.of(caller)
+        } else {
+            self.commits.next()
+        }
     }
 }
 

@@ -1,13 +1,13 @@
 //! When a write last took effect on each word.
 
-ghost use Rattle.std.specs.Prelude.{◌≡◌, ℕ, max, [], replicate, slice_index, slice_set, nat_lt, IfOk};
+ghost use Rattle.std.specs.Prelude.{◌≡◌, ℕ, ◌≤◌, max, length, replicate, slice_index, slice_set, nat_lt, IfOk};
+ghost use Rattle.vyrd_shape.specs.Stamps.{rank, AreRanked};
 
 use std::alloc::{AllocError, Global};
 use std::marker::Model;
 
-/// For each word the stamp of the last entry at which a write to it took effect. The stamp of an
-/// entry is how many entries the log has with it, so that a later entry has a greater stamp, and 0
-/// stands for none.
+/// For each word a stamp of when a write to it last took effect, and 0 where none did. `Commits` gives
+/// the stamps.
 #[derive(Drop)]
 pub(crate) struct Stamps {
     /// By word, and of no word where stamps aren't needed.
@@ -32,7 +32,7 @@ impl Stamps {
         })
     }
 
-    /// Whether a write took effect on the word after the entry with this stamp.
+    /// Whether a write took effect on the word after the commit with this stamp.
     #[inline(always)]
     pub fn is_later(&self, word: u32, stamp: u64) -> bool
         ensures { result ≡ nat_lt stamp (slice_index self.now word) }
@@ -40,8 +40,8 @@ impl Stamps {
         stamp < self.by_word.get(word as usize).copied().unwrap_or(0)
     }
 
-    /// A write takes effect on the word at the entry with this stamp. Others may have taken effect
-    /// on it after that entry already.
+    /// A write takes effect on the word when this stamp says. Others may have taken effect on it
+    /// after that already.
     #[inline(always)]
     pub fn raise(&mut self, word: u32, stamp: u64)
         ensures { self.new ≡ slice_set self.old word (max (slice_index self.old word) stamp) }
@@ -51,4 +51,28 @@ impl Stamps {
             self.by_word[place] = stamp;
         }
     }
+
+    /// Gives each stamp the number of these commits before it.
+    pub fn renumber(&mut self, commits: &[u64])
+        ensures { AreRanked commits.now self.old self.new }
+    {
+        renumber(&mut self.by_word, commits);
+    }
+}
+
+/// Gives each of the stamps the number of these commits before it.
+pub(crate) fn renumber(stamps: &mut Vec<u64>, commits: &[u64])
+    ensures { AreRanked commits.now stamps.old.items stamps.new.items }
+{
+    for place in 0..stamps.len() {
+        stamps[place] = rank(commits, stamps[place]);
+    }
+}
+
+/// How many of the commits are before this stamp.
+fn rank(commits: &[u64], stamp: u64) -> u64
+    ensures value { result ≡ rank commits.now stamp }
+    ensures most { result ≤ length commits.now }
+{
+    commits.iter().filter(|commit| **commit < stamp).count() as u64
 }

@@ -20,9 +20,6 @@ fn of(caller: u32, kind: Kind) -> Entry {
 fn first_break(alloc: Global, version: u32, entries: &[Entry]) -> Result<Option<Rule>, Fail> {
     let header = Header::new(version, Subject::Multiset, 1, 2).ok_or("no header")?;
     let mut shape = Shape::new(alloc, header)?;
-    if entries.len() > 100 {
-        return Err("a long log")?;
-    }
     for entry in entries {
         if let Err(fault) = shape.step(entry) {
             return Ok(Some(fault.rule));

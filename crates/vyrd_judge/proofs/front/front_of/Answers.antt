@@ -1,4 +1,4 @@
-use Rattle.std.proofs.Common.{◌≡◌, arith, Bool, true, false, Result, Ok, Err, take, sym, subst, ap, ◌∙◌}
+use Rattle.std.proofs.Common.{◌≡◌, Bool, true, false, Result, Ok, Err, take, sym, subst, ap, ◌∙◌}
 use Rattle.std.specs.Result.{MatchResult, is_err}
 use Rattle.std.proofs.Math.Seq.{take-length}
 use Rattle.vyrd_base.specs.Places.{newest_first}
@@ -6,7 +6,6 @@ use Rattle.vyrd_base.specs.Front.{first_break}
 use Rattle.vyrd_base.specs.Verdicts.{is_call_open}
 use Rattle.vyrd_shape.specs.Following.{HasFollowed}
 use Rattle.vyrd_judge.proofs.FrontLaws.{kept_next, newest_next, front_at, break_at, kept_all, take_past, front_of_all, nothing_broken}
-use Rattle.vyrd_judge.proofs.StepLaws.{length-newest_first}
 use Rattle.vyrd_judge.proofs.front.front_of.Goals as goal
 
 pub loop-i-init : goal.loop-i-init
@@ -14,11 +13,6 @@ loop-i-init c = record {
   header = c.in_ok-shape.ensures.header;
   followed = c.in_ok-shape.ensures.followed;
   kept = nothing_broken c.args.header;
-}
-
-pub step-requires : goal.step-requires
-step-requires c = record {
-  few = omega (arith, c.loop-i.invariant.followed.entries, length-newest_first c.args.entries.now c.loop-i.i (omega arith), c.requires.few);
 }
 
 pub loop-i-preserved : goal.loop-i-preserved

@@ -4,13 +4,8 @@ use Rattle.vyrd_base.specs.Verdicts.{first_fault, verdict_so_far}
 use Rattle.vyrd_judge.specs.Queued.{MayQueue}
 use Rattle.vyrd_judge.specs.Following.{Kept, IsFaultless, IsSomewhere}
 use Rattle.vyrd_judge.proofs.StepLaws.{if_ok}
-use Rattle.vyrd_judge.proofs.FollowerLaws.{broken_so_far, may_take, may_queue, low_commits, low_shape, few_commits, few_observers, low_caller_of, taken_all, may_catch_up, keeps_by, answer_with, sound_of}
+use Rattle.vyrd_judge.proofs.FollowerLaws.{broken_so_far, may_take, may_queue, low_commits, few_commits, few_observers, low_caller_of, taken_all, may_catch_up, keeps_by, answer_with, sound_of}
 use Rattle.vyrd_judge.proofs.follower.Follower.take.Goals as goal
-
-pub step-requires : goal.step-requires
-step-requires g c = record {
-  few = low_shape (subst (λ (k : Kept). k.entries < 2 ^ 62) (sym c.self.view_is) c.requires.few) (subst IsSomewhere (sym c.self.view_is) c.requires.somewhere);
-}
 
 pub returns-in-Err-clause-answer : goal.returns-in-Err-clause-answer
 returns-in-Err-clause-answer g c = λ starting log f.

@@ -8,7 +8,7 @@ use Rattle.vyrd_shape.proofs.shape.Shape.end.Goals as goal
 
 pub returns-then-is_any_open : goal.returns-then-is_any_open
 returns-then-is_any_open c = λ earlier followed. let s = c.self.inside in
-    let now = kept_by s.header s.entries s.phases.items s.holders s.stamps in
+    let now = kept_by s.header s.phases.items s.holders s.commits s.stamps in
     let inside : HasFollowed now earlier = rw c.self.view_is followed in
     let is : is_call_open s.header earlier
     ≡ true = sym (call_open_is now earlier c.self.invariant.enough_phases inside)
@@ -18,7 +18,7 @@ returns-then-is_any_open c = λ earlier followed. let s = c.self.inside in
 
 pub returns-else-is_any_open : goal.returns-else-is_any_open
 returns-else-is_any_open c = λ earlier followed. let s = c.self.inside in
-    let now = kept_by s.header s.entries s.phases.items s.holders s.stamps in
+    let now = kept_by s.header s.phases.items s.holders s.commits s.stamps in
     let inside : HasFollowed now earlier = rw c.self.view_is followed in
     let is : is_call_open s.header earlier
     ≡ false = sym (call_open_is now earlier c.self.invariant.enough_phases inside)

@@ -1,26 +1,34 @@
-use Rattle.std.proofs.Common.{◌≡◌, ◌<◌, ◌∙◌, ap, sym, Some, None}
+use Rattle.std.proofs.Common.{◌≡◌, ◌<◌, ◌∙◌, ap, sym, true, false, ◌&&◌, get_or}
+use Rattle.std.specs.Prelude.{nat_lt}
+use Rattle.vyrd_base.specs.Callers.{has_inner_commit}
 use Rattle.vyrd_base.specs.Layout.{plain_words}
-use Rattle.vyrd_shape.specs.Stamps.{inner_stamp}
 use Rattle.vyrd_shape.specs.Following.{HasFollowed}
-use Rattle.vyrd_shape.proofs.ShapeLaws.{kept_by, passed_by, passed_is}
+use Rattle.vyrd_shape.proofs.ShapeLaws.{kept_by, passed_is}
 use Rattle.vyrd_shape.proofs.shape.Shape.is_passed.Goals as goal
 
-pub returns-in-Some : goal.returns-in-Some
-returns-in-Some c = λ who earlier followed is. let s = c.self.inside in
-    let now = kept_by s.header s.entries s.phases.items s.holders s.stamps in
-    let low : c.args.word < plain_words s.header = rw (← c.self.view_is) at c.requires in
+pub returns-then-phase : goal.returns-then-phase
+returns-then-phase c = λ earlier followed is. let s = c.self.inside in
+    let now = kept_by s.header s.phases.items s.holders s.commits s.stamps in
+    let low : c.args.word < plain_words s.header = rw (← c.self.view_is) at c.requires.word in
+    let low_c : c.args.caller < s.header.callers = rw (← c.self.view_is) at c.requires.caller in
     let inside : HasFollowed now earlier = rw c.self.view_is followed in
-    let commit : inner_stamp who earlier ≡ Some c.in-Some.commit
-    = ap (λ phase. phase.inner) (sym is) ∙ c.in-Some.is in
-    c.is_later.ensures ∙ ap (passed_by s.stamps c.args.word) (sym commit)
-    ∙ sym (passed_is now earlier who c.args.word c.self.invariant.enough_stamps low inside)
+    let inner : has_inner_commit c.args.caller earlier ≡ true
+    = ap (λ phase. phase.inner) (sym is) ∙ c.if-phase.true in
+    c.is_later.ensures
+    ∙ ap (λ k. nat_lt k (get_or s.stamps c.args.word 0)) c.of.ensures.stamp
+    ∙ ap (λ b. b && nat_lt (get_or s.commits.by_caller c.args.caller 0) (get_or s.stamps c.args.word 0))
+    (sym inner)
+    ∙ sym (passed_is now earlier c.args.caller c.args.word c.self.invariant.enough_stamps low_c low inside)
 
-pub returns-in-None : goal.returns-in-None
-returns-in-None c = λ who earlier followed is. let s = c.self.inside in
-    let now = kept_by s.header s.entries s.phases.items s.holders s.stamps in
-    let low : c.args.word < plain_words s.header = rw (← c.self.view_is) at c.requires in
+pub returns-else-phase : goal.returns-else-phase
+returns-else-phase c = λ earlier followed is. let s = c.self.inside in
+    let now = kept_by s.header s.phases.items s.holders s.commits s.stamps in
+    let low : c.args.word < plain_words s.header = rw (← c.self.view_is) at c.requires.word in
+    let low_c : c.args.caller < s.header.callers = rw (← c.self.view_is) at c.requires.caller in
     let inside : HasFollowed now earlier = rw c.self.view_is followed in
-    let none : inner_stamp who earlier ≡ None
-    = ap (λ phase. phase.inner) (sym is) ∙ c.in-None.is in
-    ap (passed_by s.stamps c.args.word) (sym none)
-    ∙ sym (passed_is now earlier who c.args.word c.self.invariant.enough_stamps low inside)
+    let none : has_inner_commit c.args.caller earlier ≡ false
+    = ap (λ phase. phase.inner) (sym is) ∙ c.if-phase.false in
+    c.if-phase.false
+    ∙ ap (λ b. b && nat_lt (get_or s.commits.by_caller c.args.caller 0) (get_or s.stamps c.args.word 0))
+    (sym none)
+    ∙ sym (passed_is now earlier c.args.caller c.args.word c.self.invariant.enough_stamps low_c low inside)

@@ -1,0 +1,28 @@
+use Rattle.std.proofs.Common.{refl, sym, subst}
+use Rattle.vyrd_shape.specs.Stamps.{AreGiven, SameOrder}
+use Rattle.vyrd_shape.proofs.OrderLaws.{kept_order, ranked_order}
+use Rattle.vyrd_shape.proofs.commits.Commits.add.Goals as goal
+use Rattle.vyrd_shape.proofs.commits.Commits.add.Goals.{then-self, else-self}
+
+pub returns : goal.returns
+returns c =
+    let old = c.args.self.now in
+    let stamps = c.args.stamps.now in
+    let same : SameOrder old stamps c.if-self.self c.if-self.stamps = elim c.if-self.branch [
+      | then-self w ↦
+          let new = w.renumber.new in
+          let ranked = ranked_order old new.self stamps new.stamps w.renumber.ensures.commits
+          w.renumber.ensures.next w.renumber.ensures.stamps in
+          subst (λ k. SameOrder old stamps k c.if-self.stamps) (sym w.self-is)
+          (subst (SameOrder old stamps new.self) (sym w.stamps-is) ranked)
+      | else-self w ↦
+          let given : AreGiven old.by_caller old.next
+          = subst (λ k. AreGiven k.by_caller k.next) c.self.view_is c.self.invariant.0 in
+          subst (λ k. SameOrder old stamps k c.if-self.stamps) (sym w.self-is)
+          (subst (SameOrder old stamps old) (sym w.stamps-is) (kept_order old stamps given))
+    ] in
+    record {
+      before = record { by_caller = c.self-2.inside.by_caller.items; next = c.self-2.inside.next };
+      same = subst (λ k. SameOrder old stamps k c.if-self.stamps) (sym c.self-2.view_is) same;
+      is = refl;
+    }

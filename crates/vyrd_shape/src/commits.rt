@@ -1,0 +1,87 @@
+//! When each caller's last lone commit inside a block was.
+
+ghost use Rattle.std.specs.Prelude.{◌≡◌, ◌+◌, ◌<◌, length, replicate, slice_index, IfOk};
+ghost use Rattle.vyrd_shape.specs.Stamps.{AreRanked, IsAdded};
+
+use crate::stamps::{Stamps, renumber};
+use std::alloc::{AllocError, Global};
+use std::marker::Model;
+
+/// For each caller the stamp of its last lone commit inside a block. A stamp is greater than all that
+/// were given before it. Only their order counts.
+#[derive(Drop)]
+pub(crate) struct Commits {
+    /// By caller.
+    by_caller: Vec<u64>,
+    /// By caller, what is copied here while the stamps are numbered anew.
+    before: Vec<u64>,
+    /// The next stamp, which is greater than that of any commit.
+    next: u64,
+}
+
+impl Model for Commits {
+    ghost use Rattle.std.specs.Prelude.{◌≡◌, length};
+    ghost use Rattle.vyrd_shape.specs.Stamps.{CommitStamps, AreGiven};
+
+    ghost Value = { CommitStamps };
+
+    ghost view = { λ s. record { by_caller = s.by_caller.items; next = s.next } };
+
+    ghost invariant = { λ s. AreGiven s.by_caller.items s.next × (length s.before.items ≡ length s.by_caller.items) };
+}
+
+impl Commits {
+    /// No caller has had such a commit.
+    pub fn new(alloc: Global, callers: u32) -> Result<Commits, AllocError>
+        ensures { IfOk result (λ s. s ≡ record { by_caller = replicate callers 0; next = 1 }) }
+    {
+        Ok(Commits {
+            by_caller: vec![in alloc; 0; callers as usize]?,
+            before: vec![in alloc; 0; callers as usize]?,
+            next: 1,
+        })
+    }
+
+    /// The stamp of the caller's commit.
+    #[inline(always)]
+    pub fn of(&self, caller: u32) -> u64
+        requires { caller < length self.now.by_caller }
+        ensures stamp { result ≡ slice_index self.now.by_caller caller }
+        ensures given { result < self.now.next }
+    {
+        self.by_caller[caller as usize]
+    }
+
+    /// The stamp of what happens now.
+    #[inline(always)]
+    pub fn next(&self) -> u64
+        ensures { result ≡ self.now.next }
+    {
+        self.next
+    }
+
+    /// The caller commits inside its block. It takes constant time, but for one call in 2^64, or fewer: where the next stamp is
+    /// the greatest, all are numbered anew in their order.
+    pub fn add(&mut self, caller: u32, stamps: &mut Stamps)
+        requires { caller < length self.old.by_caller }
+        ensures { IsAdded caller self.old stamps.old self.new stamps.new }
+    {
+        if self.next == u64::MAX {
+            self.renumber(stamps);
+        }
+        self.by_caller[caller as usize] = self.next;
+        self.next += 1;
+    }
+
+    /// Gives each stamp the number of commits before it, so that the order of commits, and of a commit and a write, stays.
+    fn renumber(&mut self, stamps: &mut Stamps)
+        ensures commits { AreRanked self.old.by_caller self.old.by_caller self.new.by_caller }
+        ensures next { self.new.next ≡ length self.old.by_caller + 1 }
+        ensures stamps { AreRanked self.old.by_caller stamps.old stamps.new }
+    {
+        self.before.copy_from_slice(&self.by_caller);
+        stamps.renumber(&self.before);
+        renumber(&mut self.by_caller, &self.before);
+        self.next = self.by_caller.len() as u64 + 1;
+    }
+}
