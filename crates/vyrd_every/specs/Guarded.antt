@@ -2,8 +2,8 @@
 use Rattle.std.proofs.Common.{◌≡◌, ℕ, ◌+◌, ◌*◌, ◌/◌, refl, ◌∙◌, arith}
 use Rattle.vyrd_base.specs.declared.header.Header.{Header}
 use Rattle.vyrd_memory.proofs.Memories as memories
-use Rattle.vyrd_multiset.specs.Slots as slots
-use Rattle.vyrd_multiset.specs.Laws.Slotted.{IsMultiset}
+use Rattle.vyrd_multiset.specs.Cells as slots
+use Rattle.vyrd_multiset.specs.Contents.{IsMultiset}
 use Rattle.vyrd_cache.specs.Procedures as chunks
 use Rattle.vyrd_every.specs.Structures.{Structure}
 

@@ -7,9 +7,9 @@ use Rattle.vyrd_memory.specs.declared.op.Variant.TheVariants.{Correct}
 use Rattle.vyrd_memory.specs.Alone.{Memory, Outcome, state_in, alone, GivesUpWhere}
 use Rattle.vyrd_multiset.specs.Procedures.{insert, insert_pair}
 use Rattle.vyrd_multiset.specs.Room.{free_slots_for, has_room_for_both}
-use Rattle.vyrd_multiset.specs.Laws.Slotted.{is_multiset}
-use Rattle.vyrd_multiset.specs.Laws.Played.{Ended}
-use Rattle.vyrd_multiset.specs.Laws.Done.{InsertDone, insert_done, PairDone, pair_done}
+use Rattle.vyrd_multiset.specs.Laws.Alone.Changes.{is_multiset}
+use Rattle.vyrd_multiset.specs.Laws.Alone.Played.{Ended}
+use Rattle.vyrd_multiset.specs.Laws.Alone.Done.{InsertDone, insert_done, PairDone, pair_done}
 
 by_outcome : (P : Type 0) (Q : ℕ → Memory → Type 0) (o : Option Outcome) → Ended o Q
     → ((reply : ℕ) (after : Memory) → Q reply after → (reply ≡ 0 → P) × (P → reply ≡ 0)) → GivesUpWhere P o

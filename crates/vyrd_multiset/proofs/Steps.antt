@@ -10,9 +10,9 @@ use Rattle.vyrd_multiset.specs.declared.place.Look.{Look}
 use Rattle.vyrd_multiset.specs.declared.place.Finding.{Finding}
 use Rattle.vyrd_multiset.specs.declared.place.Finding.TheVariants as finding
 use Rattle.vyrd_multiset.specs.declared.task.Task.{Task}
-use Rattle.vyrd_multiset.specs.Slots.{bucket_of}
+use Rattle.vyrd_multiset.specs.Cells.{bucket_of}
 use Rattle.vyrd_multiset.specs.Procedures.{find_from, find_unlock, reserve, search_from}
-use Rattle.vyrd_multiset.specs.Rest.{finding_rest, rest_at}
+use Rattle.vyrd_multiset.specs.Rests.{finding_rest, rest_at}
 
 -- what is sound at a place is sound at the same place
 pub sound_at : (h : Header) (task : Task) (p q : Place) → p ≡ q → IsSoundSomewhere h (rest_at h task p) → IsSoundSomewhere h (rest_at h task q)

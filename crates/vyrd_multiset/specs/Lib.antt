@@ -1,5 +1,6 @@
-pub mod Slots
+pub mod Cells
 pub mod Procedures
-pub mod Rest
+pub mod Rests
+pub mod Contents
 pub mod Room
 pub mod Laws

@@ -1,32 +1,26 @@
 -- The procedures of the multiset, from after the mark of the call to the mark of the return.
 use Rattle.std.specs.Prelude.{ℕ, zero, suc, ◌+◌, ◌==◌, min, max, Option, Some, None, is_some, if◌then◌else◌}
 use Rattle.vyrd_base.specs.declared.header.Header.{Header}
+use Rattle.vyrd_base.specs.declared.subject.Args.{Args}
 use Rattle.vyrd_base.specs.declared.subject.Method.{Method}
 use Rattle.vyrd_base.specs.declared.subject.Method.TheVariants.{MsInsert, MsInsertPair, MsDelete, MsLookup}
 use Rattle.vyrd_base.specs.declared.log.Kind.TheVariants.{Commit, BlockOpen, BlockCommit}
-use Rattle.vyrd_memory.specs.declared.act.Act.TheVariants.{Load, Store, Take, Give, Mark}
+use Rattle.vyrd_memory.specs.declared.act.Act.TheVariants.{Load, Store, Mark}
 use Rattle.vyrd_memory.specs.declared.op.Op.{Op}
 use Rattle.vyrd_memory.specs.declared.op.Variant.{Variant}
 use Rattle.vyrd_memory.specs.declared.op.Variant.TheVariants.{Correct, Broken}
 use Rattle.vyrd_memory.specs.Scripts.{Script, stop, step, perform, returns, gives_up}
-use Rattle.vyrd_multiset.specs.Slots.{bucket_of, first_slot, state_word, value_word, lock_of}
-
--- lock a bucket, and go on
-abbrev pub lock : Header → ℕ → Script → Script
-lock h bucket later = perform (Take (lock_of h bucket)) later
-
--- unlock a bucket, and go on
-abbrev pub unlock : Header → ℕ → Script → Script
-unlock h bucket later = perform (Give (lock_of h bucket)) later
+use Rattle.vyrd_multiset.specs.Cells.{bucket_of, first_slot, state_cell, value_cell, lock, unlock}
 
 -- store the value, and the state 1
 abbrev pub reserve : ℕ → ℕ → Script → Script
-reserve slot value later = perform (Store (value_word slot) value) (perform (Store (state_word slot) 1) later)
+reserve slot value later =
+    perform (Store (value_cell slot) value) (perform (Store (state_cell slot) 1) later)
 
 -- Look for a free slot from this one on, with so many left: load the states, and reserve the first slot with the state 0.
 abbrev pub find_from : ℕ → ℕ → ℕ → (Option ℕ → Script) → Script
 find_from zero slot value found = found None
-find_from (suc left) slot value found = step (Load (state_word slot)) (λ state.
+find_from (suc left) slot value found = step (Load (state_cell slot)) (λ state.
     if state == 0 then reserve slot value (found (Some slot)) else find_from left (slot + 1) value found)
 
 -- The correct variant locks the bucket while it looks for a slot, and the broken one doesn't.
@@ -46,8 +40,10 @@ find h variant value found = find_lock h variant (bucket_of h value)
 
 -- in a block that commits give the slot its state, unlock the bucket, and return 1
 abbrev pub commit_state : Header → ℕ → ℕ → ℕ → Script
-commit_state h bucket slot state = perform (Mark BlockOpen) (perform (Store (state_word slot) state) (perform (Mark BlockCommit)
-    (unlock h bucket (returns 1))))
+commit_state h bucket slot state =
+    perform (Mark BlockOpen)
+    (perform (Store (state_cell slot) state)
+    (perform (Mark BlockCommit) (unlock h bucket (returns 1))))
 
 -- what an insert does with the slot that it found: it makes the slot valid
 abbrev pub inserted : Header → ℕ → Option ℕ → Script
@@ -82,7 +78,10 @@ unlock_both h first second = unlock_other h first second (unlock h first (return
 
 -- in a block that commits make both slots valid
 abbrev pub validate_both : Header → ℕ → ℕ → ℕ → ℕ → Script
-validate_both h first second slot_x slot_y = perform (Mark BlockOpen) (perform (Store (state_word slot_x) 2) (perform (Store (state_word slot_y) 2)
+validate_both h first second slot_x slot_y =
+    perform (Mark BlockOpen)
+    (perform (Store (state_cell slot_x) 2)
+    (perform (Store (state_cell slot_y) 2)
     (perform (Mark BlockCommit) (unlock_both h first second))))
 
 -- do so under the locks of the two buckets
@@ -91,7 +90,8 @@ commit_both h first second slot_x slot_y = lock h first (lock_other h first seco
 
 -- free the slot that was reserved for x, and give up
 abbrev pub undo : Header → ℕ → ℕ → Script
-undo h x slot = lock h (bucket_of h x) (perform (Store (state_word slot) 0) (unlock h (bucket_of h x) gives_up))
+undo h x slot = lock h (bucket_of h x)
+    (perform (Store (state_cell slot) 0) (unlock h (bucket_of h x) gives_up))
 
 -- what an insert_pair does with the slot that it found for y, where it has one for x
 abbrev pub second_found : Header → Variant → ℕ → ℕ → ℕ → Option ℕ → Script
@@ -110,13 +110,14 @@ insert_pair h variant x y = find h variant x (first_found h variant x y)
 
 -- load the value of a slot, and go on by whether it is this one
 abbrev pub compare : ℕ → ℕ → Script → Script → Script
-compare slot value same other = step (Load (value_word slot)) (λ loaded. if loaded == value then same else other)
+compare slot value same other =
+    step (Load (value_cell slot)) (λ loaded. if loaded == value then same else other)
 
 -- Search a value from this slot on, with so many left: load the states, and the value where the state is 2. The search ends at
 -- the first slot with the state 2 and the value.
 abbrev pub search_from : ℕ → ℕ → ℕ → (Option ℕ → Script) → Script
 search_from zero slot value ended = ended None
-search_from (suc left) slot value ended = step (Load (state_word slot)) (λ state.
+search_from (suc left) slot value ended = step (Load (state_cell slot)) (λ state.
     if state == 2 then compare slot value (ended (Some slot)) (search_from left (slot + 1) value ended)
     else search_from left (slot + 1) value ended)
 
@@ -141,14 +142,14 @@ looked_up h x slot = unlock h (bucket_of h x) (returns (if is_some slot then 1 e
 abbrev pub lookup : Header → ℕ → Script
 lookup h x = search_in h x (looked_up h x)
 
--- the procedure of each method; those of another subject have none
-abbrev pub by_method : Header → Variant → Method → ℕ → ℕ → Script
-by_method h variant MsInsert x y = insert h variant x
-by_method h variant MsInsertPair x y = insert_pair h variant x y
-by_method h variant MsDelete x y = delete h x
-by_method h variant MsLookup x y = lookup h x
-by_method h variant _ x y = stop
+-- the procedure of a method's call with these arguments; that of another subject's method is empty
+abbrev pub procedure_of : Header → Variant → Method → Args → Script
+procedure_of h variant MsInsert args = insert h variant args.a
+procedure_of h variant MsInsertPair args = insert_pair h variant args.a args.b
+procedure_of h variant MsDelete args = delete h args.a
+procedure_of h variant MsLookup args = lookup h args.a
+procedure_of h variant _ args = stop
 
 -- the procedure of an operation
 abbrev pub multiset_procedure : Header → Variant → Op → Script
-multiset_procedure h variant op = by_method h variant op.method op.args.a op.args.b
+multiset_procedure h variant op = procedure_of h variant op.method op.args

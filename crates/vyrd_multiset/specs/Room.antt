@@ -2,12 +2,13 @@
 use Rattle.std.specs.Prelude.{ℕ, zero, suc, ◌+◌, ◌==◌, nat_le, Bool, ◌&&◌, if◌then◌else◌}
 use Rattle.vyrd_base.specs.declared.header.Header.{Header}
 use Rattle.vyrd_memory.specs.Alone.{Memory}
-use Rattle.vyrd_multiset.specs.Slots.{bucket_of, first_slot, state_word}
+use Rattle.vyrd_multiset.specs.Cells.{bucket_of, first_slot, state_cell}
 
 -- how many slots are free among so many from this one on
 abbrev pub free_from : Memory → ℕ → ℕ → ℕ
 free_from memory slot zero = 0
-free_from memory slot (suc left) = (if memory (state_word slot) == 0 then 1 else 0) + free_from memory (slot + 1) left
+free_from memory slot (suc left) =
+    (if memory (state_cell slot) == 0 then 1 else 0) + free_from memory (slot + 1) left
 
 -- how many slots are free in the bucket of a value
 abbrev pub free_slots_for : Header → Memory → ℕ → ℕ

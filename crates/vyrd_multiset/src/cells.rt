@@ -1,7 +1,7 @@
 //! The cells of slots and buckets.
 
 ghost use Rattle.std.specs.Prelude.{◌≡◌, ◌+◌, ◌*◌, ◌<◌, ◌^◌};
-ghost use Rattle.vyrd_multiset.specs.Slots.{bucket_of, first_slot, state_word, value_word, lock_of};
+ghost use Rattle.vyrd_multiset.specs.Cells.{bucket_of, first_slot, state_cell, value_cell, lock_of};
 
 use vyrd_base::Header;
 
@@ -42,18 +42,18 @@ pub(crate) fn lock_for(header: &Header, value: u32) -> u32
     lock_of(header, bucket_of(header, value))
 }
 
-/// The word of a slot's state.
-pub(crate) fn state_word(slot: u32) -> u32
-    requires { state_word slot < 2 ^ 32 }
-    ensures { result ≡ state_word slot }
+/// The cell of a slot's state.
+pub(crate) fn state_cell(slot: u32) -> u32
+    requires { state_cell slot < 2 ^ 32 }
+    ensures { result ≡ state_cell slot }
 {
     2 * slot
 }
 
-/// The word of a slot's value.
-pub(crate) fn value_word(slot: u32) -> u32
-    requires { value_word slot < 2 ^ 32 }
-    ensures { result ≡ value_word slot }
+/// The cell of a slot's value.
+pub(crate) fn value_cell(slot: u32) -> u32
+    requires { value_cell slot < 2 ^ 32 }
+    ensures { result ≡ value_cell slot }
 {
     2 * slot + 1
 }

@@ -3,10 +3,9 @@
 ghost use Rattle.std.specs.Prelude.{◌≡◌};
 ghost use Rattle.vyrd_base.specs.declared.subject.Subject.TheVariants.{Multiset};
 ghost use Rattle.vyrd_multiset.specs.Procedures.{multiset_procedure};
-ghost use Rattle.vyrd_multiset.specs.Rest.{rest_of};
-ghost use Rattle.vyrd_multiset.specs.Laws.Sound.{procedure_is_sound};
-ghost use Rattle.vyrd_multiset.specs.Laws.Bounded.{procedure_ends_in_time};
-ghost use Rattle.vyrd_multiset.specs.Laws.Right.{procedure_is_right_alone};
+ghost use Rattle.vyrd_multiset.specs.Rests.{rest_of};
+ghost use Rattle.vyrd_multiset.specs.Laws.{multiset_is_sound, multiset_ends_in_time};
+ghost use Rattle.vyrd_multiset.specs.Laws.{multiset_is_right_alone};
 
 use crate::place::{Place, Query, Searching, Want};
 use crate::task::Task;
@@ -28,12 +27,6 @@ impl Progress for MultisetProgress {
     ghost procedure = { multiset_procedure };
 
     ghost rest = { rest_of };
-
-    ghost is_sound = { procedure_is_sound };
-
-    ghost ends_in_time = { procedure_ends_in_time };
-
-    ghost is_right_alone = { procedure_is_right_alone };
 
     fn begin(header: &Header, variant: Variant, op: Op) -> Self {
         let task = Task {
@@ -61,4 +54,10 @@ impl Progress for MultisetProgress {
             place: self.task.after(header, self.place, answer),
         }
     }
+
+    ghost is_sound = { multiset_is_sound };
+
+    ghost ends_in_time = { multiset_ends_in_time };
+
+    ghost is_right_alone = { multiset_is_right_alone };
 }

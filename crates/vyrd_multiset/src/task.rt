@@ -4,12 +4,14 @@ ghost use Rattle.std.specs.Prelude.{◌≡◌, ◌<◌, ◌+◌, ◌^◌};
 ghost use Rattle.vyrd_base.specs.declared.subject.Subject.TheVariants.{Multiset};
 ghost use Rattle.vyrd_memory.specs.Scripts.{next_act, after_answer};
 ghost use Rattle.vyrd_memory.specs.Soundness.{IsSoundSomewhere};
-ghost use Rattle.vyrd_multiset.specs.Slots.{bucket_of, first_slot};
+ghost use Rattle.vyrd_multiset.specs.Cells.{bucket_of, first_slot};
 ghost use Rattle.vyrd_multiset.specs.Procedures.{find, find_unlock, search_from};
-ghost use Rattle.vyrd_multiset.specs.Rest.{wanted, found_for, ended_for, finding_rest, searching_rest, changing_rest, pairing_rest, undoing_rest, first_of, second_of, rest_at};
+ghost use Rattle.vyrd_multiset.specs.Rests.{wanted, found_for, ended_for, finding_rest};
+ghost use Rattle.vyrd_multiset.specs.Rests.{searching_rest, changing_rest, pairing_rest};
+ghost use Rattle.vyrd_multiset.specs.Rests.{undoing_rest, first_of, second_of, rest_at};
 
 use crate::cells::{
-    FREE, RESERVED, VALID, bucket_of, first_slot_for, lock_for, lock_of, state_word, value_word,
+    FREE, RESERVED, VALID, bucket_of, first_slot_for, lock_for, lock_of, state_cell, value_cell,
 };
 use crate::place::{Changing, Finding, Look, Pairing, Place, Query, Searching, Undoing, Want};
 use vyrd_base::{Header, Kind};
@@ -98,11 +100,11 @@ impl Task {
     {
         match place {
             Finding::Lock => Act::Take(lock_for(header, self.wanted(want))),
-            Finding::Load(look) => Act::Load(state_word(look.slot)),
+            Finding::Load(look) => Act::Load(state_cell(look.slot)),
             Finding::StoreValue(slot) => {
-                Act::Store(value_word(slot), u64::from(self.wanted(want)))
+                Act::Store(value_cell(slot), u64::from(self.wanted(want)))
             }
-            Finding::StoreState(slot) => Act::Store(state_word(slot), RESERVED),
+            Finding::StoreState(slot) => Act::Store(state_cell(slot), RESERVED),
             Finding::Unlock(_) => Act::Give(lock_for(header, self.wanted(want))),
         }
     }
@@ -169,8 +171,8 @@ impl Task {
     {
         match place {
             Searching::Lock => Act::Take(lock_for(header, self.x)),
-            Searching::LoadState(look) => Act::Load(state_word(look.slot)),
-            Searching::LoadValue(look) => Act::Load(value_word(look.slot)),
+            Searching::LoadState(look) => Act::Load(state_cell(look.slot)),
+            Searching::LoadValue(look) => Act::Load(value_cell(look.slot)),
         }
     }
 
@@ -231,7 +233,7 @@ impl Task {
     {
         match place {
             Changing::Open => Act::Mark(Kind::BlockOpen),
-            Changing::Store => Act::Store(state_word(slot), state),
+            Changing::Store => Act::Store(state_cell(slot), state),
             Changing::Close => Act::Mark(Kind::BlockCommit),
         }
     }
@@ -281,8 +283,8 @@ impl Task {
             Pairing::Lock => Act::Take(lock_of(header, self.first_of(header))),
             Pairing::LockOther => Act::Take(lock_of(header, self.second_of(header))),
             Pairing::Open => Act::Mark(Kind::BlockOpen),
-            Pairing::StoreFirst => Act::Store(state_word(slot_x), VALID),
-            Pairing::StoreSecond => Act::Store(state_word(slot_y), VALID),
+            Pairing::StoreFirst => Act::Store(state_cell(slot_x), VALID),
+            Pairing::StoreSecond => Act::Store(state_cell(slot_y), VALID),
             Pairing::Close => Act::Mark(Kind::BlockCommit),
             Pairing::UnlockOther => Act::Give(lock_of(header, self.second_of(header))),
             Pairing::Unlock => Act::Give(lock_of(header, self.first_of(header))),
@@ -318,7 +320,7 @@ impl Task {
     {
         match place {
             Undoing::Lock => Act::Take(lock_for(header, self.x)),
-            Undoing::Store => Act::Store(state_word(slot), FREE),
+            Undoing::Store => Act::Store(state_cell(slot), FREE),
             Undoing::Unlock => Act::Give(lock_for(header, self.x)),
         }
     }

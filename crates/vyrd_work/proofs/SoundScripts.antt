@@ -10,7 +10,7 @@ use Rattle.vyrd_memory.specs.Scripts.{Script, stop}
 use Rattle.vyrd_memory.specs.Soundness.{IsSound, at_rest}
 use Rattle.vyrd_memory.specs.PlayerLaws.{AreSound, operations-sound, callable_method, callable_args, callable_small}
 use Rattle.vyrd_memory.specs.Runs.{AreSoundScripts}
-use Rattle.vyrd_multiset.specs.Laws.Sound.{procedure_is_sound}
+use Rattle.vyrd_multiset.specs.Laws.{multiset_is_sound}
 use Rattle.vyrd_cache.specs.Laws.{cache_is_sound}
 use Rattle.vyrd_tree.specs.Laws.{tree_is_sound}
 use Rattle.vyrd_work.specs.Workloads.{Workload}
@@ -30,7 +30,7 @@ how_many f k (suc n) = ap suc (how_many f (k + 1) n)
 -- each structure's procedures are sound
 procedures_sound : (subject : Subject) (h : Header) (variant : Variant) → h.subject ≡ subject → AreSound h (procedure_in subject h variant)
 procedures_sound Multiset h variant is = λ op callable.
-    procedure_is_sound h variant op is (callable_method h op callable ∙ is) (callable_args h op callable) (callable_small h op callable)
+    multiset_is_sound h variant op is (callable_method h op callable ∙ is) (callable_args h op callable) (callable_small h op callable)
 procedures_sound Cache h variant is = λ op callable.
     cache_is_sound h variant op is (callable_method h op callable ∙ is) (callable_args h op callable) (callable_small h op callable)
 procedures_sound Tree h variant is = λ op callable.

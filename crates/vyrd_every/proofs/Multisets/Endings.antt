@@ -13,9 +13,10 @@ use Rattle.vyrd_memory.specs.Alone.{Memory, with_cell}
 use Rattle.vyrd_memory.proofs.Memories.{changed_cell, other_cell}
 use Rattle.vyrd_memory.specs.Scripts.{Script, perform, returns, gives_up}
 use Rattle.vyrd_memory.specs.Soundness.{Standing, holds}
-use Rattle.vyrd_multiset.specs.Slots.{bucket_of, lock_of}
-use Rattle.vyrd_multiset.specs.Procedures.{unlock, commit_state, undo, validate_both, unlock_both}
-use Rattle.vyrd_multiset.specs.Laws.Slotted.{IsMultiset, left_invalid, made_valid}
+use Rattle.vyrd_multiset.specs.Cells.{bucket_of, lock_of, unlock}
+use Rattle.vyrd_multiset.specs.Procedures.{commit_state, undo, validate_both, unlock_both}
+use Rattle.vyrd_multiset.specs.Contents.{IsMultiset}
+use Rattle.vyrd_multiset.specs.Laws.Alone.Changes.{left_invalid, made_valid}
 use Rattle.vyrd_every.specs.Hands.{Hand, Access}
 use Rattle.vyrd_every.specs.Others.{Guarantee}
 use Rattle.vyrd_every.specs.RightScripts.{WillReturn, DoesRight}

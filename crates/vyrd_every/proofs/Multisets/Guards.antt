@@ -13,7 +13,7 @@ use Rattle.vyrd_base.specs.Views.{slot_parts, parts_of, view_of_words}
 use Rattle.vyrd_base.proofs.SumLaws.{given_nothing}
 use Rattle.vyrd_memory.proofs.NumberLists.{element_below, flat_map_alike}
 use Rattle.vyrd_memory.proofs.PartSums.{collected-is}
-use Rattle.vyrd_multiset.specs.Laws.Slotted.{IsMultiset, parts_in}
+use Rattle.vyrd_multiset.specs.Contents.{IsMultiset, parts_in}
 use Rattle.vyrd_multiset.specs.Laws.Sound.{is_its_lock}
 use Rattle.vyrd_every.specs.Structures.{Fits, shown_by}
 use Rattle.vyrd_every.specs.Guarded.{multiset}

@@ -21,9 +21,12 @@ use Rattle.vyrd_memory.specs.Alone.{Memory, with_cell}
 use Rattle.vyrd_memory.proofs.Memories.{changed_cell, other_cell}
 use Rattle.vyrd_memory.specs.Scripts.{Script, returns}
 use Rattle.vyrd_memory.specs.Soundness.{holds, just_called}
-use Rattle.vyrd_multiset.specs.Slots.{bucket_of, lock_of}
-use Rattle.vyrd_multiset.specs.Procedures.{lock, unlock, find, search_from, search_in, validate_both, commit_both, lock_other, inserted, second_found, first_found, deleted, looked_up, by_method, multiset_procedure}
-use Rattle.vyrd_multiset.specs.Laws.Slotted.{IsMultiset, made_valid, made_free, is_there, isnt_there}
+use Rattle.vyrd_multiset.specs.Cells.{bucket_of, lock_of, lock, unlock}
+use Rattle.vyrd_multiset.specs.Procedures.{find, search_from, search_in, validate_both, commit_both}
+use Rattle.vyrd_multiset.specs.Procedures.{lock_other, inserted, second_found, first_found, deleted}
+use Rattle.vyrd_multiset.specs.Procedures.{looked_up, procedure_of, multiset_procedure}
+use Rattle.vyrd_multiset.specs.Contents.{IsMultiset}
+use Rattle.vyrd_multiset.specs.Laws.Alone.Changes.{made_valid, made_free, is_there, isnt_there}
 use Rattle.vyrd_multiset.specs.Laws.Sound.{bucket_low, gone}
 use Rattle.vyrd_every.specs.Hands.{Hand, Access}
 use Rattle.vyrd_every.specs.RightScripts.{WillReturn, DoesRight, IsRight}
@@ -307,7 +310,7 @@ lookup_right h k shown args none is =
 -- the procedure of each operation
 procedure_right : (h : Header) (k : Hand) (shown : Memory) (method : Method) (args : Args) → subject_of method ≡ Multiset → ((i : ℕ) → k.owned i ≡ false)
     → k.called ≡ Some (record { method = method; args = args })
-    → DoesRight (multiset h) (just_called method) k shown (by_method h Correct method args.a args.b)
+    → DoesRight (multiset h) (just_called method) k shown (procedure_of h Correct method args)
 procedure_right h k shown MsInsert args of none is = insert_right h k shown args none is
 procedure_right h k shown MsInsertPair args of none is = insert_pair_right h k shown args none is
 procedure_right h k shown MsDelete args of none is = delete_right h k shown args none is

@@ -1,3 +1,4 @@
+-- Proofs of laws that an impl in src/ names: no contract says what is defined here.
 -- Each procedure is sound.
 use Rattle.std.proofs.Common.{◌≡◌, ℕ, zero, suc, ◌+◌, ◌*◌, ◌^◌, ◌<◌, ◌≤◌, min, max, Bool, true, false, cond, not, List, [], ◌∷◌, Option, Some, None, refl, ap, ◌∙◌, sym, subst, arith}
 use Rattle.std.specs.Prelude.{◌==◌, ◌&&◌, ◌||◌, nat_lt, nat_le, is_some, filter, IsTrue}
@@ -7,21 +8,25 @@ use Rattle.vyrd_base.specs.declared.header.Header.{Header}
 use Rattle.vyrd_base.specs.declared.subject.Subject.TheVariants.{Multiset}
 use Rattle.vyrd_base.specs.declared.subject.Method.{Method}
 use Rattle.vyrd_base.specs.declared.subject.Method.TheVariants.{MsInsert, MsInsertPair, MsDelete, MsLookup, CaWrite, CaFlush, CaEvict, CaRead, TrInsert, TrDelete, TrLookup}
+use Rattle.vyrd_base.specs.declared.subject.Args.{Args}
 use Rattle.vyrd_base.specs.declared.log.Kind.TheVariants.{BlockCommit}
 use Rattle.vyrd_base.specs.Limits.{is_within}
-use Rattle.vyrd_base.specs.Subjects.{subject_of, are_args, is_observer}
+use Rattle.vyrd_base.specs.Subjects.{subject_of, is_observer}
 use Rattle.vyrd_base.specs.Layout.{plain_words_of, lock_words_of}
 use Rattle.vyrd_base.specs.Histories.{cells_of, is_plain, is_lock}
 use Rattle.vyrd_base.proofs.TestLaws.{both_true, same_number, is_below}
 use Rattle.vyrd_memory.specs.declared.act.Act.TheVariants.{Load, Store, Mark}
-use Rattle.vyrd_memory.specs.declared.op.Op.{Op}
 use Rattle.vyrd_memory.specs.declared.op.Variant.{Variant}
 use Rattle.vyrd_memory.specs.declared.op.Variant.TheVariants.{Correct, Broken}
 use Rattle.vyrd_memory.specs.Scripts.{Script, step, perform, returns, gives_up}
 use Rattle.vyrd_memory.specs.Arguments.{are_small}
 use Rattle.vyrd_memory.specs.Soundness.{Standing, IsSound, just_called, holds}
-use Rattle.vyrd_multiset.specs.Slots.{bucket_of, first_slot, state_word, value_word, lock_of}
-use Rattle.vyrd_multiset.specs.Procedures.{lock, unlock, reserve, find_from, find, commit_state, inserted, lock_other, unlock_both, validate_both, commit_both, undo, second_found, first_found, compare, search_from, search_in, deleted, looked_up, by_method, multiset_procedure}
+use Rattle.vyrd_multiset.specs.Cells.{bucket_of, first_slot, state_cell, value_cell, lock_of, lock}
+use Rattle.vyrd_multiset.specs.Cells.{unlock}
+use Rattle.vyrd_multiset.specs.Procedures.{reserve, find_from, find, commit_state, inserted}
+use Rattle.vyrd_multiset.specs.Procedures.{lock_other, unlock_both, validate_both, commit_both}
+use Rattle.vyrd_multiset.specs.Procedures.{undo, second_found, first_found, compare, search_from}
+use Rattle.vyrd_multiset.specs.Procedures.{search_in, deleted, looked_up, procedure_of}
 
 -- the size of a header isn't 0
 pub some_size : (h : Header) → 1 ≤ h.size
@@ -37,10 +42,12 @@ bucket_low h value = omega (arith, some_size h)
 between : (a n b : ℕ) → a ≤ b → b < a + n → (nat_le a b && nat_lt b (a + n)) ≡ true
 between a n b l m = grind (arith, nat_tests)
 
-state_is_plain : (h : Header) → h.subject ≡ Multiset → (slot : ℕ) → slot < 4 * h.size → is_plain (cells_of h) (state_word slot) ≡ true
+state_is_plain : (h : Header) → h.subject ≡ Multiset → (slot : ℕ) → slot < 4 * h.size
+    → is_plain (cells_of h) (state_cell slot) ≡ true
 state_is_plain h is slot low = ap (λ s. nat_lt (2 * slot) (plain_words_of s h.size)) is ∙ is_below (2 * slot) (8 * h.size) (omega arith)
 
-value_is_plain : (h : Header) → h.subject ≡ Multiset → (slot : ℕ) → slot < 4 * h.size → is_plain (cells_of h) (value_word slot) ≡ true
+value_is_plain : (h : Header) → h.subject ≡ Multiset → (slot : ℕ) → slot < 4 * h.size
+    → is_plain (cells_of h) (value_cell slot) ≡ true
 value_is_plain h is slot low = ap (λ s. nat_lt (2 * slot + 1) (plain_words_of s h.size)) is ∙ is_below (2 * slot + 1) (8 * h.size) (omega arith)
 
 pub is_its_lock : (h : Header) → h.subject ≡ Multiset → (bucket : ℕ) → bucket < h.size → is_lock (cells_of h) (lock_of h bucket) ≡ true
@@ -99,12 +106,16 @@ find_from_sound : (h : Header) (s : Standing) (left slot value : ℕ) (found : O
     → IsSound h s (find_from left slot value found)
 find_from_sound h s zero slot value found is called fits low some none = none
 find_from_sound h s (suc left) slot value found is called fits low some none =
-    load_sound h s (state_word slot) (λ state. cond (state == 0) (reserve slot value (found (Some slot))) (find_from left (slot + 1) value found))
+    load_sound h s (state_cell slot)
+    (λ state. cond (state == 0) (reserve slot value (found (Some slot)))
+    (find_from left (slot + 1) value found))
     (state_is_plain h is slot (omega arith))
     (λ state. elim (state == 0) as (λ b. IsSound h s (cond b (reserve slot value (found (Some slot))) (find_from left (slot + 1) value found))) [
-      | true ↦ store_sound h s (value_word slot) value (perform (Store (state_word slot) 1) (found (Some slot)))
+      | true ↦ store_sound h s (value_cell slot) value
+          (perform (Store (state_cell slot) 1) (found (Some slot)))
           (value_is_plain h is slot (omega arith)) low called
-          (store_sound h s (state_word slot) 1 (found (Some slot)) (state_is_plain h is slot (omega arith)) (omega arith) called
+          (store_sound h s (state_cell slot) 1 (found (Some slot))
+          (state_is_plain h is slot (omega arith)) (omega arith) called
           (some slot (omega arith)))
       | false ↦ find_from_sound h s left (slot + 1) value found is called (omega arith) low some none
     ])
@@ -115,13 +126,15 @@ search_from_sound : (h : Header) (s : Standing) (left slot value : ℕ) (ended :
 search_from_sound h s zero slot value ended is fits some none = none
 search_from_sound h s (suc left) slot value ended is fits some none =
     let on : IsSound h s (search_from left (slot + 1) value ended) = search_from_sound h s left (slot + 1) value ended is (omega arith) some none in
-    load_sound h s (state_word slot)
+    load_sound h s (state_cell slot)
     (λ state. cond (state == 2) (compare slot value (ended (Some slot)) (search_from left (slot + 1) value ended))
     (search_from left (slot + 1) value ended))
     (state_is_plain h is slot (omega arith))
     (λ state. elim (state == 2) as (λ b. IsSound h s
     (cond b (compare slot value (ended (Some slot)) (search_from left (slot + 1) value ended)) (search_from left (slot + 1) value ended))) [
-      | true ↦ load_sound h s (value_word slot) (λ loaded. cond (loaded == value) (ended (Some slot)) (search_from left (slot + 1) value ended))
+      | true ↦ load_sound h s (value_cell slot)
+          (λ loaded. cond (loaded == value) (ended (Some slot))
+          (search_from left (slot + 1) value ended))
           (value_is_plain h is slot (omega arith))
           (λ loaded. elim (loaded == value) as (λ b. IsSound h s (cond b (ended (Some slot)) (search_from left (slot + 1) value ended))) [
             | true ↦ some slot (omega arith)
@@ -166,7 +179,8 @@ commit_state_sound h method x slot state is mutates low small =
     let b : ℕ = bucket_of h x in (
       refl,
       λ answer is'.
-          store_sound h (in_block (lock_of h b ∷ []) method) (state_word slot) state (perform (Mark BlockCommit) (unlock h b (returns 1)))
+          store_sound h (in_block (lock_of h b ∷ []) method) (state_cell slot) state
+          (perform (Mark BlockCommit) (unlock h b (returns 1)))
           (state_is_plain h is slot low) small refl
           (simp mutates, λ answer' is''. give_last h b method true (returns 1) is (bucket_low h x) (returns_sound h method 1)),
     )
@@ -181,8 +195,10 @@ undo_sound : (h : Header) (method : Method) (x : ℕ) → h.subject ≡ Multiset
     → IsSound h (holding [] method false) (undo h x slot)
 undo_sound h method x is mutates slot low =
     let b : ℕ = bucket_of h x in
-    take_first h b method false (perform (Store (state_word slot) 0) (unlock h b gives_up)) is (bucket_low h x)
-    (store_sound h (holding (lock_of h b ∷ []) method false) (state_word slot) 0 (unlock h b gives_up)
+    take_first h b method false (perform (Store (state_cell slot) 0) (unlock h b gives_up)) is
+    (bucket_low h x)
+    (store_sound h (holding (lock_of h b ∷ []) method false) (state_cell slot) 0
+    (unlock h b gives_up)
     (state_is_plain h is slot low) (omega arith) refl
     (give_last h b method false gives_up is (bucket_low h x) (gives_up_sound h method mutates)))
 
@@ -194,10 +210,12 @@ validate_both_sound : (h : Header) (method : Method) (locks : List ℕ) (first s
 validate_both_sound h method locks first second slot_x slot_y is mutates low_x low_y sound = (
   refl,
   λ answer is'.
-      store_sound h (in_block locks method) (state_word slot_x) 2
-      (perform (Store (state_word slot_y) 2) (perform (Mark BlockCommit) (unlock_both h first second)))
+      store_sound h (in_block locks method) (state_cell slot_x) 2
+      (perform (Store (state_cell slot_y) 2)
+      (perform (Mark BlockCommit) (unlock_both h first second)))
       (state_is_plain h is slot_x low_x) (omega arith) refl
-      (store_sound h (in_block locks method) (state_word slot_y) 2 (perform (Mark BlockCommit) (unlock_both h first second))
+      (store_sound h (in_block locks method) (state_cell slot_y) 2
+      (perform (Mark BlockCommit) (unlock_both h first second))
       (state_is_plain h is slot_y low_y)
       (omega arith) refl
       (simp mutates, λ answer' is''. sound)),
@@ -274,33 +292,40 @@ looked_up_sound h method x is observes slot =
     let reply : ℕ = cond (is_some slot) 1 0 in
     give_last h (bucket_of h x) method false (returns reply) is (bucket_low h x) (observed_sound h method reply observes)
 
-by_method_sound : (h : Header) (variant : Variant) (method : Method) (x y : ℕ) → h.subject ≡ Multiset
-    → subject_of method ≡ Multiset → x < 2 ^ 63 → y < 2 ^ 63
-    → IsSound h (just_called method) (by_method h variant method x y)
-by_method_sound h variant MsInsert x y is of small_x small_y =
-    find_sound h variant MsInsert x (inserted h x) is small_x (inserted_sound h MsInsert x is refl) (gives_up_sound h MsInsert refl)
-by_method_sound h variant MsInsertPair x y is of small_x small_y =
-    find_sound h variant MsInsertPair x (first_found h variant x y) is small_x (first_found_sound h variant MsInsertPair x y is refl small_y)
+by_method_sound : (h : Header) (variant : Variant) (method : Method) (args : Args)
+    → h.subject ≡ Multiset → subject_of method ≡ Multiset → args.a < 2 ^ 63 → args.b < 2 ^ 63
+    → IsSound h (just_called method) (procedure_of h variant method args)
+by_method_sound h variant MsInsert args is of small_x small_y =
+    find_sound h variant MsInsert args.a (inserted h args.a) is small_x
+    (inserted_sound h MsInsert args.a is refl) (gives_up_sound h MsInsert refl)
+by_method_sound h variant MsInsertPair args is of small_x small_y =
+    find_sound h variant MsInsertPair args.a (first_found h variant args.a args.b) is small_x
+    (first_found_sound h variant MsInsertPair args.a args.b is refl small_y)
     (gives_up_sound h MsInsertPair refl)
-by_method_sound h variant MsDelete x y is of small_x small_y =
-    search_in_sound h MsDelete x (deleted h x) is (λ slot low. commit_state_sound h MsDelete x slot 0 is refl low (omega arith))
-    (absent_sound h MsDelete x is refl)
-by_method_sound h variant MsLookup x y is of small_x small_y =
-    search_in_sound h MsLookup x (looked_up h x) is (λ slot low. looked_up_sound h MsLookup x is refl (Some slot))
-    (looked_up_sound h MsLookup x is refl None)
-by_method_sound h variant CaWrite x y is of small_x small_y = cc
-by_method_sound h variant CaFlush x y is of small_x small_y = cc
-by_method_sound h variant CaEvict x y is of small_x small_y = cc
-by_method_sound h variant CaRead x y is of small_x small_y = cc
-by_method_sound h variant TrInsert x y is of small_x small_y = cc
-by_method_sound h variant TrDelete x y is of small_x small_y = cc
-by_method_sound h variant TrLookup x y is of small_x small_y = cc
+by_method_sound h variant MsDelete args is of small_x small_y =
+    search_in_sound h MsDelete args.a (deleted h args.a) is
+    (λ slot low. commit_state_sound h MsDelete args.a slot 0 is refl low (omega arith))
+    (absent_sound h MsDelete args.a is refl)
+by_method_sound h variant MsLookup args is of small_x small_y =
+    search_in_sound h MsLookup args.a (looked_up h args.a) is
+    (λ slot low. looked_up_sound h MsLookup args.a is refl (Some slot))
+    (looked_up_sound h MsLookup args.a is refl None)
+by_method_sound h variant CaWrite args is of small_x small_y = cc
+by_method_sound h variant CaFlush args is of small_x small_y = cc
+by_method_sound h variant CaEvict args is of small_x small_y = cc
+by_method_sound h variant CaRead args is of small_x small_y = cc
+by_method_sound h variant TrInsert args is of small_x small_y = cc
+by_method_sound h variant TrDelete args is of small_x small_y = cc
+by_method_sound h variant TrLookup args is of small_x small_y = cc
 
-pub procedure_is_sound : (h : Header) (variant : Variant) (op : Op) → h.subject ≡ Multiset → subject_of op.method ≡ Multiset
-    → are_args h.size op.method op.args ≡ true → are_small op.args ≡ true → IsSound h (just_called op.method) (multiset_procedure h variant op)
-procedure_is_sound h variant op is of args numbers =
-    by_method_sound h variant op.method op.args.a op.args.b is of (number_below op.args.a op.args.b op.args.c numbers).0
-    (number_below op.args.a op.args.b op.args.c numbers).1
+pub procedure_sound : (h : Header) (variant : Variant) (method : Method) (args : Args)
+    → h.subject ≡ Multiset → subject_of method ≡ Multiset → are_small args ≡ true
+    → IsSound h (just_called method) (procedure_of h variant method args)
+procedure_sound h variant method args is of small =
+    by_method_sound h variant method args is of (number_below args.a args.b args.c small).0
+    (number_below args.a args.b args.c small).1
   where
-    number_below : (a b c : ℕ) → (nat_lt a (2 ^ 32) && nat_lt b (2 ^ 32) && nat_lt c (2 ^ 32)) ≡ true → (a < 2 ^ 63) × (b < 2 ^ 63)
+    number_below : (a b c : ℕ)
+        → (nat_lt a (2 ^ 32) && nat_lt b (2 ^ 32) && nat_lt c (2 ^ 32)) ≡ true
+        → (a < 2 ^ 63) × (b < 2 ^ 63)
     number_below a b c e = (grind (arith, nat_tests), grind (arith, nat_tests))

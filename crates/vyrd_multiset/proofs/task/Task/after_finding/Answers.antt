@@ -1,4 +1,4 @@
-use Rattle.vyrd_multiset.specs.Rest.{wanted, found_for}
+use Rattle.vyrd_multiset.specs.Rests.{wanted, found_for}
 use Rattle.vyrd_multiset.proofs.Steps.{find_next}
 use Rattle.vyrd_multiset.proofs.task.Task.after_finding.Goals as goal
 

@@ -1,4 +1,4 @@
-use Rattle.vyrd_multiset.specs.Rest.{ended_for}
+use Rattle.vyrd_multiset.specs.Rests.{ended_for}
 use Rattle.vyrd_multiset.proofs.Steps.{search_next}
 use Rattle.vyrd_multiset.proofs.task.Task.search_on.Goals as goal
 

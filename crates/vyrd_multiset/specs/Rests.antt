@@ -23,8 +23,11 @@ use Rattle.vyrd_multiset.specs.declared.place.Undoing.{Undoing}
 use Rattle.vyrd_multiset.specs.declared.place.Undoing.TheVariants as undoing
 use Rattle.vyrd_multiset.specs.declared.task.Task.{Task}
 use Rattle.vyrd_multiset.specs.declared.progress.MultisetProgress.{MultisetProgress}
-use Rattle.vyrd_multiset.specs.Slots.{bucket_of, first_slot, state_word}
-use Rattle.vyrd_multiset.specs.Procedures.{lock, unlock, reserve, find_from, find_unlock, commit_state, inserted, first_bucket, second_bucket, unlock_both, validate_both, commit_both, undo, second_found, first_found, compare, search_from, search_in, deleted, looked_up}
+use Rattle.vyrd_multiset.specs.Cells.{bucket_of, first_slot, state_cell, lock, unlock}
+use Rattle.vyrd_multiset.specs.Procedures.{reserve, find_from, find_unlock, commit_state, inserted}
+use Rattle.vyrd_multiset.specs.Procedures.{first_bucket, second_bucket, unlock_both, validate_both}
+use Rattle.vyrd_multiset.specs.Procedures.{commit_both, undo, second_found, first_found, compare}
+use Rattle.vyrd_multiset.specs.Procedures.{search_from, search_in, deleted, looked_up}
 
 -- the value for which a slot is wanted
 abbrev pub wanted : Task → Want → ℕ
@@ -51,7 +54,8 @@ finding_rest h variant value found (finding.Load look) =
     find_from (suc look.after) look.slot value (λ slot. find_unlock h variant (bucket_of h value) (found slot))
 finding_rest h variant value found (finding.StoreValue slot) = reserve slot value (find_unlock h variant (bucket_of h value) (found (Some slot)))
 finding_rest h variant value found (finding.StoreState slot) =
-    perform (Store (state_word slot) 1) (find_unlock h variant (bucket_of h value) (found (Some slot)))
+    perform (Store (state_cell slot) 1)
+    (find_unlock h variant (bucket_of h value) (found (Some slot)))
 finding_rest h variant value found (finding.Unlock slot) = unlock h (bucket_of h value) (found slot)
 
 -- what is left of a search
@@ -63,7 +67,9 @@ searching_rest h x ended (searching.LoadValue look) = compare look.slot x (ended
 -- what is left of changing a slot
 abbrev pub changing_rest : Header → ℕ → ℕ → ℕ → Changing → Script
 changing_rest h bucket slot state changing.Open = commit_state h bucket slot state
-changing_rest h bucket slot state changing.Store = perform (Store (state_word slot) state) (perform (Mark BlockCommit) (unlock h bucket (returns 1)))
+changing_rest h bucket slot state changing.Store =
+    perform (Store (state_cell slot) state)
+    (perform (Mark BlockCommit) (unlock h bucket (returns 1)))
 changing_rest h bucket slot state changing.Close = perform (Mark BlockCommit) (unlock h bucket (returns 1))
 
 -- what is left of making two slots valid, under the locks of two buckets
@@ -72,9 +78,11 @@ pairing_rest h first second slot_x slot_y pairing.Lock = commit_both h first sec
 pairing_rest h first second slot_x slot_y pairing.LockOther = lock h second (validate_both h first second slot_x slot_y)
 pairing_rest h first second slot_x slot_y pairing.Open = validate_both h first second slot_x slot_y
 pairing_rest h first second slot_x slot_y pairing.StoreFirst =
-    perform (Store (state_word slot_x) 2) (perform (Store (state_word slot_y) 2) (perform (Mark BlockCommit) (unlock_both h first second)))
+    perform (Store (state_cell slot_x) 2)
+    (perform (Store (state_cell slot_y) 2)
+    (perform (Mark BlockCommit) (unlock_both h first second)))
 pairing_rest h first second slot_x slot_y pairing.StoreSecond =
-    perform (Store (state_word slot_y) 2) (perform (Mark BlockCommit) (unlock_both h first second))
+    perform (Store (state_cell slot_y) 2) (perform (Mark BlockCommit) (unlock_both h first second))
 pairing_rest h first second slot_x slot_y pairing.Close = perform (Mark BlockCommit) (unlock_both h first second)
 pairing_rest h first second slot_x slot_y pairing.UnlockOther = unlock h second (unlock h first (returns 1))
 pairing_rest h first second slot_x slot_y pairing.Unlock = unlock h first (returns 1)
@@ -82,7 +90,8 @@ pairing_rest h first second slot_x slot_y pairing.Unlock = unlock h first (retur
 -- what is left of freeing a reserved slot
 abbrev pub undoing_rest : Header → ℕ → ℕ → Undoing → Script
 undoing_rest h x slot undoing.Lock = undo h x slot
-undoing_rest h x slot undoing.Store = perform (Store (state_word slot) 0) (unlock h (bucket_of h x) gives_up)
+undoing_rest h x slot undoing.Store =
+    perform (Store (state_cell slot) 0) (unlock h (bucket_of h x) gives_up)
 undoing_rest h x slot undoing.Unlock = unlock h (bucket_of h x) gives_up
 
 -- the bucket that is locked first for a pair

@@ -1,3 +1,4 @@
+-- Proofs of laws that an impl in src/ names: no contract says what is defined here.
 -- What each correct procedure has done when it is over, played alone from a memory that stands for a state.
 use Rattle.std.proofs.Common.{◌≡◌, ◌≢◌, ℕ, ◌+◌, ◌-◌, ◌*◌, ◌%◌, ◌/◌, ◌<◌, ◌≤◌, ◌⊎◌, inl, inr, min, max, Bool, true, false, cond, [], ◌∷◌, Option, Some, None, refl, ap, ◌∙◌, sym, subst, arith}
 use Rattle.std.specs.Prelude.{◌==◌, ◌&&◌, nat_le}
@@ -12,13 +13,20 @@ use Rattle.vyrd_memory.specs.declared.op.Variant.TheVariants.{Correct}
 use Rattle.vyrd_memory.specs.Scripts.{Script, perform, returns, gives_up}
 use Rattle.vyrd_memory.specs.Alone.{Memory, with_cell, alone}
 use Rattle.vyrd_memory.proofs.Memories.{changed_cell, other_cell}
-use Rattle.vyrd_multiset.specs.Slots.{bucket_of, first_slot, state_word, lock_of}
-use Rattle.vyrd_multiset.specs.Procedures.{lock, unlock, lock_other, validate_both, find_from, find, commit_state, inserted, insert, commit_both, second_found, first_found, insert_pair, search_from, search_in, deleted, delete, looked_up, lookup}
+use Rattle.vyrd_multiset.specs.Cells.{bucket_of, first_slot, state_cell, lock_of, lock, unlock}
+use Rattle.vyrd_multiset.specs.Procedures.{lock_other, validate_both, find_from, find, commit_state}
+use Rattle.vyrd_multiset.specs.Procedures.{inserted, insert, commit_both, second_found, first_found}
+use Rattle.vyrd_multiset.specs.Procedures.{insert_pair, search_from, search_in, deleted, delete}
+use Rattle.vyrd_multiset.specs.Procedures.{looked_up, lookup}
 use Rattle.vyrd_multiset.specs.Room.{free_slots_for, has_room_for_both}
 use Rattle.vyrd_multiset.specs.Laws.Sound.{some_size, bucket_low}
-use Rattle.vyrd_multiset.specs.Laws.Slotted.{IsMultiset, changed, made_valid, left_invalid, made_free, is_there, isnt_there}
-use Rattle.vyrd_multiset.specs.Laws.Played.{Ended, take_played, with_reserved, find_from_played, search_from_played}
-use Rattle.vyrd_multiset.specs.Laws.Counted.{free_none, free_some, free_two, free_one_at_most}
+use Rattle.vyrd_multiset.specs.Contents.{IsMultiset}
+use Rattle.vyrd_multiset.specs.Laws.Alone.Changes.{changed, made_valid, left_invalid, made_free}
+use Rattle.vyrd_multiset.specs.Laws.Alone.Changes.{is_there, isnt_there}
+use Rattle.vyrd_multiset.specs.Laws.Alone.Played.{Ended, take_played, with_reserved}
+use Rattle.vyrd_multiset.specs.Laws.Alone.Played.{find_from_played, search_from_played}
+use Rattle.vyrd_multiset.specs.Laws.Alone.FreeSlots.{free_none, free_some, free_two}
+use Rattle.vyrd_multiset.specs.Laws.Alone.FreeSlots.{free_one_at_most}
 
 -- a lock that was free is given back: the cell is as it was
 pub given_back : (before during : Memory) (lock cell : ℕ) → before lock ≡ 0 → (cell ≢ lock → during cell ≡ before cell)
@@ -294,7 +302,9 @@ stored memory j k = with_cell (with_cell memory (2 * j) 2) (2 * k) 2
 -- what is done under both locks, by whether the second bucket is the same
 abbrev validated : Header → ℕ → ℕ → ℕ → ℕ → Bool → Script
 validated h first second j k same =
-    perform (Mark BlockOpen) (perform (Store (state_word j) 2) (perform (Store (state_word k) 2) (perform (Mark BlockCommit)
+    perform (Mark BlockOpen)
+    (perform (Store (state_cell j) 2)
+    (perform (Store (state_cell k) 2) (perform (Mark BlockCommit)
     (cond same (unlock h first (returns 1)) (unlock h second (unlock h first (returns 1)))))))
 
 -- what is done under the first lock, by whether the second bucket is the same
@@ -403,7 +413,8 @@ pair_done h c memory s x y m =
             → Ended (alone c (second_found h Correct x y j None) last)
             (PairDone h memory s x y)
         no_second last same taken =
-            take_played c held (perform (Store (state_word j) 0) (unlock h (bucket_of h x) gives_up)) last (PairDone h memory s x y) free
+            take_played c held (perform (Store (state_cell j) 0)
+            (unlock h (bucket_of h x) gives_up)) last (PairDone h memory s x y) free
             (inr (
               refl,
               left_invalid h memory (stored_under last held c j 0) s j m range.0

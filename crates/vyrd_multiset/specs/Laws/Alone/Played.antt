@@ -1,3 +1,4 @@
+-- Proofs of laws that an impl in src/ names: no contract says what is defined here.
 -- How the parts of the procedures are played alone.
 use Rattle.std.proofs.Common.{◌≡◌, ◌≢◌, ℕ, zero, suc, ◌+◌, ◌*◌, ◌<◌, ◌≤◌, Bool, true, false, cond, Option, Some, None, refl, ap, sym, subst, arith}
 use Rattle.std.specs.Prelude.{◌==◌}
@@ -5,7 +6,7 @@ use Rattle.vyrd_base.proofs.TestLaws.{same_of, apart_of}
 use Rattle.vyrd_memory.specs.declared.act.Act.TheVariants.{Take}
 use Rattle.vyrd_memory.specs.Scripts.{Script, perform}
 use Rattle.vyrd_memory.specs.Alone.{Memory, with_cell, Outcome, alone}
-use Rattle.vyrd_multiset.specs.Slots.{state_word, value_word}
+use Rattle.vyrd_multiset.specs.Cells.{state_cell, value_cell}
 use Rattle.vyrd_multiset.specs.Procedures.{find_from, reserve, compare, search_from}
 
 -- there is an outcome, and this holds of its reply and its memory
@@ -26,7 +27,8 @@ take_played c lock later memory Q free e = subst (λ b. Ended (cond b (alone c l
 
 -- the memory after a slot was reserved
 abbrev pub with_reserved : Memory → ℕ → ℕ → Memory
-with_reserved memory slot value = with_cell (with_cell memory (value_word slot) value) (state_word slot) 1
+with_reserved memory slot value =
+    with_cell (with_cell memory (value_cell slot) value) (state_cell slot) 1
 
 -- A free slot is found among the slots from this one on, or all of them have another state.
 pub find_from_played : (c : ℕ) (memory : Memory) (Q : ℕ → Memory → Type 0) (left slot value : ℕ) (found : Option ℕ → Script)

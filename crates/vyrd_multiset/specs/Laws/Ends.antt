@@ -1,3 +1,4 @@
+-- Proofs of laws that an impl in src/ names: no contract says what is defined here.
 -- Each procedure ends in time.
 use Rattle.std.proofs.Common.{◌≡◌, ℕ, zero, suc, ◌+◌, ◌-◌, true, false, cond, Option, Some, None, refl, sym, subst, arith}
 use Rattle.std.specs.Prelude.{◌==◌, is_some}
@@ -5,18 +6,23 @@ use Rattle.vyrd_base.specs.declared.header.Header.{Header}
 use Rattle.vyrd_base.specs.declared.subject.Subject.TheVariants.{Multiset}
 use Rattle.vyrd_base.specs.declared.subject.Method.{Method}
 use Rattle.vyrd_base.specs.declared.subject.Method.TheVariants.{MsInsert, MsInsertPair, MsDelete, MsLookup, CaWrite, CaFlush, CaEvict, CaRead, TrInsert, TrDelete, TrLookup}
+use Rattle.vyrd_base.specs.declared.subject.Args.{Args}
 use Rattle.vyrd_base.specs.declared.log.Kind.TheVariants.{Commit, BlockOpen, BlockCommit}
-use Rattle.vyrd_base.specs.Subjects.{subject_of, are_args}
+use Rattle.vyrd_base.specs.Subjects.{subject_of}
 use Rattle.vyrd_memory.specs.declared.act.Act.TheVariants.{Store, Take, Give, Mark}
-use Rattle.vyrd_memory.specs.declared.op.Op.{Op}
 use Rattle.vyrd_memory.specs.declared.op.Variant.{Variant}
 use Rattle.vyrd_memory.specs.declared.op.Variant.TheVariants.{Correct, Broken}
 use Rattle.vyrd_memory.specs.Scripts.{Script, perform, returns, gives_up}
-use Rattle.vyrd_memory.specs.Arguments.{are_small}
 use Rattle.vyrd_memory.specs.Bounds.{bound_in, bound_of, EndsByReturn}
 use Rattle.vyrd_memory.proofs.TimedActs.{in_more, loads_in, acts_in, returns_in, gives_up_in}
-use Rattle.vyrd_multiset.specs.Slots.{bucket_of, first_slot, state_word, value_word, lock_of}
-use Rattle.vyrd_multiset.specs.Procedures.{lock, unlock, reserve, find_from, find, commit_state, inserted, insert, first_bucket, second_bucket, lock_other, unlock_both, validate_both, commit_both, undo, second_found, first_found, insert_pair, compare, search_from, search_in, deleted, delete, looked_up, lookup, by_method, multiset_procedure}
+use Rattle.vyrd_multiset.specs.Cells.{bucket_of, first_slot, state_cell, value_cell, lock_of, lock}
+use Rattle.vyrd_multiset.specs.Cells.{unlock}
+use Rattle.vyrd_multiset.specs.Procedures.{reserve, find_from, find, commit_state, inserted, insert}
+use Rattle.vyrd_multiset.specs.Procedures.{first_bucket, second_bucket, lock_other, unlock_both}
+use Rattle.vyrd_multiset.specs.Procedures.{validate_both, commit_both, undo, second_found}
+use Rattle.vyrd_multiset.specs.Procedures.{first_found, insert_pair, compare, search_from}
+use Rattle.vyrd_multiset.specs.Procedures.{search_in, deleted, delete, looked_up, lookup}
+use Rattle.vyrd_multiset.specs.Procedures.{procedure_of}
 
 -- finding a slot takes a load for each slot and two stores
 find_from_ends : (n left slot value : ℕ) (found : Option ℕ → Script) → ((slot : Option ℕ) → EndsByReturn n (found slot)) → EndsByReturn (n + 2 + left)
@@ -24,13 +30,14 @@ find_from_ends : (n left slot value : ℕ) (found : Option ℕ → Script) → (
 find_from_ends n zero slot value found ends = in_more n (n + 2 + 0) (found None) (omega arith) (ends None)
 find_from_ends n (suc left) slot value found ends =
     in_more (n + 2 + left + 1) (n + 2 + suc left) (find_from (suc left) slot value found) (omega arith)
-    (loads_in (n + 2 + left) (state_word slot)
+    (loads_in (n + 2 + left) (state_cell slot)
     (λ state. cond (state == 0) (reserve slot value (found (Some slot))) (find_from left (slot + 1) value found))
     (λ state. elim (state == 0) as (λ b. EndsByReturn (n + 2 + left)
     (cond b (reserve slot value (found (Some slot))) (find_from left (slot + 1) value found))) [
       | true ↦ in_more (n + 1 + 1) (n + 2 + left) (reserve slot value (found (Some slot))) (omega arith)
-          (acts_in (n + 1) (Store (value_word slot) value) (perform (Store (state_word slot) 1) (found (Some slot))) refl
-          (acts_in n (Store (state_word slot) 1) (found (Some slot)) refl (ends (Some slot))))
+          (acts_in (n + 1) (Store (value_cell slot) value)
+          (perform (Store (state_cell slot) 1) (found (Some slot))) refl
+          (acts_in n (Store (state_cell slot) 1) (found (Some slot)) refl (ends (Some slot))))
       | false ↦ find_from_ends n left (slot + 1) value found ends
     ]))
 
@@ -42,12 +49,12 @@ search_from_ends n zero slot value ended ends = in_more n (n + (0 + 0)) (ended N
 search_from_ends n (suc left) slot value ended ends =
     let on : EndsByReturn (n + (left + left)) (search_from left (slot + 1) value ended) = search_from_ends n left (slot + 1) value ended ends in
     in_more (n + (left + left) + 1 + 1) (n + (suc left + suc left)) (search_from (suc left) slot value ended) (omega arith)
-    (loads_in (n + (left + left) + 1) (state_word slot)
+    (loads_in (n + (left + left) + 1) (state_cell slot)
     (λ state. cond (state == 2) (compare slot value (ended (Some slot)) (search_from left (slot + 1) value ended))
     (search_from left (slot + 1) value ended))
     (λ state. elim (state == 2) as (λ b. EndsByReturn (n + (left + left) + 1)
     (cond b (compare slot value (ended (Some slot)) (search_from left (slot + 1) value ended)) (search_from left (slot + 1) value ended))) [
-      | true ↦ loads_in (n + (left + left)) (value_word slot)
+      | true ↦ loads_in (n + (left + left)) (value_cell slot)
           (λ loaded. cond (loaded == value) (ended (Some slot)) (search_from left (slot + 1) value ended))
           (λ loaded. elim (loaded == value) as
           (λ b. EndsByReturn (n + (left + left)) (cond b (ended (Some slot)) (search_from left (slot + 1) value ended))) [
@@ -80,8 +87,11 @@ search_in_ends n h x ended ends =
 
 commit_state_ends : (h : Header) (bucket slot state : ℕ) → EndsByReturn 5 (commit_state h bucket slot state)
 commit_state_ends h bucket slot state =
-    acts_in 4 (Mark BlockOpen) (perform (Store (state_word slot) state) (perform (Mark BlockCommit) (unlock h bucket (returns 1)))) refl
-    (acts_in 3 (Store (state_word slot) state) (perform (Mark BlockCommit) (unlock h bucket (returns 1))) refl
+    acts_in 4 (Mark BlockOpen)
+    (perform (Store (state_cell slot) state)
+    (perform (Mark BlockCommit) (unlock h bucket (returns 1)))) refl
+    (acts_in 3 (Store (state_cell slot) state)
+    (perform (Mark BlockCommit) (unlock h bucket (returns 1))) refl
     (acts_in 2 (Mark BlockCommit) (unlock h bucket (returns 1)) refl
     (acts_in 1 (Give (lock_of h bucket)) (returns 1) refl (returns_in 1))))
 
@@ -102,10 +112,14 @@ unlock_both_ends h first second =
 
 validate_both_ends : (h : Header) (first second slot_x slot_y : ℕ) → EndsByReturn 7 (validate_both h first second slot_x slot_y)
 validate_both_ends h first second slot_x slot_y =
-    acts_in 6 (Mark BlockOpen) (perform (Store (state_word slot_x) 2)
-    (perform (Store (state_word slot_y) 2) (perform (Mark BlockCommit) (unlock_both h first second)))) refl
-    (acts_in 5 (Store (state_word slot_x) 2) (perform (Store (state_word slot_y) 2) (perform (Mark BlockCommit) (unlock_both h first second))) refl
-    (acts_in 4 (Store (state_word slot_y) 2) (perform (Mark BlockCommit) (unlock_both h first second)) refl
+    acts_in 6 (Mark BlockOpen) (perform (Store (state_cell slot_x) 2)
+    (perform (Store (state_cell slot_y) 2)
+    (perform (Mark BlockCommit) (unlock_both h first second)))) refl
+    (acts_in 5 (Store (state_cell slot_x) 2)
+    (perform (Store (state_cell slot_y) 2)
+    (perform (Mark BlockCommit) (unlock_both h first second))) refl
+    (acts_in 4 (Store (state_cell slot_y) 2)
+    (perform (Mark BlockCommit) (unlock_both h first second)) refl
     (acts_in 3 (Mark BlockCommit) (unlock_both h first second) refl (unlock_both_ends h first second))))
 
 commit_both_ends : (h : Header) (first second slot_x slot_y : ℕ) → EndsByReturn 9 (commit_both h first second slot_x slot_y)
@@ -124,8 +138,9 @@ commit_both_ends h first second slot_x slot_y =
 
 undo_ends : (h : Header) (x slot : ℕ) → EndsByReturn 5 (undo h x slot)
 undo_ends h x slot =
-    acts_in 4 (Take (lock_of h (bucket_of h x))) (perform (Store (state_word slot) 0) (unlock h (bucket_of h x) gives_up)) refl
-    (acts_in 3 (Store (state_word slot) 0) (unlock h (bucket_of h x) gives_up) refl
+    acts_in 4 (Take (lock_of h (bucket_of h x)))
+    (perform (Store (state_cell slot) 0) (unlock h (bucket_of h x) gives_up)) refl
+    (acts_in 3 (Store (state_cell slot) 0) (unlock h (bucket_of h x) gives_up) refl
     (acts_in 2 (Give (lock_of h (bucket_of h x))) gives_up refl gives_up_in))
 
 second_found_ends : (h : Header) (variant : Variant) (x y slot_x : ℕ) (slot : Option ℕ) → EndsByReturn 9 (second_found h variant x y slot_x slot)
@@ -148,27 +163,32 @@ looked_up_ends h x slot =
     let reply : ℕ = cond (is_some slot) 1 0 in
     acts_in 1 (Give (lock_of h (bucket_of h x))) (returns reply) refl (returns_in reply)
 
-by_method_ends : (h : Header) (variant : Variant) (method : Method) (x y : ℕ) → subject_of method ≡ Multiset
-    → EndsByReturn 31 (by_method h variant method x y)
-by_method_ends h variant MsInsert x y of =
-    in_more (6 + 8) 31 (insert h variant x) (omega arith) (find_ends 6 h variant x (inserted h x) (inserted_ends h x))
-by_method_ends h variant MsInsertPair x y of =
-    in_more (17 + 8) 31 (insert_pair h variant x y) (omega arith)
-    (find_ends 17 h variant x (first_found h variant x y) (first_found_ends h variant x y))
-by_method_ends h variant MsDelete x y of =
-    in_more (5 + 9) 31 (delete h x) (omega arith) (search_in_ends 5 h x (deleted h x) (deleted_ends h x))
-by_method_ends h variant MsLookup x y of =
-    in_more (2 + 9) 31 (lookup h x) (omega arith) (search_in_ends 2 h x (looked_up h x) (looked_up_ends h x))
-by_method_ends h variant CaWrite x y of = cc
-by_method_ends h variant CaFlush x y of = cc
-by_method_ends h variant CaEvict x y of = cc
-by_method_ends h variant CaRead x y of = cc
-by_method_ends h variant TrInsert x y of = cc
-by_method_ends h variant TrDelete x y of = cc
-by_method_ends h variant TrLookup x y of = cc
+by_method_ends : (h : Header) (variant : Variant) (method : Method) (args : Args)
+    → subject_of method ≡ Multiset → EndsByReturn 31 (procedure_of h variant method args)
+by_method_ends h variant MsInsert args of =
+    in_more (6 + 8) 31 (insert h variant args.a) (omega arith)
+    (find_ends 6 h variant args.a (inserted h args.a) (inserted_ends h args.a))
+by_method_ends h variant MsInsertPair args of =
+    in_more (17 + 8) 31 (insert_pair h variant args.a args.b) (omega arith)
+    (find_ends 17 h variant args.a (first_found h variant args.a args.b)
+    (first_found_ends h variant args.a args.b))
+by_method_ends h variant MsDelete args of =
+    in_more (5 + 9) 31 (delete h args.a) (omega arith)
+    (search_in_ends 5 h args.a (deleted h args.a) (deleted_ends h args.a))
+by_method_ends h variant MsLookup args of =
+    in_more (2 + 9) 31 (lookup h args.a) (omega arith)
+    (search_in_ends 2 h args.a (looked_up h args.a) (looked_up_ends h args.a))
+by_method_ends h variant CaWrite args of = cc
+by_method_ends h variant CaFlush args of = cc
+by_method_ends h variant CaEvict args of = cc
+by_method_ends h variant CaRead args of = cc
+by_method_ends h variant TrInsert args of = cc
+by_method_ends h variant TrDelete args of = cc
+by_method_ends h variant TrLookup args of = cc
 
-pub procedure_ends_in_time : (h : Header) (variant : Variant) (op : Op) → h.subject ≡ Multiset → subject_of op.method ≡ Multiset
-    → are_args h.size op.method op.args ≡ true → are_small op.args ≡ true → EndsByReturn (bound_of h op.method - 1) (multiset_procedure h variant op)
-procedure_ends_in_time h variant op is of args small =
-    subst (λ s. EndsByReturn (bound_in s h.size op.method - 1) (multiset_procedure h variant op)) (sym is)
-    (by_method_ends h variant op.method op.args.a op.args.b of)
+pub procedure_ends : (h : Header) (variant : Variant) (method : Method) (args : Args)
+    → h.subject ≡ Multiset → subject_of method ≡ Multiset
+    → EndsByReturn (bound_of h method - 1) (procedure_of h variant method args)
+procedure_ends h variant method args is of =
+    subst (λ s. EndsByReturn (bound_in s h.size method - 1) (procedure_of h variant method args))
+    (sym is) (by_method_ends h variant method args of)

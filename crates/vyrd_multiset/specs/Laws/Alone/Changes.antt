@@ -1,6 +1,7 @@
--- A memory that stands for a state of the multiset, slot by slot, and what a change of one slot makes of it.
+-- Proofs of laws that an impl in src/ names: no contract says what is defined here.
+-- How the state changes for which a memory of a multiset stands, where one slot changes.
 use Rattle.std.proofs.Common.{◌≡◌, ◌≢◌, ℕ, zero, suc, ◌+◌, ◌-◌, ◌*◌, ◌%◌, ◌/◌, ◌<◌, ◌≤◌, Bool, true, false, cond, not, List, [], ◌∷◌, Some, refl, ap, ◌∙◌, sym, subst, arith}
-use Rattle.std.specs.Prelude.{◌==◌, ◌||◌, flat_map, slice_index, if◌then◌else◌}
+use Rattle.std.specs.Prelude.{◌==◌, ◌||◌, flat_map, slice_index}
 use Rattle.std.proofs.lemmas.Bool.Decides.{nat_tests}
 use Rattle.vyrd_base.specs.declared.header.Header.{Header}
 use Rattle.vyrd_base.specs.declared.subject.Subject.TheVariants.{Multiset}
@@ -16,18 +17,8 @@ use Rattle.vyrd_memory.specs.Alone.{Memory, words_in, state_in}
 use Rattle.vyrd_memory.proofs.NumberLists.{all_pass, pass_all, flat_map_alike}
 use Rattle.vyrd_memory.proofs.PartSums.{given-changed, collected-is}
 use Rattle.vyrd_memory.proofs.Memories.{Stands, word_at, stands, standing}
-use Rattle.vyrd_multiset.specs.Slots.{bucket_of}
-
--- what slot i gives
-abbrev pub parts_in : Memory → ℕ → List (ℕ × ℕ)
-parts_in memory i = if memory (2 * i) == 2 then (memory (2 * i + 1), 1) ∷ [] else []
-
--- valid slots have values of their bucket, all locks are free, and each key is given its amount
-pub record IsMultiset (h : Header) (memory : Memory) (state : Amounts) : Type 0 where
-  pub sound : (i : ℕ) → i < 4 * h.size → memory (2 * i) ≡ 2 → memory (2 * i + 1) % h.size ≡ i / 4
-  pub free : (b : ℕ) → b < h.size → memory (8 * h.size + b) ≡ 0
-  pub shows : (q : ℕ) → given q (flat_map (parts_in memory) (numbers_below (4 * h.size))) ≡ amount_of state q
-  pub formed : IsAmounts state
+use Rattle.vyrd_multiset.specs.Cells.{bucket_of}
+use Rattle.vyrd_multiset.specs.Contents.{parts_in, IsMultiset}
 
 cells_are : (h : Header) → h.subject ≡ Multiset → plain_words h + lock_words h ≡ 9 * h.size
 cells_are h is = ap (λ s. plain_words_of s h.size + lock_words_of s h.size) is ∙ nine h.size

@@ -1,4 +1,9 @@
+-- Proofs of laws that an impl in src/ names: no contract says what is defined here.
 -- Each correct procedure, played alone, does what the specification says.
+pub mod FreeSlots
+pub mod Changes
+pub mod Played
+pub mod Done
 use Rattle.std.proofs.Common.{◌≡◌, ℕ, ◌-◌, ◌≤◌, inl, inr, true, false, cond, not, Some, None, refl, ap, ◌∙◌, sym, subst, arith}
 use Rattle.std.specs.Prelude.{◌==◌, IsSome}
 use Rattle.std.specs.Bool.{then_some}
@@ -8,18 +13,20 @@ use Rattle.vyrd_base.specs.declared.subject.Subject.TheVariants.{Multiset}
 use Rattle.vyrd_base.specs.declared.subject.Method.{Method}
 use Rattle.vyrd_base.specs.declared.subject.Method.TheVariants.{MsInsert, MsInsertPair, MsDelete, MsLookup, CaWrite, CaFlush, CaEvict, CaRead, TrInsert, TrDelete, TrLookup}
 use Rattle.vyrd_base.specs.declared.subject.Args.{Args}
-use Rattle.vyrd_base.specs.Subjects.{subject_of, are_args, is_observer}
+use Rattle.vyrd_base.specs.Subjects.{subject_of, is_observer}
 use Rattle.vyrd_base.specs.Amounts.{Amounts, amount_of, with_amount, plus_amount}
 use Rattle.vyrd_base.specs.Specification.{by_reply, is_present, next_state}
 use Rattle.vyrd_memory.specs.declared.op.Op.{Op}
 use Rattle.vyrd_memory.specs.declared.op.Variant.TheVariants.{Correct}
 use Rattle.vyrd_memory.specs.Scripts.{Script}
-use Rattle.vyrd_memory.specs.Arguments.{are_small}
 use Rattle.vyrd_memory.specs.Alone.{Memory, alone, state_in, state_after, MeetsSpecification, IsRightAlone}
-use Rattle.vyrd_multiset.specs.Procedures.{insert, insert_pair, delete, lookup, by_method, multiset_procedure}
-use Rattle.vyrd_multiset.specs.Laws.Slotted.{IsMultiset, is_multiset, stands_for}
-use Rattle.vyrd_multiset.specs.Laws.Played.{Ended, ended_with}
-use Rattle.vyrd_multiset.specs.Laws.Done.{InsertDone, insert_done, PairDone, pair_done, DeleteDone, delete_done, LookupDone, lookup_done}
+use Rattle.vyrd_multiset.specs.Procedures.{insert, insert_pair, delete, lookup, procedure_of}
+use Rattle.vyrd_multiset.specs.Procedures.{multiset_procedure}
+use Rattle.vyrd_multiset.specs.Contents.{IsMultiset}
+use Rattle.vyrd_multiset.specs.Laws.Alone.Changes.{is_multiset, stands_for}
+use Rattle.vyrd_multiset.specs.Laws.Alone.Played.{Ended, ended_with}
+use Rattle.vyrd_multiset.specs.Laws.Alone.Done.{InsertDone, insert_done, PairDone, pair_done}
+use Rattle.vyrd_multiset.specs.Laws.Alone.Done.{DeleteDone, delete_done, LookupDone, lookup_done}
 
 -- the memory at the end stands for the state that the specification says
 record Meets (h : Header) (op : Op) (s : Amounts) (reply : ℕ) (after : Memory) : Type 0 where
@@ -51,9 +58,10 @@ is_there s x some = of_amount (amount_of s x) some
 isnt_there : (s : Amounts) (x : ℕ) → amount_of s x ≡ 0 → is_present s x ≡ false
 isnt_there s x none = ap (λ n. not (n == 0)) none
 
-by_method_right : (h : Header) (method : Method) (args : Args) → h.subject ≡ Multiset → subject_of method ≡ Multiset
-    → (c : ℕ) (memory : Memory) (s : Amounts) → IsMultiset h memory s
-    → MeetsSpecification h (record { method = method; args = args }) (by_method h Correct method args.a args.b) c memory s
+by_method_right : (h : Header) (method : Method) (args : Args) → h.subject ≡ Multiset
+    → subject_of method ≡ Multiset → (c : ℕ) (memory : Memory) (s : Amounts) → IsMultiset h memory s
+    → MeetsSpecification h (record { method = method; args = args })
+    (procedure_of h Correct method args) c memory s
 by_method_right h MsInsert args is of c memory s m =
     meets h (record { method = MsInsert; args = args }) (insert h Correct args.a) c memory s is (InsertDone h memory s args.a)
     (insert_done h c memory s args.a m) says
@@ -129,6 +137,8 @@ by_method_right h TrInsert args is of c memory s m = absurd (cc)
 by_method_right h TrDelete args is of c memory s m = absurd (cc)
 by_method_right h TrLookup args is of c memory s m = absurd (cc)
 
-pub procedure_is_right_alone : (h : Header) (op : Op) → h.subject ≡ Multiset → subject_of op.method ≡ Multiset
-    → are_args h.size op.method op.args ≡ true → are_small op.args ≡ true → IsRightAlone h op (multiset_procedure h Correct op)
-procedure_is_right_alone h op is of args small = λ c memory s e. by_method_right h op.method op.args is of c memory s (is_multiset h memory s is e)
+pub procedure_right_alone : (h : Header) (method : Method) (args : Args)
+    → h.subject ≡ Multiset → subject_of method ≡ Multiset
+    → IsRightAlone h (record { method = method; args = args }) (procedure_of h Correct method args)
+procedure_right_alone h method args is of = λ c memory s e.
+    by_method_right h method args is of c memory s (is_multiset h memory s is e)
