@@ -1,10 +1,8 @@
--- What is proved of the procedures of a cache. They are sound, they end in time, and the correct ones,
--- played alone, do what the specification says.
+-- What is proved of the procedures of the cache: each is sound, each ends in time, and each correct
+-- one that is played alone does what the specification says. The impl in src/progress.rt names
+-- these laws. Here and in Laws/ stand proofs alone: no contract says what they define.
 pub mod Sound
 pub mod Ends
-pub mod Chunks
-pub mod Stores
-pub mod Pairs
 pub mod Alone
 use Rattle.std.specs.Prelude.{◌≡◌, ◌-◌, true}
 use Rattle.vyrd_base.specs.declared.header.Header.{Header}
@@ -23,18 +21,25 @@ use Rattle.vyrd_cache.specs.Laws.Ends.{procedure_ends}
 use Rattle.vyrd_cache.specs.Laws.Alone.{procedure_right_alone}
 
 -- each is sound
-pub cache_is_sound : (h : Header) (variant : Variant) (op : Op) → h.subject ≡ Cache → subject_of op.method ≡ Cache
-    → are_args h.size op.method op.args ≡ true
-    → are_small op.args ≡ true → IsSound h (just_called op.method) (cache_procedure h variant op)
-cache_is_sound h variant op = procedure_sound h variant op.method op.args
+pub cache_is_sound : (h : Header) (variant : Variant) (op : Op)
+    → h.subject ≡ Cache → subject_of op.method ≡ Cache
+    → are_args h.size op.method op.args ≡ true → are_small op.args ≡ true
+    → IsSound h (just_called op.method) (cache_procedure h variant op)
+cache_is_sound h variant op is of fit small =
+    procedure_sound h variant op.method op.args is of fit small
 
 -- each comes to its return in time
-pub cache_ends_in_time : (h : Header) (variant : Variant) (op : Op) → h.subject ≡ Cache → subject_of op.method ≡ Cache
-    → are_args h.size op.method op.args ≡ true
-    → are_small op.args ≡ true → EndsByReturn (bound_of h op.method - 1) (cache_procedure h variant op)
-cache_ends_in_time h variant op is of_cache fit small = procedure_ends h variant op.method op.args is of_cache
+pub cache_ends_in_time : (h : Header) (variant : Variant) (op : Op)
+    → h.subject ≡ Cache → subject_of op.method ≡ Cache
+    → are_args h.size op.method op.args ≡ true → are_small op.args ≡ true
+    → EndsByReturn (bound_of h op.method - 1) (cache_procedure h variant op)
+cache_ends_in_time h variant op is of fit small =
+    procedure_ends h variant op.method op.args is of
 
 -- each correct one, played alone, does what the specification says
-pub cache_is_right_alone : (h : Header) (op : Op) → h.subject ≡ Cache → subject_of op.method ≡ Cache → are_args h.size op.method op.args ≡ true
-    → are_small op.args ≡ true → IsRightAlone h op (cache_procedure h Correct op)
-cache_is_right_alone h op = procedure_right_alone h op.method op.args
+pub cache_is_right_alone : (h : Header) (op : Op)
+    → h.subject ≡ Cache → subject_of op.method ≡ Cache
+    → are_args h.size op.method op.args ≡ true → are_small op.args ≡ true
+    → IsRightAlone h op (cache_procedure h Correct op)
+cache_is_right_alone h op is of fit small =
+    procedure_right_alone h op.method op.args is of fit small

@@ -5,9 +5,12 @@
 //! sound, ends in time and, played alone, does what the specification says.
 #![tactic(auto)]
 
+mod cells;
+pub mod laws;
 mod machine;
 mod place;
 mod progress;
+mod task;
 #[cfg(test)]
 mod tests;
 

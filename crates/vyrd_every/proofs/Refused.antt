@@ -13,7 +13,8 @@ use Rattle.vyrd_memory.specs.Scripts.{Script, step, perform}
 use Rattle.vyrd_memory.specs.Soundness.{Standing, holds, just_called, after_act}
 use Rattle.vyrd_multiset.specs.Procedures.{multiset_procedure}
 use Rattle.vyrd_multiset.specs.Laws.Sound.{gone}
-use Rattle.vyrd_cache.specs.Procedures.{lock_of, cache_procedure}
+use Rattle.vyrd_cache.specs.Cells.{lock_of}
+use Rattle.vyrd_cache.specs.Procedures.{cache_procedure}
 use Rattle.vyrd_tree.specs.Cells.{node_cell, root_cell, used_cell, root_lock}
 use Rattle.vyrd_tree.specs.Cells as cells
 use Rattle.vyrd_tree.specs.RightAlone.Nodes.{level_at}

@@ -4,7 +4,7 @@ use Rattle.vyrd_base.specs.declared.header.Header.{Header}
 use Rattle.vyrd_memory.proofs.Memories as memories
 use Rattle.vyrd_multiset.specs.Cells as slots
 use Rattle.vyrd_multiset.specs.Contents.{IsMultiset}
-use Rattle.vyrd_cache.specs.Procedures as chunks
+use Rattle.vyrd_cache.specs.Cells as chunks
 use Rattle.vyrd_every.specs.Structures.{Structure}
 
 -- no state of a slot is both

@@ -1,4 +1,8 @@
+-- Proofs of laws that an impl in src/ names: no contract says what is defined here.
 -- Each correct procedure of a cache, played alone, does what the specification says.
+pub mod Changes
+pub mod Stores
+pub mod Pairs
 use Rattle.std.proofs.Common.{◌≡◌, ℕ, ◌+◌, ◌*◌, ◌<◌, ◌^◌, Bool, true, false, cond, Option, Some, None, refl, ap, ◌∙◌, sym, subst, arith}
 use Rattle.std.specs.Prelude.{◌==◌, nat_lt, IsSome}
 use Rattle.vyrd_base.specs.declared.header.Header.{Header}
@@ -20,14 +24,24 @@ use Rattle.vyrd_memory.specs.Arguments.{are_small}
 use Rattle.vyrd_memory.specs.Scripts.{Script, step}
 use Rattle.vyrd_memory.specs.Alone.{Memory, with_cell, alone, state_after, MeetsSpecification, IsRightAlone}
 use Rattle.vyrd_memory.proofs.Memories.{Stands, stands, standing, changed_cell}
-use Rattle.vyrd_cache.specs.Procedures.{state_of, lock_of, joined, procedure_of, put_cached, put_stored, forget, only_commit, fetch, answer_cached, with_lock}
-use Rattle.vyrd_cache.specs.Procedures.{write_procedure, flush_procedure, evict_procedure, read_procedure}
+use Rattle.vyrd_cache.specs.Cells.{state_cell, lock_of, lock}
+use Rattle.vyrd_cache.specs.Procedures.{joined, procedure_of, put_cached, put_stored, forget}
+use Rattle.vyrd_cache.specs.Procedures.{only_commit, fetch, answer_cached}
+use Rattle.vyrd_cache.specs.Procedures.{write, flush, evict, read}
 use Rattle.vyrd_cache.specs.Laws.Sound.{chunk_below}
-use Rattle.vyrd_cache.specs.Laws.Chunks.{chunk_of, shown, sound_at, shown_at, Leaves, changed_chunk, kept_chunk}
-use Rattle.vyrd_cache.specs.Laws.Stores.{held, stored, only_state, untouched, held_load, stored-lock, with_cached, with_stored, with_state, after_cached}
-use Rattle.vyrd_cache.specs.Laws.Stores.{leaves_cached, after_stored, leaves_stored, only_state-other, after_state, untouched-other, after_none}
-use Rattle.vyrd_cache.specs.Laws.Pairs.{small, dirty_sound, fetched_sound, flushed_sound, evicted_sound, forgotten_sound, shown_dirty, shown_absent, shown_cached}
-use Rattle.vyrd_cache.specs.Laws.Pairs.{shown_clean, joined_small}
+use Rattle.vyrd_cache.specs.Contents.{chunk_of, shown}
+use Rattle.vyrd_cache.specs.Laws.Alone.Changes.{sound_at, shown_at, Leaves, changed_chunk}
+use Rattle.vyrd_cache.specs.Laws.Alone.Changes.{kept_chunk}
+use Rattle.vyrd_cache.specs.Laws.Alone.Stores.{held, stored, only_state, untouched, held_load}
+use Rattle.vyrd_cache.specs.Laws.Alone.Stores.{stored-lock, with_cached, with_stored, with_state}
+use Rattle.vyrd_cache.specs.Laws.Alone.Stores.{after_cached}
+use Rattle.vyrd_cache.specs.Laws.Alone.Stores.{leaves_cached, after_stored, leaves_stored}
+use Rattle.vyrd_cache.specs.Laws.Alone.Stores.{only_state-other, after_state, untouched-other}
+use Rattle.vyrd_cache.specs.Laws.Alone.Stores.{after_none}
+use Rattle.vyrd_cache.specs.Laws.Alone.Pairs.{small, dirty_sound, fetched_sound, flushed_sound}
+use Rattle.vyrd_cache.specs.Laws.Alone.Pairs.{evicted_sound, forgotten_sound, shown_dirty}
+use Rattle.vyrd_cache.specs.Laws.Alone.Pairs.{shown_absent, shown_cached}
+use Rattle.vyrd_cache.specs.Laws.Alone.Pairs.{shown_clean, joined_small}
 
 -- an operation that ends so, and where the specification allows it
 met : (h : Header) (op : Op) (script : Script) (c : ℕ) (old new : Memory) (state next : Amounts) (reply : ℕ)
@@ -64,21 +78,24 @@ free_lock h memory state k is s low =
 
 -- the lock is taken
 run_lock : (h : Header) (c k : ℕ) (memory : Memory) (rest : Script) → memory (lock_of h k) ≡ 0
-    → alone c (with_lock h k rest) memory ≡ alone c rest (held c (lock_of h k) memory)
+    → alone c (lock h k rest) memory ≡ alone c rest (held c (lock_of h k) memory)
 run_lock h c k memory rest free = ap (λ n. cond (n == 0) (alone c rest (held c (lock_of h k) memory)) None) free
 
 -- and the chunk's state is loaded
 run_look : (h : Header) (c k : ℕ) (memory : Memory) (rest : ℕ → Script) → k < h.size → memory (lock_of h k) ≡ 0
-    → alone c (with_lock h k (step (Load (state_of k)) rest)) memory ≡ alone c (rest (memory (5 * k))) (held c (lock_of h k) memory)
+    → alone c (lock h k (step (Load (state_cell k)) rest)) memory
+    ≡ alone c (rest (memory (5 * k))) (held c (lock_of h k) memory)
 run_look h c k memory rest low free =
-    run_lock h c k memory (step (Load (state_of k)) rest) free
+    run_lock h c k memory (step (Load (state_cell k)) rest) free
     ∙ ap (λ n. alone c (rest n) (held c (lock_of h k) memory)) (held_load c (lock_of h k) memory (5 * k) (omega arith))
 
 -- a write
 write_alone : (h : Header) (args : Args) → h.subject ≡ Cache → args.a < h.size → are_small args ≡ true
-    → IsRightAlone h (record { method = CaWrite; args = args }) (write_procedure h Correct args.a args.b args.c)
+    → IsRightAlone h (record { method = CaWrite; args = args })
+    (write h Correct args.a args.b args.c)
 write_alone h args is low few c memory state e =
-    met h (record { method = CaWrite; args = args }) (write_procedure h Correct args.a args.b args.c) c memory new state
+    met h (record { method = CaWrite; args = args })
+    (write h Correct args.a args.b args.c) c memory new state
     (with_amount state args.a (args.c * 2 ^ 32 + args.b)) 1 (run_lock h c args.a memory (put_cached h args.a args.b args.c) free) after refl
   where
     s : Stands h memory state
@@ -150,42 +167,45 @@ put_stored_alone h op script c k left memory state is s low dirty run sound show
 
 -- a flush
 flush_alone : (h : Header) (args : Args) → h.subject ≡ Cache → args.a < h.size
-    → IsRightAlone h (record { method = CaFlush; args = args }) (flush_procedure h args.a)
+    → IsRightAlone h (record { method = CaFlush; args = args }) (flush h args.a)
 flush_alone h args is low c memory state e = by_state (memory (5 * args.a) == 2) refl
   where
     s : Stands h memory state
     s = stands h memory state e
 
-    run : alone c (flush_procedure h args.a) memory
+    run : alone c (flush h args.a) memory
         ≡ alone c (cond (memory (5 * args.a) == 2) (put_stored h args.a 1) (only_commit h args.a)) (held c (lock_of h args.a) memory)
     run = run_look h c args.a memory (λ n. cond (n == 2) (put_stored h args.a 1) (only_commit h args.a)) low
         (free_lock h memory state args.a is s low)
 
     by_state : (b : Bool) → (memory (5 * args.a) == 2) ≡ b
-        → MeetsSpecification h (record { method = CaFlush; args = args }) (flush_procedure h args.a) c memory state
+        → MeetsSpecification h (record { method = CaFlush; args = args })
+        (flush h args.a) c memory state
     by_state true dirty =
-        put_stored_alone h (record { method = CaFlush; args = args }) (flush_procedure h args.a) c args.a 1 memory state is s low dirty
+        put_stored_alone h (record { method = CaFlush; args = args })
+        (flush h args.a) c args.a 1 memory state is s low dirty
         (run ∙ ap (λ b. alone c (cond b (put_stored h args.a 1) (only_commit h args.a)) (held c (lock_of h args.a) memory)) dirty)
         (flushed_sound (chunk_of memory args.a) (sound_at h memory state args.a is s low)) refl refl
     by_state false other =
-        only_commit_alone h (record { method = CaFlush; args = args }) (flush_procedure h args.a) c args.a memory state is s low
+        only_commit_alone h (record { method = CaFlush; args = args })
+        (flush h args.a) c args.a memory state is s low
         (run ∙ ap (λ b. alone c (cond b (put_stored h args.a 1) (only_commit h args.a)) (held c (lock_of h args.a) memory)) other) refl
 
 -- an evict
 evict_alone : (h : Header) (args : Args) → h.subject ≡ Cache → args.a < h.size
-    → IsRightAlone h (record { method = CaEvict; args = args }) (evict_procedure h args.a)
+    → IsRightAlone h (record { method = CaEvict; args = args }) (evict h args.a)
 evict_alone h args is low c memory state e = by_state (memory (5 * args.a) == 2) refl
   where
     s : Stands h memory state
     s = stands h memory state e
 
-    run : alone c (evict_procedure h args.a) memory
+    run : alone c (evict h args.a) memory
         ≡ alone c (cond (memory (5 * args.a) == 2) (put_stored h args.a 0) (cond (memory (5 * args.a) == 0) (only_commit h args.a) (forget h args.a)))
         (held c (lock_of h args.a) memory)
     run = run_look h c args.a memory (λ n. cond (n == 2) (put_stored h args.a 0) (cond (n == 0) (only_commit h args.a) (forget h args.a))) low
         (free_lock h memory state args.a is s low)
 
-    run_clean : (memory (5 * args.a) == 2) ≡ false → alone c (evict_procedure h args.a) memory
+    run_clean : (memory (5 * args.a) == 2) ≡ false → alone c (evict h args.a) memory
         ≡ alone c (cond (memory (5 * args.a) == 0) (only_commit h args.a) (forget h args.a)) (held c (lock_of h args.a) memory)
     run_clean other = run ∙ ap
         (λ b. alone c (cond b (put_stored h args.a 0) (cond (memory (5 * args.a) == 0) (only_commit h args.a) (forget h args.a)))
@@ -195,12 +215,14 @@ evict_alone h args is low c memory state e = by_state (memory (5 * args.a) == 2)
     new = only_state c (lock_of h args.a) memory (5 * args.a) 0
 
     by_clean : (memory (5 * args.a) == 2) ≡ false → (b : Bool) → (memory (5 * args.a) == 0) ≡ b
-        → MeetsSpecification h (record { method = CaEvict; args = args }) (evict_procedure h args.a) c memory state
+        → MeetsSpecification h (record { method = CaEvict; args = args })
+        (evict h args.a) c memory state
     by_clean other true absent =
-        only_commit_alone h (record { method = CaEvict; args = args }) (evict_procedure h args.a) c args.a memory state is s low
+        only_commit_alone h (record { method = CaEvict; args = args })
+        (evict h args.a) c args.a memory state is s low
         (run_clean other ∙ ap (λ b. alone c (cond b (only_commit h args.a) (forget h args.a)) (held c (lock_of h args.a) memory)) absent) refl
     by_clean other false there =
-        met h (record { method = CaEvict; args = args }) (evict_procedure h args.a) c memory new state state 1
+        met h (record { method = CaEvict; args = args }) (evict h args.a) c memory new state state 1
         (run_clean other ∙ ap (λ b. alone c (cond b (only_commit h args.a) (forget h args.a)) (held c (lock_of h args.a) memory)) there)
         (kept h memory new state args.a (with_state 0 (chunk_of memory args.a)) is s low
         (λ cell e0 e1 e2 e3 e4 lock. only_state-other c (lock_of h args.a) memory (5 * args.a) 0 cell lock e0)
@@ -211,9 +233,11 @@ evict_alone h args is low c memory state e = by_state (memory (5 * args.a) == 2)
         refl
 
     by_state : (b : Bool) → (memory (5 * args.a) == 2) ≡ b
-        → MeetsSpecification h (record { method = CaEvict; args = args }) (evict_procedure h args.a) c memory state
+        → MeetsSpecification h (record { method = CaEvict; args = args })
+        (evict h args.a) c memory state
     by_state true dirty =
-        put_stored_alone h (record { method = CaEvict; args = args }) (evict_procedure h args.a) c args.a 0 memory state is s low dirty
+        put_stored_alone h (record { method = CaEvict; args = args })
+        (evict h args.a) c args.a 0 memory state is s low dirty
         (run ∙ ap
         (λ b. alone c (cond b (put_stored h args.a 0) (cond (memory (5 * args.a) == 0) (only_commit h args.a) (forget h args.a)))
         (held c (lock_of h args.a) memory)) dirty)
@@ -222,7 +246,7 @@ evict_alone h args is low c memory state e = by_state (memory (5 * args.a) == 2)
 
 -- a read
 read_alone : (h : Header) (args : Args) → h.subject ≡ Cache → args.a < h.size
-    → IsRightAlone h (record { method = CaRead; args = args }) (read_procedure h args.a)
+    → IsRightAlone h (record { method = CaRead; args = args }) (read h args.a)
 read_alone h args is low c memory state e = by_state (memory (5 * args.a) == 0) refl
   where
     s : Stands h memory state
@@ -231,7 +255,7 @@ read_alone h args is low c memory state e = by_state (memory (5 * args.a) == 0) 
     sound : is_sound_chunk (chunk_of memory args.a) ≡ true
     sound = sound_at h memory state args.a is s low
 
-    run : alone c (read_procedure h args.a) memory
+    run : alone c (read h args.a) memory
         ≡ alone c (cond (memory (5 * args.a) == 0) (fetch h args.a) (answer_cached h args.a)) (held c (lock_of h args.a) memory)
     run = run_look h c args.a memory (λ n. cond (n == 0) (fetch h args.a) (answer_cached h args.a)) low (free_lock h memory state args.a is s low)
 
@@ -261,9 +285,11 @@ read_alone h args is low c memory state e = by_state (memory (5 * args.a) == 0) 
         ∙ ap (λ n. with_cached 1 (memory (5 * args.a + 3)) n (chunk_of memory args.a)) (loaded 4 (omega arith))
 
     by_state : (b : Bool) → (memory (5 * args.a) == 0) ≡ b
-        → MeetsSpecification h (record { method = CaRead; args = args }) (read_procedure h args.a) c memory state
+        → MeetsSpecification h (record { method = CaRead; args = args })
+        (read h args.a) c memory state
     by_state true absent =
-        met h (record { method = CaRead; args = args }) (read_procedure h args.a) c memory fetched state state (joined fetched_low fetched_high)
+        met h (record { method = CaRead; args = args }) (read h args.a) c memory fetched state state
+        (joined fetched_low fetched_high)
         (run ∙ ap (λ b. alone c (cond b (fetch h args.a) (answer_cached h args.a)) (held c (lock_of h args.a) memory)) absent)
         (kept h memory fetched state args.a (with_cached 1 (memory (5 * args.a + 3)) (memory (5 * args.a + 4)) (chunk_of memory args.a)) is s low
         (leaves_cached h.size c args.a memory 1 fetched_low fetched_high)
@@ -275,7 +301,8 @@ read_alone h args is low c memory state e = by_state (memory (5 * args.a) == 0) 
         (small (chunk_of memory args.a) sound).stored_hi
         ∙ sym (shown_absent (chunk_of memory args.a) absent)))
     by_state false there =
-        met h (record { method = CaRead; args = args }) (read_procedure h args.a) c memory (untouched c (lock_of h args.a) memory) state state
+        met h (record { method = CaRead; args = args }) (read h args.a) c memory
+        (untouched c (lock_of h args.a) memory) state state
         (joined (held c (lock_of h args.a) memory (5 * args.a + 1)) (held c (lock_of h args.a) memory (5 * args.a + 2)))
         (run ∙ ap (λ b. alone c (cond b (fetch h args.a) (answer_cached h args.a)) (held c (lock_of h args.a) memory)) there)
         (kept h memory (untouched c (lock_of h args.a) memory) state args.a (chunk_of memory args.a) is s low

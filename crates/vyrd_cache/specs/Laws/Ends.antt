@@ -1,3 +1,4 @@
+-- Proofs of laws that an impl in src/ names: no contract says what is defined here.
 -- Each procedure of a cache comes to its return in time.
 use Rattle.std.proofs.Common.{◌≡◌, ℕ, ◌-◌, ◌≤◌, Bool, true, false, cond, List, [], ◌∷◌, length, refl, sym, subst, arith}
 use Rattle.std.specs.Prelude.{◌==◌, ◌&&◌, not}
@@ -17,9 +18,12 @@ use Rattle.vyrd_memory.specs.declared.op.Variant.TheVariants.{Correct, Broken}
 use Rattle.vyrd_memory.specs.Scripts.{Script, step}
 use Rattle.vyrd_memory.specs.Bounds.{is_return, bound_in, bound_of, EndsByReturn}
 use Rattle.vyrd_memory.proofs.TimedActs.{either_in}
-use Rattle.vyrd_cache.specs.Procedures.{state_of, cached_low, cached_high, stored_low, stored_high, lock_of, joined, in_order, procedure_of, put_cached}
-use Rattle.vyrd_cache.specs.Procedures.{put_cached_bare, put_stored, forget, only_commit, fetch, answer_cached, with_lock, write_procedure, flush_procedure}
-use Rattle.vyrd_cache.specs.Procedures.{evict_procedure, read_procedure}
+use Rattle.vyrd_cache.specs.Cells.{state_cell, cached_low, cached_high, stored_low, stored_high}
+use Rattle.vyrd_cache.specs.Cells.{lock_of, lock}
+use Rattle.vyrd_cache.specs.Procedures.{joined, in_order, procedure_of, put_cached}
+use Rattle.vyrd_cache.specs.Procedures.{put_cached_bare, put_stored, forget, only_commit, fetch}
+use Rattle.vyrd_cache.specs.Procedures.{answer_cached, write, flush}
+use Rattle.vyrd_cache.specs.Procedures.{evict, read}
 
 -- whether the last of these acts is a return, and none before it
 abbrev returns_last : List Act → Bool
@@ -42,7 +46,7 @@ ends_list (act ∷ next ∷ acts) n few last = (
 
 -- a look at the chunk's state, with the lock held
 looked : (h : Header) (chunk : ℕ) (rest : ℕ → Script) → ((state : ℕ) → EndsByReturn 13 (rest state))
-    → EndsByReturn 15 (with_lock h chunk (step (Load (state_of chunk)) rest))
+    → EndsByReturn 15 (lock h chunk (step (Load (state_cell chunk)) rest))
 looked h chunk rest ends = (omega arith, λ returns. cc, λ _ _ _. (omega arith, λ returns. cc, λ _ state _. ends state))
 
 -- two loads before a list of acts
@@ -54,7 +58,8 @@ two_loads low_cell high_cell rest few last =
 
 ends_put_cached : (h : Header) (chunk low high n : ℕ) → 7 ≤ n → EndsByReturn n (put_cached h chunk low high)
 ends_put_cached h chunk low high n some = ends_list
-    (Mark BlockOpen ∷ Store (cached_low chunk) low ∷ Store (cached_high chunk) high ∷ Store (state_of chunk) 2 ∷ Mark BlockCommit
+    (Mark BlockOpen ∷ Store (cached_low chunk) low ∷ Store (cached_high chunk) high
+    ∷ Store (state_cell chunk) 2 ∷ Mark BlockCommit
     ∷ Give (lock_of h chunk) ∷ Mark (Return 1) ∷ []) n (omega arith) refl
 
 ends_put_cached_bare : (h : Header) (chunk low high : ℕ) → EndsByReturn 13 (put_cached_bare h chunk low high)
@@ -64,7 +69,8 @@ ends_put_cached_bare h chunk low high = ends_list
 
 ends_put_stored : (h : Header) (chunk state : ℕ) → EndsByReturn 13 (put_stored h chunk state)
 ends_put_stored h chunk state = two_loads (cached_low chunk) (cached_high chunk) (λ low high.
-    Mark BlockOpen ∷ Store (stored_low chunk) low ∷ Store (stored_high chunk) high ∷ Store (state_of chunk) state ∷ Mark BlockCommit
+    Mark BlockOpen ∷ Store (stored_low chunk) low ∷ Store (stored_high chunk) high
+    ∷ Store (state_cell chunk) state ∷ Mark BlockCommit
     ∷ Give (lock_of h chunk) ∷ Mark (Return 1) ∷ []) (λ low high. omega arith) (λ low high. refl)
 
 ends_only_commit : (h : Header) (chunk : ℕ) → EndsByReturn 13 (only_commit h chunk)
@@ -72,33 +78,36 @@ ends_only_commit h chunk = ends_list (Mark Commit ∷ Give (lock_of h chunk) ∷
 
 ends_forget : (h : Header) (chunk : ℕ) → EndsByReturn 13 (forget h chunk)
 ends_forget h chunk = ends_list
-    (Mark BlockOpen ∷ Store (state_of chunk) 0 ∷ Mark BlockCommit ∷ Give (lock_of h chunk) ∷ Mark (Return 1) ∷ []) 13 (omega arith) refl
+    (Mark BlockOpen ∷ Store (state_cell chunk) 0 ∷ Mark BlockCommit ∷ Give (lock_of h chunk)
+    ∷ Mark (Return 1) ∷ []) 13 (omega arith) refl
 
 ends_fetch : (h : Header) (chunk : ℕ) → EndsByReturn 13 (fetch h chunk)
 ends_fetch h chunk = two_loads (stored_low chunk) (stored_high chunk) (λ low high.
-    Mark BlockOpen ∷ Store (cached_low chunk) low ∷ Store (cached_high chunk) high ∷ Store (state_of chunk) 1 ∷ Mark BlockClose
+    Mark BlockOpen ∷ Store (cached_low chunk) low ∷ Store (cached_high chunk) high
+    ∷ Store (state_cell chunk) 1 ∷ Mark BlockClose
     ∷ Give (lock_of h chunk) ∷ Mark (Return (joined low high)) ∷ []) (λ low high. omega arith) (λ low high. refl)
 
 ends_answer_cached : (h : Header) (chunk : ℕ) → EndsByReturn 13 (answer_cached h chunk)
 ends_answer_cached h chunk = two_loads (cached_low chunk) (cached_high chunk) (λ low high.
     Give (lock_of h chunk) ∷ Mark (Return (joined low high)) ∷ []) (λ low high. omega arith) (λ low high. refl)
 
-ends_write : (h : Header) (variant : Variant) (chunk low high : ℕ) → EndsByReturn 15 (write_procedure h variant chunk low high)
+ends_write : (h : Header) (variant : Variant) (chunk low high : ℕ)
+    → EndsByReturn 15 (write h variant chunk low high)
 ends_write h Correct chunk low high = (omega arith, λ returns. cc, λ _ _ _. ends_put_cached h chunk low high 14 (omega arith))
 ends_write h Broken chunk low high = looked h chunk _ (λ state.
     either_in 13 (state == 2) (put_cached_bare h chunk low high) (put_cached h chunk low high) (ends_put_cached_bare h chunk low high)
     (ends_put_cached h chunk low high 13 (omega arith)))
 
-ends_flush : (h : Header) (chunk : ℕ) → EndsByReturn 15 (flush_procedure h chunk)
+ends_flush : (h : Header) (chunk : ℕ) → EndsByReturn 15 (flush h chunk)
 ends_flush h chunk = looked h chunk _ (λ state.
     either_in 13 (state == 2) (put_stored h chunk 1) (only_commit h chunk) (ends_put_stored h chunk 1) (ends_only_commit h chunk))
 
-ends_evict : (h : Header) (chunk : ℕ) → EndsByReturn 15 (evict_procedure h chunk)
+ends_evict : (h : Header) (chunk : ℕ) → EndsByReturn 15 (evict h chunk)
 ends_evict h chunk = looked h chunk _ (λ state.
     either_in 13 (state == 2) (put_stored h chunk 0) (cond (state == 0) (only_commit h chunk) (forget h chunk)) (ends_put_stored h chunk 0)
     (either_in 13 (state == 0) (only_commit h chunk) (forget h chunk) (ends_only_commit h chunk) (ends_forget h chunk)))
 
-ends_read : (h : Header) (chunk : ℕ) → EndsByReturn 15 (read_procedure h chunk)
+ends_read : (h : Header) (chunk : ℕ) → EndsByReturn 15 (read h chunk)
 ends_read h chunk = looked h chunk _ (λ state.
     either_in 13 (state == 0) (fetch h chunk) (answer_cached h chunk) (ends_fetch h chunk) (ends_answer_cached h chunk))
 

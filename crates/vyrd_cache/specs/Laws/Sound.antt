@@ -1,3 +1,4 @@
+-- Proofs of laws that an impl in src/ names: no contract says what is defined here.
 -- Each procedure of a cache is sound.
 use Rattle.std.proofs.Common.{◌≡◌, ℕ, ◌+◌, ◌*◌, ◌<◌, ◌^◌, Bool, true, false, cond, [], ◌∷◌, filter, refl, ap, ◌∙◌, sym, subst, arith}
 use Rattle.std.specs.Prelude.{◌==◌, ◌&&◌, ◌||◌, not, nat_lt, nat_le, Some}
@@ -20,9 +21,12 @@ use Rattle.vyrd_memory.specs.Arguments.{are_small}
 use Rattle.vyrd_memory.specs.Scripts.{Script, step}
 use Rattle.vyrd_memory.specs.Soundness.{Standing, IsSound, just_called, may_act, holds}
 use Rattle.vyrd_memory.proofs.Small.{small_b, small_c}
-use Rattle.vyrd_cache.specs.Procedures.{state_of, cached_low, cached_high, stored_low, stored_high, lock_of, joined, in_order, procedure_of, put_cached}
-use Rattle.vyrd_cache.specs.Procedures.{put_cached_bare, put_stored, forget, only_commit, fetch, answer_cached, with_lock, write_procedure, flush_procedure}
-use Rattle.vyrd_cache.specs.Procedures.{evict_procedure, read_procedure}
+use Rattle.vyrd_cache.specs.Cells.{state_cell, cached_low, cached_high, stored_low, stored_high}
+use Rattle.vyrd_cache.specs.Cells.{lock_of, lock}
+use Rattle.vyrd_cache.specs.Procedures.{joined, in_order, procedure_of, put_cached}
+use Rattle.vyrd_cache.specs.Procedures.{put_cached_bare, put_stored, forget, only_commit, fetch}
+use Rattle.vyrd_cache.specs.Procedures.{answer_cached, write, flush}
+use Rattle.vyrd_cache.specs.Procedures.{evict, read}
 
 -- the lock is held in an execution of the method, and whether that has committed and whether a block is open
 abbrev holding : ℕ → Method → Bool → Bool → Standing
@@ -77,7 +81,8 @@ leave h chunk method committed reply is low may =
 pair_block : (h : Header) (chunk : ℕ) (method : Method) (a x b y z : ℕ) → h.subject ≡ Cache → chunk < h.size → is_observer method ≡ false
     → a < 5 * h.size → b < 5 * h.size → x < 2 ^ 63 → y < 2 ^ 63 → z < 2 ^ 63
     → IsSound h (holding (lock_of h chunk) method false false)
-    (in_order (Mark BlockOpen ∷ Store a x ∷ Store b y ∷ Store (state_of chunk) z ∷ Mark BlockCommit ∷ Give (lock_of h chunk) ∷ Mark (Return 1) ∷ []))
+    (in_order (Mark BlockOpen ∷ Store a x ∷ Store b y ∷ Store (state_cell chunk) z
+    ∷ Mark BlockCommit ∷ Give (lock_of h chunk) ∷ Mark (Return 1) ∷ []))
 pair_block h chunk method a x b y z is low mutates a_low b_low x_small y_small z_small = (
   refl,
   λ _ _. (
@@ -85,7 +90,8 @@ pair_block h chunk method a x b y z is low mutates a_low b_low x_small y_small z
     λ _ _. (
       may_store h (holding (lock_of h chunk) method false true) method b y is b_low y_small refl,
       λ _ _. (
-        may_store h (holding (lock_of h chunk) method false true) method (state_of chunk) z is (omega arith) z_small refl,
+        may_store h (holding (lock_of h chunk) method false true) method (state_cell chunk) z is
+            (omega arith) z_small refl,
         λ _ _.
             (rw mutates, λ _ _. leave h chunk method true 1 is low (rw mutates)),
       ),
@@ -106,7 +112,8 @@ loaded h s cell rest is low sound = (plain_cell h cell is low, sound)
 
 -- the lock is taken
 locked : (h : Header) (chunk : ℕ) (method : Method) (rest : Script) → h.subject ≡ Cache → chunk < h.size
-    → IsSound h (holding (lock_of h chunk) method false false) rest → IsSound h (just_called method) (with_lock h chunk rest)
+    → IsSound h (holding (lock_of h chunk) method false false) rest
+    → IsSound h (just_called method) (lock h chunk rest)
 locked h chunk method rest is low sound = (both_true _ _ (lock_cell h chunk is low) refl, λ _ _. sound)
 
 sound_put_cached : (h : Header) (chunk low high : ℕ) → h.subject ≡ Cache → chunk < h.size → low < 2 ^ 32 → high < 2 ^ 32
@@ -148,7 +155,8 @@ sound_forget : (h : Header) (chunk : ℕ) → h.subject ≡ Cache → chunk < h.
 sound_forget h chunk is few = (
   refl,
   λ _ _. (
-    may_store h (holding (lock_of h chunk) CaEvict false true) CaEvict (state_of chunk) 0 is (omega arith) (omega arith) refl,
+    may_store h (holding (lock_of h chunk) CaEvict false true) CaEvict (state_cell chunk) 0 is
+        (omega arith) (omega arith) refl,
     λ _ _.
         (refl, λ _ _. leave h chunk CaEvict true 1 is few refl),
   ),
@@ -166,7 +174,8 @@ sound_fetch h chunk is few = (
         λ _ _. (
           may_store h (holding (lock_of h chunk) CaRead false true) CaRead (cached_high chunk) high is (omega arith) y refl,
           λ _ _. (
-            may_store h (holding (lock_of h chunk) CaRead false true) CaRead (state_of chunk) 1 is (omega arith) (omega arith) refl,
+            may_store h (holding (lock_of h chunk) CaRead false true) CaRead (state_cell chunk) 1 is
+                (omega arith) (omega arith) refl,
             λ _ _.
                 (refl, λ _ _. leave h chunk CaRead false (joined low high) is few refl),
           ),
@@ -190,31 +199,35 @@ sound_answer_cached h chunk is few = (
 -- a look at the chunk's state, with the lock held
 looked : (h : Header) (chunk : ℕ) (method : Method) (rest : ℕ → Script) → h.subject ≡ Cache → chunk < h.size
     → ((state : ℕ) → IsSound h (holding (lock_of h chunk) method false false) (rest state))
-    → IsSound h (just_called method) (with_lock h chunk (step (Load (state_of chunk)) rest))
+    → IsSound h (just_called method) (lock h chunk (step (Load (state_cell chunk)) rest))
 looked h chunk method rest is few sound =
-    locked h chunk method (step (Load (state_of chunk)) rest) is few
-    (loaded h (holding (lock_of h chunk) method false false) (state_of chunk) rest is (omega arith) (λ state small. sound state))
+    locked h chunk method (step (Load (state_cell chunk)) rest) is few
+    (loaded h (holding (lock_of h chunk) method false false) (state_cell chunk) rest is
+    (omega arith) (λ state small. sound state))
 
 sound_write : (h : Header) (variant : Variant) (chunk low high : ℕ) → h.subject ≡ Cache → chunk < h.size → low < 2 ^ 32 → high < 2 ^ 32
-    → IsSound h (just_called CaWrite) (write_procedure h variant chunk low high)
+    → IsSound h (just_called CaWrite) (write h variant chunk low high)
 sound_write h Correct chunk low high is few x y =
     locked h chunk CaWrite (put_cached h chunk low high) is few (sound_put_cached h chunk low high is few x y)
 sound_write h Broken chunk low high is few x y = looked h chunk CaWrite _ is few (λ state.
     either h _ (state == 2) (put_cached_bare h chunk low high) (put_cached h chunk low high)
     (sound_put_cached_bare h chunk low high is few x y) (sound_put_cached h chunk low high is few x y))
 
-sound_flush : (h : Header) (chunk : ℕ) → h.subject ≡ Cache → chunk < h.size → IsSound h (just_called CaFlush) (flush_procedure h chunk)
+sound_flush : (h : Header) (chunk : ℕ) → h.subject ≡ Cache → chunk < h.size
+    → IsSound h (just_called CaFlush) (flush h chunk)
 sound_flush h chunk is few = looked h chunk CaFlush _ is few (λ state.
     either h _ (state == 2) (put_stored h chunk 1) (only_commit h chunk)
     (sound_put_stored h chunk 1 CaFlush is few refl (omega arith)) (sound_only_commit h chunk CaFlush is few refl))
 
-sound_evict : (h : Header) (chunk : ℕ) → h.subject ≡ Cache → chunk < h.size → IsSound h (just_called CaEvict) (evict_procedure h chunk)
+sound_evict : (h : Header) (chunk : ℕ) → h.subject ≡ Cache → chunk < h.size
+    → IsSound h (just_called CaEvict) (evict h chunk)
 sound_evict h chunk is few = looked h chunk CaEvict _ is few (λ state.
     either h _ (state == 2) (put_stored h chunk 0) (cond (state == 0) (only_commit h chunk) (forget h chunk))
     (sound_put_stored h chunk 0 CaEvict is few refl (omega arith))
     (either h _ (state == 0) (only_commit h chunk) (forget h chunk) (sound_only_commit h chunk CaEvict is few refl) (sound_forget h chunk is few)))
 
-sound_read : (h : Header) (chunk : ℕ) → h.subject ≡ Cache → chunk < h.size → IsSound h (just_called CaRead) (read_procedure h chunk)
+sound_read : (h : Header) (chunk : ℕ) → h.subject ≡ Cache → chunk < h.size
+    → IsSound h (just_called CaRead) (read h chunk)
 sound_read h chunk is few = looked h chunk CaRead _ is few (λ state.
     either h _ (state == 0) (fetch h chunk) (answer_cached h chunk) (sound_fetch h chunk is few) (sound_answer_cached h chunk is few))
 

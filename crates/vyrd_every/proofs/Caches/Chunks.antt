@@ -9,9 +9,10 @@ use Rattle.vyrd_base.specs.Standing.{is_sound_chunk}
 use Rattle.vyrd_memory.specs.Alone.{Memory, with_cell}
 use Rattle.vyrd_memory.specs.Soundness.{Standing, holds}
 use Rattle.vyrd_memory.proofs.Memories.{Stands, changed_cell, other_cell}
-use Rattle.vyrd_cache.specs.Procedures.{lock_of}
-use Rattle.vyrd_cache.specs.Laws.Chunks.{chunk_of, same_chunk, shown, Leaves, changed_chunk, kept_chunk}
-use Rattle.vyrd_cache.specs.Laws.Stores.{with_cached, with_stored, with_state}
+use Rattle.vyrd_cache.specs.Cells.{lock_of}
+use Rattle.vyrd_cache.specs.Contents.{chunk_of, shown}
+use Rattle.vyrd_cache.specs.Laws.Alone.Changes.{same_chunk, Leaves, changed_chunk, kept_chunk}
+use Rattle.vyrd_cache.specs.Laws.Alone.Stores.{with_cached, with_stored, with_state}
 use Rattle.vyrd_every.specs.Hands.{Hand, Access}
 use Rattle.vyrd_every.specs.Others.{Rely}
 use Rattle.vyrd_every.specs.Guarded.{cache}

@@ -18,8 +18,9 @@ use Rattle.vyrd_memory.specs.Alone.{words_in}
 use Rattle.vyrd_memory.proofs.NumberLists.{element_below, flat_map_alike, pass_all}
 use Rattle.vyrd_memory.proofs.PartSums.{collected-is}
 use Rattle.vyrd_memory.proofs.Memories.{Stands}
-use Rattle.vyrd_cache.specs.Procedures.{lock_of}
-use Rattle.vyrd_cache.specs.Laws.Chunks.{chunk_of, same_chunk, chunk_in}
+use Rattle.vyrd_cache.specs.Cells.{lock_of}
+use Rattle.vyrd_cache.specs.Contents.{chunk_of}
+use Rattle.vyrd_cache.specs.Laws.Alone.Changes.{same_chunk, chunk_in}
 use Rattle.vyrd_every.specs.Structures.{Fits, shown_by}
 use Rattle.vyrd_every.specs.Guarded.{cache}
 

@@ -24,12 +24,17 @@ use Rattle.vyrd_memory.specs.Alone.{Memory, with_cell}
 use Rattle.vyrd_memory.specs.Scripts.{Script, step, perform, returns}
 use Rattle.vyrd_memory.specs.Soundness.{Standing, holds, just_called}
 use Rattle.vyrd_memory.proofs.Memories.{Stands, other_cell}
-use Rattle.vyrd_cache.specs.Procedures.{state_of, lock_of, joined, in_order, with_lock, put_cached, put_stored, forget, only_commit, fetch, answer_cached}
-use Rattle.vyrd_cache.specs.Procedures.{write_procedure, flush_procedure, evict_procedure, read_procedure, procedure_of, cache_procedure}
+use Rattle.vyrd_cache.specs.Cells.{state_cell, lock_of, lock}
+use Rattle.vyrd_cache.specs.Procedures.{joined, in_order, put_cached, put_stored, forget}
+use Rattle.vyrd_cache.specs.Procedures.{only_commit, fetch, answer_cached}
+use Rattle.vyrd_cache.specs.Procedures.{write, flush, evict, read, procedure_of, cache_procedure}
 use Rattle.vyrd_cache.specs.Laws.Sound.{chunk_below}
-use Rattle.vyrd_cache.specs.Laws.Chunks.{chunk_of, shown, sound_at, shown_at}
-use Rattle.vyrd_cache.specs.Laws.Stores.{with_cached, with_stored, with_state}
-use Rattle.vyrd_cache.specs.Laws.Pairs.{small, dirty_sound, fetched_sound, flushed_sound, evicted_sound, forgotten_sound, shown_dirty, shown_absent, shown_cached, shown_clean, joined_small}
+use Rattle.vyrd_cache.specs.Contents.{chunk_of, shown}
+use Rattle.vyrd_cache.specs.Laws.Alone.Changes.{sound_at, shown_at}
+use Rattle.vyrd_cache.specs.Laws.Alone.Stores.{with_cached, with_stored, with_state}
+use Rattle.vyrd_cache.specs.Laws.Alone.Pairs.{small, dirty_sound, fetched_sound, flushed_sound}
+use Rattle.vyrd_cache.specs.Laws.Alone.Pairs.{evicted_sound, forgotten_sound, shown_dirty}
+use Rattle.vyrd_cache.specs.Laws.Alone.Pairs.{shown_absent, shown_cached, shown_clean, joined_small}
 use Rattle.vyrd_multiset.specs.Laws.Sound.{gone}
 use Rattle.vyrd_every.specs.Hands.{Hand, Access}
 use Rattle.vyrd_every.specs.Others.{Rely, Guarantee}
@@ -86,7 +91,7 @@ look_twice h n a b called k before rest low from_a to_a from_b to_b later =
 -- the lock is taken
 enter_right : (h : Header) (n : ℕ) (called : Called) (k : Hand) (before : Memory) (rest : Script)
     → ((now : Memory) → DoesRight (cache h) (locked h n false false called) k now rest)
-    → DoesRight (cache h) (at [] false false called) k before (with_lock h n rest)
+    → DoesRight (cache h) (at [] false false called) k before (lock h n rest)
 enter_right h n called k before rest later =
     take_right (cache h) (at [] false false called) k before (lock_of h n) rest (λ held e. cc) (λ now rely. later now)
 
@@ -169,7 +174,7 @@ committed_right h n a x b y z called k before low from_a to_a from_b to_b is mut
 -- a write
 write_right : (h : Header) (k : Hand) (before : Memory) (args : Args) → h.subject ≡ Cache → args.a < h.size → are_small args ≡ true
     → k.called ≡ Some (record { method = CaWrite; args = args })
-    → DoesRight (cache h) (at [] false false (record { method = CaWrite; args = args })) k before (write_procedure h Correct args.a args.b args.c)
+    → DoesRight (cache h) (at [] false false (record { method = CaWrite; args = args })) k before (write h Correct args.a args.b args.c)
 write_right h k before args is low few called_is =
     enter_right h args.a called k before (put_cached h args.a args.b args.c)
     (λ now. committed_right h args.a (5 * args.a + 1) args.b (5 * args.a + 2) args.c 2 called k now low
@@ -282,9 +287,9 @@ forget_right h n called k before is low called_is mutator stays other there =
 -- a flush
 flush_right : (h : Header) (k : Hand) (before : Memory) (args : Args) → h.subject ≡ Cache → args.a < h.size → ((i : ℕ) → k.owned i ≡ false)
     → k.called ≡ Some (record { method = CaFlush; args = args })
-    → DoesRight (cache h) (at [] false false (record { method = CaFlush; args = args })) k before (flush_procedure h args.a)
+    → DoesRight (cache h) (at [] false false (record { method = CaFlush; args = args })) k before (flush h args.a)
 flush_right h k before args is low none called_is =
-    enter_right h args.a called k before (step (Load (state_of args.a)) (λ n. cond (n == 2) (put_stored h args.a 1) (only_commit h args.a)))
+    enter_right h args.a called k before (step (Load (state_cell args.a)) (λ n. cond (n == 2) (put_stored h args.a 1) (only_commit h args.a)))
     (λ m0.
     look_right h args.a (5 * args.a) called k m0 (λ n. cond (n == 2) (put_stored h args.a 1) (only_commit h args.a)) low (omega arith) (omega arith)
     (λ now same. by_state now (now (5 * args.a) == 2) refl))
@@ -301,9 +306,9 @@ flush_right h k before args is low none called_is =
 -- an evict
 evict_right : (h : Header) (k : Hand) (before : Memory) (args : Args) → h.subject ≡ Cache → args.a < h.size → ((i : ℕ) → k.owned i ≡ false)
     → k.called ≡ Some (record { method = CaEvict; args = args })
-    → DoesRight (cache h) (at [] false false (record { method = CaEvict; args = args })) k before (evict_procedure h args.a)
+    → DoesRight (cache h) (at [] false false (record { method = CaEvict; args = args })) k before (evict h args.a)
 evict_right h k before args is low none called_is =
-    enter_right h args.a called k before (step (Load (state_of args.a)) rest)
+    enter_right h args.a called k before (step (Load (state_cell args.a)) rest)
     (λ m0. look_right h args.a (5 * args.a) called k m0 rest low (omega arith) (omega arith)
     (λ now same. by_state now (now (5 * args.a) == 2) refl (now (5 * args.a) == 0) refl))
   where
@@ -396,9 +401,9 @@ fetch_right h k before args is low none called_is absent =
 
 read_right : (h : Header) (k : Hand) (before : Memory) (args : Args) → h.subject ≡ Cache → args.a < h.size → ((i : ℕ) → k.owned i ≡ false)
     → k.called ≡ Some (record { method = CaRead; args = args })
-    → DoesRight (cache h) (at [] false false (record { method = CaRead; args = args })) k before (read_procedure h args.a)
+    → DoesRight (cache h) (at [] false false (record { method = CaRead; args = args })) k before (read h args.a)
 read_right h k before args is low none called_is =
-    enter_right h args.a called k before (step (Load (state_of args.a)) (λ n. cond (n == 0) (fetch h args.a) (answer_cached h args.a)))
+    enter_right h args.a called k before (step (Load (state_cell args.a)) (λ n. cond (n == 0) (fetch h args.a) (answer_cached h args.a)))
     (λ m0. look_right h args.a (5 * args.a) called k m0 (λ n. cond (n == 0) (fetch h args.a) (answer_cached h args.a)) low (omega arith) (omega arith)
     (λ now same. by_state now (now (5 * args.a) == 0) refl))
   where

@@ -1,10 +1,12 @@
+-- Proofs of laws that an impl in src/ names: no contract says what is defined here.
 -- The cells of a memory after an operation of a cache, and its chunk.
 use Rattle.std.proofs.Common.{◌≡◌, ℕ, ◌+◌, ◌*◌, ◌<◌, ◌∙◌, arith}
 use Rattle.std.specs.Prelude.{◌≢◌}
 use Rattle.vyrd_base.specs.Views.{Chunk}
 use Rattle.vyrd_memory.specs.Alone.{Memory, with_cell}
 use Rattle.vyrd_memory.proofs.Memories.{changed_cell, other_cell}
-use Rattle.vyrd_cache.specs.Laws.Chunks.{chunk_of, same_chunk, Leaves}
+use Rattle.vyrd_cache.specs.Contents.{chunk_of}
+use Rattle.vyrd_cache.specs.Laws.Alone.Changes.{same_chunk, Leaves}
 
 -- the memory with the lock held
 abbrev pub held : ℕ → ℕ → Memory → Memory

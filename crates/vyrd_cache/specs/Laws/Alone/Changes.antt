@@ -1,3 +1,4 @@
+-- Proofs of laws that an impl in src/ names: no contract says what is defined here.
 -- How the state changes for which a cache's memory stands, where one chunk changes.
 use Rattle.std.proofs.Common.{◌≡◌, ℕ, ◌+◌, ◌*◌, ◌<◌, ◌≤◌, Bool, true, false, cond, List, [], ◌∷◌, refl, ap, ◌∙◌, sym, subst, arith}
 use Rattle.std.specs.Prelude.{◌≢◌, ◌==◌, ◌&&◌, ◌||◌, not, flat_map}
@@ -15,20 +16,7 @@ use Rattle.vyrd_memory.specs.Alone.{Memory, words_in}
 use Rattle.vyrd_memory.proofs.NumberLists.{all_pass, pass_all}
 use Rattle.vyrd_memory.proofs.PartSums.{given-changed, collected-is}
 use Rattle.vyrd_memory.proofs.Memories.{Stands, word_at}
-
--- a chunk of a memory
-abbrev pub chunk_of : Memory → ℕ → Chunk
-chunk_of memory k = record {
-  state = memory (5 * k);
-  cached_lo = memory (5 * k + 1);
-  cached_hi = memory (5 * k + 2);
-  stored_lo = memory (5 * k + 3);
-  stored_hi = memory (5 * k + 4);
-}
-
--- the pair that a chunk shows
-abbrev pub shown : Chunk → ℕ
-shown c = cond (c.state == 0) (stored_pair c) (cached_pair c)
+use Rattle.vyrd_cache.specs.Contents.{chunk_of, shown}
 
 -- two chunks with the same words
 pub same_chunk : (c d : Chunk) → c.state ≡ d.state → c.cached_lo ≡ d.cached_lo → c.cached_hi ≡ d.cached_hi

@@ -1,7 +1,7 @@
 use Rattle.std.proofs.Common.{arith}
 use Rattle.vyrd_cache.proofs.Steps.{looked_dirty, looked_other, flushed_dirty, flushed_other, evicted_dirty, evicted_absent, evicted_other, read_absent, read_other}
 use Rattle.vyrd_cache.proofs.Steps.{decided}
-use Rattle.vyrd_cache.proofs.progress.CacheProgress.knowing.Goals as goal
+use Rattle.vyrd_cache.proofs.task.Task.knowing.Goals as goal
 
 pub returns-then-state-eq-DIRTY : goal.returns-then-state-eq-DIRTY
 returns-then-state-eq-DIRTY c =
@@ -12,17 +12,17 @@ returns-else-state-eq-DIRTY c =
     λ h. looked_other h c.args.self c.doing-else-state-eq-DIRTY.result c.args.state c.in-LookAndWrite.is c.if-state-eq-DIRTY.false c.doing-else-state-eq-DIRTY.ensures
 
 pub returns-then-state-eq-DIRTY-2 : goal.returns-then-state-eq-DIRTY-2
-returns-then-state-eq-DIRTY-2 c = λ h. flushed_dirty h c.args.self c.at.result c.args.state c.in-Flush.is c.if-state-eq-DIRTY-2.true c.at.ensures
+returns-then-state-eq-DIRTY-2 c = λ h. flushed_dirty h c.args.self c.args.state c.in-Flush.is c.if-state-eq-DIRTY-2.true
 
 pub returns-else-state-eq-DIRTY-2 : goal.returns-else-state-eq-DIRTY-2
 returns-else-state-eq-DIRTY-2 c =
-    λ h. flushed_other h c.args.self c.at-else-state-eq-DIRTY-2.result c.args.state c.in-Flush.is c.if-state-eq-DIRTY-2.false c.at-else-state-eq-DIRTY-2.ensures
+    λ h. flushed_other h c.args.self c.args.state c.in-Flush.is c.if-state-eq-DIRTY-2.false
 
 pub returns-in-2 : goal.returns-in-2
-returns-in-2 c = λ h. evicted_dirty h c.args.self c.at-in-2.result c.args.state c.in-Evict.is c.in-2.is c.at-in-2.ensures
+returns-in-2 c = λ h. evicted_dirty h c.args.self c.args.state c.in-Evict.is c.in-2.is
 
 pub returns-in-0 : goal.returns-in-0
-returns-in-0 c = λ h. evicted_absent h c.args.self c.at-in-0.result c.args.state c.in-Evict.is c.in-0.is c.at-in-0.ensures
+returns-in-0 c = λ h. evicted_absent h c.args.self c.args.state c.in-Evict.is c.in-0.is
 
 pub returns-in_default-state : goal.returns-in_default-state
 returns-in_default-state c =
@@ -35,9 +35,8 @@ returns-then-state-eq-ABSENT c =
 
 pub returns-else-state-eq-ABSENT : goal.returns-else-state-eq-ABSENT
 returns-else-state-eq-ABSENT c =
-    λ h. read_other h c.args.self c.at-else-state-eq-ABSENT.result c.args.state c.in-Read.is c.if-state-eq-ABSENT.false c.at-else-state-eq-ABSENT.ensures
+    λ h. read_other h c.args.self c.args.state c.in-Read.is c.if-state-eq-ABSENT.false
 
 pub returns-in_default : goal.returns-in_default
 returns-in_default c =
-    λ h. decided h c.args.self c.at-in_default.result c.args.state c.in_default.not-LookAndWrite c.in_default.not-Flush c.in_default.not-Evict c.in_default.not-Read
-    c.at-in_default.ensures
+    λ h. decided h c.args.self c.args.state c.in_default.not-LookAndWrite c.in_default.not-Flush c.in_default.not-Evict c.in_default.not-Read

@@ -1,3 +1,4 @@
+-- Proofs of laws that an impl in src/ names: no contract says what is defined here.
 -- The pairs of a sound chunk, and what it shows after its words changed.
 use Rattle.std.proofs.Common.{◌≡◌, ℕ, ◌+◌, ◌*◌, ◌%◌, ◌<◌, ◌^◌, true, false, cond, ap, ◌∙◌, sym, arith}
 use Rattle.std.specs.Prelude.{◌==◌, ◌||◌, not, nat_lt, nat_le}
@@ -6,8 +7,8 @@ use Rattle.vyrd_base.specs.Views.{Chunk, is_chunk, pair_amount, cached_pair, sto
 use Rattle.vyrd_base.specs.Standing.{is_sound_chunk}
 use Rattle.vyrd_base.proofs.TestLaws.{first_true, second_true, same_number, same_of}
 use Rattle.vyrd_cache.specs.Procedures.{joined}
-use Rattle.vyrd_cache.specs.Laws.Chunks.{shown}
-use Rattle.vyrd_cache.specs.Laws.Stores.{with_cached, with_stored, with_state}
+use Rattle.vyrd_cache.specs.Contents.{shown}
+use Rattle.vyrd_cache.specs.Laws.Alone.Stores.{with_cached, with_stored, with_state}
 
 -- what is known of the halves of a sound chunk
 pub record IsSmall (c : Chunk) : Type 0 where

@@ -1,0 +1,55 @@
+-- That no operation gives up: the specification refuses the reply 0.
+use Rattle.std.proofs.Common.{◌≡◌, ℕ, true, false, Option, None, Some, refl, ap, ◌∙◌, sym, subst}
+use Rattle.std.specs.Prelude.{IsSome}
+use Rattle.vyrd_base.specs.declared.header.Header.{Header}
+use Rattle.vyrd_base.specs.declared.subject.Subject.TheVariants.{Cache}
+use Rattle.vyrd_base.specs.declared.subject.Method.{Method}
+use Rattle.vyrd_base.specs.declared.subject.Method.TheVariants.{MsInsert, MsInsertPair, MsDelete}
+use Rattle.vyrd_base.specs.declared.subject.Method.TheVariants.{MsLookup, CaWrite, CaFlush, CaEvict}
+use Rattle.vyrd_base.specs.declared.subject.Method.TheVariants.{CaRead, TrInsert, TrDelete, TrLookup}
+use Rattle.vyrd_base.specs.declared.subject.Args.{Args}
+use Rattle.vyrd_base.specs.Amounts.{Amounts}
+use Rattle.vyrd_base.specs.Specification.{next_state}
+use Rattle.vyrd_base.specs.Subjects.{subject_of, is_observer, are_args}
+use Rattle.vyrd_memory.specs.declared.op.Op.{Op}
+use Rattle.vyrd_memory.specs.declared.op.Variant.TheVariants.{Correct}
+use Rattle.vyrd_memory.specs.Arguments.{are_small}
+use Rattle.vyrd_memory.specs.Alone.{Memory, state_in, state_after, alone, GivesUpWhere}
+use Rattle.vyrd_memory.specs.Alone.{MeetsSpecification}
+use Rattle.vyrd_cache.specs.Procedures.{cache_procedure}
+use Rattle.vyrd_cache.specs.Laws.{cache_is_right_alone}
+
+refused : (method : Method) (args : Args) (state : Amounts) → subject_of method ≡ Cache
+    → is_observer method ≡ false → next_state method args 0 state ≡ None
+refused CaWrite args state of changes = refl
+refused CaFlush args state of changes = refl
+refused CaEvict args state of changes = refl
+refused CaRead args state of changes = cc
+refused MsInsert args state of changes = cc
+refused MsInsertPair args state of changes = cc
+refused MsDelete args state of changes = cc
+refused MsLookup args state of changes = cc
+refused TrInsert args state of changes = cc
+refused TrDelete args state of changes = cc
+refused TrLookup args state of changes = cc
+
+no_state : (o : Option Amounts) → o ≡ None → IsSome o → ⊥
+no_state None e some = cc
+no_state (Some state) e some = cc
+
+pub never_gives_up : (h : Header) (memory : Memory) (state : Amounts) (c : ℕ) (op : Op)
+    → h.subject ≡ Cache → subject_of op.method ≡ Cache → is_observer op.method ≡ false
+    → are_args h.size op.method op.args ≡ true → are_small op.args ≡ true
+    → state_in h memory ≡ Some state → GivesUpWhere ⊥ (alone c (cache_procedure h Correct op) memory)
+never_gives_up h memory state c op is of changes fit small e =
+    subst (GivesUpWhere ⊥) (sym m.ends) (refuses, λ none. absurd none)
+  where
+    m : MeetsSpecification h op (cache_procedure h Correct op) c memory state
+    m = cache_is_right_alone h op is of fit small c memory state e
+
+    refuses : m.outcome.reply ≡ 0 → ⊥
+    refuses zero =
+        no_state (state_in h m.outcome.memory)
+        (m.after ∙ ap (λ b. state_after b op m.outcome.reply state) changes
+        ∙ ap (λ reply. next_state op.method op.args reply state) zero
+        ∙ refused op.method op.args state of changes) m.goes_on
