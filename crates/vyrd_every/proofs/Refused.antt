@@ -17,7 +17,7 @@ use Rattle.vyrd_cache.specs.Cells.{lock_of}
 use Rattle.vyrd_cache.specs.Procedures.{cache_procedure}
 use Rattle.vyrd_tree.specs.Cells.{node_cell, root_cell, used_cell, root_lock}
 use Rattle.vyrd_tree.specs.Cells as cells
-use Rattle.vyrd_tree.specs.RightAlone.Nodes.{level_at}
+use Rattle.vyrd_tree.specs.Contents.{level_at}
 use Rattle.vyrd_every.specs.Guarded.{multiset, cache}
 use Rattle.vyrd_every.specs.Hands.{Hand}
 use Rattle.vyrd_every.specs.RightScripts.{DoesRight, IsRight}

@@ -18,7 +18,7 @@ ghost use Rattle.vyrd_memory.specs.Scripts.{Script};
 ghost use Rattle.vyrd_memory.specs.Soundness.{Standing, holds, at_rest};
 ghost use Rattle.vyrd_memory.specs.Turns.{script_of};
 ghost use Rattle.vyrd_tree.specs.Cells.{root_lock};
-ghost use Rattle.vyrd_tree.specs.RightAlone.Nodes.{level_at, root_in};
+ghost use Rattle.vyrd_tree.specs.Contents.{level_at, root_in};
 ghost use Rattle.vyrd_work.specs.Workloads.{Workload};
 ghost use Rattle.vyrd_work.specs.WorkLimits.{KeepsLimits};
 ghost use Rattle.vyrd_work.specs.WorkScripts.{work_scripts};

@@ -1,8 +1,5 @@
-pub mod Entered
-pub mod Loads
-pub mod Added
-pub mod Parted
-pub mod Rooms
-pub mod Hangs
+pub mod Steps
+pub mod GiveUps
+pub mod HangingLaws
 pub mod Onward
 pub mod PassLaws

@@ -11,14 +11,15 @@ use Rattle.vyrd_memory.specs.Scripts.{Script, step, perform}
 use Rattle.vyrd_memory.specs.Alone.{Memory, with_cell, Outcome, alone}
 use Rattle.vyrd_tree.specs.Cells.{level_cell, count_cell, bound_cell, right_cell, key_cell, value_cell, root_cell, used_cell}
 use Rattle.vyrd_tree.specs.Cells.{lock_of, root_lock, used_lock, unlock_node, unlock_root, unlock_used}
-use Rattle.vyrd_tree.specs.Walk.{Arrived, child_place, moves_right, to_child, descend, load_rest, arrive, pass_on, visit_node, walk_from}
-use Rattle.vyrd_tree.specs.Split.{with_unused, write_entries, write_node, place_below, with_entry, lower_half, upper_half, first_key}
-use Rattle.vyrd_tree.specs.Split.{add_entry, split_entry, split_key}
-use Rattle.vyrd_tree.specs.Ascent.{grow_root, add_child, ascend_once}
-use Rattle.vyrd_tree.specs.RightAlone.Nodes.{key_at, entries_from}
-use Rattle.vyrd_tree.specs.RightAlone.Entries.{Entries}
-use Rattle.vyrd_tree.specs.RightAlone.Played.{keys_loaded, values_loaded}
-use Rattle.vyrd_tree.specs.RightAlone.Steps.{GoesOn}
+use Rattle.vyrd_tree.specs.Procedures.Walk.{Arrived, child_place, moves_right, to_child, descend}
+use Rattle.vyrd_tree.specs.Procedures.Walk.{load_rest, arrive, pass_on, visit_node, walk_from}
+use Rattle.vyrd_tree.specs.Procedures.Split.{with_unused, write_entries, write_node, place_below}
+use Rattle.vyrd_tree.specs.Procedures.Split.{with_entry, lower_half, upper_half, first_key}
+use Rattle.vyrd_tree.specs.Procedures.Split.{add_entry, split_entry, split_key}
+use Rattle.vyrd_tree.specs.Procedures.Ascent.{grow_root, add_child, ascend_once}
+use Rattle.vyrd_tree.specs.Contents.{key_at, entries_from, Entries}
+use Rattle.vyrd_tree.specs.Laws.Alone.Played.{keys_loaded, values_loaded}
+use Rattle.vyrd_tree.specs.Laws.Alone.BlocksPlayed.{GoesOn}
 
 -- Entries are written.
 pub written : (c node place : ℕ) (xs : Entries) (m : Memory)

@@ -12,28 +12,29 @@ use Rattle.vyrd_memory.specs.declared.op.Variant.TheVariants.{Correct}
 use Rattle.vyrd_memory.specs.Scripts.{Script, stop, returns, gives_up}
 use Rattle.vyrd_memory.specs.Alone.{Memory, with_cell, Outcome, state_in, alone}
 use Rattle.vyrd_tree.specs.Cells.{count_cell, used_cell, lock_of, used_lock}
-use Rattle.vyrd_tree.specs.Walk.{Arrived}
-use Rattle.vyrd_tree.specs.Split.{with_unused}
-use Rattle.vyrd_tree.specs.Split.{add_entry, split_entry, split_key}
-use Rattle.vyrd_tree.specs.Ascent.{ascend_once}
+use Rattle.vyrd_tree.specs.Procedures.Walk.{Arrived}
+use Rattle.vyrd_tree.specs.Procedures.Split.{with_unused}
+use Rattle.vyrd_tree.specs.Procedures.Split.{add_entry, split_entry, split_key}
+use Rattle.vyrd_tree.specs.Procedures.Ascent.{ascend_once}
 use Rattle.vyrd_tree.specs.Procedures.{changes_nothing, place_of, insert_in_then, insert_then}
 use Rattle.vyrd_tree.specs.Room.{leaf_of}
 use Rattle.vyrd_tree.specs.Hanging.{is_hanging}
 use Rattle.vyrd_tree.specs.Passes.{SplitsLeaf, KeepsState}
-use Rattle.vyrd_tree.specs.RightAlone.Nodes.{count_at, last_in, entries_at}
-use Rattle.vyrd_tree.specs.RightAlone.Entries.{found_around, not_found}
-use Rattle.vyrd_tree.specs.RightAlone.Tested.{length-entries}
-use Rattle.vyrd_tree.specs.RightAlone.Held.{ShowsBy, StandsFor, stands_for, stands_so}
-use Rattle.vyrd_tree.specs.RightAlone.Played.{EndsSo}
-use Rattle.vyrd_tree.specs.RightAlone.Walked.{loaded_at, with_lock, locked_words, walk_down_arrives}
-use Rattle.vyrd_tree.specs.RightAlone.Steps.{FreeAll, IsAt, is_at, unused_played}
-use Rattle.vyrd_tree.specs.RightAlone.Done.{present}
-use Rattle.vyrd_tree.specs.RightAlone.NewKey.{leaf_is_split}
-use Rattle.vyrd_tree.specs.RightAlone.Inserted.{LeafOf}
-use Rattle.vyrd_tree.specs.RightAlone.Ascended.{Stops, GoesOnAt, round_played}
-use Rattle.vyrd_tree.proofs.Rooms.{leaf_stands, leaf_is}
+use Rattle.vyrd_tree.specs.Contents.{count_at, last_in, entries_at, ShowsBy, StandsFor}
+use Rattle.vyrd_tree.specs.Laws.Alone.Entries.{found_around, not_found}
+use Rattle.vyrd_tree.specs.Laws.Alone.Tested.{length-entries}
+use Rattle.vyrd_tree.specs.Laws.Alone.Changes.{stands_for, stands_so}
+use Rattle.vyrd_tree.specs.Laws.Alone.Played.{EndsSo}
+use Rattle.vyrd_tree.specs.Laws.Alone.WalkArrives.{loaded_at, with_lock, locked_words}
+use Rattle.vyrd_tree.specs.Laws.Alone.WalkArrives.{walk_down_arrives}
+use Rattle.vyrd_tree.specs.Laws.Alone.BlocksPlayed.{FreeAll, IsAt, is_at, unused_played}
+use Rattle.vyrd_tree.specs.Laws.Alone.Done.{present}
+use Rattle.vyrd_tree.specs.Laws.Alone.NewKey.{leaf_is_split}
+use Rattle.vyrd_tree.specs.Laws.Alone.Inserted.{LeafOf}
+use Rattle.vyrd_tree.specs.Laws.Alone.AscentKeepsState.{Stops, GoesOnAt, round_played}
+use Rattle.vyrd_tree.proofs.GiveUps.{leaf_stands, leaf_is}
 use Rattle.vyrd_tree.proofs.Onward.{node_is_split, Comes, round_comes}
-use Rattle.vyrd_tree.proofs.Hangs.{hanging_says, hanging_passes}
+use Rattle.vyrd_tree.proofs.HangingLaws.{hanging_says, hanging_passes}
 
 -- where there is an outcome, this holds of its memory
 abbrev IfEnds : (Memory → Type 0) → Option Outcome → Type 0

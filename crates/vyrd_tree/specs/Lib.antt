@@ -1,11 +1,8 @@
 pub mod Cells
-pub mod Walk
-pub mod Split
-pub mod Ascent
 pub mod Procedures
 pub mod Rests
-pub mod Laws
+pub mod Contents
 pub mod Room
 pub mod Hanging
 pub mod Passes
-pub mod RightAlone
+pub mod Laws

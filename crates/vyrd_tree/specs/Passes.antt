@@ -9,7 +9,7 @@ use Rattle.vyrd_memory.specs.declared.op.Variant.TheVariants.{Correct}
 use Rattle.vyrd_memory.specs.Scripts.{Script}
 use Rattle.vyrd_memory.specs.Alone.{Memory, state_in, alone}
 use Rattle.vyrd_tree.specs.Procedures.{insert_then}
-use Rattle.vyrd_tree.specs.Ascent.{ascend_once}
+use Rattle.vyrd_tree.specs.Procedures.Ascent.{ascend_once}
 use Rattle.vyrd_tree.specs.Hanging.{is_hanging}
 
 -- An insert that splits a leaf, played alone, comes to the unlock after its commit with words that stand for the next state with

@@ -1,7 +1,11 @@
 -- The procedures of the tree, from after the mark of the call to the mark of the return.
+pub mod Walk
+pub mod Split
+pub mod Ascent
 use Rattle.std.specs.Prelude.{ℕ, ◌+◌, ◌==◌, nat_lt, List, length, position, remove, slice_index, map, Option, Some, None, if◌then◌else◌}
 use Rattle.vyrd_base.specs.declared.header.Header.{Header}
 use Rattle.vyrd_base.specs.declared.log.Kind.TheVariants.{Commit, BlockOpen, BlockCommit}
+use Rattle.vyrd_base.specs.declared.subject.Args.{Args}
 use Rattle.vyrd_base.specs.declared.subject.Method.{Method}
 use Rattle.vyrd_base.specs.declared.subject.Method.TheVariants.{TrInsert, TrDelete, TrLookup}
 use Rattle.vyrd_memory.specs.declared.act.Act.TheVariants.{Load, Store, Mark}
@@ -9,9 +13,10 @@ use Rattle.vyrd_memory.specs.declared.op.Op.{Op}
 use Rattle.vyrd_memory.specs.declared.op.Variant.{Variant}
 use Rattle.vyrd_memory.specs.Scripts.{Script, stop, step, perform, returns, gives_up}
 use Rattle.vyrd_tree.specs.Cells.{root_cell, value_cell, unlock_node}
-use Rattle.vyrd_tree.specs.Walk.{Arrived, walk_from}
-use Rattle.vyrd_tree.specs.Split.{with_unused, rewrite, add_entry, split_entry, split_key}
-use Rattle.vyrd_tree.specs.Ascent.{ascend}
+use Rattle.vyrd_tree.specs.Procedures.Walk.{Arrived, walk_from}
+use Rattle.vyrd_tree.specs.Procedures.Split.{with_unused, rewrite, add_entry, split_entry}
+use Rattle.vyrd_tree.specs.Procedures.Split.{split_key}
+use Rattle.vyrd_tree.specs.Procedures.Ascent.{ascend}
 
 -- with the node's lock held: commit, unlock it, and return 0
 abbrev pub changes_nothing : Header → ℕ → Script
@@ -89,13 +94,13 @@ insert_then h variant key value split =
 abbrev pub insert_entry : Header → Variant → ℕ → ℕ → Script
 insert_entry h variant key value = insert_then h variant key value (ascend_from_leaf h variant)
 
--- the procedure of each method; those of another subject have none
-abbrev pub by_method : Header → Variant → Method → ℕ → ℕ → Script
-by_method h variant TrInsert a b = insert_entry h variant a b
-by_method h variant TrDelete a b = delete h variant a
-by_method h variant TrLookup a b = lookup h variant a
-by_method h variant _ a b = stop
+-- the procedure of a method's call with these arguments; that of another subject's method is empty
+abbrev pub procedure_of : Header → Variant → Method → Args → Script
+procedure_of h variant TrInsert args = insert_entry h variant args.a args.b
+procedure_of h variant TrDelete args = delete h variant args.a
+procedure_of h variant TrLookup args = lookup h variant args.a
+procedure_of h variant _ args = stop
 
 -- the procedure of an operation
 abbrev pub tree_procedure : Header → Variant → Op → Script
-tree_procedure h variant op = by_method h variant op.method op.args.a op.args.b
+tree_procedure h variant op = procedure_of h variant op.method op.args

@@ -24,7 +24,7 @@ use Rattle.vyrd_tree.specs.declared.place.Climbing.{Climbing}
 use Rattle.vyrd_tree.specs.declared.task.Task.{Task}
 use Rattle.vyrd_tree.specs.declared.progress.TreeProgress.{TreeProgress}
 use Rattle.vyrd_tree.specs.Cells.{level_cell, root_cell, unlock_node, unlock_root}
-use Rattle.vyrd_tree.specs.Ascent.{grow_root}
+use Rattle.vyrd_tree.specs.Procedures.Ascent.{grow_root}
 use Rattle.vyrd_tree.specs.Procedures.{changes_nothing}
 use Rattle.vyrd_tree.specs.Rests.Errands.{round, walk_on}
 use Rattle.vyrd_tree.specs.Rests.Visits.{visiting_rest}

@@ -4,7 +4,7 @@ use Rattle.vyrd_base.specs.declared.header.Header.{Header}
 use Rattle.vyrd_base.specs.Amounts.{Amounts, amount_of}
 use Rattle.vyrd_memory.specs.Alone.{Memory}
 use Rattle.vyrd_tree.specs.Cells.{count_cell, bound_cell, right_cell, used_cell}
-use Rattle.vyrd_tree.specs.Walk.{is_past}
+use Rattle.vyrd_tree.specs.Procedures.Walk.{is_past}
 
 -- the first node, from this one on along the right links, whose bound the key isn't past, with so many links at most
 abbrev pub leaf_from : ℕ → Memory → ℕ → ℕ → ℕ

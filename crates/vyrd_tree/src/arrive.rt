@@ -4,7 +4,7 @@ ghost use Rattle.std.specs.Prelude.{◌≡◌, ◌≤◌, take};
 ghost use Rattle.vyrd_base.specs.declared.header.Header.{Header};
 ghost use Rattle.vyrd_memory.specs.Scripts.{returns};
 ghost use Rattle.vyrd_tree.specs.Procedures.{place_of, look_in, delete_in, insert_in};
-ghost use Rattle.vyrd_tree.specs.Ascent.{add_child};
+ghost use Rattle.vyrd_tree.specs.Procedures.Ascent.{add_child};
 ghost use Rattle.vyrd_tree.specs.Rests.{rest_at};
 ghost use Rattle.vyrd_tree.specs.Rests.Errands.{arrived_for, add_rest, next_round};
 ghost use Rattle.vyrd_tree.specs.Rests.Visits.{arrived_at};

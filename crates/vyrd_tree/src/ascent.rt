@@ -4,7 +4,8 @@ ghost use Rattle.std.specs.Prelude.{◌≡◌, ◌^◌, ◌<◌};
 ghost use Rattle.vyrd_memory.specs.Scripts.{next_act, after_answer};
 ghost use Rattle.vyrd_tree.specs.Rests.{climbing_rest, rest_at};
 
-use crate::node::{Node, Word, root_cell, root_lock};
+use crate::cells::{root_cell, root_lock};
+use crate::node::{Node, Word};
 use crate::place::{After, Climbing, Getting, Lock, Need, Place};
 use crate::task::Task;
 use crate::visit::Ascent;

@@ -2,8 +2,8 @@
 
 ghost use Rattle.std.specs.Prelude.{◌≡◌, ◌<◌, ◌≤◌, ◌^◌, ◌+◌, ◌-◌, All, take, drop, slice_set, slice_index_or, insert, remove, map, MatchOption, None, Some};
 ghost use Rattle.vyrd_tree.specs.Procedures.{place_of, reply_of};
-ghost use Rattle.vyrd_tree.specs.Split.{place_below, first_key};
-ghost use Rattle.vyrd_tree.specs.Walk.{child_place};
+ghost use Rattle.vyrd_tree.specs.Procedures.Split.{place_below, first_key};
+ghost use Rattle.vyrd_tree.specs.Procedures.Walk.{child_place};
 
 use crate::slot::Slot;
 

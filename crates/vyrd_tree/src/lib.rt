@@ -8,6 +8,7 @@
 
 mod arrive;
 mod ascent;
+mod cells;
 mod entries;
 pub mod laws;
 mod machine;

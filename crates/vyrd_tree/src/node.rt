@@ -1,14 +1,12 @@
-//! Nodes, and the cells of their words and locks.
+//! Nodes, with the cells of their words and locks.
 
 ghost use Rattle.std.specs.Prelude.{◌≡◌, ◌<◌, ◌≤◌, MatchOption};
-ghost use Rattle.vyrd_tree.specs.Cells.{root_cell, used_cell, lock_of, root_lock, used_lock};
+ghost use Rattle.vyrd_tree.specs.Cells.{lock_of};
 ghost use Rattle.vyrd_tree.specs.Rests.Words.{cell_of};
 
+use crate::cells::NODE_WORDS;
 use crate::slot::Slot;
 use vyrd_base::Header;
-
-/// How many words a node has.
-const NODE_WORDS: u32 = 12;
 
 /// A node of the tree, by its number. A header has at most 1,024 nodes.
 #[derive(Clone, Copy)]
@@ -76,32 +74,4 @@ impl Node {
     {
         NODE_WORDS * header.size() + 2 + self.number
     }
-}
-
-/// The cell of the root's number.
-pub(crate) fn root_cell(header: &Header) -> u32
-    ensures { result ≡ root_cell header.now }
-{
-    NODE_WORDS * header.size()
-}
-
-/// The cell that counts the nodes in use beside node 0.
-pub(crate) fn used_cell(header: &Header) -> u32
-    ensures { result ≡ used_cell header.now }
-{
-    NODE_WORDS * header.size() + 1
-}
-
-/// The cell of the lock of the root's number.
-pub(crate) fn root_lock(header: &Header) -> u32
-    ensures { result ≡ root_lock header.now }
-{
-    (NODE_WORDS + 1) * header.size() + 2
-}
-
-/// The cell of the lock of the count of nodes in use.
-pub(crate) fn used_lock(header: &Header) -> u32
-    ensures { result ≡ used_lock header.now }
-{
-    (NODE_WORDS + 1) * header.size() + 3
 }

@@ -5,8 +5,9 @@ ghost use Rattle.vyrd_memory.specs.declared.act.Act.TheVariants.{Give};
 ghost use Rattle.vyrd_memory.specs.Scripts.{Script, next_act};
 ghost use Rattle.vyrd_tree.specs.Rests.{unlocking};
 
+use crate::cells::root_lock;
 use crate::entries::Entry;
-use crate::node::{Node, root_lock};
+use crate::node::Node;
 use crate::storing::Storing;
 use crate::visit::{Ascent, Errand, Visit, Visiting};
 use vyrd_base::{Header, Kind};

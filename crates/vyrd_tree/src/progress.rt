@@ -4,8 +4,7 @@ ghost use Rattle.std.specs.Prelude.{◌≡◌};
 ghost use Rattle.vyrd_base.specs.declared.subject.Subject.TheVariants.{Tree};
 ghost use Rattle.vyrd_tree.specs.Procedures.{tree_procedure};
 ghost use Rattle.vyrd_tree.specs.Rests.{rest_of};
-ghost use Rattle.vyrd_tree.specs.Laws.{tree_is_sound, tree_ends_in_time};
-ghost use Rattle.vyrd_tree.specs.RightAlone.{tree_is_right_alone};
+ghost use Rattle.vyrd_tree.specs.Laws.{tree_is_sound, tree_ends_in_time, tree_is_right_alone};
 
 use crate::place::Place;
 use crate::task::{Call, Task};

@@ -7,8 +7,9 @@ ghost use Rattle.vyrd_tree.specs.Rests.{rest_at, after_rest};
 ghost use Rattle.vyrd_tree.specs.Rests.Errands.{after_split};
 ghost use Rattle.vyrd_tree.specs.Rests.Unused.{getting_rest, found_for, none_for};
 
+use crate::cells::{used_cell, used_lock};
 use crate::entries::{first_four, last_two, split_key};
-use crate::node::{Node, Word, used_cell, used_lock};
+use crate::node::{Node, Word};
 use crate::place::{After, Ending, Full, Getting, Lock, Need, Place};
 use crate::storing::{Storing, Then};
 use crate::task::Task;

@@ -5,7 +5,8 @@ ghost use Rattle.vyrd_base.specs.declared.header.Header.{Header};
 ghost use Rattle.vyrd_memory.specs.Scripts.{Script, next_act, after_answer};
 ghost use Rattle.vyrd_tree.specs.Rests.Stores.{entries_from, new_from, old_from, storing_rest, storing_on, counting, then_rest};
 
-use crate::node::{Node, Word, root_cell};
+use crate::cells::root_cell;
+use crate::node::{Node, Word};
 use crate::slot::Slot;
 use crate::written::Written;
 use vyrd_base::Header;

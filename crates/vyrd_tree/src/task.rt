@@ -4,7 +4,7 @@ ghost use Rattle.std.specs.Prelude.{◌≡◌, ◌<◌, ◌^◌};
 ghost use Rattle.vyrd_memory.specs.Scripts.{next_act, after_answer};
 ghost use Rattle.vyrd_tree.specs.Rests.{after_rest, rest_at};
 
-use crate::node::root_cell;
+use crate::cells::root_cell;
 use crate::place::{After, Climbing, Lock, Place};
 use crate::visit::Errand;
 use vyrd_base::{Header, Kind};

@@ -5,7 +5,7 @@ ghost use Rattle.vyrd_base.specs.declared.header.Header.{Header};
 ghost use Rattle.vyrd_memory.specs.declared.act.Act.TheVariants.{Store};
 ghost use Rattle.vyrd_memory.specs.Scripts.{Script, next_act, perform};
 ghost use Rattle.vyrd_tree.specs.Cells.{count_cell};
-ghost use Rattle.vyrd_tree.specs.Split.{write_entries};
+ghost use Rattle.vyrd_tree.specs.Procedures.Split.{write_entries};
 ghost use Rattle.vyrd_tree.specs.Rests.Stores.{storing_rest};
 ghost use Rattle.vyrd_tree.specs.declared.task.Task.{Task};
 ghost use Rattle.vyrd_tree.specs.Rests.Errands.{toward, close_for};

@@ -3,7 +3,7 @@
 ghost use Rattle.std.specs.Prelude.{◌≡◌, ◌<◌, ◌≤◌, ◌^◌, take};
 ghost use Rattle.vyrd_base.specs.declared.header.Header.{Header};
 ghost use Rattle.vyrd_memory.specs.Scripts.{after_answer};
-ghost use Rattle.vyrd_tree.specs.Walk.{moves_right};
+ghost use Rattle.vyrd_tree.specs.Procedures.Walk.{moves_right};
 ghost use Rattle.vyrd_tree.specs.Rests.{rest_at};
 ghost use Rattle.vyrd_tree.specs.Rests.Errands.{key_for, lost_for, walk_on};
 ghost use Rattle.vyrd_tree.specs.Rests.Visits.{keys_of, with_keys, keys_from_rest, values_from_rest, looked_at, loading, visiting_rest};

@@ -12,15 +12,19 @@ use Rattle.vyrd_memory.specs.Alone.{Memory}
 use Rattle.vyrd_memory.specs.Scripts.{Script, perform, returns}
 use Rattle.vyrd_memory.specs.Soundness.{Standing}
 use Rattle.vyrd_tree.specs.Cells.{count_cell, lock_of, used_lock, unlock_node}
-use Rattle.vyrd_tree.specs.Split.{with_unused, with_entry, write_entries, rewrite, add_entry, split, split_entry, split_key, lower_half, upper_half, first_key}
-use Rattle.vyrd_tree.specs.Laws.Steps.{holding}
-use Rattle.vyrd_tree.specs.RightAlone.Nodes.{level_at, count_at, bound_at, right_at, BeginsAt, entries_at, AreEntries}
-use Rattle.vyrd_tree.specs.RightAlone.Order.{Covers}
-use Rattle.vyrd_tree.specs.RightAlone.Entries.{Entries, each_join, each_front, each_back, between, IsBetween, drop_front}
-use Rattle.vyrd_tree.specs.RightAlone.Changes.{length_join, entries_added, with_entry_is, place_below_is, AreHalves, halves}
-use Rattle.vyrd_tree.specs.RightAlone.Tested.{length-entries}
-use Rattle.vyrd_tree.specs.RightAlone.Held.{Rewritten}
-use Rattle.vyrd_tree.specs.RightAlone.Walked.{loaded_at}
+use Rattle.vyrd_tree.specs.Procedures.Split.{with_unused, with_entry, write_entries, rewrite}
+use Rattle.vyrd_tree.specs.Procedures.Split.{add_entry, split, split_entry, split_key, lower_half}
+use Rattle.vyrd_tree.specs.Procedures.Split.{upper_half, first_key}
+use Rattle.vyrd_tree.specs.Laws.Sound.Acts.{holding}
+use Rattle.vyrd_tree.specs.Contents.{level_at, count_at, bound_at, right_at, BeginsAt, entries_at}
+use Rattle.vyrd_tree.specs.Contents.{AreEntries, Covers, Entries}
+use Rattle.vyrd_tree.specs.Laws.Alone.Entries.{each_join, each_front, each_back, between, IsBetween}
+use Rattle.vyrd_tree.specs.Laws.Alone.Entries.{drop_front}
+use Rattle.vyrd_tree.specs.Laws.Alone.EntriesStaySound.{length_join, entries_added, with_entry_is}
+use Rattle.vyrd_tree.specs.Laws.Alone.EntriesStaySound.{place_below_is, AreHalves, halves}
+use Rattle.vyrd_tree.specs.Laws.Alone.Tested.{length-entries}
+use Rattle.vyrd_tree.specs.Laws.Alone.Changes.{Rewritten}
+use Rattle.vyrd_tree.specs.Laws.Alone.WalkArrives.{loaded_at}
 use Rattle.vyrd_every.proofs.Acts.{never}
 use Rattle.vyrd_every.specs.Hands.{written}
 use Rattle.vyrd_every.specs.Trees.Shapes.{Shape, LeadsDown, HasEntries, LeadsRight, IsLinked, Hangs}
@@ -37,7 +41,7 @@ use Rattle.vyrd_every.proofs.Trees.Splits.{with_node, IsSplitAt, split_state}
 use Rattle.vyrd_every.proofs.Trees.Unused.{with_fresh, unused_right}
 use Rattle.vyrd_every.proofs.Trees.SplitBlocks.{split_writes, split_stands, split_stores, Splits, splits}
 use Rattle.vyrd_every.proofs.Trees.Fulls.{Ascending, three_two, loaded_same}
-use Rattle.vyrd_tree.specs.RightAlone.Splits.{new_low}
+use Rattle.vyrd_tree.specs.Laws.Alone.SplitKeepsTree.{new_low}
 
 -- the call of an insert
 abbrev pub insert_of : Args → Called

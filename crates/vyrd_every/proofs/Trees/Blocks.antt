@@ -12,13 +12,13 @@ use Rattle.vyrd_memory.proofs.Memories.{changed_cell, other_cell}
 use Rattle.vyrd_memory.specs.Scripts.{Script, perform}
 use Rattle.vyrd_memory.specs.Soundness.{Standing, holds}
 use Rattle.vyrd_tree.specs.Cells.{root_cell, lock_of}
-use Rattle.vyrd_tree.specs.Split.{write_entries}
-use Rattle.vyrd_tree.specs.Laws.Steps.{holding}
-use Rattle.vyrd_tree.specs.RightAlone.Nodes.{level_at, count_at, bound_at, key_at, value_at, last_in, root_in, entries_at, entries_from}
-use Rattle.vyrd_tree.specs.RightAlone.Entries.{Entries}
-use Rattle.vyrd_tree.specs.RightAlone.Changes.{length_join}
-use Rattle.vyrd_tree.specs.RightAlone.Held.{entries_alike, Rewritten}
-use Rattle.vyrd_tree.specs.RightAlone.Played.{Written, front_stands}
+use Rattle.vyrd_tree.specs.Procedures.Split.{write_entries}
+use Rattle.vyrd_tree.specs.Laws.Sound.Acts.{holding}
+use Rattle.vyrd_tree.specs.Contents.{level_at, count_at, bound_at, key_at, value_at, last_in}
+use Rattle.vyrd_tree.specs.Contents.{root_in, entries_at, entries_from, Entries}
+use Rattle.vyrd_tree.specs.Laws.Alone.EntriesStaySound.{length_join}
+use Rattle.vyrd_tree.specs.Laws.Alone.Changes.{entries_alike, Rewritten}
+use Rattle.vyrd_tree.specs.Laws.Alone.Played.{Written, front_stands}
 use Rattle.vyrd_every.proofs.Acts.{never}
 use Rattle.vyrd_every.specs.Hands.{written}
 use Rattle.vyrd_every.specs.Trees.Shapes.{Shape, HasEntries, IsLinked, Hangs}

@@ -4,7 +4,7 @@ use Rattle.vyrd_base.specs.declared.header.Header.{Header}
 use Rattle.vyrd_memory.specs.Alone.{Memory}
 use Rattle.vyrd_memory.specs.Soundness.{Standing, holds}
 use Rattle.vyrd_tree.specs.Cells.{root_cell, used_cell, lock_of, root_lock}
-use Rattle.vyrd_tree.specs.RightAlone.Nodes.{level_at, root_in}
+use Rattle.vyrd_tree.specs.Contents.{level_at, root_in}
 use Rattle.vyrd_every.specs.Trees.Shapes.{Shape, IsLinked}
 use Rattle.vyrd_every.specs.Trees.Hands.{TreeHand, Owns, AreApart, IsWordOf, MayLoad, InNode, MayStore}
 use Rattle.vyrd_every.specs.Trees.Between.{MayHold}

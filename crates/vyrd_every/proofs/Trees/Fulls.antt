@@ -16,18 +16,22 @@ use Rattle.vyrd_memory.specs.Alone.{Memory}
 use Rattle.vyrd_memory.specs.Scripts.{Script, perform, returns}
 use Rattle.vyrd_memory.specs.Soundness.{Standing}
 use Rattle.vyrd_tree.specs.Cells.{lock_of, used_lock, unlock_node}
-use Rattle.vyrd_tree.specs.Walk.{Arrived}
-use Rattle.vyrd_tree.specs.Split.{with_entry, split, split_entry, split_key, lower_half, upper_half, first_key}
-use Rattle.vyrd_tree.specs.Ascent.{ascend}
+use Rattle.vyrd_tree.specs.Procedures.Walk.{Arrived}
+use Rattle.vyrd_tree.specs.Procedures.Split.{with_entry, split, split_entry, split_key, lower_half}
+use Rattle.vyrd_tree.specs.Procedures.Split.{upper_half, first_key}
+use Rattle.vyrd_tree.specs.Procedures.Ascent.{ascend}
 use Rattle.vyrd_tree.specs.Procedures.{changes_nothing}
-use Rattle.vyrd_tree.specs.Laws.Steps.{holding}
-use Rattle.vyrd_tree.specs.RightAlone.Nodes.{level_at, count_at, bound_at, right_at, IsLeafEntry, entries_at}
-use Rattle.vyrd_tree.specs.RightAlone.Order.{Covers}
-use Rattle.vyrd_tree.specs.RightAlone.Entries.{Entries, gives, gives_none, entry_gives_it, entry_gives_none, between, IsBetween}
-use Rattle.vyrd_tree.specs.RightAlone.Changes.{length_join, entries_added, gives_around, with_entry_is, place_below_is, AreHalves, halves}
-use Rattle.vyrd_tree.specs.RightAlone.Tested.{length-entries}
-use Rattle.vyrd_tree.specs.RightAlone.Walked.{loaded_at}
-use Rattle.vyrd_tree.specs.RightAlone.Done.{changed_inside}
+use Rattle.vyrd_tree.specs.Laws.Sound.Acts.{holding}
+use Rattle.vyrd_tree.specs.Contents.{level_at, count_at, bound_at, right_at, IsLeafEntry}
+use Rattle.vyrd_tree.specs.Contents.{entries_at, Covers, Entries, gives}
+use Rattle.vyrd_tree.specs.Laws.Alone.Entries.{gives_none, entry_gives_it, entry_gives_none}
+use Rattle.vyrd_tree.specs.Laws.Alone.Entries.{between, IsBetween}
+use Rattle.vyrd_tree.specs.Laws.Alone.EntriesStaySound.{length_join, entries_added, gives_around}
+use Rattle.vyrd_tree.specs.Laws.Alone.EntriesStaySound.{with_entry_is, place_below_is, AreHalves}
+use Rattle.vyrd_tree.specs.Laws.Alone.EntriesStaySound.{halves}
+use Rattle.vyrd_tree.specs.Laws.Alone.Tested.{length-entries}
+use Rattle.vyrd_tree.specs.Laws.Alone.WalkArrives.{loaded_at}
+use Rattle.vyrd_tree.specs.Laws.Alone.Done.{changed_inside}
 use Rattle.vyrd_every.specs.Hands.{written}
 use Rattle.vyrd_every.specs.RightScripts.{WillReturn}
 use Rattle.vyrd_every.specs.Trees.Shapes.{Shape, HasEntries, IsLinked, Hangs}
@@ -45,7 +49,7 @@ use Rattle.vyrd_every.proofs.Trees.Splits.{with_node, IsSplitAt, split_state}
 use Rattle.vyrd_every.proofs.Trees.Unused.{with_fresh, unused_right}
 use Rattle.vyrd_every.proofs.Trees.SplitBlocks.{split_writes, split_stands, split_stores, Splits, splits}
 use Rattle.vyrd_every.proofs.Acts.{never}
-use Rattle.vyrd_tree.specs.RightAlone.Splits.{new_low}
+use Rattle.vyrd_tree.specs.Laws.Alone.SplitKeepsTree.{new_low}
 
 -- where an ascent is: a linked node hangs, whose level and low are these
 pub record Ascending (k : TreeHand) (g : Shape) (m : Memory) (called : Called) (level key node : ℕ) : Type 0 where

@@ -18,17 +18,23 @@ use Rattle.vyrd_memory.proofs.Memories.{changed_cell, other_cell}
 use Rattle.vyrd_memory.specs.Scripts.{Script, perform, returns, gives_up}
 use Rattle.vyrd_memory.specs.Soundness.{Standing}
 use Rattle.vyrd_tree.specs.Cells.{value_cell, lock_of, unlock_node}
-use Rattle.vyrd_tree.specs.Split.{with_unused, add_entry, rewrite, with_entry, split_entry, split_key}
-use Rattle.vyrd_tree.specs.Ascent.{ascend}
+use Rattle.vyrd_tree.specs.Procedures.Split.{with_unused, add_entry, rewrite, with_entry}
+use Rattle.vyrd_tree.specs.Procedures.Split.{split_entry, split_key}
+use Rattle.vyrd_tree.specs.Procedures.Ascent.{ascend}
 use Rattle.vyrd_tree.specs.Procedures.{changes_nothing, place_of, replace_value, insert_new, insert_in, insert_entry}
-use Rattle.vyrd_tree.specs.Laws.Steps.{holding}
-use Rattle.vyrd_tree.specs.RightAlone.Counts.{le_or}
-use Rattle.vyrd_tree.specs.RightAlone.Nodes.{level_at, count_at, bound_at, key_at, value_at, IsLeafEntry, entries_at, entries_from}
-use Rattle.vyrd_tree.specs.RightAlone.Entries.{Entries, gives, gives-append, gives_none, gives_one, entry_gives_it, entry_gives_none, between, IsBetween, found_around, not_found, IsAround, each_back}
-use Rattle.vyrd_tree.specs.RightAlone.Changes.{length_join, entries_added, entries_replaced, gives_around, with_entry_is, place_below_is}
-use Rattle.vyrd_tree.specs.RightAlone.Tested.{length-entries}
-use Rattle.vyrd_tree.specs.RightAlone.Held.{entries_alike, Rewritten}
-use Rattle.vyrd_tree.specs.RightAlone.Walked.{loaded_at}
+use Rattle.vyrd_tree.specs.Laws.Sound.Acts.{holding}
+use Rattle.vyrd_tree.specs.Laws.Alone.Counts.{le_or}
+use Rattle.vyrd_tree.specs.Contents.{level_at, count_at, bound_at, key_at, value_at, IsLeafEntry}
+use Rattle.vyrd_tree.specs.Contents.{entries_at, entries_from, Entries, gives}
+use Rattle.vyrd_tree.specs.Laws.Alone.Entries.{gives-append, gives_none, gives_one, entry_gives_it}
+use Rattle.vyrd_tree.specs.Laws.Alone.Entries.{entry_gives_none, between, IsBetween, found_around}
+use Rattle.vyrd_tree.specs.Laws.Alone.Entries.{not_found, IsAround, each_back}
+use Rattle.vyrd_tree.specs.Laws.Alone.EntriesStaySound.{length_join, entries_added}
+use Rattle.vyrd_tree.specs.Laws.Alone.EntriesStaySound.{entries_replaced, gives_around}
+use Rattle.vyrd_tree.specs.Laws.Alone.EntriesStaySound.{with_entry_is, place_below_is}
+use Rattle.vyrd_tree.specs.Laws.Alone.Tested.{length-entries}
+use Rattle.vyrd_tree.specs.Laws.Alone.Changes.{entries_alike, Rewritten}
+use Rattle.vyrd_tree.specs.Laws.Alone.WalkArrives.{loaded_at}
 use Rattle.vyrd_every.specs.Hands.{written}
 use Rattle.vyrd_every.specs.Trees.Shapes.{Shape, HasEntries, IsLinked}
 use Rattle.vyrd_every.specs.Trees.States.{ShowsState}

@@ -3,10 +3,11 @@ use Rattle.std.proofs.Common.{◌≡◌, ◌≢◌, ℕ, ◌+◌, ◌*◌, ◌<�
 use Rattle.std.specs.List.{AllByRecursion}
 use Rattle.vyrd_base.specs.Amounts.{Amounts, IsAmounts, amount_of}
 use Rattle.vyrd_memory.specs.Alone.{Memory}
-use Rattle.vyrd_tree.specs.RightAlone.Nodes.{level_at, count_at, bound_at, right_at, last_in, root_in, IsChild, AreEntries, entries_at, entries_from}
-use Rattle.vyrd_tree.specs.RightAlone.Order.{Covers}
-use Rattle.vyrd_tree.specs.RightAlone.Entries.{Entries, each_more, gives}
-use Rattle.vyrd_tree.specs.RightAlone.Held.{entries_alike, Rewritten}
+use Rattle.vyrd_tree.specs.Contents.{level_at, count_at, bound_at, right_at, last_in, root_in}
+use Rattle.vyrd_tree.specs.Contents.{IsChild, AreEntries, entries_at, entries_from, Covers, Entries}
+use Rattle.vyrd_tree.specs.Contents.{gives}
+use Rattle.vyrd_tree.specs.Laws.Alone.Entries.{each_more}
+use Rattle.vyrd_tree.specs.Laws.Alone.Changes.{entries_alike, Rewritten}
 use Rattle.vyrd_every.specs.Trees.Shapes.{Shape, LeadsDown, HasEntries, LeadsRight, IsLinked, Unnamed, Hangs}
 use Rattle.vyrd_every.specs.Trees.States.{ShowsState}
 use Rattle.vyrd_every.specs.Trees.Others.{Grows}

@@ -21,18 +21,20 @@ use Rattle.vyrd_memory.specs.Scripts.{Script, perform, returns, gives_up}
 use Rattle.vyrd_memory.specs.Soundness.{Standing, holds}
 use Rattle.vyrd_multiset.specs.Laws.Sound.{gone}
 use Rattle.vyrd_tree.specs.Cells.{count_cell, root_cell, lock_of, unlock_node}
-use Rattle.vyrd_tree.specs.Walk.{Arrived, walk_from}
-use Rattle.vyrd_tree.specs.Split.{write_entries, rewrite}
+use Rattle.vyrd_tree.specs.Procedures.Walk.{Arrived, walk_from}
+use Rattle.vyrd_tree.specs.Procedures.Split.{write_entries, rewrite}
 use Rattle.vyrd_tree.specs.Procedures.{changes_nothing, walk_down, place_of, value_at as value_in, reply_of, look_in, lookup, delete_in, delete}
-use Rattle.vyrd_tree.specs.Laws.Steps.{holding}
-use Rattle.vyrd_tree.specs.RightAlone.Nodes.{level_at, count_at, bound_at, root_in, Rising, IsLeafEntry, entries_at}
-use Rattle.vyrd_tree.specs.RightAlone.Order.{Covers}
-use Rattle.vyrd_tree.specs.RightAlone.Entries.{Entries, gives, gives-append, gives_none, gives_one, entry_gives_none, take_front, drop_front, found_around, not_found, IsAround, each_back}
-use Rattle.vyrd_tree.specs.RightAlone.Changes.{length_join, entries_removed, gives_around}
-use Rattle.vyrd_tree.specs.RightAlone.Tested.{length-entries}
-use Rattle.vyrd_tree.specs.RightAlone.Held.{Rewritten}
-use Rattle.vyrd_tree.specs.RightAlone.Walked.{loaded_at}
-use Rattle.vyrd_tree.specs.RightAlone.Done.{changed_inside}
+use Rattle.vyrd_tree.specs.Laws.Sound.Acts.{holding}
+use Rattle.vyrd_tree.specs.Contents.{level_at, count_at, bound_at, root_in, Rising, IsLeafEntry}
+use Rattle.vyrd_tree.specs.Contents.{entries_at, Covers, Entries, gives}
+use Rattle.vyrd_tree.specs.Laws.Alone.Entries.{gives-append, gives_none, gives_one}
+use Rattle.vyrd_tree.specs.Laws.Alone.Entries.{entry_gives_none, take_front, drop_front}
+use Rattle.vyrd_tree.specs.Laws.Alone.Entries.{found_around, not_found, IsAround, each_back}
+use Rattle.vyrd_tree.specs.Laws.Alone.EntriesStaySound.{length_join, entries_removed, gives_around}
+use Rattle.vyrd_tree.specs.Laws.Alone.Tested.{length-entries}
+use Rattle.vyrd_tree.specs.Laws.Alone.Changes.{Rewritten}
+use Rattle.vyrd_tree.specs.Laws.Alone.WalkArrives.{loaded_at}
+use Rattle.vyrd_tree.specs.Laws.Alone.Done.{changed_inside}
 use Rattle.vyrd_every.proofs.Acts.{never}
 use Rattle.vyrd_every.specs.Hands.{written}
 use Rattle.vyrd_every.specs.Trees.Shapes.{Shape, HasEntries, IsLinked}

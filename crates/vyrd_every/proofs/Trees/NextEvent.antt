@@ -31,7 +31,7 @@ use Rattle.vyrd_memory.proofs.Agreements.{Agrees, agrees}
 use Rattle.vyrd_memory.proofs.KeptRules.{write_kept, mark_kept}
 use Rattle.vyrd_memory.proofs.LegalRuns.{IsRun}
 use Rattle.vyrd_tree.specs.Cells.{root_lock}
-use Rattle.vyrd_tree.specs.RightAlone.Nodes.{level_at, root_in}
+use Rattle.vyrd_tree.specs.Contents.{level_at, root_in}
 use Rattle.vyrd_every.specs.Structures.{shown_by}
 use Rattle.vyrd_every.specs.Hands.{Hand, written, answer_at, called_after}
 use Rattle.vyrd_every.specs.Between.{log_in, has_answer}

@@ -24,7 +24,7 @@ use Rattle.vyrd_memory.specs.Soundness.{Standing, holds, holds_none, observes, i
 use Rattle.vyrd_memory.proofs.Standings.{act_of_event, standing_in, event_act}
 use Rattle.vyrd_memory.proofs.Agreements.{Agrees, four_true}
 use Rattle.vyrd_tree.specs.Cells.{root_cell, lock_of, root_lock}
-use Rattle.vyrd_tree.specs.RightAlone.Nodes.{level_at, root_in}
+use Rattle.vyrd_tree.specs.Contents.{level_at, root_in}
 use Rattle.vyrd_every.specs.Hands.{written, pending_after, called_after, answer_at}
 use Rattle.vyrd_every.specs.Trees.Shapes.{Shape, IsLinked}
 use Rattle.vyrd_every.specs.Trees.Hands.{TreeHand, IsWordOf, InNode, MayStore}

@@ -1,9 +1,8 @@
 -- What follows of the rules of the linked nodes: those of a level have ranges of keys that share none.
 use Rattle.std.proofs.Common.{◌≡◌, ◌≢◌, ℕ, zero, suc, ◌<◌, ◌≤◌, ◌⊎◌, inl, inr, true, ap, ◌∙◌, sym, subst, arith}
 use Rattle.vyrd_memory.specs.Alone.{Memory}
-use Rattle.vyrd_tree.specs.RightAlone.Nodes.{level_at, bound_at, right_at, Below}
-use Rattle.vyrd_tree.specs.RightAlone.Order.{Covers}
-use Rattle.vyrd_tree.specs.RightAlone.Counts.{zero_or, le_or}
+use Rattle.vyrd_tree.specs.Contents.{level_at, bound_at, right_at, Below, Covers}
+use Rattle.vyrd_tree.specs.Laws.Alone.Counts.{zero_or, le_or}
 use Rattle.vyrd_every.specs.Trees.Shapes.{Shape, HasNeighbour, LeadsRight, IsLinked}
 
 -- the node on the left, with what the link says

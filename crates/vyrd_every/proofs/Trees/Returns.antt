@@ -10,11 +10,14 @@ use Rattle.vyrd_memory.specs.declared.act.Act.TheVariants.{Store, Mark}
 use Rattle.vyrd_memory.specs.Alone.{Memory}
 use Rattle.vyrd_memory.specs.Scripts.{Script, perform, returns}
 use Rattle.vyrd_tree.specs.Cells.{root_cell, unlock_node, unlock_root}
-use Rattle.vyrd_tree.specs.Walk.{Arrived, load_keys, load_values, to_child, load_rest, is_past, walk_from}
-use Rattle.vyrd_tree.specs.Split.{with_unused, write_entries, write_node, with_entry, place_below, split_entry, split_key, lower_half, upper_half}
-use Rattle.vyrd_tree.specs.Ascent.{add_child, ascend_once, ascend}
+use Rattle.vyrd_tree.specs.Procedures.Walk.{Arrived, load_keys, load_values, to_child, load_rest}
+use Rattle.vyrd_tree.specs.Procedures.Walk.{is_past, walk_from}
+use Rattle.vyrd_tree.specs.Procedures.Split.{with_unused, write_entries, write_node, with_entry}
+use Rattle.vyrd_tree.specs.Procedures.Split.{place_below, split_entry, split_key, lower_half}
+use Rattle.vyrd_tree.specs.Procedures.Split.{upper_half}
+use Rattle.vyrd_tree.specs.Procedures.Ascent.{add_child, ascend_once, ascend}
 use Rattle.vyrd_tree.specs.Procedures.{insert_entry}
-use Rattle.vyrd_tree.specs.Laws.Steps.{holding}
+use Rattle.vyrd_tree.specs.Laws.Sound.Acts.{holding}
 use Rattle.vyrd_every.specs.RightScripts.{WillReturn}
 use Rattle.vyrd_every.specs.Trees.Shapes.{Shape, IsLinked}
 use Rattle.vyrd_every.specs.Trees.Hands.{TreeHand}

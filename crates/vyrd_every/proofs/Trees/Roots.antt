@@ -14,15 +14,14 @@ use Rattle.vyrd_memory.proofs.Memories.{changed_cell, other_cell}
 use Rattle.vyrd_memory.specs.Scripts.{Script, perform, returns}
 use Rattle.vyrd_memory.specs.Soundness.{Standing, holds}
 use Rattle.vyrd_tree.specs.Cells.{root_cell, root_lock, unlock_root}
-use Rattle.vyrd_tree.specs.Split.{write_node}
-use Rattle.vyrd_tree.specs.Ascent.{grow_root}
-use Rattle.vyrd_tree.specs.Laws.Steps.{holding}
-use Rattle.vyrd_tree.specs.RightAlone.Nodes.{level_at, count_at, bound_at, right_at, last_in, root_in, entries_at, entries_from}
-use Rattle.vyrd_tree.specs.RightAlone.Order.{Covers}
-use Rattle.vyrd_tree.specs.RightAlone.Entries.{Entries, gives}
-use Rattle.vyrd_tree.specs.RightAlone.Held.{entries_alike}
-use Rattle.vyrd_tree.specs.RightAlone.Splits.{new_low, old_low, off_words}
-use Rattle.vyrd_tree.specs.RightAlone.SplitPlayed.{NodeWritten}
+use Rattle.vyrd_tree.specs.Procedures.Split.{write_node}
+use Rattle.vyrd_tree.specs.Procedures.Ascent.{grow_root}
+use Rattle.vyrd_tree.specs.Laws.Sound.Acts.{holding}
+use Rattle.vyrd_tree.specs.Contents.{level_at, count_at, bound_at, right_at, last_in, root_in}
+use Rattle.vyrd_tree.specs.Contents.{entries_at, entries_from, Covers, Entries, gives}
+use Rattle.vyrd_tree.specs.Laws.Alone.Changes.{entries_alike}
+use Rattle.vyrd_tree.specs.Laws.Alone.SplitKeepsTree.{new_low, old_low, off_words}
+use Rattle.vyrd_tree.specs.Laws.Alone.SplitWrites.{NodeWritten}
 use Rattle.vyrd_every.proofs.Acts.{never}
 use Rattle.vyrd_every.specs.Hands.{written}
 use Rattle.vyrd_every.specs.Trees.Shapes.{Shape, HasEntries, LeadsRight, HasNeighbour, IsLinked, Hangs}

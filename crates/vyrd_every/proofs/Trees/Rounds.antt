@@ -13,14 +13,14 @@ use Rattle.vyrd_memory.specs.Alone.{Memory}
 use Rattle.vyrd_memory.specs.Scripts.{Script, step, returns}
 use Rattle.vyrd_memory.specs.Soundness.{Standing, holds}
 use Rattle.vyrd_tree.specs.Cells.{level_cell, root_cell, root_lock, lock_of, unlock_node, unlock_root}
-use Rattle.vyrd_tree.specs.Walk.{walk_from}
-use Rattle.vyrd_tree.specs.Split.{with_unused, add_entry, split_entry, split_key}
-use Rattle.vyrd_tree.specs.Ascent.{grow_root, add_child, ascend_once, ascend}
-use Rattle.vyrd_tree.specs.Laws.Steps.{holding}
-use Rattle.vyrd_tree.specs.RightAlone.Counts.{le_or}
-use Rattle.vyrd_tree.specs.RightAlone.Nodes.{level_at, count_at, root_in, entries_at}
-use Rattle.vyrd_tree.specs.RightAlone.Tested.{length-entries}
-use Rattle.vyrd_tree.specs.RightAlone.Walked.{loaded_at}
+use Rattle.vyrd_tree.specs.Procedures.Walk.{walk_from}
+use Rattle.vyrd_tree.specs.Procedures.Split.{with_unused, add_entry, split_entry, split_key}
+use Rattle.vyrd_tree.specs.Procedures.Ascent.{grow_root, add_child, ascend_once, ascend}
+use Rattle.vyrd_tree.specs.Laws.Sound.Acts.{holding}
+use Rattle.vyrd_tree.specs.Laws.Alone.Counts.{le_or}
+use Rattle.vyrd_tree.specs.Contents.{level_at, count_at, root_in, entries_at}
+use Rattle.vyrd_tree.specs.Laws.Alone.Tested.{length-entries}
+use Rattle.vyrd_tree.specs.Laws.Alone.WalkArrives.{loaded_at}
 use Rattle.vyrd_every.specs.Trees.Shapes.{Shape, IsLinked}
 use Rattle.vyrd_every.specs.Trees.Hands.{TreeHand}
 use Rattle.vyrd_every.specs.Trees.Others.{TreeRely}

@@ -26,9 +26,9 @@ use Rattle.vyrd_memory.proofs.LegalRuns.{IsRun}
 use Rattle.vyrd_memory.proofs.NumberLists.{element_below, map_alike}
 use Rattle.vyrd_memory.proofs.PartSums.{collected-is}
 use Rattle.vyrd_tree.specs.Cells.{root_cell}
-use Rattle.vyrd_tree.specs.RightAlone.Counts.{zero_or}
-use Rattle.vyrd_tree.specs.RightAlone.Nodes.{level_at, last_in, root_in}
-use Rattle.vyrd_tree.specs.RightAlone.Order.{after_few}
+use Rattle.vyrd_tree.specs.Laws.Alone.Counts.{zero_or}
+use Rattle.vyrd_tree.specs.Contents.{level_at, last_in, root_in}
+use Rattle.vyrd_tree.specs.Laws.Alone.Order.{after_few}
 use Rattle.vyrd_every.specs.Structures.{shown_by}
 use Rattle.vyrd_every.specs.Between.{log_in}
 use Rattle.vyrd_every.specs.Trees.Shapes.{Shape, IsLinked}

@@ -11,17 +11,19 @@ use Rattle.vyrd_memory.proofs.Memories.{changed_cell, other_cell}
 use Rattle.vyrd_memory.specs.Scripts.{Script, perform}
 use Rattle.vyrd_memory.specs.Soundness.{Standing, holds}
 use Rattle.vyrd_tree.specs.Cells.{root_cell, lock_of}
-use Rattle.vyrd_tree.specs.Split.{write_entries, lower_half, upper_half, first_key, split}
-use Rattle.vyrd_tree.specs.Laws.Steps.{holding}
-use Rattle.vyrd_tree.specs.RightAlone.Nodes.{level_at, count_at, bound_at, right_at, last_in, root_in, entries_at, entries_from}
-use Rattle.vyrd_tree.specs.RightAlone.Entries.{Entries, each_front, each_back}
-use Rattle.vyrd_tree.specs.RightAlone.Changes.{length_join, AreHalves}
-use Rattle.vyrd_tree.specs.RightAlone.Tested.{length-entries}
-use Rattle.vyrd_tree.specs.RightAlone.Held.{entries_alike}
-use Rattle.vyrd_tree.specs.RightAlone.Played.{Written, front_stands}
-use Rattle.vyrd_tree.specs.RightAlone.Splits.{old_low, off_words}
-use Rattle.vyrd_tree.specs.RightAlone.SplitPlayed.{NodeWritten}
-use Rattle.vyrd_tree.specs.RightAlone.Walked.{loaded_at}
+use Rattle.vyrd_tree.specs.Procedures.Split.{write_entries, lower_half, upper_half, first_key}
+use Rattle.vyrd_tree.specs.Procedures.Split.{split}
+use Rattle.vyrd_tree.specs.Laws.Sound.Acts.{holding}
+use Rattle.vyrd_tree.specs.Contents.{level_at, count_at, bound_at, right_at, last_in, root_in}
+use Rattle.vyrd_tree.specs.Contents.{entries_at, entries_from, Entries}
+use Rattle.vyrd_tree.specs.Laws.Alone.Entries.{each_front, each_back}
+use Rattle.vyrd_tree.specs.Laws.Alone.EntriesStaySound.{length_join, AreHalves}
+use Rattle.vyrd_tree.specs.Laws.Alone.Tested.{length-entries}
+use Rattle.vyrd_tree.specs.Laws.Alone.Changes.{entries_alike}
+use Rattle.vyrd_tree.specs.Laws.Alone.Played.{Written, front_stands}
+use Rattle.vyrd_tree.specs.Laws.Alone.SplitKeepsTree.{old_low, off_words}
+use Rattle.vyrd_tree.specs.Laws.Alone.SplitWrites.{NodeWritten}
+use Rattle.vyrd_tree.specs.Laws.Alone.WalkArrives.{loaded_at}
 use Rattle.vyrd_every.proofs.Acts.{never}
 use Rattle.vyrd_every.specs.Hands.{written}
 use Rattle.vyrd_every.specs.Trees.Shapes.{Shape, IsLinked, Hangs}

@@ -5,13 +5,14 @@ use Rattle.std.specs.List.{AllByRecursion as Each}
 use Rattle.vyrd_base.specs.Amounts.{Amounts, IsAmounts, amount_of}
 use Rattle.vyrd_base.proofs.TestLaws.{same_of, is_same, isnt_same}
 use Rattle.vyrd_memory.specs.Alone.{Memory}
-use Rattle.vyrd_tree.specs.RightAlone.Nodes.{level_at, count_at, bound_at, right_at, last_in, root_in, InRange, entries_at, entries_from}
-use Rattle.vyrd_tree.specs.RightAlone.Order.{Covers}
-use Rattle.vyrd_tree.specs.RightAlone.Entries.{Entries, each_more, gives, gives-append, gives_none}
-use Rattle.vyrd_tree.specs.RightAlone.Changes.{AreHalves}
-use Rattle.vyrd_tree.specs.RightAlone.Held.{entries_alike}
-use Rattle.vyrd_tree.specs.RightAlone.Splits.{with_low, new_low, old_low, same_or, off_words}
-use Rattle.vyrd_tree.specs.Split.{lower_half, upper_half, first_key}
+use Rattle.vyrd_tree.specs.Contents.{level_at, count_at, bound_at, right_at, last_in, root_in}
+use Rattle.vyrd_tree.specs.Contents.{InRange, entries_at, entries_from, Covers, Entries, gives}
+use Rattle.vyrd_tree.specs.Laws.Alone.Entries.{each_more, gives-append, gives_none}
+use Rattle.vyrd_tree.specs.Laws.Alone.EntriesStaySound.{AreHalves}
+use Rattle.vyrd_tree.specs.Laws.Alone.Changes.{entries_alike}
+use Rattle.vyrd_tree.specs.Laws.Alone.SplitKeepsTree.{with_low, new_low, old_low, same_or}
+use Rattle.vyrd_tree.specs.Laws.Alone.SplitKeepsTree.{off_words}
+use Rattle.vyrd_tree.specs.Procedures.Split.{lower_half, upper_half, first_key}
 use Rattle.vyrd_every.proofs.Acts.{never}
 use Rattle.vyrd_every.specs.Trees.Shapes.{Shape, LeadsDown, HasEntries, LeadsRight, HasNeighbour, IsLinked, Unnamed, Hangs}
 use Rattle.vyrd_every.specs.Trees.States.{ShowsState}

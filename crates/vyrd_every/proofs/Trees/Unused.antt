@@ -14,12 +14,12 @@ use Rattle.vyrd_memory.specs.Scripts.{Script, step, perform}
 use Rattle.vyrd_memory.specs.Soundness.{Standing, holds}
 use Rattle.vyrd_multiset.specs.Laws.Sound.{gone}
 use Rattle.vyrd_tree.specs.Cells.{used_cell, used_lock, root_lock, unlock_used}
-use Rattle.vyrd_tree.specs.Split.{with_unused}
-use Rattle.vyrd_tree.specs.Laws.Steps.{holding}
-use Rattle.vyrd_tree.specs.RightAlone.Counts.{le_or}
-use Rattle.vyrd_tree.specs.RightAlone.Nodes.{level_at, count_at, bound_at, right_at, last_in, root_in, entries_at, entries_from}
-use Rattle.vyrd_tree.specs.RightAlone.Entries.{gives}
-use Rattle.vyrd_tree.specs.RightAlone.Held.{entries_alike}
+use Rattle.vyrd_tree.specs.Procedures.Split.{with_unused}
+use Rattle.vyrd_tree.specs.Laws.Sound.Acts.{holding}
+use Rattle.vyrd_tree.specs.Laws.Alone.Counts.{le_or}
+use Rattle.vyrd_tree.specs.Contents.{level_at, count_at, bound_at, right_at, last_in, root_in}
+use Rattle.vyrd_tree.specs.Contents.{entries_at, entries_from, gives}
+use Rattle.vyrd_tree.specs.Laws.Alone.Changes.{entries_alike}
 use Rattle.vyrd_every.proofs.Acts.{never}
 use Rattle.vyrd_every.specs.Trees.Shapes.{Shape, HasEntries, LeadsRight, IsLinked, Hangs}
 use Rattle.vyrd_every.specs.Trees.States.{ShowsState}

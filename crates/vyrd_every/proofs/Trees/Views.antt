@@ -17,10 +17,11 @@ use Rattle.vyrd_base.proofs.TestLaws.{is_same, isnt_same, isnt_at_most}
 use Rattle.vyrd_memory.specs.Alone.{Memory}
 use Rattle.vyrd_memory.proofs.NumberLists.{element_below}
 use Rattle.vyrd_memory.proofs.PartSums.{collected-is}
-use Rattle.vyrd_tree.specs.RightAlone.Counts.{zero_or, le_or}
-use Rattle.vyrd_tree.specs.RightAlone.Nodes.{level_at, count_at, bound_at, Below, right_at, key_at, value_at, last_in, InRange, entries_at}
-use Rattle.vyrd_tree.specs.RightAlone.Order.{Covers, after_of, after_falls, after_few}
-use Rattle.vyrd_tree.specs.RightAlone.Entries.{gives, gives_none, each_more}
+use Rattle.vyrd_tree.specs.Laws.Alone.Counts.{zero_or, le_or}
+use Rattle.vyrd_tree.specs.Contents.{level_at, count_at, bound_at, Below, right_at, key_at}
+use Rattle.vyrd_tree.specs.Contents.{value_at, last_in, InRange, entries_at, Covers, gives}
+use Rattle.vyrd_tree.specs.Laws.Alone.Order.{after_of, after_falls, after_few}
+use Rattle.vyrd_tree.specs.Laws.Alone.Entries.{gives_none, each_more}
 use Rattle.vyrd_every.specs.Structures.{shown_by}
 use Rattle.vyrd_every.specs.Trees.Shapes.{Shape, LeadsRight, IsLinked}
 use Rattle.vyrd_every.specs.Trees.States.{ShowsState}

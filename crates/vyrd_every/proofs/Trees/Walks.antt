@@ -12,15 +12,16 @@ use Rattle.vyrd_memory.specs.Alone.{Memory}
 use Rattle.vyrd_memory.specs.Scripts.{Script, step}
 use Rattle.vyrd_memory.specs.Soundness.{Standing, holds}
 use Rattle.vyrd_tree.specs.Cells.{level_cell, count_cell, bound_cell, right_cell, value_cell, lock_of, unlock_node}
-use Rattle.vyrd_tree.specs.Walk.{Arrived, load_keys, load_values, is_past, child_place, descend, arrive, pass_on, visit_node, walk_from}
-use Rattle.vyrd_tree.specs.Laws.Steps.{holding}
-use Rattle.vyrd_tree.specs.RightAlone.Counts.{passing, passing_less, passing_most, zero_or, le_or}
-use Rattle.vyrd_tree.specs.RightAlone.Nodes.{level_at, count_at, bound_at, right_at, key_at, value_at, Below, entries_at, entries_from}
-use Rattle.vyrd_tree.specs.RightAlone.Order.{Covers, IsAfter}
-use Rattle.vyrd_tree.specs.RightAlone.Entries.{Entries}
-use Rattle.vyrd_tree.specs.RightAlone.Tested.{length-entries}
-use Rattle.vyrd_tree.specs.RightAlone.Played.{child_is, any_from, begins_at, each_number}
-use Rattle.vyrd_tree.specs.RightAlone.Walked.{loaded_at, past, not_past}
+use Rattle.vyrd_tree.specs.Procedures.Walk.{Arrived, load_keys, load_values, is_past, child_place}
+use Rattle.vyrd_tree.specs.Procedures.Walk.{descend, arrive, pass_on, visit_node, walk_from}
+use Rattle.vyrd_tree.specs.Laws.Sound.Acts.{holding}
+use Rattle.vyrd_tree.specs.Laws.Alone.Counts.{passing, passing_less, passing_most, zero_or, le_or}
+use Rattle.vyrd_tree.specs.Contents.{level_at, count_at, bound_at, right_at, key_at, value_at}
+use Rattle.vyrd_tree.specs.Contents.{Below, entries_at, entries_from, Covers, Entries}
+use Rattle.vyrd_tree.specs.Laws.Alone.Order.{IsAfter}
+use Rattle.vyrd_tree.specs.Laws.Alone.Tested.{length-entries}
+use Rattle.vyrd_tree.specs.Laws.Alone.Played.{child_is, any_from, begins_at, each_number}
+use Rattle.vyrd_tree.specs.Laws.Alone.WalkArrives.{loaded_at, past, not_past}
 use Rattle.vyrd_every.specs.Trees.Shapes.{Shape, LeadsDown, IsInner, LeadsRight, IsLinked}
 use Rattle.vyrd_every.specs.Trees.Others.{Grows}
 use Rattle.vyrd_every.specs.Trees.Hands.{TreeHand}

@@ -25,7 +25,7 @@ use Rattle.vyrd_work.specs.WorkLimits.{KeepsLimits}
 use Rattle.vyrd_work.specs.WorkScripts.{procedure_in, ops_of, work_script, work_scripts}
 use Rattle.vyrd_work.proofs.ScriptLaws.{ops_are_callable}
 use Rattle.vyrd_work.proofs.SoundScripts.{script_at}
-use Rattle.vyrd_tree.specs.Procedures.{by_method, tree_procedure}
+use Rattle.vyrd_tree.specs.Procedures.{procedure_of, tree_procedure}
 use Rattle.vyrd_every.specs.Hands.{answer_at}
 use Rattle.vyrd_every.proofs.Acts.{never}
 use Rattle.vyrd_every.proofs.Followed.{follows_return}
@@ -40,7 +40,7 @@ use Rattle.vyrd_every.proofs.Trees.Returns.{every_insert}
 
 procedure_right : (h : Header) (k : TreeHand) (g : Shape) (m : Memory) (method : Method) (args : Args) → subject_of method ≡ Tree
     → args.a < 2 ^ 32 → args.b < 2 ^ 32 → IsLinked h.size g m → HandStands h k g m → IsBare k (record { method = method; args = args })
-    → TreeRight h (just_called method) k g m (by_method h Correct method args.a args.b)
+    → TreeRight h (just_called method) k g m (procedure_of h Correct method args)
 procedure_right h k g m TrInsert args of small_key small tree hand bare = every_insert h args k g m small_key small tree hand bare
 procedure_right h k g m TrDelete args of small_key small tree hand bare = delete_right h args k g m tree hand bare
 procedure_right h k g m TrLookup args of small_key small tree hand bare = lookup_right h args k g m tree hand bare

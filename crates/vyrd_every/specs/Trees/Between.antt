@@ -15,7 +15,7 @@ use Rattle.vyrd_memory.specs.Soundness.{Standing, holds}
 use Rattle.vyrd_memory.specs.Turns.{part_of, script_of}
 use Rattle.vyrd_memory.proofs.Standings.{standing_in}
 use Rattle.vyrd_tree.specs.Cells.{root_cell, root_lock}
-use Rattle.vyrd_tree.specs.RightAlone.Nodes.{level_at, root_in}
+use Rattle.vyrd_tree.specs.Contents.{level_at, root_in}
 use Rattle.vyrd_every.specs.Structures.{shown_by}
 use Rattle.vyrd_every.specs.Hands.{written}
 use Rattle.vyrd_every.specs.Between.{log_in, has_answer}

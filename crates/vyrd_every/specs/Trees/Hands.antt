@@ -5,7 +5,7 @@ use Rattle.vyrd_base.specs.Callers.{Called}
 use Rattle.vyrd_memory.specs.Alone.{Memory}
 use Rattle.vyrd_memory.specs.Soundness.{Standing, holds, at_rest}
 use Rattle.vyrd_tree.specs.Cells.{node_cell, root_cell, used_cell, lock_of, root_lock, used_lock}
-use Rattle.vyrd_tree.specs.RightAlone.Nodes.{level_at, last_in}
+use Rattle.vyrd_tree.specs.Contents.{level_at, last_in}
 use Rattle.vyrd_every.specs.Trees.Shapes.{Shape, Hangs}
 
 -- What a caller has in hand beside its locks: a node that it took and hasn't linked; a linked node whose

@@ -5,7 +5,7 @@ use Rattle.vyrd_base.specs.declared.header.Header.{Header}
 use Rattle.vyrd_memory.specs.Alone.{Memory}
 use Rattle.vyrd_memory.specs.Soundness.{Standing, holds}
 use Rattle.vyrd_tree.specs.Cells.{root_cell, used_cell, lock_of, root_lock, used_lock}
-use Rattle.vyrd_tree.specs.RightAlone.Nodes.{level_at, last_in, root_in}
+use Rattle.vyrd_tree.specs.Contents.{level_at, last_in, root_in}
 use Rattle.vyrd_every.specs.Trees.Shapes.{Shape, IsLinked, Hangs}
 use Rattle.vyrd_every.specs.Trees.Hands.{TreeHand}
 

@@ -14,7 +14,7 @@ use Rattle.vyrd_memory.specs.Alone.{Memory}
 use Rattle.vyrd_memory.specs.Scripts.{Script, stop, step}
 use Rattle.vyrd_memory.specs.Soundness.{Standing, holds, after_act}
 use Rattle.vyrd_tree.specs.Cells.{root_lock}
-use Rattle.vyrd_tree.specs.RightAlone.Nodes.{level_at, last_in, root_in}
+use Rattle.vyrd_tree.specs.Contents.{level_at, last_in, root_in}
 use Rattle.vyrd_every.specs.Hands.{answer_at, pending_after, called_after}
 use Rattle.vyrd_every.specs.RightScripts.{WillReturn}
 use Rattle.vyrd_every.specs.Trees.Shapes.{Shape, IsLinked, Hangs}

@@ -4,8 +4,8 @@
 use Rattle.std.specs.Prelude.{◌≡◌, ◌≢◌, ℕ, ◌+◌, ◌<◌, ◌≤◌, Bool, true, List, length}
 use Rattle.std.specs.List.{AllByRecursion}
 use Rattle.vyrd_memory.specs.Alone.{Memory}
-use Rattle.vyrd_tree.specs.RightAlone.Nodes.{level_at, count_at, bound_at, right_at, last_in, root_in}
-use Rattle.vyrd_tree.specs.RightAlone.Nodes.{Rising, InRange, BeginsAt, IsLeafEntry, entries_at}
+use Rattle.vyrd_tree.specs.Contents.{level_at, count_at, bound_at, right_at, last_in, root_in}
+use Rattle.vyrd_tree.specs.Contents.{Rising, InRange, BeginsAt, IsLeafEntry, entries_at}
 
 -- What no word says: which nodes are linked; the low of each, the least key that it may have, which never
 -- changes; and the level of the root that the log shows. Callers load a new root before its block is

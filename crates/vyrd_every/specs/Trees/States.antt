@@ -2,9 +2,7 @@
 use Rattle.std.specs.Prelude.{◌≡◌, ℕ, true}
 use Rattle.vyrd_base.specs.Amounts.{Amounts, IsAmounts, amount_of}
 use Rattle.vyrd_memory.specs.Alone.{Memory}
-use Rattle.vyrd_tree.specs.RightAlone.Nodes.{level_at, entries_at}
-use Rattle.vyrd_tree.specs.RightAlone.Order.{Covers}
-use Rattle.vyrd_tree.specs.RightAlone.Entries.{gives}
+use Rattle.vyrd_tree.specs.Contents.{level_at, entries_at, Covers, gives}
 use Rattle.vyrd_every.specs.Trees.Shapes.{Shape}
 
 -- the state in which each key has the amount that the leaf of its range gives

@@ -1,4 +1,6 @@
+-- Proofs of laws that an impl in src/ names: no contract says what is defined here.
 -- Each procedure comes to its return in time.
+pub mod Walk
 use Rattle.std.proofs.Common.{◌≡◌, ℕ, zero, suc, ◌+◌, ◌-◌, ◌*◌, ◌≤◌, Bool, true, false, cond, List, [], ◌∷◌, length, drop, refl, sym, subst, arith}
 use Rattle.std.specs.Prelude.{nat_lt, nat_le, Option, Some, None, remove}
 use Rattle.std.proofs.lemmas.Bool.Decides.{nat_tests}
@@ -10,6 +12,7 @@ use Rattle.vyrd_base.specs.declared.subject.Method.TheVariants.{MsInsert, MsInse
 use Rattle.vyrd_base.specs.declared.subject.Method.TheVariants.{TrDelete, TrLookup}
 use Rattle.vyrd_base.specs.declared.log.Kind.{Kind}
 use Rattle.vyrd_base.specs.declared.log.Kind.TheVariants.{Commit, BlockOpen, BlockClose, BlockCommit}
+use Rattle.vyrd_base.specs.declared.subject.Args.{Args}
 use Rattle.vyrd_base.specs.Subjects.{subject_of}
 use Rattle.vyrd_memory.specs.declared.act.Act.TheVariants.{Load, Store, Take, Give, Mark}
 use Rattle.vyrd_memory.specs.declared.op.Variant.{Variant}
@@ -18,14 +21,16 @@ use Rattle.vyrd_memory.specs.Bounds.{is_return, tree_bound, bound_in, bound_of, 
 use Rattle.vyrd_memory.proofs.TimedActs.{in_more, loads_in, acts_in, either_in, returns_in, gives_up_in}
 use Rattle.vyrd_tree.specs.Cells.{level_cell, count_cell, bound_cell, right_cell, key_cell, value_cell, root_cell, used_cell, lock_of, root_lock, used_lock}
 use Rattle.vyrd_tree.specs.Cells.{unlock_node, unlock_root, unlock_used}
-use Rattle.vyrd_tree.specs.Walk.{Arrived, walk_from}
-use Rattle.vyrd_tree.specs.Split.{with_unused, write_entries, write_node, place_below, with_entry, rewrite, add_entry, lower_half, upper_half, first_key, split}
-use Rattle.vyrd_tree.specs.Split.{split_entry, split_key}
-use Rattle.vyrd_tree.specs.Ascent.{grow_root, add_child, ascend_once, ascend}
+use Rattle.vyrd_tree.specs.Procedures.Walk.{Arrived, walk_from}
+use Rattle.vyrd_tree.specs.Procedures.Split.{with_unused, write_entries, write_node, place_below}
+use Rattle.vyrd_tree.specs.Procedures.Split.{with_entry, rewrite, add_entry, lower_half, upper_half}
+use Rattle.vyrd_tree.specs.Procedures.Split.{first_key, split}
+use Rattle.vyrd_tree.specs.Procedures.Split.{split_entry, split_key}
+use Rattle.vyrd_tree.specs.Procedures.Ascent.{grow_root, add_child, ascend_once, ascend}
 use Rattle.vyrd_tree.specs.Procedures.{changes_nothing, walk_down, place_of, reply_of, look_in, lookup, delete_in, delete}
-use Rattle.vyrd_tree.specs.Procedures.{insert_in, insert_entry, by_method}
-use Rattle.vyrd_tree.specs.Laws.Fits.{length_insert, length_remove, two_above, three_below}
-use Rattle.vyrd_tree.specs.Laws.Timed.{walk_in}
+use Rattle.vyrd_tree.specs.Procedures.{insert_in, insert_entry, procedure_of}
+use Rattle.vyrd_tree.specs.Laws.Sound.Fits.{length_insert, length_remove, two_above, three_below}
+use Rattle.vyrd_tree.specs.Laws.Ends.Walk.{walk_in}
 
 -- a load and a store at most between two acts of the lock
 unused_in : (n : ℕ) (h : Header) (none : Script) (found : ℕ → Script) → EndsByReturn n none → ((new : ℕ) → EndsByReturn n (found new))
@@ -233,33 +238,40 @@ delete_in_time h at (Some place) few =
       few,
     )) refl (returns_in 1)
 
-by_method_in : (h : Header) (variant : Variant) (method : Method) (a b : ℕ) → subject_of method ≡ Tree
-    → EndsByReturn (tree_bound h.size method - 1) (by_method h variant method a b)
-by_method_in h variant TrInsert a b of =
-    in_more (after_arrival h.size + 24 + 13 * h.size + 1) (17 * (16 * h.size + 40) - 1) (insert_entry h variant a b) (omega arith)
-    (down_in (after_arrival h.size + 24) h variant a gives_up (λ at. insert_in h variant a b at (place_of a at.entries))
+by_method_ends : (h : Header) (variant : Variant) (method : Method) (args : Args)
+    → subject_of method ≡ Tree
+    → EndsByReturn (tree_bound h.size method - 1) (procedure_of h variant method args)
+by_method_ends h variant TrInsert args of =
+    in_more (after_arrival h.size + 24 + 13 * h.size + 1) (17 * (16 * h.size + 40) - 1)
+    (insert_entry h variant args.a args.b) (omega arith)
+    (down_in (after_arrival h.size + 24) h variant args.a gives_up
+    (λ at. insert_in h variant args.a args.b at (place_of args.a at.entries))
     (in_more 2 (after_arrival h.size + 24) gives_up (omega arith) gives_up_in)
-    (λ at few. insert_in_time h variant a b at (place_of a at.entries) few))
-by_method_in h variant TrDelete a b of =
-    in_more (13 + 13 * h.size + 1) (16 * h.size + 40 - 1) (delete h variant a) (omega arith)
-    (down_in 13 h variant a gives_up (λ at. delete_in h at (place_of a at.entries)) (in_more 2 13 gives_up (omega arith) gives_up_in)
-    (λ at few. delete_in_time h at (place_of a at.entries) few))
-by_method_in h variant TrLookup a b of =
-    in_more (2 + 13 * h.size + 1) (16 * h.size + 40 - 1) (lookup h variant a) (omega arith)
-    (down_in 2 h variant a (returns 0) (λ at. look_in h at (place_of a at.entries)) (in_more 1 2 (returns 0) (omega arith) (returns_in 0))
-    (λ at few. acts_in 1 (Give (lock_of h at.node)) (returns (reply_of at.entries (place_of a at.entries))) refl
-    (returns_in (reply_of at.entries (place_of a at.entries)))))
-by_method_in h variant MsInsert a b of = cc
-by_method_in h variant MsInsertPair a b of = cc
-by_method_in h variant MsDelete a b of = cc
-by_method_in h variant MsLookup a b of = cc
-by_method_in h variant CaWrite a b of = cc
-by_method_in h variant CaFlush a b of = cc
-by_method_in h variant CaEvict a b of = cc
-by_method_in h variant CaRead a b of = cc
+    (λ at few. insert_in_time h variant args.a args.b at (place_of args.a at.entries) few))
+by_method_ends h variant TrDelete args of =
+    in_more (13 + 13 * h.size + 1) (16 * h.size + 40 - 1) (delete h variant args.a) (omega arith)
+    (down_in 13 h variant args.a gives_up (λ at. delete_in h at (place_of args.a at.entries))
+    (in_more 2 13 gives_up (omega arith) gives_up_in)
+    (λ at few. delete_in_time h at (place_of args.a at.entries) few))
+by_method_ends h variant TrLookup args of =
+    in_more (2 + 13 * h.size + 1) (16 * h.size + 40 - 1) (lookup h variant args.a) (omega arith)
+    (down_in 2 h variant args.a (returns 0) (λ at. look_in h at (place_of args.a at.entries))
+    (in_more 1 2 (returns 0) (omega arith) (returns_in 0))
+    (λ at few. acts_in 1 (Give (lock_of h at.node))
+    (returns (reply_of at.entries (place_of args.a at.entries))) refl
+    (returns_in (reply_of at.entries (place_of args.a at.entries)))))
+by_method_ends h variant MsInsert args of = cc
+by_method_ends h variant MsInsertPair args of = cc
+by_method_ends h variant MsDelete args of = cc
+by_method_ends h variant MsLookup args of = cc
+by_method_ends h variant CaWrite args of = cc
+by_method_ends h variant CaFlush args of = cc
+by_method_ends h variant CaEvict args of = cc
+by_method_ends h variant CaRead args of = cc
 
-pub procedure_ends : (h : Header) (variant : Variant) (method : Method) (a b : ℕ) → h.subject ≡ Tree → subject_of method ≡ Tree
-    → EndsByReturn (bound_of h method - 1) (by_method h variant method a b)
-procedure_ends h variant method a b is of =
-    subst (λ subject. EndsByReturn (bound_in subject h.size method - 1) (by_method h variant method a b)) (sym is)
-    (by_method_in h variant method a b of)
+pub procedure_ends : (h : Header) (variant : Variant) (method : Method) (args : Args)
+    → h.subject ≡ Tree → subject_of method ≡ Tree
+    → EndsByReturn (bound_of h method - 1) (procedure_of h variant method args)
+procedure_ends h variant method args is of =
+    subst (λ s. EndsByReturn (bound_in s h.size method - 1) (procedure_of h variant method args))
+    (sym is) (by_method_ends h variant method args of)

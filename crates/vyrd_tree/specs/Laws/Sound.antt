@@ -1,4 +1,8 @@
+-- Proofs of laws that an impl in src/ names: no contract says what is defined here.
 -- Each procedure is sound.
+pub mod Acts
+pub mod Fits
+pub mod Walk
 use Rattle.std.proofs.Common.{◌≡◌, ℕ, zero, suc, ◌+◌, ◌^◌, ◌<◌, ◌≤◌, Bool, true, false, cond, List, [], ◌∷◌, length, drop, refl, arith}
 use Rattle.std.specs.Prelude.{nat_lt, nat_le, ◌||◌, Option, Some, None, remove, IsTrue}
 use Rattle.std.proofs.lemmas.Bool.Decides.{nat_tests}
@@ -20,15 +24,21 @@ use Rattle.vyrd_memory.specs.Scripts.{Script, step, perform, returns, gives_up}
 use Rattle.vyrd_memory.specs.Soundness.{IsSound, just_called}
 use Rattle.vyrd_tree.specs.Cells.{level_cell, count_cell, bound_cell, right_cell, key_cell, value_cell, root_cell, used_cell, lock_of, root_lock, used_lock}
 use Rattle.vyrd_tree.specs.Cells.{unlock_node, unlock_root, unlock_used}
-use Rattle.vyrd_tree.specs.Walk.{Arrived, walk_from}
-use Rattle.vyrd_tree.specs.Split.{with_unused, write_entries, write_node, place_below, with_entry, rewrite, add_entry, lower_half, upper_half, first_key, split}
-use Rattle.vyrd_tree.specs.Split.{split_entry, split_key}
-use Rattle.vyrd_tree.specs.Ascent.{grow_root, add_child, ascend_once, ascend}
-use Rattle.vyrd_tree.specs.Procedures.{changes_nothing, walk_down, place_of, reply_of, look_in, delete_in, insert_new, insert_in, by_method}
-use Rattle.vyrd_tree.specs.Laws.Steps.{holding, IsLock, loads, stores, takes_first, gives_last, takes_second, gives_second, returned, gave_up, either}
-use Rattle.vyrd_tree.specs.Laws.Walks.{node_lock, AreSmallEntries, IsLoaded, walk_sound}
-use Rattle.vyrd_tree.specs.Laws.Fits.{small_take, small_drop, small_insert, small_remove, small_first, length_insert, length_remove, place_fits, place_low}
-use Rattle.vyrd_tree.specs.Laws.Fits.{ends_low, two_above, three_below}
+use Rattle.vyrd_tree.specs.Procedures.Walk.{Arrived, walk_from}
+use Rattle.vyrd_tree.specs.Procedures.Split.{with_unused, write_entries, write_node, place_below}
+use Rattle.vyrd_tree.specs.Procedures.Split.{with_entry, rewrite, add_entry, lower_half, upper_half}
+use Rattle.vyrd_tree.specs.Procedures.Split.{first_key, split}
+use Rattle.vyrd_tree.specs.Procedures.Split.{split_entry, split_key}
+use Rattle.vyrd_tree.specs.Procedures.Ascent.{grow_root, add_child, ascend_once, ascend}
+use Rattle.vyrd_tree.specs.Procedures.{changes_nothing, walk_down, place_of, reply_of, look_in}
+use Rattle.vyrd_tree.specs.Procedures.{delete_in, insert_new, insert_in, procedure_of}
+use Rattle.vyrd_tree.specs.Laws.Sound.Acts.{holding, IsLock, loads, stores, takes_first, gives_last}
+use Rattle.vyrd_tree.specs.Laws.Sound.Acts.{takes_second, gives_second, returned, gave_up, either}
+use Rattle.vyrd_tree.specs.Laws.Sound.Walk.{node_lock, AreSmallEntries, IsLoaded, walk_sound}
+use Rattle.vyrd_tree.specs.Laws.Sound.Fits.{small_take, small_drop, small_insert, small_remove}
+use Rattle.vyrd_tree.specs.Laws.Sound.Fits.{small_first, length_insert, length_remove, place_fits}
+use Rattle.vyrd_tree.specs.Laws.Sound.Fits.{place_low}
+use Rattle.vyrd_tree.specs.Laws.Sound.Fits.{ends_low, two_above, three_below}
 
 -- a header has at most 1,024 nodes
 size_fits : (h : Header) → h.size ≤ 1024
@@ -303,31 +313,41 @@ down_sound h variant method key lost arrived is lost_sound sound =
     loads h (holding [] method false false) (root_cell h) (λ root. walk_from h variant key 0 h.size root lost arrived) is (omega arith)
     (λ root _. walk_sound h variant method false key 0 h.size root lost arrived is lost_sound sound)
 
-by_method_sound : (h : Header) (variant : Variant) (method : Method) (a b : ℕ) → h.subject ≡ Tree → subject_of method ≡ Tree → a < 2 ^ 63 → b < 2 ^ 63
-    → IsSound h (just_called method) (by_method h variant method a b)
-by_method_sound h variant TrInsert a b is of k v =
-    down_sound h variant TrInsert a gives_up (λ at. insert_in h variant a b at (place_of a at.entries)) is (gave_up h TrInsert refl)
-    (λ at loaded. insert_sound h variant TrInsert a b at (place_of a at.entries) is refl k v loaded refl)
-by_method_sound h variant TrDelete a b is of k v =
-    down_sound h variant TrDelete a gives_up (λ at. delete_in h at (place_of a at.entries)) is (gave_up h TrDelete refl)
-    (λ at loaded. delete_sound h TrDelete a at (place_of a at.entries) is refl loaded refl)
-by_method_sound h variant TrLookup a b is of k v =
-    down_sound h variant TrLookup a (returns 0) (λ at. look_in h at (place_of a at.entries)) is (returned h TrLookup false 0 refl)
-    (λ at loaded. gives_last h TrLookup false false (lock_of h at.node) (returns (reply_of at.entries (place_of a at.entries))) is
-    (node_lock h at.node loaded.node) (returned h TrLookup false (reply_of at.entries (place_of a at.entries)) refl))
-by_method_sound h variant MsInsert a b is of k v = cc
-by_method_sound h variant MsInsertPair a b is of k v = cc
-by_method_sound h variant MsDelete a b is of k v = cc
-by_method_sound h variant MsLookup a b is of k v = cc
-by_method_sound h variant CaWrite a b is of k v = cc
-by_method_sound h variant CaFlush a b is of k v = cc
-by_method_sound h variant CaEvict a b is of k v = cc
-by_method_sound h variant CaRead a b is of k v = cc
+by_method_sound : (h : Header) (variant : Variant) (method : Method) (args : Args)
+    → h.subject ≡ Tree → subject_of method ≡ Tree → args.a < 2 ^ 63 → args.b < 2 ^ 63
+    → IsSound h (just_called method) (procedure_of h variant method args)
+by_method_sound h variant TrInsert args is of k v =
+    down_sound h variant TrInsert args.a gives_up
+    (λ at. insert_in h variant args.a args.b at (place_of args.a at.entries)) is
+    (gave_up h TrInsert refl)
+    (λ at loaded. insert_sound h variant TrInsert args.a args.b at (place_of args.a at.entries)
+    is refl k v loaded refl)
+by_method_sound h variant TrDelete args is of k v =
+    down_sound h variant TrDelete args.a gives_up
+    (λ at. delete_in h at (place_of args.a at.entries)) is (gave_up h TrDelete refl)
+    (λ at loaded. delete_sound h TrDelete args.a at
+    (place_of args.a at.entries) is refl loaded refl)
+by_method_sound h variant TrLookup args is of k v =
+    down_sound h variant TrLookup args.a (returns 0)
+    (λ at. look_in h at (place_of args.a at.entries)) is (returned h TrLookup false 0 refl)
+    (λ at loaded. gives_last h TrLookup false false (lock_of h at.node)
+    (returns (reply_of at.entries (place_of args.a at.entries))) is
+    (node_lock h at.node loaded.node)
+    (returned h TrLookup false (reply_of at.entries (place_of args.a at.entries)) refl))
+by_method_sound h variant MsInsert args is of k v = cc
+by_method_sound h variant MsInsertPair args is of k v = cc
+by_method_sound h variant MsDelete args is of k v = cc
+by_method_sound h variant MsLookup args is of k v = cc
+by_method_sound h variant CaWrite args is of k v = cc
+by_method_sound h variant CaFlush args is of k v = cc
+by_method_sound h variant CaEvict args is of k v = cc
+by_method_sound h variant CaRead args is of k v = cc
 
-pub procedure_sound : (h : Header) (variant : Variant) (method : Method) (args : Args) → h.subject ≡ Tree
-    → subject_of method ≡ Tree → are_small args ≡ true
-    → IsSound h (just_called method) (by_method h variant method args.a args.b)
-procedure_sound h variant method args is of small = by_method_sound h variant method args.a args.b is of (small_a args small) (small_b args small)
+pub procedure_sound : (h : Header) (variant : Variant) (method : Method) (args : Args)
+    → h.subject ≡ Tree → subject_of method ≡ Tree → are_small args ≡ true
+    → IsSound h (just_called method) (procedure_of h variant method args)
+procedure_sound h variant method args is of small =
+    by_method_sound h variant method args is of (small_a args small) (small_b args small)
   where
     small_a : (args : Args) → are_small args ≡ true → args.a < 2 ^ 63
     small_a args small = grind (arith, nat_tests)

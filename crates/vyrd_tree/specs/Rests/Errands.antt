@@ -11,9 +11,9 @@ use Rattle.vyrd_tree.specs.declared.visit.Errand.{Errand}
 use Rattle.vyrd_tree.specs.declared.task.Call.{Call}
 use Rattle.vyrd_tree.specs.declared.task.Task.{Task}
 use Rattle.vyrd_tree.specs.Cells.{unlock_node}
-use Rattle.vyrd_tree.specs.Walk.{Arrived, walk_from}
-use Rattle.vyrd_tree.specs.Split.{with_unused, add_entry, split_entry, split_key}
-use Rattle.vyrd_tree.specs.Ascent.{add_child, ascend_once, ascend}
+use Rattle.vyrd_tree.specs.Procedures.Walk.{Arrived, walk_from}
+use Rattle.vyrd_tree.specs.Procedures.Split.{with_unused, add_entry, split_entry, split_key}
+use Rattle.vyrd_tree.specs.Procedures.Ascent.{add_child, ascend_once, ascend}
 use Rattle.vyrd_tree.specs.Procedures.{changes_nothing, place_of, look_in, delete_in, insert_in}
 
 -- the key of a walk

@@ -15,7 +15,7 @@ use Rattle.vyrd_tree.specs.declared.storing.Storing.{Storing}
 use Rattle.vyrd_tree.specs.declared.storing.Storing.TheVariants.{New, Old, Root}
 use Rattle.vyrd_tree.specs.declared.storing.Storing.TheVariants as storing
 use Rattle.vyrd_tree.specs.Cells.{level_cell, count_cell, bound_cell, right_cell, key_cell, value_cell, root_cell}
-use Rattle.vyrd_tree.specs.Split.{write_entries}
+use Rattle.vyrd_tree.specs.Procedures.Split.{write_entries}
 use Rattle.vyrd_tree.specs.Rests.Written.{key_at, value_in}
 
 -- the entries from a place on

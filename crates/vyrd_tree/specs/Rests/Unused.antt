@@ -12,8 +12,8 @@ use Rattle.vyrd_tree.specs.declared.place.Need.{Need}
 use Rattle.vyrd_tree.specs.declared.place.Getting.{Getting}
 use Rattle.vyrd_tree.specs.declared.task.Task.{Task}
 use Rattle.vyrd_tree.specs.Cells.{root_cell, used_cell, unlock_node, unlock_root, unlock_used}
-use Rattle.vyrd_tree.specs.Walk.{Arrived}
-use Rattle.vyrd_tree.specs.Split.{with_unused, write_node, split, upper_half, first_key}
+use Rattle.vyrd_tree.specs.Procedures.Walk.{Arrived}
+use Rattle.vyrd_tree.specs.Procedures.Split.{with_unused, write_node, split, upper_half, first_key}
 use Rattle.vyrd_tree.specs.Rests.Errands.{close_for, unsplit, after_split}
 
 -- the node that is full

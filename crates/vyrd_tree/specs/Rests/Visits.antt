@@ -10,7 +10,8 @@ use Rattle.vyrd_tree.specs.declared.visit.Visit.{Visit}
 use Rattle.vyrd_tree.specs.declared.visit.Visiting.{Visiting}
 use Rattle.vyrd_tree.specs.declared.task.Task.{Task}
 use Rattle.vyrd_tree.specs.Cells.{level_cell, count_cell, bound_cell, right_cell, key_cell, value_cell, unlock_node}
-use Rattle.vyrd_tree.specs.Walk.{Arrived, load_keys, load_values, to_child, load_rest, pass_on, visit_node}
+use Rattle.vyrd_tree.specs.Procedures.Walk.{Arrived, load_keys, load_values, to_child, load_rest}
+use Rattle.vyrd_tree.specs.Procedures.Walk.{pass_on, visit_node}
 use Rattle.vyrd_tree.specs.Rests.Errands.{key_for, toward, lost_for, arrived_for, walk_on}
 use Rattle.vyrd_tree.specs.Rests.Written.{key_at}
 

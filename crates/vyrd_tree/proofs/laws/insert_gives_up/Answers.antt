@@ -1,4 +1,4 @@
-use Rattle.vyrd_tree.proofs.Rooms as rooms
+use Rattle.vyrd_tree.proofs.GiveUps as rooms
 use Rattle.vyrd_tree.proofs.laws.insert_gives_up.Goals as goal
 use Rattle.vyrd_memory.proofs.Small.{small_a, small_b}
 

@@ -4,7 +4,7 @@ use Rattle.vyrd_memory.specs.declared.act.Act.TheVariants.{Mark}
 use Rattle.vyrd_memory.specs.Scripts.{perform}
 use Rattle.vyrd_tree.specs.Cells.{unlock_node}
 use Rattle.vyrd_memory.specs.Scripts.{returns as reply}
-use Rattle.vyrd_tree.proofs.Added.{added, overflows}
+use Rattle.vyrd_tree.proofs.Steps.Entry.{added, overflows}
 use Rattle.vyrd_tree.proofs.task.Task.add.Goals as goal
 
 pub returns-then-count-lt-ROOM : goal.returns-then-count-lt-ROOM

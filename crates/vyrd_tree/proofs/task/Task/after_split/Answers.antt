@@ -1,4 +1,4 @@
-use Rattle.vyrd_tree.proofs.Parted.{next_up}
+use Rattle.vyrd_tree.proofs.Steps.Split.{next_up}
 use Rattle.vyrd_tree.proofs.task.Task.after_split.Goals as goal
 
 pub returns-in-Ascent : goal.returns-in-Ascent

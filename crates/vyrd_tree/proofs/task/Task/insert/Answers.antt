@@ -2,7 +2,7 @@ use Rattle.std.proofs.Common.{◌≡◌, ◌∙◌, ap, sym}
 use Rattle.std.specs.Prelude.{take, None}
 use Rattle.vyrd_tree.specs.Procedures.{place_of}
 use Rattle.vyrd_tree.specs.Rests.Visits.{arrived_at}
-use Rattle.vyrd_tree.proofs.Added.{inserted_new}
+use Rattle.vyrd_tree.proofs.Steps.Entry.{inserted_new}
 use Rattle.vyrd_tree.proofs.task.Task.insert.Goals as goal
 
 pub returns-in-None : goal.returns-in-None

@@ -1,5 +1,5 @@
 use Rattle.std.proofs.Common.{◌∙◌}
-use Rattle.vyrd_tree.proofs.Loads.{keys_came}
+use Rattle.vyrd_tree.proofs.Steps.Loads.{keys_came}
 use Rattle.vyrd_tree.proofs.task.Task.keys_from.Goals as goal
 
 pub returns-in-None : goal.returns-in-None

@@ -1,5 +1,5 @@
 use Rattle.vyrd_tree.specs.Rests.{after_rest}
-use Rattle.vyrd_tree.proofs.Parted.{parted}
+use Rattle.vyrd_tree.proofs.Steps.Split.{parted}
 use Rattle.vyrd_tree.proofs.task.Task.split.Goals as goal
 
 pub returns : goal.returns

@@ -1,5 +1,5 @@
 use Rattle.std.proofs.Common.{◌≡◌, ◌∙◌, length, arith, rules}
-use Rattle.vyrd_tree.proofs.Loads.{value_comes, values_came}
+use Rattle.vyrd_tree.proofs.Steps.Loads.{value_comes, values_came}
 use Rattle.vyrd_tree.proofs.task.Task.values_from.Goals as goal
 
 pub returns-in-Some : goal.returns-in-Some

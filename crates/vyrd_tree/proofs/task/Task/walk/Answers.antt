@@ -1,5 +1,5 @@
 use Rattle.std.proofs.Common.{◌∙◌, ap}
-use Rattle.vyrd_tree.proofs.Entered.{comes_in}
+use Rattle.vyrd_tree.proofs.Steps.Walk.{comes_in}
 use Rattle.vyrd_tree.proofs.task.Task.walk.Goals as goal
 
 pub returns-in-Some : goal.returns-in-Some

@@ -1,0 +1,70 @@
+-- The loads of a node's keys and values, one after the other.
+use Rattle.std.proofs.Common.{◌≡◌, ℕ, zero, suc, ◌+◌, ◌-◌, ◌<◌, ◌≤◌, List, [], ◌∷◌, ◌++◌, length, take, drop, refl, ap, ◌∙◌, sym, arith}
+use Rattle.std.specs.Prelude.{slice_set}
+use Rattle.std.proofs.lemmas.List.{append-nil, get_or-take, length-take-le}
+use Rattle.std.proofs.Math.Seq.{drop-cons}
+use Rattle.std.proofs.Math.ListN.{drop_of_length-le}
+use Rattle.vyrd_base.specs.declared.header.Header.{Header}
+use Rattle.vyrd_memory.specs.declared.act.Act.TheVariants.{Load}
+use Rattle.vyrd_memory.specs.Scripts.{Script, step}
+use Rattle.vyrd_tree.specs.declared.node.Word.TheVariants.{Value}
+use Rattle.vyrd_tree.specs.declared.slot.Slot.{Slot}
+use Rattle.vyrd_tree.specs.declared.task.Task.{Task}
+use Rattle.vyrd_tree.specs.declared.visit.Visit.{Visit}
+use Rattle.vyrd_tree.specs.Cells.{value_cell}
+use Rattle.vyrd_tree.specs.Procedures.Walk.{load_keys, load_values}
+use Rattle.vyrd_tree.specs.Rests.Written.{key_at}
+use Rattle.vyrd_tree.specs.Rests.Errands.{arrived_for}
+use Rattle.vyrd_tree.specs.Rests.Visits.{keys_of, keys_from_rest, values_from_rest, with_keys, arrived_at, loading}
+
+-- one more key
+grown : (slots : List (ℕ × ℕ)) (place key : ℕ) (keys : List ℕ) → place < length slots
+    → keys_of (take (suc place) (slice_set slots place (key, 0))) ++ keys ≡ keys_of (take place slots) ++ key ∷ keys
+grown [] place key keys low = absurd (omega (arith, low))
+grown (x ∷ xs) zero key keys low = refl
+grown (x ∷ xs) (suc p) key keys low = ap (λ ks. x.0 ∷ ks) (grown xs p key keys (omega arith))
+
+one_more : (n : ℕ) → n + 1 ≡ suc n
+one_more n = omega arith
+
+pub keys_came : (h : Header) (task : Task) (v : Visit) (place count : ℕ) → place ≤ count → count ≤ place
+    → with_keys h task v count (keys_of (take count v.entries.slots)) ≡ keys_from_rest h task v place count
+keys_came h task v place count le ge =
+    let same : count ≡ place = omega arith in
+    let none : 0 ≡ count - place = omega arith in
+    ap (with_keys h task v count) (ap (λ n. keys_of (take n v.entries.slots)) same ∙ sym (append-nil (keys_of (take place v.entries.slots))))
+    ∙ ap (λ n. load_keys n v.node.number place (λ keys. with_keys h task v count (keys_of (take place v.entries.slots) ++ keys))) none
+
+-- the first of the values that are left
+value_first : (slots : List (ℕ × ℕ)) (place count node : ℕ) (loaded : List (ℕ × ℕ) → Script) → place < count → count ≤ length slots
+    → load_values (keys_of (drop place (take count slots))) node place loaded
+    ≡ step (Load (value_cell node place)) (λ value. load_values (keys_of (drop (place + 1) (take count slots))) node (place + 1) (λ entries.
+    loaded ((key_at slots place, value) ∷ entries)))
+value_first slots place count node loaded low fits =
+    let len : length (take count slots) ≡ count = length-take-le count slots fits in
+    ap (λ es. load_values (keys_of es) node place loaded) (drop-cons (take count slots) place (0, 0) (omega (arith, len)))
+    ∙ ap (λ e. step (Load (value_cell node place)) (λ value. load_values (keys_of (drop (suc place) (take count slots))) node (place + 1) (λ entries.
+    loaded ((e.0, value) ∷ entries)))) (get_or-take count slots place (0, 0) low)
+    ∙ ap (λ n. step (Load (value_cell node place)) (λ value. load_values (keys_of (drop n (take count slots))) node (place + 1) (λ entries.
+    loaded ((key_at slots place, value) ∷ entries)))) (sym (one_more place))
+
+pub value_comes : (h : Header) (task : Task) (v : Visit) (slot : Slot) (place count : ℕ) → slot.place ≡ place → slot.of ≡ count
+    → count ≤ length v.entries.slots
+    → loading h task v (Value slot) ≡ values_from_rest h task v place count
+value_comes h task v slot place count at among fits =
+    sym (value_first v.entries.slots slot.place slot.of v.node.number (λ entries.
+    arrived_for h task v.errand (arrived_at v (take slot.place v.entries.slots ++ entries)))
+    slot.within (omega (arith, among, fits)))
+    ∙ ap (λ n. values_from_rest h task v n slot.of) at
+    ∙ ap (values_from_rest h task v place) among
+
+pub values_came : (h : Header) (task : Task) (v : Visit) (place count : ℕ) → place ≤ count → count ≤ place → count ≤ length v.entries.slots
+    → arrived_for h task v.errand (arrived_at v (take count v.entries.slots)) ≡ values_from_rest h task v place count
+values_came h task v place count le ge fits =
+    let same : count ≡ place = omega arith in
+    let len : length (take count v.entries.slots) ≡ count = length-take-le count v.entries.slots fits in
+    ap (λ es. arrived_for h task v.errand (arrived_at v es))
+    (ap (λ n. take n v.entries.slots) same ∙ sym (append-nil (take place v.entries.slots)))
+    ∙ ap (λ es. load_values (keys_of es) v.node.number place
+    (λ entries. arrived_for h task v.errand (arrived_at v (take place v.entries.slots ++ entries))))
+    (sym (drop_of_length-le (take count v.entries.slots) (omega (arith, len))))

@@ -1,0 +1,27 @@
+-- A walk comes to a node.
+use Rattle.std.proofs.Common.{◌≡◌, ◌≢◌, ℕ, zero, suc, ◌-◌, ◌<◌, refl, ap, ◌∙◌, sym, arith}
+use Rattle.std.specs.Prelude.{cond}
+use Rattle.vyrd_base.specs.declared.header.Header.{Header}
+use Rattle.vyrd_base.proofs.TestLaws.{is_below}
+use Rattle.vyrd_memory.specs.Scripts.{Script}
+use Rattle.vyrd_tree.specs.declared.task.Task.{Task}
+use Rattle.vyrd_tree.specs.declared.visit.Visit.{Visit}
+use Rattle.vyrd_tree.specs.declared.visit.Errand.{Errand}
+use Rattle.vyrd_tree.specs.declared.visit.Visiting.TheVariants.{Lock}
+use Rattle.vyrd_tree.specs.Procedures.Walk.{visit_node}
+use Rattle.vyrd_tree.specs.Rests.Errands.{arrived_for, walk_on, key_for, toward, lost_for}
+use Rattle.vyrd_tree.specs.Rests.Visits.{visiting_rest}
+
+-- the visit of a node, with this errand and so many visits left after it
+abbrev visit_of : Header → Task → Errand → ℕ → ℕ → Script
+visit_of h task e left number = visit_node h task.variant (key_for task e) (toward e) number (lost_for task e)
+    (walk_on h task e left) (arrived_for h task e)
+
+pub comes_in : (h : Header) (task : Task) (e : Errand) (left number : ℕ) (v : Visit) → v.errand ≡ e → v.left ≡ left - 1 → v.node.number ≡ number
+    → number < h.size → left ≢ 0 → visiting_rest h task v Lock ≡ walk_on h task e left number
+comes_in h task e zero number v is_errand is_left is_number low some = absurd (some refl)
+comes_in h task e (suc l) number v is_errand is_left is_number low some =
+    let fewer : v.left ≡ l = omega (arith, is_left) in
+    ap (λ x. visit_of h task x v.left v.node.number) is_errand ∙ ap (λ n. visit_of h task e n v.node.number) fewer
+    ∙ ap (visit_of h task e l) is_number
+    ∙ ap (λ b. cond b (visit_of h task e l number) (lost_for task e)) (sym (is_below number h.size low))
