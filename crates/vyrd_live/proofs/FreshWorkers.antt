@@ -9,7 +9,7 @@ use Rattle.vyrd_base.specs.declared.history.Stamped.{Stamped}
 use Rattle.vyrd_base.specs.Places.{numbers_from, numbers_below}
 use Rattle.vyrd_memory.specs.Scripts.{Script, is_between}
 use Rattle.vyrd_memory.specs.Bounds.{bounds_of}
-use Rattle.vyrd_memory.specs.PlayerLaws.{operations-between}
+use Rattle.vyrd_memory.specs.Laws.Player.{operations-between}
 use Rattle.vyrd_trace.specs.Hands.{TracedView, HandView, AreNew, AreAll}
 use Rattle.vyrd_work.specs.Workloads.{Workload}
 use Rattle.vyrd_work.specs.WorkScripts.{procedure_in, ops_of, work_script, work_scripts}

@@ -6,10 +6,8 @@ pub mod Alone
 pub mod Turns
 pub mod InHand
 pub mod Players
-pub mod HandLaws
-pub mod PlayerLaws
 pub mod Playing
 pub mod Runs
 pub mod LaneRules
 pub mod Visits
-pub mod VisitLaws
+pub mod Laws

@@ -99,7 +99,7 @@ impl<P: Progress> Player<P> {
 
 impl<P: Progress> Machine for Player<P> {
     ghost use Rattle.std.proofs.Common.{◌∙◌};
-    ghost use Rattle.vyrd_memory.specs.PlayerLaws.{callable_method, callable_args, callable_small, player_sound, player_in_time, player_bound, player_sums, player_within, player_rests, player_done};
+    ghost use Rattle.vyrd_memory.specs.Laws.Player.{callable_method, callable_args, callable_small, player_sound, player_in_time, player_bound, player_sums, player_within, player_rests, player_done};
 
     ghost header_of = { λ m. m.hand.header };
 

@@ -2,7 +2,7 @@
 
 ghost use Rattle.std.specs.Prelude.{◌≡◌, ◌<◌, ◌≤◌, All, IfSome, drop};
 ghost use Rattle.vyrd_memory.specs.Visits.{visited, visit, listed, ahead_after};
-ghost use Rattle.vyrd_memory.specs.VisitLaws.{visit_is_sound, visit_ends, visit_bound, visit_sums, visit_is_ahead, visit_rests, visit_done};
+ghost use Rattle.vyrd_memory.specs.Laws.Visits.{visit_is_sound, visit_ends, visit_bound, visit_sums, visit_is_ahead, visit_rests, visit_done};
 
 use crate::{Act, Machine, Ran, StepFault, Turn, run_turns};
 use std::alloc::Global;

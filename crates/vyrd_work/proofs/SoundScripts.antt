@@ -8,7 +8,7 @@ use Rattle.vyrd_base.specs.Places.{numbers_from}
 use Rattle.vyrd_memory.specs.declared.op.Variant.{Variant}
 use Rattle.vyrd_memory.specs.Scripts.{Script, stop}
 use Rattle.vyrd_memory.specs.Soundness.{IsSound, at_rest}
-use Rattle.vyrd_memory.specs.PlayerLaws.{AreSound, operations-sound, callable_method, callable_args, callable_small}
+use Rattle.vyrd_memory.specs.Laws.Player.{AreSound, operations-sound, callable_method, callable_args, callable_small}
 use Rattle.vyrd_memory.specs.Runs.{AreSoundScripts}
 use Rattle.vyrd_multiset.specs.Laws.{multiset_is_sound}
 use Rattle.vyrd_cache.specs.Laws.{cache_is_sound}

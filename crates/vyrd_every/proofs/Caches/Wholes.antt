@@ -19,7 +19,7 @@ use Rattle.vyrd_memory.specs.declared.op.Op.{Op}
 use Rattle.vyrd_memory.specs.declared.op.Variant.TheVariants.{Correct}
 use Rattle.vyrd_memory.specs.Arguments.{are_small}
 use Rattle.vyrd_memory.specs.Players.{is_callable}
-use Rattle.vyrd_memory.specs.PlayerLaws.{callable_method}
+use Rattle.vyrd_memory.specs.Laws.Player.{callable_method}
 use Rattle.vyrd_memory.specs.Alone.{Memory, with_cell}
 use Rattle.vyrd_memory.specs.Scripts.{Script, step, perform, returns}
 use Rattle.vyrd_memory.specs.Soundness.{Standing, holds, just_called}

@@ -16,7 +16,7 @@ use Rattle.vyrd_base.proofs.TestLaws.{at_most_of, above_of, same_of, same_number
 use Rattle.vyrd_memory.specs.declared.op.Op.{Op}
 use Rattle.vyrd_memory.specs.declared.op.Variant.TheVariants.{Correct}
 use Rattle.vyrd_memory.specs.Players.{is_callable}
-use Rattle.vyrd_memory.specs.PlayerLaws.{callable_method}
+use Rattle.vyrd_memory.specs.Laws.Player.{callable_method}
 use Rattle.vyrd_memory.specs.Alone.{Memory, with_cell}
 use Rattle.vyrd_memory.proofs.Memories.{changed_cell, other_cell}
 use Rattle.vyrd_memory.specs.Scripts.{Script, returns}

@@ -17,7 +17,7 @@ use Rattle.vyrd_memory.specs.Alone.{Memory}
 use Rattle.vyrd_memory.specs.Scripts.{Script, stop, step, followed_by, operations}
 use Rattle.vyrd_memory.specs.Soundness.{Standing, at_rest, just_called, after_act}
 use Rattle.vyrd_memory.specs.Players.{is_callable, are_callable}
-use Rattle.vyrd_memory.specs.PlayerLaws.{callable_method, callable_small}
+use Rattle.vyrd_memory.specs.Laws.Player.{callable_method, callable_small}
 use Rattle.vyrd_memory.specs.Turns.{script_of}
 use Rattle.vyrd_base.proofs.TestLaws.{first_true, second_true, below_of}
 use Rattle.vyrd_work.specs.Workloads.{Workload}

@@ -4,7 +4,7 @@ use Rattle.std.specs.Option.{option_map_or}
 use Rattle.vyrd_memory.specs.Scripts.{stop, next_act, after_answer, IsAnswer}
 use Rattle.vyrd_memory.specs.Bounds.{is_return}
 use Rattle.vyrd_memory.specs.InHand.{IsInHand}
-use Rattle.vyrd_memory.specs.HandLaws.{InHand, of_some, is_of_some, in_hand_sound, in_hand_goes_on, in_hand_left, in_hand_next, in_hand_over}
+use Rattle.vyrd_memory.specs.Laws.Hand.{InHand, of_some, is_of_some, in_hand_sound, in_hand_goes_on, in_hand_left, in_hand_next, in_hand_over}
 use Rattle.vyrd_memory.proofs.hand.Hand.go_on.Goals as goal
 
 pub wants-requires-clause-sound : goal.wants-requires-clause-sound

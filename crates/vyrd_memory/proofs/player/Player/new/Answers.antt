@@ -1,5 +1,5 @@
 use Rattle.std.proofs.Common.{◌∙◌}
-use Rattle.vyrd_memory.specs.PlayerLaws.{operations-sound, callable_method, callable_args, callable_small}
+use Rattle.vyrd_memory.specs.Laws.Player.{operations-sound, callable_method, callable_args, callable_small}
 use Rattle.vyrd_memory.proofs.player.Player.new.Goals as goal
 
 pub returns-in_err-ops-clause-sound : goal.returns-in_err-ops-clause-sound

@@ -1,6 +1,6 @@
 use Rattle.std.proofs.Common.{◌≡◌, Bool, true, false, not, ◌∙◌, sym, ap}
 use Rattle.std.specs.Prelude.{drop, is_some}
-use Rattle.vyrd_memory.specs.PlayerLaws.{player_between}
+use Rattle.vyrd_memory.specs.Laws.Player.{player_between}
 use Rattle.vyrd_memory.proofs.player.PlayerMachine.between.Goals as goal
 
 flipped : (a b : Bool) → not a ≡ b → a ≡ not b

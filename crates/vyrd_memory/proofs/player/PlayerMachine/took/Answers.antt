@@ -2,7 +2,7 @@ use Rattle.std.proofs.Common.{◌∙◌, sym, ap}
 use Rattle.std.specs.Prelude.{drop}
 use Rattle.std.specs.Option.{option_map_or}
 use Rattle.vyrd_memory.specs.Scripts.{stop, followed_by, operations}
-use Rattle.vyrd_memory.specs.PlayerLaws.{player_goes_on}
+use Rattle.vyrd_memory.specs.Laws.Player.{player_goes_on}
 use Rattle.vyrd_memory.proofs.player.PlayerMachine.took.Goals as goal
 
 pub returns-then-is_some-clause-script : goal.returns-then-is_some-clause-script

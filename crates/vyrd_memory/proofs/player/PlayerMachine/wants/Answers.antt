@@ -1,8 +1,8 @@
 use Rattle.std.proofs.Common.{◌∙◌, sym}
 use Rattle.std.specs.Prelude.{drop}
 use Rattle.vyrd_memory.specs.InHand.{IsInHand}
-use Rattle.vyrd_memory.specs.HandLaws.{of_some, in_hand_sound}
-use Rattle.vyrd_memory.specs.PlayerLaws.{player_wants}
+use Rattle.vyrd_memory.specs.Laws.Hand.{of_some, in_hand_sound}
+use Rattle.vyrd_memory.specs.Laws.Player.{player_wants}
 use Rattle.vyrd_memory.proofs.player.PlayerMachine.wants.Goals as goal
 
 pub wants-requires-clause-sound : goal.wants-requires-clause-sound

@@ -1,4 +1,4 @@
-use Rattle.vyrd_memory.specs.VisitLaws.{visit_goes_on}
+use Rattle.vyrd_memory.specs.Laws.Visits.{visit_goes_on}
 use Rattle.vyrd_memory.proofs.tests.VisitorMachine.took.Goals as goal
 
 pub returns-clause-script : goal.returns-clause-script

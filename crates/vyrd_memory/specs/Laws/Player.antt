@@ -1,3 +1,4 @@
+-- Proofs of laws that an impl in src/ names: no contract says what is defined here.
 -- What a player's script is: the operation in hand, followed by the operations to come.
 use Rattle.std.proofs.Common.{◌≡◌, ℕ, ◌+◌, ◌-◌, ◌≤◌, Bool, true, false, not, ◌&&◌, List, [], ◌∷◌, Option, Some, None, refl, ap, ◌∙◌, sym, subst, arith}
 use Rattle.std.specs.Prelude.{◌≢◌, IfSome, is_some, is_none, if◌then◌else◌}
@@ -21,7 +22,7 @@ use Rattle.vyrd_memory.specs.Scripts.{Script, stop, step, next_act, after_answer
 use Rattle.vyrd_memory.specs.Soundness.{Standing, IsSound, IsSoundSomewhere, at_rest, just_called, after_act}
 use Rattle.vyrd_memory.specs.Bounds.{EndsByReturn, EndsWithin, SumsUp, bound_taken, is_return, bound_of, bound_in, bounds_of}
 use Rattle.vyrd_memory.specs.InHand.{IsInHand}
-use Rattle.vyrd_memory.specs.HandLaws.{no_call, still_called, stop_of, in_hand_goes_on, in_hand_isnt_between, in_hand_over}
+use Rattle.vyrd_memory.specs.Laws.Hand.{no_call, still_called, stop_of, in_hand_goes_on, in_hand_isnt_between, in_hand_over}
 use Rattle.vyrd_memory.specs.Arguments.{are_small}
 use Rattle.vyrd_memory.specs.Players.{is_callable, are_callable, first_bound}
 

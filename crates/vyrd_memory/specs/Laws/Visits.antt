@@ -1,3 +1,4 @@
+-- Proofs of laws that an impl in src/ names: no contract says what is defined here.
 -- What the machine of a visit owes: the script is sound, it ends in time, its call has the bound, and its return is its end.
 use Rattle.std.proofs.Common.{◌≡◌, ℕ, zero, suc, ◌+◌, ◌-◌, ◌≤◌, Bool, true, false, not, ◌&&◌, List, [], ◌∷◌, length, drop, refl, ap, ◌∙◌, sym, subst, arith}
 use Rattle.std.specs.Prelude.{◌||◌}
