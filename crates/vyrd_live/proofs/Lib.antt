@@ -10,5 +10,6 @@ pub mod TakenLaws
 pub mod SendingLaws
 pub mod BesideLaws
 pub mod HistoryLaws
+pub mod TurnLaws
 pub mod TakenParts
 pub mod PlayLaws

@@ -1,5 +1,6 @@
 pub mod Rooms
 pub mod LiveRuns
+pub mod TurnRuns
 pub mod Endings
 pub mod Acts
 pub mod Working

@@ -4,23 +4,22 @@ use Rattle.std.specs.Prelude.{IfSome}
 use Rattle.vyrd_base.specs.declared.log.Entry.{Entry}
 use Rattle.vyrd_base.specs.Histories.{log_of}
 use Rattle.vyrd_base.specs.Verdicts.{accepted}
-use Rattle.vyrd_memory.proofs.LegalRuns.{run_is_legal, run_plays}
 use Rattle.vyrd_work.specs.Workloads.{Workload}
 use Rattle.vyrd_work.specs.WorkLimits.{KeepsLimits}
 use Rattle.vyrd_work.specs.WorkReading.{Refusal, work_reading}
-use Rattle.vyrd_work.specs.WorkScripts.{work_scripts}
 use Rattle.vyrd_work.specs.Generated.{generated}
 use Rattle.vyrd_work.proofs.TextLaws.{reading_sound}
 use Rattle.vyrd_work.proofs.GeneratedLaws.{generated_keeps}
-use Rattle.vyrd_work.proofs.SoundScripts.{scripts_sound}
 use Rattle.vyrd_every.specs.Schedules.{IsCorrect, IsCorrectMultisetOrCache}
 use Rattle.vyrd_every.proofs.Workloads.{schedule_accepted, not_stuck, few_events}
 use Rattle.vyrd_live.specs.declared.run.Run.{Run}
 use Rattle.vyrd_live.specs.declared.run.Overrun.{Overrun}
 use Rattle.vyrd_program.specs.declared.show.Show.{Show}
 use Rattle.vyrd_program.specs.Outputs.{status_of}
-use Rattle.vyrd_program.specs.Steps.{AnswersInput, IsStepAnswer, IsStepStatus, IsRunByTurns}
-use Rattle.vyrd_program.specs.Lives.{AnswersLive, IsLiveAnswer, IsLiveStatus, IsLiveRun, IsRunAnswer}
+use Rattle.vyrd_live.specs.TurnRuns.{IsRunByTurns}
+use Rattle.vyrd_live.proofs.TurnLaws.{turns_accepted}
+use Rattle.vyrd_program.specs.Steps.{AnswersInput, IsStepAnswer, IsStepStatus}
+use Rattle.vyrd_program.specs.Runs.{AnswersRun, IsRunAnswer, IsRunStatus, IsLiveRun, IsPlayedAnswer}
 use Rattle.vyrd_program.specs.CorrectInputs.{SaysCorrect, SaysFewEvents}
 use Rattle.vyrd_program.specs.Generated.{IsGenAnswer, IsGenStatus}
 
@@ -28,18 +27,14 @@ accepted_status : (entries : List Entry) → status_of (accepted entries) ≡ 0
 unfolding accepted
 accepted_status entries = refl
 
-turns_accepted : (w : Workload) (run : Run) → KeepsLimits w → IsCorrect w → IsRunByTurns w run → status_of run.verdict ≡ 0
-turns_accepted w run limits is by_turns =
-    ap status_of (by_turns.verdict_is ∙ schedule_accepted w run.history.items limits is (record {
-      legal = run_is_legal w.header (work_scripts w) w.turns run.history.items (scripts_sound w limits) by_turns.history;
-      parts = run_plays w.header (work_scripts w) w.turns run.history.items (scripts_sound w limits) by_turns.history;
-    }))
-    ∙ accepted_status (log_of run.history.items)
+turned_accepted : (w : Workload) (run : Run) → KeepsLimits w → IsCorrect w → IsRunByTurns w run → status_of run.verdict ≡ 0
+turned_accepted w run limits is by_turns =
+    ap status_of (turns_accepted w run limits is by_turns) ∙ accepted_status (log_of run.history.items)
 
 step_accepted : (show : Show) (w : Workload) (status : ℕ) (text : List ℕ) (run : Option Run) → KeepsLimits w → IsCorrect w
     → IsStepAnswer show (Ok w) status text run → status ≡ 0
 step_accepted show w status text None limits is answer = absurd (not_stuck w limits is answer.2)
-step_accepted show w status text (Some run) limits is answer = answer.0 ∙ turns_accepted w run limits is answer.2
+step_accepted show w status text (Some run) limits is answer = answer.0 ∙ turned_accepted w run limits is answer.2
 
 live_accepted : (w : Workload) (run : Run) → KeepsLimits w → IsCorrect w → IsLiveRun w run → status_of run.verdict ≡ 0
 live_accepted w run limits is lived =
@@ -48,7 +43,7 @@ live_accepted w run limits is lived =
     ∙ accepted_status (log_of run.history.items)
 
 run_accepted : (show : Show) (w : Workload) (status : ℕ) (text : List ℕ) (run : Option Run) (spent : Option Overrun) → KeepsLimits w → IsCorrect w
-    → IsRunAnswer show w status text run spent → (status ≡ 0) ⊎ (status ≡ 9)
+    → IsPlayedAnswer show w status text run spent → (status ≡ 0) ⊎ (status ≡ 9)
 run_accepted show w status text (Some run) None limits is answer = inl (answer.0 ∙ live_accepted w run limits is answer.2)
 run_accepted show w status text None (Some spent) limits is answer = inr answer.0
 run_accepted show w status text (Some run) (Some spent) limits is answer = absurd answer
@@ -56,7 +51,7 @@ run_accepted show w status text None None limits is answer = absurd answer
 
 -- the callers of a multiset or a cache have room for all of their events
 run_unspent : (show : Show) (w : Workload) (status : ℕ) (text : List ℕ) (run : Option Run) (spent : Option Overrun) → KeepsLimits w
-    → IsCorrectMultisetOrCache w → IsRunAnswer show w status text run spent → status ≡ 9 → ⊥
+    → IsCorrectMultisetOrCache w → IsPlayedAnswer show w status text run spent → status ≡ 9 → ⊥
 run_unspent show w status text (Some run) None limits is answer nine =
     let none : status ≡ 0 = answer.0 ∙ live_accepted w run limits (correct is) answer.2 in
     absurd (omega (arith, none, nine))
@@ -82,17 +77,17 @@ step_is_accepted show input status text run says answers =
     step_accepted show says.work status text run (reading_sound says.bytes says.work says.read).limits says.correct
     (subst (λ work. IsStepAnswer show work status text run) (read_of input says.bytes answers.work (Ok says.work) says.told says.read answers.read) answers.answer)
 
-pub live_is_accepted : (show : Show) (input : Option (List ℕ)) (status : ℕ) (text : List ℕ) (run : Option Run) (spent : Option Overrun) → SaysCorrect input
-    → AnswersLive show input status text run spent → (status ≡ 0) ⊎ (status ≡ 9)
-live_is_accepted show input status text run spent says answers =
+pub run_is_accepted : (show : Show) (input : Option (List ℕ)) (status : ℕ) (text : List ℕ) (run : Option Run) (spent : Option Overrun) → SaysCorrect input
+    → AnswersRun show input status text run spent → (status ≡ 0) ⊎ (status ≡ 9)
+run_is_accepted show input status text run spent says answers =
     run_accepted show says.work status text run spent (reading_sound says.bytes says.work says.read).limits says.correct
-    (subst (λ work. IsLiveAnswer show work status text run spent) (read_of input says.bytes answers.work (Ok says.work) says.told says.read answers.read) answers.answer)
+    (subst (λ work. IsRunAnswer show work status text run spent) (read_of input says.bytes answers.work (Ok says.work) says.told says.read answers.read) answers.answer)
 
-pub live_has_room : (show : Show) (input : Option (List ℕ)) (status : ℕ) (text : List ℕ) (run : Option Run) (spent : Option Overrun) → SaysFewEvents input
-    → AnswersLive show input status text run spent → status ≡ 9 → ⊥
-live_has_room show input status text run spent says answers nine =
+pub run_is_unspent : (show : Show) (input : Option (List ℕ)) (status : ℕ) (text : List ℕ) (run : Option Run) (spent : Option Overrun) → SaysFewEvents input
+    → AnswersRun show input status text run spent → status ≡ 9 → ⊥
+run_is_unspent show input status text run spent says answers nine =
     run_unspent show says.work status text run spent (reading_sound says.bytes says.work says.read).limits says.correct
-    (subst (λ work. IsLiveAnswer show work status text run spent)
+    (subst (λ work. IsRunAnswer show work status text run spent)
     (read_of input says.bytes answers.work (Ok says.work) says.told says.read answers.read) answers.answer) nine
 
 -- generated workloads are of the correct multiset
@@ -103,7 +98,7 @@ generated_is n = refl
 pub gen_is_accepted : (n status : ℕ) (text : List ℕ) (run : Option Run) → n ≤ 200000 → IsGenAnswer n status text run → status ≡ 0
 gen_is_accepted n status text None few answer = absurd (not_stuck (generated n) (generated_keeps n few) (generated_is n) answer.2)
 gen_is_accepted n status text (Some run) few answer =
-    answer.0 ∙ turns_accepted (generated n) run (generated_keeps n few) (generated_is n) answer.2
+    answer.0 ∙ turned_accepted (generated n) run (generated_keeps n few) (generated_is n) answer.2
 
 -- the status of an answer that was given
 pub step_given : (status own : ℕ) → IsStepStatus status → (status ≡ 5) ⊎ (status ≡ own) → status ≡ own
@@ -112,11 +107,11 @@ step_given status own (inl low) (inl five) = absurd (omega (arith, low, five))
 step_given status own (inr (inl seven)) (inl five) = absurd (omega (arith, seven, five))
 step_given status own (inr (inr eight)) (inl five) = absurd (omega (arith, eight, five))
 
-pub live_given : (status own : ℕ) → IsLiveStatus status → (status ≡ 5) ⊎ (status ≡ own) → status ≡ own
-live_given status own judged (inr same) = same
-live_given status own (inl low) (inl five) = absurd (omega (arith, low, five))
-live_given status own (inr (inl seven)) (inl five) = absurd (omega (arith, seven, five))
-live_given status own (inr (inr nine)) (inl five) = absurd (omega (arith, nine, five))
+pub run_given : (status own : ℕ) → IsRunStatus status → (status ≡ 5) ⊎ (status ≡ own) → status ≡ own
+run_given status own judged (inr same) = same
+run_given status own (inl low) (inl five) = absurd (omega (arith, low, five))
+run_given status own (inr (inl seven)) (inl five) = absurd (omega (arith, seven, five))
+run_given status own (inr (inr nine)) (inl five) = absurd (omega (arith, nine, five))
 
 pub gen_given : (status own : ℕ) → IsGenStatus status → (status ≡ 5) ⊎ (status ≡ own) → status ≡ own
 gen_given status own judged (inr same) = same

@@ -30,7 +30,8 @@ use Rattle.vyrd_work.proofs.SoundScripts.{scripts_sound}
 use Rattle.vyrd_work.proofs.SettledLaws.{reading_settled}
 use Rattle.vyrd_live.specs.declared.run.Run.{Run}
 use Rattle.vyrd_program.specs.Inputs.{IsInputRead}
-use Rattle.vyrd_program.specs.Steps.{IsRunByTurns, NamesOnlyRaces}
+use Rattle.vyrd_live.specs.TurnRuns.{IsRunByTurns}
+use Rattle.vyrd_program.specs.Steps.{NamesOnlyRaces}
 
 -- the history of a run by turns is legal, and each script is played to its end in it
 legal_run : (w : Workload) (run : Run) → KeepsLimits w → IsRunByTurns w run → is_legal (cells_of w.header) run.history.items ≡ true

@@ -7,13 +7,13 @@ use Rattle.vyrd_base.specs.Lines.{number_of}
 use Rattle.vyrd_program.specs.declared.show.Show.{Show}
 use Rattle.vyrd_program.specs.declared.show.Show.TheVariants.{Verdict, Log, History}
 use Rattle.vyrd_program.specs.declared.form.Form.{Form}
-use Rattle.vyrd_program.specs.declared.form.Form.TheVariants.{Check, Step, Live, Gen, Movers, Batch}
+use Rattle.vyrd_program.specs.declared.form.Form.TheVariants.{Check, Step, Run, Gen, Movers, Batch}
 
 -- one word: `check`, `step`, `run`, `movers` or `batch`
 abbrev pub one_word : List ℕ → Option Form
 one_word word = if bytes_eq word (codes "check") then Some Check
     else (if bytes_eq word (codes "step") then Some (Step Verdict)
-    else (if bytes_eq word (codes "run") then Some (Live Verdict)
+    else (if bytes_eq word (codes "run") then Some (Run Verdict)
     else (if bytes_eq word (codes "movers") then Some Movers
     else (if bytes_eq word (codes "batch") then Some Batch else None))))
 
@@ -29,7 +29,7 @@ shown_by option = if bytes_eq option (codes "--log") then Some Log
 -- `step` and `run` with what is to be shown
 abbrev pub shown_form : List ℕ → Show → Option Form
 shown_form word show = if bytes_eq word (codes "step") then Some (Step show)
-    else (if bytes_eq word (codes "run") then Some (Live show) else None)
+    else (if bytes_eq word (codes "run") then Some (Run show) else None)
 
 -- two words: `step` or `run` with an option, or `gen` with a number from 1 to 200,000
 abbrev pub two_words : List ℕ → List ℕ → Option Form

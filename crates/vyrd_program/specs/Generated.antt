@@ -7,7 +7,8 @@ use Rattle.vyrd_work.specs.WorkScripts.{work_scripts}
 use Rattle.vyrd_work.specs.Generated.{generated}
 use Rattle.vyrd_live.specs.declared.run.Run.{Run}
 use Rattle.vyrd_program.specs.Outputs.{status_of, Appends, AppendsFront}
-use Rattle.vyrd_program.specs.Steps.{IsRunByTurns, stuck_line}
+use Rattle.vyrd_live.specs.TurnRuns.{IsRunByTurns}
+use Rattle.vyrd_program.specs.Steps.{stuck_line}
 
 -- how many operations there are, and how many events their run has
 abbrev pub generated_line : ℕ → ℕ → List ℕ

@@ -3,8 +3,8 @@ use Rattle.std.specs.Prelude.{◌≡◌, ◌⊎◌, ⊤, ℕ, ◌≤◌, List, �
 use Rattle.vyrd_base.specs.declared.verdict.Verdict.{Verdict}
 use Rattle.vyrd_base.specs.Devices.{IsAtEnd}
 use Rattle.vyrd_base.specs.TextVerdicts.{text_verdict}
-use Rattle.vyrd_program.specs.declared.reading.ReadFault.{ReadFault}
-use Rattle.vyrd_program.specs.declared.reading.ReadFault.TheVariants.{Failed, Memory}
+use Rattle.vyrd_program.specs.declared.read_log.ReadFault.{ReadFault}
+use Rattle.vyrd_program.specs.declared.read_log.ReadFault.TheVariants.{Failed, Memory}
 
 -- how many bytes one read takes at most
 abbrev pub longest_read : ℕ

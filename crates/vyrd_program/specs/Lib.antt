@@ -4,7 +4,7 @@ pub mod Forms
 pub mod Progress
 pub mod Checks
 pub mod Steps
-pub mod Lives
+pub mod Runs
 pub mod Generated
 pub mod CorrectInputs
 pub mod Moved

@@ -4,28 +4,20 @@ use Rattle.vyrd_base.specs.declared.header.Header.{Header}
 use Rattle.vyrd_base.specs.declared.verdict.Rule.{Rule}
 use Rattle.vyrd_base.specs.declared.verdict.Rule.TheVariants.{BlockRaced}
 use Rattle.vyrd_base.specs.declared.verdict.Verdict.TheVariants.{Malformed}
-use Rattle.vyrd_base.specs.Places.{newest_first}
 use Rattle.vyrd_base.specs.Histories.{log_of}
 use Rattle.vyrd_base.specs.Spelling.{log_text}
-use Rattle.vyrd_base.specs.Verdicts.{verdict}
 use Rattle.vyrd_base.specs.VerdictText.{verdict_text}
-use Rattle.vyrd_memory.specs.Turns.{RunsTo, GetsStuck}
-use Rattle.vyrd_memory.specs.Playing.{memory_after}
+use Rattle.vyrd_memory.specs.Turns.{GetsStuck}
 use Rattle.vyrd_work.specs.Workloads.{Workload}
 use Rattle.vyrd_work.specs.WorkReading.{Refusal, work_reading}
 use Rattle.vyrd_work.specs.WorkScripts.{work_scripts}
 use Rattle.vyrd_work.specs.Refusals.{refusal_text}
 use Rattle.vyrd_mover.specs.HistoryText.{history_text}
 use Rattle.vyrd_live.specs.declared.run.Run.{Run}
+use Rattle.vyrd_live.specs.TurnRuns.{IsRunByTurns}
 use Rattle.vyrd_program.specs.declared.show.Show.{Show}
 use Rattle.vyrd_program.specs.declared.show.Show.TheVariants as shown
 use Rattle.vyrd_program.specs.Outputs.{status_of, Appends, AppendsFront}
-
--- The run by turns of the workload ends with this history and these words, and this is the verdict about its log.
-pub record IsRunByTurns (w : Workload) (run : Run) : Type 0 where
-  pub history : RunsTo (work_scripts w) w.turns run.history.items
-  pub words : run.words.items ≡ memory_after w.header (newest_first run.history.items)
-  pub verdict_is : run.verdict ≡ verdict w.header [] (log_of run.history.items)
 
 -- what is shown of a run: the verdict's line, or the log's text and then that line, or the history's text
 abbrev pub run_text : Show → Header → Run → List ℕ

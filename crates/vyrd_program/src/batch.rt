@@ -10,8 +10,8 @@ ghost use Rattle.vyrd_program.specs.Inputs.{IsInputTaken, IsFewTaken};
 ghost use Rattle.vyrd_program.specs.Batches.{AnswersBatch, IsBatchAnswer, IsBatchStatus};
 
 use crate::answer::{Answer, BATCH_REFUSED, MEMORY, READ_FAULT};
-use crate::input::{LONGEST_BATCH, read_input};
-use crate::reading::ReadFault;
+use crate::read_input::{LONGEST_BATCH, read_input};
+use crate::read_log::ReadFault;
 use std::alloc::{AllocError, Global};
 use std::thread::Threads;
 use vyrd_base::Source;

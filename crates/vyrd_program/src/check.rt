@@ -7,7 +7,7 @@ ghost use Rattle.vyrd_program.specs.Outputs.{status_of};
 ghost use Rattle.vyrd_program.specs.Checks.{IsJudged, IsSettled, IsUnsettled, IsReadNoFurther};
 
 use crate::answer::{Answer, MEMORY, READ_FAULT, status_of};
-use crate::reading::{ReadFault, read_verdict};
+use crate::read_log::{ReadFault, read_verdict};
 use std::alloc::{AllocError, Global};
 use vyrd_base::{Source, Verdict};
 use vyrd_text::write_verdict;

@@ -20,7 +20,7 @@ pub enum Form {
     /// history in place of both.
     Step { show: Show },
     /// `run`: a workload is played by callers on threads of their own and judged. `--log` and `--history` ask for the same.
-    Live { show: Show },
+    Run { show: Show },
     /// `gen N`: a workload of so many operations is generated, played by turns and judged.
     Gen { count: u32 },
     /// `movers`: whether the commit blocks of a history are reducible.
@@ -51,7 +51,7 @@ fn one_word(word: &str) -> Option<Form>
         "step" => Some(Form::Step {
             show: Show::Verdict,
         }),
-        "run" => Some(Form::Live {
+        "run" => Some(Form::Run {
             show: Show::Verdict,
         }),
         "movers" => Some(Form::Movers),
@@ -89,7 +89,7 @@ fn shown_form(word: &str, show: Show) -> Option<Form>
 {
     match word {
         "step" => Some(Form::Step { show }),
-        "run" => Some(Form::Live { show }),
+        "run" => Some(Form::Run { show }),
         _ => None,
     }
 }

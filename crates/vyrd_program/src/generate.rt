@@ -5,9 +5,9 @@ ghost use Rattle.vyrd_program.specs.Generated.{IsGenAnswer, IsGenStatus};
 ghost use Rattle.vyrd_program.specs.Steps.{NamesOnlyRaces};
 
 use crate::answer::{Answer, MEMORY};
-use crate::by_turns::play;
 use crate::telling::{generated, stuck};
 use std::alloc::{AllocError, Global};
+use vyrd_live::run_by_turns;
 use vyrd_work::{AnyMachine, generate};
 
 /// The answer to so many operations, from 1 to 200,000: the verdict about the run by turns of the workload that is generated of
@@ -36,7 +36,7 @@ fn try_answer(alloc: Global, count: u32) -> Result<Answer, AllocError>
     ensures spent { IfOk result (λ answer. answer.spent ≡ None) }
 {
     let work = generate(alloc, count)?;
-    match play::<AnyMachine>(alloc, &work)? {
+    match run_by_turns::<AnyMachine>(alloc, &work)? {
         Some(run) => generated(alloc, count, run),
         None => stuck(alloc),
     }

@@ -9,23 +9,22 @@ mod answer;
 mod batch;
 #[cfg(test)]
 mod batch_tests;
-mod by_turns;
 mod check;
 mod deliver;
 mod form;
 mod generate;
 #[cfg(test)]
 mod hostile_tests;
-mod input;
 mod limited;
-mod live;
 mod movers;
 #[cfg(test)]
 mod movers_tests;
 #[cfg(test)]
 mod play_tests;
 mod program;
-mod reading;
+mod read_input;
+mod read_log;
+mod run;
 mod show;
 #[cfg(test)]
 mod start_tests;

@@ -11,8 +11,8 @@ ghost use Rattle.vyrd_program.specs.Inputs.{IsInputTaken, IsFewTaken};
 ghost use Rattle.vyrd_program.specs.Moved.{AnswersMovers, IsMoversAnswer, IsMoversStatus, status_of_blocks};
 
 use crate::answer::{Answer, HISTORY_REFUSED, MEMORY, READ_FAULT};
-use crate::input::read_input;
-use crate::reading::ReadFault;
+use crate::read_input::read_input;
+use crate::read_log::ReadFault;
 use std::alloc::{AllocError, Global};
 use vyrd_base::Source;
 use vyrd_mover::{

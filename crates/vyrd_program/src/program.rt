@@ -3,7 +3,7 @@
 ghost use Rattle.std.specs.Prelude.{◌≡◌, ◌≢◌, ◌≤◌, ◌⊎◌, true, ℕ, [], Some, None, IfSome, length};
 ghost use Rattle.vyrd_base.specs.Devices.{HasRisen, IsAtEnd};
 ghost use Rattle.vyrd_program.specs.declared.show.Show.{Show};
-ghost use Rattle.vyrd_program.specs.declared.form.Form.TheVariants.{Check, Step, Live, Gen, Movers, Batch};
+ghost use Rattle.vyrd_program.specs.declared.form.Form.TheVariants.{Check, Step, Run, Gen, Movers, Batch};
 ghost use Rattle.vyrd_work.specs.LongInputs.{longest_input};
 ghost use Rattle.vyrd_mover.specs.LongHistories.{longest_history};
 ghost use Rattle.vyrd_batch.specs.LongBatches.{longest_batch_input};
@@ -12,7 +12,7 @@ ghost use Rattle.vyrd_program.specs.Inputs.{IsInputTaken, IsFewTaken};
 ghost use Rattle.vyrd_program.specs.Outputs.{Appends, AppendsFront, usage_line};
 ghost use Rattle.vyrd_program.specs.Checks.{IsAnswered, IsAnsweredInPart, IsSettled, IsUnsettled, IsReadNoFurther, HasRoomForAnswer};
 ghost use Rattle.vyrd_program.specs.Steps.{IsStepped, IsSteppedInPart, IsStepStatus, HasRoomForStep, NamesOnlyRaces};
-ghost use Rattle.vyrd_program.specs.Lives.{IsLived, IsLivedInPart, IsLiveStatus, HasRoomForLive};
+ghost use Rattle.vyrd_program.specs.Runs.{HasRun, HasRunInPart, IsRunStatus, HasRoomForRun};
 ghost use Rattle.vyrd_program.specs.CorrectInputs.{SaysCorrect, SaysFewEvents};
 ghost use Rattle.vyrd_program.specs.Generated.{IsGenerated, IsGeneratedInPart, IsGenStatus, HasRoomForGen};
 ghost use Rattle.vyrd_program.specs.Moved.{IsMoved, IsMovedInPart, IsMoversStatus, HasRoomForMovers};
@@ -24,14 +24,14 @@ use crate::deliver::deliver;
 use crate::form::{Form, form_of};
 use crate::generate::answer_generated;
 use crate::limited::check_limited;
-use crate::live::live;
 use crate::movers::movers;
+use crate::run::run;
 use crate::step::step;
 use std::alloc::Global;
 use std::sync::Wait;
 use std::thread::Threads;
 use vyrd_base::{Gate, Sink, Source};
-use vyrd_live::{Overrun, Run};
+use vyrd_live::Overrun;
 
 /// How many lines a log may have.
 const MAX_LINES: u64 = 268_435_456;
@@ -43,13 +43,13 @@ const USAGE_LINE: &[u8] =
 /// How a call of the program ended.
 #[derive(Debug, Drop)]
 pub struct Ended {
-    /// 0 accepted, 1 a violation, 2 malformed, 3 words that are no form, 4 a failed read, 5 a failed write, 6 no memory,
+    /// 0 accepted, 1 a violation, 2 malformed, 3 arguments that are no command, 4 a failed read, 5 a failed write, 6 no memory,
     /// 7 a workload that is refused, 8 a run by turns that gets stuck, 9 a live run in which a caller's events are spent,
     /// 10 a history that is refused, 11 a batch that is refused. Of a history's blocks 0 says that all are reducible, and 1 that
     /// one isn't.
     pub status: u8,
     /// The run that the answer is about, under `step`, `run` and `gen`, where it came to its end.
-    pub run: Option<Run>,
+    pub run: Option<vyrd_live::Run>,
     /// The live run that the limit of events ended, under `run`.
     pub spent: Option<Overrun>,
 }
@@ -96,12 +96,12 @@ pub fn vyrd<R: Threads + Wait + Sync, S: Source, K: Sink, G: Gate>(
     ensures step_statuses { (show : Show) → form_said words.now ≡ Some (Step show) → (result.status ≤ 8) × (result.status ≢ 3) }
 
     // `run`, 0, 1, 2, 7 and 9: it has written the answer to all that the source held, which has the status and the run.
-    ensures lived { (show : Show) → form_said words.now ≡ Some (Live show) → IsLiveStatus result.status →
-        IsLived show (S.rest source.old) result.status result.run result.spent (K.taken sink.old) (K.taken sink.new) }
-    ensures run_consumed { (show : Show) → form_said words.now ≡ Some (Live show) → IsLiveStatus result.status →
+    ensures ran { (show : Show) → form_said words.now ≡ Some (Run show) → IsRunStatus result.status →
+        HasRun show (S.rest source.old) result.status result.run result.spent (K.taken sink.old) (K.taken sink.new) }
+    ensures run_consumed { (show : Show) → form_said words.now ≡ Some (Run show) → IsRunStatus result.status →
         IsInputTaken longest_input (S.rest source.old) (S.rest source.new) }
-    ensures run_takes_few { (show : Show) → form_said words.now ≡ Some (Live show) → IsFewTaken longest_input (S.rest source.old) (S.rest source.new) }
-    ensures run_statuses { (show : Show) → form_said words.now ≡ Some (Live show) → (result.status ≤ 9) × (result.status ≢ 3) × (result.status ≢ 8) }
+    ensures run_takes_few { (show : Show) → form_said words.now ≡ Some (Run show) → IsFewTaken longest_input (S.rest source.old) (S.rest source.new) }
+    ensures run_statuses { (show : Show) → form_said words.now ≡ Some (Run show) → (result.status ≤ 9) × (result.status ≢ 3) × (result.status ≢ 8) }
 
     // `gen N`, 0, 1, 2 and 8: it has written the answer to N generated operations, which has the status and the run.
     ensures generated { (n : ℕ) → form_said words.now ≡ Some (Gen n) → IsGenStatus result.status →
@@ -113,9 +113,9 @@ pub fn vyrd<R: Threads + Wait + Sync, S: Source, K: Sink, G: Gate>(
     // room for.
     ensures every_step { (show : Show) → form_said words.now ≡ Some (Step show) → SaysCorrect (S.rest source.old) →
         IsStepStatus result.status → result.status ≡ 0 }
-    ensures every_run { (show : Show) → form_said words.now ≡ Some (Live show) → SaysCorrect (S.rest source.old) →
-        IsLiveStatus result.status → (result.status ≡ 0) ⊎ (result.status ≡ 9) }
-    ensures run_has_room { (show : Show) → form_said words.now ≡ Some (Live show) → SaysFewEvents (S.rest source.old) → result.status ≢ 9 }
+    ensures every_run { (show : Show) → form_said words.now ≡ Some (Run show) → SaysCorrect (S.rest source.old) →
+        IsRunStatus result.status → (result.status ≡ 0) ⊎ (result.status ≡ 9) }
+    ensures run_has_room { (show : Show) → form_said words.now ≡ Some (Run show) → SaysFewEvents (S.rest source.old) → result.status ≢ 9 }
     ensures every_gen { (n : ℕ) → form_said words.now ≡ Some (Gen n) → IsGenStatus result.status → result.status ≡ 0 }
 
     // `movers`, 0, 1 and 10: it has written the line about the history that the source held, and the status is that line's.
@@ -139,19 +139,19 @@ pub fn vyrd<R: Threads + Wait + Sync, S: Source, K: Sink, G: Gate>(
     // Whatever was played: where the verdict names a rule, it is that of raced blocks.
     ensures only_races { IfSome result.run NamesOnlyRaces }
 
-    // 3: the words are no form.
+    // 3: the words are not one of the forms.
     ensures usage { result.status ≡ 3 → Appends (K.taken sink.old) (K.taken sink.new) usage_line }
     ensures usage_form { result.status ≡ 3 → form_said words.now ≡ None }
     ensures no_form { form_said words.now ≡ None → (result.status ≡ 3) ⊎ (result.status ≡ 5) }
     ensures source_untouched { form_said words.now ≡ None → source.new ≡ source.old }
 
-    // 4, just where a read failed: nothing was written.
+    // 4, exactly when a read failed: nothing was written.
     ensures read_fault { result.status ≡ 4 → HasRisen (S.faults source.old) (S.faults source.new) }
     ensures read_failures_alone { (S.faults source.new ≡ S.faults source.old) ⊎ (result.status ≡ 4) }
     ensures read_fault_stops { result.status ≡ 4 → S.rest source.new ≡ S.left_off source.new }
     ensures read_fault_silent { result.status ≡ 4 → K.taken sink.new ≡ K.taken sink.old }
 
-    // 5, just where a write failed: some of the first bytes of the answer were written.
+    // 5, exactly when a write failed: some of the first bytes of the answer were written.
     ensures write_fault { result.status ≡ 5 → HasRisen (K.faults sink.old) (K.faults sink.new) }
     ensures write_failures_alone { (K.faults sink.new ≡ K.faults sink.old) ⊎ (result.status ≡ 5) }
     ensures write_fault_stops { result.status ≡ 5 → K.taken sink.new ≡ K.left_off sink.new }
@@ -159,8 +159,8 @@ pub fn vyrd<R: Threads + Wait + Sync, S: Source, K: Sink, G: Gate>(
         IsAnsweredInPart 268435456 (S.rest source.old) (K.taken sink.old) (K.taken sink.new) }
     ensures write_fault_step { result.status ≡ 5 → (show : Show) → form_said words.now ≡ Some (Step show) →
         IsSteppedInPart show (S.rest source.old) result.run (K.taken sink.old) (K.taken sink.new) }
-    ensures write_fault_run { result.status ≡ 5 → (show : Show) → form_said words.now ≡ Some (Live show) →
-        IsLivedInPart show (S.rest source.old) result.run result.spent (K.taken sink.old) (K.taken sink.new) }
+    ensures write_fault_run { result.status ≡ 5 → (show : Show) → form_said words.now ≡ Some (Run show) →
+        HasRunInPart show (S.rest source.old) result.run result.spent (K.taken sink.old) (K.taken sink.new) }
     ensures write_fault_gen { result.status ≡ 5 → (n : ℕ) → form_said words.now ≡ Some (Gen n) → IsGeneratedInPart n result.run (K.taken sink.old) (K.taken sink.new) }
     ensures write_fault_movers { result.status ≡ 5 → form_said words.now ≡ Some Movers →
         IsMovedInPart (S.rest source.old) (K.taken sink.old) (K.taken sink.new) }
@@ -195,7 +195,7 @@ pub fn vyrd<R: Threads + Wait + Sync, S: Source, K: Sink, G: Gate>(
     ensures source_sure { S.is_sure source.old ≡ true → S.faults source.new ≡ S.faults source.old }
     ensures sink_sure { HasRoomForAnswer 268435456 (S.rest source.old) (K.sure_room sink.old) → form_said words.now ≡ Some Check → K.faults sink.new ≡ K.faults sink.old }
     ensures sink_sure_step { (show : Show) → HasRoomForStep show (S.rest source.old) (K.sure_room sink.old) → form_said words.now ≡ Some (Step show) → K.faults sink.new ≡ K.faults sink.old }
-    ensures sink_sure_run { (show : Show) → HasRoomForLive show (S.rest source.old) (K.sure_room sink.old) → form_said words.now ≡ Some (Live show) → K.faults sink.new ≡ K.faults sink.old }
+    ensures sink_sure_run { (show : Show) → HasRoomForRun show (S.rest source.old) (K.sure_room sink.old) → form_said words.now ≡ Some (Run show) → K.faults sink.new ≡ K.faults sink.old }
     ensures sink_sure_gen { (n : ℕ) → HasRoomForGen n (K.sure_room sink.old) → form_said words.now ≡ Some (Gen n) → K.faults sink.new ≡ K.faults sink.old }
     ensures sink_sure_movers { HasRoomForMovers (S.rest source.old) (K.sure_room sink.old) → form_said words.now ≡ Some Movers → K.faults sink.new ≡ K.faults sink.old }
     ensures sink_sure_batch { HasRoomForBatch (S.rest source.old) (K.sure_room sink.old) → form_said words.now ≡ Some Batch → K.faults sink.new ≡ K.faults sink.old }
@@ -207,8 +207,8 @@ pub fn vyrd<R: Threads + Wait + Sync, S: Source, K: Sink, G: Gate>(
             let answer = step(alloc, show, source);
             give(sink, answer)
         }
-        Some(Form::Live { show }) => {
-            let answer = live(rt, alloc, show, source, gate);
+        Some(Form::Run { show }) => {
+            let answer = run(rt, alloc, show, source, gate);
             give(sink, answer)
         }
         Some(Form::Gen { count }) => {
@@ -252,7 +252,7 @@ pub(crate) fn give<K: Sink>(sink: &mut K, answer: Answer) -> Ended
     }
 }
 
-// Writes the usage line.
+/// Writes the usage line.
 fn give_usage<K: Sink>(sink: &mut K) -> Ended
     ensures statuses { (result.status ≡ 3) ⊎ (result.status ≡ 5) }
     ensures run { result.run ≡ None }

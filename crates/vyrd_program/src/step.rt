@@ -8,13 +8,13 @@ ghost use Rattle.vyrd_program.specs.Inputs.{IsInputTaken, IsFewTaken};
 ghost use Rattle.vyrd_program.specs.Steps.{AnswersInput, IsStepAnswer, IsStepStatus, NamesOnlyRaces};
 
 use crate::answer::{Answer, MEMORY, READ_FAULT};
-use crate::by_turns::play;
-use crate::input::{LONGEST_WORK, read_input};
-use crate::reading::ReadFault;
+use crate::read_input::{LONGEST_WORK, read_input};
+use crate::read_log::ReadFault;
 use crate::show::Show;
 use crate::telling::{refuse, stuck, tell};
 use std::alloc::{AllocError, Global};
 use vyrd_base::Source;
+use vyrd_live::run_by_turns;
 use vyrd_work::{AnyMachine, WorkFault, read_work};
 
 /// The answer to a workload: what is to be shown of its run by turns, with the status of the verdict about it; or that it is
@@ -50,7 +50,7 @@ fn answer_to(alloc: Global, show: Show, bytes: &[u8]) -> Result<Answer, AllocErr
     ensures spent { IfOk result (λ answer. answer.spent ≡ None) }
 {
     match read_work(alloc, bytes) {
-        Ok(work) => match play::<AnyMachine>(alloc, &work)? {
+        Ok(work) => match run_by_turns::<AnyMachine>(alloc, &work)? {
             Some(run) => tell(alloc, show, work.header, run),
             None => stuck(alloc),
         },

@@ -8,7 +8,7 @@ ghost use Rattle.vyrd_text.specs.Written.{is_writable};
 ghost use Rattle.vyrd_work.specs.Refusals.{refusal_text};
 ghost use Rattle.vyrd_program.specs.Outputs.{status_of};
 ghost use Rattle.vyrd_program.specs.Steps.{run_text, stuck_line};
-ghost use Rattle.vyrd_program.specs.Lives.{spent_line};
+ghost use Rattle.vyrd_program.specs.Runs.{spent_line};
 ghost use Rattle.vyrd_program.specs.Generated.{generated_line};
 
 use crate::answer::{Answer, REFUSED, SPENT, STUCK, status_of};

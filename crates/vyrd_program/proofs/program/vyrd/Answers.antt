@@ -6,8 +6,8 @@ use Rattle.vyrd_program.specs.declared.form.Form.{Form}
 use Rattle.vyrd_program.specs.declared.form.Form.TheVariants.{Gen}
 use Rattle.vyrd_program.specs.Generated.{IsGenStatus, IsGenAnswer}
 use Rattle.vyrd_program.specs.Steps.{IsStepStatus}
-use Rattle.vyrd_program.specs.Lives.{IsLiveStatus}
-use Rattle.vyrd_program.proofs.EveryLaws.{step_is_accepted, live_is_accepted, live_has_room, gen_is_accepted, step_given, live_given, gen_given}
+use Rattle.vyrd_program.specs.Runs.{IsRunStatus}
+use Rattle.vyrd_program.proofs.EveryLaws.{step_is_accepted, run_is_accepted, run_is_unspent, gen_is_accepted, step_given, run_given, gen_given}
 use Rattle.vyrd_program.proofs.program.vyrd.Goals as goal
 
 same_count : (n m : ℕ) → ◌≡◌ {A = Form} (Gen n) (Gen m) → n ≡ m
@@ -44,21 +44,21 @@ returns-in-Some-Step-clause-every_step g c = λ log is says judged.
     let same = step_given c.give.result.status answer.status judged c.give.ensures.statuses in
     same ∙ step_is_accepted c.in-Some-Step.show _ answer.status answer.text.items answer.run says (c.step-answer.ensures.answers (subst IsStepStatus same judged))
 
-pub returns-in-Some-Live-clause-every_run : goal.returns-in-Some-Live-clause-every_run
-returns-in-Some-Live-clause-every_run g c = λ show is says judged.
-    let answer = c.live-answer.result in
-    let same = live_given c.give-in-Some-Live.result.status answer.status judged c.give-in-Some-Live.ensures.statuses in
+pub returns-in-Some-Run-clause-every_run : goal.returns-in-Some-Run-clause-every_run
+returns-in-Some-Run-clause-every_run g c = λ show is says judged.
+    let answer = c.run-answer.result in
+    let same = run_given c.give-in-Some-Run.result.status answer.status judged c.give-in-Some-Run.ensures.statuses in
     subst (λ n. (n ≡ 0) ⊎ (n ≡ 9)) (sym same)
-    (live_is_accepted c.in-Some-Live.show _ answer.status answer.text.items answer.run answer.spent says
-    (c.live-answer.ensures.answers (subst IsLiveStatus same judged)))
+    (run_is_accepted c.in-Some-Run.show _ answer.status answer.text.items answer.run answer.spent says
+    (c.run-answer.ensures.answers (subst IsRunStatus same judged)))
 
-pub returns-in-Some-Live-clause-run_has_room : goal.returns-in-Some-Live-clause-run_has_room
-returns-in-Some-Live-clause-run_has_room g c = λ show is says nine.
-    let answer = c.live-answer.result in
-    let judged : IsLiveStatus c.give-in-Some-Live.result.status = inr (inr nine) in
-    let same = live_given c.give-in-Some-Live.result.status answer.status judged c.give-in-Some-Live.ensures.statuses in
-    live_has_room c.in-Some-Live.show _ answer.status answer.text.items answer.run answer.spent says
-    (c.live-answer.ensures.answers (subst IsLiveStatus same judged)) (sym same ∙ nine)
+pub returns-in-Some-Run-clause-run_has_room : goal.returns-in-Some-Run-clause-run_has_room
+returns-in-Some-Run-clause-run_has_room g c = λ show is says nine.
+    let answer = c.run-answer.result in
+    let judged : IsRunStatus c.give-in-Some-Run.result.status = inr (inr nine) in
+    let same = run_given c.give-in-Some-Run.result.status answer.status judged c.give-in-Some-Run.ensures.statuses in
+    run_is_unspent c.in-Some-Run.show _ answer.status answer.text.items answer.run answer.spent says
+    (c.run-answer.ensures.answers (subst IsRunStatus same judged)) (sym same ∙ nine)
 
 pub returns-in-Some-Gen-clause-every_gen : goal.returns-in-Some-Gen-clause-every_gen
 returns-in-Some-Gen-clause-every_gen g c = λ n is judged.

@@ -1,6 +1,6 @@
 use Rattle.std.proofs.Common.{◌∙◌, arith, length-drop}
 use Rattle.vyrd_program.proofs.BehindLaws.{taken_behind}
-use Rattle.vyrd_program.proofs.input.read_input.Goals as goal
+use Rattle.vyrd_program.proofs.read_input.read_input.Goals as goal
 
 pub loop-count-preserved : goal.loop-count-preserved
 loop-count-preserved g c =

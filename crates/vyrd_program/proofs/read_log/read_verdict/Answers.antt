@@ -2,9 +2,9 @@ use Rattle.std.proofs.Common.{◌≡◌, subst}
 use Rattle.std.specs.Prelude.{IfOk, Err}
 use Rattle.vyrd_program.specs.Progress.{IsReached}
 use Rattle.vyrd_program.specs.Checks.{IsReadNoFurther, IsUnsettled}
-use Rattle.vyrd_program.specs.declared.reading.ReadFault.TheVariants.{Failed}
+use Rattle.vyrd_program.specs.declared.read_log.ReadFault.TheVariants.{Failed}
 use Rattle.vyrd_program.proofs.PieceLaws.{nothing_no_further}
-use Rattle.vyrd_program.proofs.reading.read_verdict.Goals as goal
+use Rattle.vyrd_program.proofs.read_log.read_verdict.Goals as goal
 
 pub returns-in_err-buffer-clause-no_further : goal.returns-in_err-buffer-clause-no_further
 returns-in_err-buffer-clause-no_further g c = nothing_no_further _ _

@@ -1,7 +1,7 @@
 use Rattle.std.proofs.Common.{◌≡◌, ◌≤◌, length, true}
 use Rattle.vyrd_program.specs.Inputs.{longest_read}
 use Rattle.vyrd_program.specs.Progress.{IsChecking}
-use Rattle.vyrd_program.proofs.reading.read_on.Given as goal
+use Rattle.vyrd_program.proofs.read_log.read_on.Given as goal
 
 abbrev pub invariant-loop-round : goal.invariant-loop-round
 invariant-loop-round g l = record {

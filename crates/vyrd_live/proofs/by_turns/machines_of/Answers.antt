@@ -6,7 +6,7 @@ use Rattle.vyrd_base.specs.Places.{numbers_below}
 use Rattle.vyrd_base.proofs.PlaceLaws.{numbers_below-push}
 use Rattle.vyrd_work.specs.Workloads.{workload_of}
 use Rattle.vyrd_work.specs.WorkScripts.{work_script}
-use Rattle.vyrd_program.proofs.by_turns.machines_of.Goals as goal
+use Rattle.vyrd_live.proofs.by_turns.machines_of.Goals as goal
 
 pub loop-caller-preserved : goal.loop-caller-preserved
 loop-caller-preserved g c =

@@ -4,7 +4,7 @@ use Rattle.vyrd_work.specs.Workloads.{workload_of}
 use Rattle.vyrd_work.proofs.ScriptLaws.{where_ok}
 use Rattle.vyrd_program.specs.Steps.{NamesOnlyRaces}
 use Rattle.vyrd_program.proofs.StepLaws.{log_is_writable, names_only_races}
-use Rattle.vyrd_program.proofs.live.play.Goals as goal
+use Rattle.vyrd_program.proofs.run.play.Goals as goal
 
 pub tell-requires : goal.tell-requires
 tell-requires g c =

@@ -2,7 +2,7 @@ use Rattle.std.proofs.Common.{Ok, ◌++◌, ap, subst, arith}
 use Rattle.vyrd_base.specs.Devices.{Gives}
 use Rattle.vyrd_check.specs.Checking.{HasChecked}
 use Rattle.vyrd_program.proofs.PieceLaws.{fed_goes_on, fed_reached, end_reached, read_no_further, same_no_further}
-use Rattle.vyrd_program.proofs.reading.read_piece.Goals as goal
+use Rattle.vyrd_program.proofs.read_log.read_piece.Goals as goal
 
 pub returns-in-Err-clause-no_further : goal.returns-in-Err-clause-no_further
 returns-in-Err-clause-no_further g c = λ max before rounds low r.

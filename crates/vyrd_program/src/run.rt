@@ -8,11 +8,11 @@ ghost use Rattle.vyrd_work.specs.WorkReading.{work_reading};
 ghost use Rattle.vyrd_work.specs.LongInputs.{longest_input};
 ghost use Rattle.vyrd_program.specs.Inputs.{IsInputTaken, IsFewTaken};
 ghost use Rattle.vyrd_program.specs.Steps.{NamesOnlyRaces};
-ghost use Rattle.vyrd_program.specs.Lives.{AnswersLive, IsLiveAnswer, IsRunAnswer, IsLiveStatus};
+ghost use Rattle.vyrd_program.specs.Runs.{AnswersRun, IsRunAnswer, IsPlayedAnswer, IsRunStatus};
 
 use crate::answer::{Answer, MEMORY, READ_FAULT};
-use crate::input::{LONGEST_WORK, read_input};
-use crate::reading::ReadFault;
+use crate::read_input::{LONGEST_WORK, read_input};
+use crate::read_log::ReadFault;
 use crate::show::Show;
 use crate::telling::{overrun, refuse, tell};
 use std::alloc::{AllocError, Global};
@@ -27,17 +27,17 @@ const MOST_EVENTS: u64 = 16_777_216;
 
 /// The answer to a workload: what is to be shown of a live run, with the status of the verdict about it; or that it is refused,
 /// or that a caller's events are spent; or nothing after a failed read or want of memory.
-pub fn live<R: Threads + Wait + Sync, S: Source, G: Gate>(
+pub fn run<R: Threads + Wait + Sync, S: Source, G: Gate>(
     rt: &R,
     alloc: Global,
     show: Show,
     source: &mut S,
     gate: &G,
 ) -> Answer
-    ensures statuses { IsLiveStatus result.status ⊎ (result.status ≡ 4) ⊎ (result.status ≡ 6) }
-    ensures answers { IsLiveStatus result.status → AnswersLive show (S.rest source.old) result.status result.text.items result.run result.spent }
+    ensures statuses { IsRunStatus result.status ⊎ (result.status ≡ 4) ⊎ (result.status ≡ 6) }
+    ensures answers { IsRunStatus result.status → AnswersRun show (S.rest source.old) result.status result.text.items result.run result.spent }
     ensures races { IfSome result.run NamesOnlyRaces }
-    ensures consumed { IsLiveStatus result.status → IsInputTaken longest_input (S.rest source.old) (S.rest source.new) }
+    ensures consumed { IsRunStatus result.status → IsInputTaken longest_input (S.rest source.old) (S.rest source.new) }
     ensures few { IsFewTaken longest_input (S.rest source.old) (S.rest source.new) }
     ensures silent { result.status ≡ 4 ⊎ result.status ≡ 6 → (result.text.items ≡ []) × (result.run ≡ None) × (result.spent ≡ None) }
     ensures cause { result.status ≡ 4 → HasRisen (S.faults source.old) (S.faults source.new) }
@@ -64,7 +64,7 @@ fn answer_to<R: Threads + Wait + Sync, G: Gate>(
     bytes: &[u8],
     gate: &G,
 ) -> Result<Answer, AllocError>
-    ensures answer { IfOk result (λ answer. IsLiveAnswer show (work_reading bytes.now) answer.status answer.text.items answer.run answer.spent) }
+    ensures answer { IfOk result (λ answer. IsRunAnswer show (work_reading bytes.now) answer.status answer.text.items answer.run answer.spent) }
     ensures races { IfOk result (λ answer. IfSome answer.run NamesOnlyRaces) }
 {
     match read_work(alloc, bytes) {
@@ -83,7 +83,7 @@ fn play<R: Threads + Wait + Sync, G: Gate>(
     gate: &G,
 ) -> Result<Answer, AllocError>
     requires { KeepsLimits (workload_of work.now) }
-    ensures answer { IfOk result (λ answer. IsRunAnswer show (workload_of work.now) answer.status answer.text.items answer.run answer.spent) }
+    ensures answer { IfOk result (λ answer. IsPlayedAnswer show (workload_of work.now) answer.status answer.text.items answer.run answer.spent) }
     ensures races { IfOk result (λ answer. IfSome answer.run NamesOnlyRaces) }
 {
     match run_live(rt, alloc, work, MOST_EVENTS, gate) {

@@ -6,7 +6,7 @@ ghost use Rattle.vyrd_check.specs.Checking.{HasChecked};
 ghost use Rattle.vyrd_program.specs.Inputs.{longest_read, UnlessFailed};
 ghost use Rattle.vyrd_program.specs.Checks.{IsReadNoFurther, IsUnsettled};
 ghost use Rattle.vyrd_program.specs.Progress.{IsChecking, IsReached};
-ghost use Rattle.vyrd_program.specs.declared.reading.ReadFault.TheVariants.{Failed, Memory};
+ghost use Rattle.vyrd_program.specs.declared.read_log.ReadFault.TheVariants.{Failed, Memory};
 
 use std::alloc::{AllocError, AllocFailed, Global};
 use vyrd_base::{Source, Verdict};

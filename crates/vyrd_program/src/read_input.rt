@@ -3,9 +3,9 @@
 ghost use Rattle.std.specs.Prelude.{◌≡◌, ◌+◌, ◌≤◌, ◌<◌, true, take, drop, vec_len, IfOk, OnOk, OnErr, Ok, Err};
 ghost use Rattle.vyrd_base.specs.Devices.{HasRisen, Gives, IsAtEnd};
 ghost use Rattle.vyrd_program.specs.Inputs.{IsInputRead, IsFewTaken, longest_read, UnlessFailed};
-ghost use Rattle.vyrd_program.specs.declared.reading.ReadFault.TheVariants.{Failed};
+ghost use Rattle.vyrd_program.specs.declared.read_log.ReadFault.TheVariants.{Failed};
 
-use crate::reading::{LONGEST_READ, ReadFault};
+use crate::read_log::{LONGEST_READ, ReadFault};
 use std::alloc::{AllocError, Global};
 use vyrd_base::Source;
 

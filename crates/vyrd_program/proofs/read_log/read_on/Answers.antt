@@ -1,6 +1,6 @@
 use Rattle.std.proofs.Common.{refl, ◌∙◌, arith}
 use Rattle.vyrd_program.proofs.PieceLaws.{checking_starts, rounds_end}
-use Rattle.vyrd_program.proofs.reading.read_on.Goals as goal
+use Rattle.vyrd_program.proofs.read_log.read_on.Goals as goal
 
 pub loop-round-init : goal.loop-round-init
 loop-round-init g c = record {

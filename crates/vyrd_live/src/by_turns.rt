@@ -1,23 +1,32 @@
-//! The run of a workload by turns.
+//! The run of a workload by turns, over plain memory.
 
 ghost use Rattle.std.specs.Prelude.{◌≡◌, length, map, All, IfOk, MatchOption};
+ghost use Rattle.vyrd_base.specs.Histories.{log_of};
+ghost use Rattle.vyrd_base.specs.Verdicts.{accepted};
 ghost use Rattle.vyrd_memory.specs.Turns.{GetsStuck};
 ghost use Rattle.vyrd_work.specs.Workloads.{workload_of};
 ghost use Rattle.vyrd_work.specs.WorkLimits.{KeepsLimits};
 ghost use Rattle.vyrd_work.specs.WorkScripts.{work_scripts};
-ghost use Rattle.vyrd_program.specs.Steps.{IsRunByTurns};
+ghost use Rattle.vyrd_every.specs.Schedules.{IsCorrect};
+ghost use Rattle.vyrd_live.specs.TurnRuns.{IsRunByTurns};
 
+use crate::judging::judged;
+use crate::run::Run;
 use std::alloc::{AllocError, Global};
-use vyrd_live::{Run, judged};
 use vyrd_memory::{Ran, StepFault, run_turns};
 use vyrd_work::{Work, WorkMachine};
 
-/// The run by turns of a workload. There is none where it gets stuck.
-pub fn play<M: WorkMachine>(alloc: Global, work: &Work) -> Result<Option<Run>, AllocError>
+/// Plays a workload by its turns and judges the run: what each caller does, event by event, is settled
+/// by the workload alone. There is no run where it gets stuck, as two callers do that wait for each
+/// other's lock. A correct structure doesn't get stuck, and is accepted. It takes memory for the whole
+/// history.
+pub fn run_by_turns<M: WorkMachine>(alloc: Global, work: &Work) -> Result<Option<Run>, AllocError>
     requires limits { KeepsLimits (workload_of work.now) }
-    ensures { IfOk result (λ run. MatchOption run
+    ensures played { IfOk result (λ run. MatchOption run
         (GetsStuck (work_scripts (workload_of work.now)) work.now.turns.items)
         (IsRunByTurns (workload_of work.now))) }
+    ensures every_schedule { IsCorrect (workload_of work.now) → IfOk result (λ run.
+        MatchOption run ⊥ (λ run. run.verdict ≡ accepted (log_of run.history.items))) }
 {
     let mut machines: Vec<M> = machines_of(alloc, work)?;
     match run_turns(alloc, work.header, &mut machines, &work.turns) {
@@ -27,7 +36,7 @@ pub fn play<M: WorkMachine>(alloc: Global, work: &Work) -> Result<Option<Run>, A
     }
 }
 
-// The machines of a workload's callers, in their order.
+/// The machines of a workload's callers, in their order.
 fn machines_of<M: WorkMachine>(alloc: Global, work: &Work) -> Result<Vec<M>, AllocError>
     requires limits { KeepsLimits (workload_of work.now) }
     ensures count { IfOk result (λ machines. length machines.items ≡ work.now.header.callers) }

@@ -3,7 +3,7 @@ use Rattle.std.specs.Prelude.{All, length}
 use Rattle.vyrd_base.specs.Places.{numbers_below}
 use Rattle.vyrd_work.specs.Workloads.{workload_of}
 use Rattle.vyrd_work.specs.WorkScripts.{work_script}
-use Rattle.vyrd_program.proofs.by_turns.machines_of.Given as goal
+use Rattle.vyrd_live.proofs.by_turns.machines_of.Given as goal
 
 -- the machines of the callers before this one
 abbrev pub invariant-loop-caller : goal.invariant-loop-caller

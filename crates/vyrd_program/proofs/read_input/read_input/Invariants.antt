@@ -1,6 +1,6 @@
 use Rattle.std.proofs.Common.{◌≡◌, ◌+◌, ◌-◌, ◌≤◌, take, vec_len, true}
 use Rattle.vyrd_program.specs.Inputs.{IsTaken, longest_read}
-use Rattle.vyrd_program.proofs.input.read_input.Given as goal
+use Rattle.vyrd_program.proofs.read_input.read_input.Given as goal
 
 abbrev pub invariant-loop-count : goal.invariant-loop-count
 invariant-loop-count g l = record {

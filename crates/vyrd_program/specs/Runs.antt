@@ -38,44 +38,44 @@ spent_line caller = ended_line (codes "events spent by caller " ++ decimal calle
 
 -- A run that came to its end, or one that the limit of events ended: it is lower than the sum of the bounds of that caller's
 -- operations.
-abbrev pub IsRunAnswer : Show → Workload → ℕ → List ℕ → Option Run → Option Overrun → Type 0
-IsRunAnswer show w status text (Some run) None = (status ≡ status_of run.verdict) × (text ≡ run_text show w.header run) × IsLiveRun w run
-IsRunAnswer show w status text None (Some spent) = (status ≡ 9) × (text ≡ spent_line spent.caller)
+abbrev pub IsPlayedAnswer : Show → Workload → ℕ → List ℕ → Option Run → Option Overrun → Type 0
+IsPlayedAnswer show w status text (Some run) None = (status ≡ status_of run.verdict) × (text ≡ run_text show w.header run) × IsLiveRun w run
+IsPlayedAnswer show w status text None (Some spent) = (status ≡ 9) × (text ≡ spent_line spent.caller)
     × (is_legal (cells_of w.header) spent.history.items ≡ true) × IsOverrun w.header most_events (work_scripts w) spent.caller spent.history.items
     × (most_events < bounds_of w.header (ops_of spent.caller w.ops))
-IsRunAnswer show w status text _ _ = ⊥
+IsPlayedAnswer show w status text _ _ = ⊥
 
 -- the status, the text and the run of the answer to what was read
-abbrev pub IsLiveAnswer : Show → Result Workload Refusal → ℕ → List ℕ → Option Run → Option Overrun → Type 0
-IsLiveAnswer show (Err refusal) status text run spent = (status ≡ 7) × (text ≡ refusal_text refusal.line refusal.rule) × (run ≡ None) × (spent ≡ None)
-IsLiveAnswer show (Ok w) status text run spent = IsRunAnswer show w status text run spent
+abbrev pub IsRunAnswer : Show → Result Workload Refusal → ℕ → List ℕ → Option Run → Option Overrun → Type 0
+IsRunAnswer show (Err refusal) status text run spent = (status ≡ 7) × (text ≡ refusal_text refusal.line refusal.rule) × (run ≡ None) × (spent ≡ None)
+IsRunAnswer show (Ok w) status text run spent = IsPlayedAnswer show w status text run spent
 
 -- The status, the text and the run of an answer to an input. Where its bytes are told, what was read is what they say.
-pub record AnswersLive (show : Show) (input : Option (List ℕ)) (status : ℕ) (text : List ℕ) (run : Option Run) (spent : Option Overrun) : Type 0 where
+pub record AnswersRun (show : Show) (input : Option (List ℕ)) (status : ℕ) (text : List ℕ) (run : Option Run) (spent : Option Overrun) : Type 0 where
   pub work : Result Workload Refusal
   pub read : IfSome input (λ bytes. work ≡ work_reading bytes)
-  pub answer : IsLiveAnswer show work status text run spent
+  pub answer : IsRunAnswer show work status text run spent
 
 -- the statuses with which a workload is answered
-abbrev pub IsLiveStatus : ℕ → Type 0
-IsLiveStatus status = (status ≤ 2) ⊎ (status ≡ 7) ⊎ (status ≡ 9)
+abbrev pub IsRunStatus : ℕ → Type 0
+IsRunStatus status = (status ≤ 2) ⊎ (status ≡ 7) ⊎ (status ≡ 9)
 
 -- the sink has taken the text of that answer
-pub record IsLived (show : Show) (input : Option (List ℕ)) (status : ℕ) (run : Option Run) (spent : Option Overrun)
+pub record HasRun (show : Show) (input : Option (List ℕ)) (status : ℕ) (run : Option Run) (spent : Option Overrun)
     (before after : Option (List ℕ)) : Type 0 where
   pub text : List ℕ
-  pub answers : AnswersLive show input status text run spent
+  pub answers : AnswersRun show input status text run spent
   pub written : Appends before after text
 
 -- the sink has taken some of the first bytes of it
-pub record IsLivedInPart (show : Show) (input : Option (List ℕ)) (run : Option Run) (spent : Option Overrun)
+pub record HasRunInPart (show : Show) (input : Option (List ℕ)) (run : Option Run) (spent : Option Overrun)
     (before after : Option (List ℕ)) : Type 0 where
   pub status : ℕ
   pub text : List ℕ
-  pub answers : AnswersLive show input status text run spent
+  pub answers : AnswersRun show input status text run spent
   pub written : AppendsFront before after text
 
 -- the sink has sure room for the text of any answer to the input
-abbrev pub HasRoomForLive : Show → Option (List ℕ) → ℕ → Type 0
-HasRoomForLive show input room = (status : ℕ) (text : List ℕ) (run : Option Run) (spent : Option Overrun)
-    → AnswersLive show input status text run spent → length text ≤ room
+abbrev pub HasRoomForRun : Show → Option (List ℕ) → ℕ → Type 0
+HasRoomForRun show input room = (status : ℕ) (text : List ℕ) (run : Option Run) (spent : Option Overrun)
+    → AnswersRun show input status text run spent → length text ≤ room

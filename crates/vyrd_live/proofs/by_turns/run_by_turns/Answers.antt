@@ -1,0 +1,21 @@
+use Rattle.std.proofs.Common.{rules}
+use Rattle.vyrd_memory.specs.Turns.{GetsStuck}
+use Rattle.vyrd_work.specs.Workloads.{workload_of}
+use Rattle.vyrd_work.specs.WorkScripts.{work_scripts}
+use Rattle.vyrd_every.proofs.Workloads.{not_stuck}
+use Rattle.vyrd_live.specs.TurnRuns.{IsRunByTurns}
+use Rattle.vyrd_live.proofs.TurnLaws.{turns_accepted}
+use Rattle.vyrd_live.proofs.by_turns.run_by_turns.Goals as goal
+
+pub returns-in-Ok-clause-every_schedule : goal.returns-in-Ok-clause-every_schedule
+returns-in-Ok-clause-every_schedule g c = λ is.
+    let w = workload_of c.args.work.now in
+    let run = c.in_ok-judged-in-Ok.field-0 in
+    let by_turns : IsRunByTurns w run = search rules in
+    turns_accepted w run c.requires.limits is by_turns
+
+pub returns-in-Err-Stuck-clause-every_schedule : goal.returns-in-Err-Stuck-clause-every_schedule
+returns-in-Err-Stuck-clause-every_schedule g c = λ is.
+    let w = workload_of c.args.work.now in
+    let stuck : GetsStuck (work_scripts w) c.args.work.now.turns.items = search rules in
+    not_stuck w c.requires.limits is stuck
