@@ -1,6 +1,4 @@
 //! How far an operation of the cache has come.
-
-ghost use Rattle.std.specs.Prelude.{◌≡◌};
 ghost use Rattle.vyrd_base.specs.declared.subject.Subject.TheVariants.{Cache};
 ghost use Rattle.vyrd_cache.specs.Procedures.{cache_procedure};
 ghost use Rattle.vyrd_cache.specs.Rests.{rest_of};

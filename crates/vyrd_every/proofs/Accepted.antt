@@ -22,7 +22,7 @@ use Rattle.vyrd_base.specs.FirstVersion.{old_words_after}
 use Rattle.vyrd_base.specs.Views.{view_of_words}
 use Rattle.vyrd_base.proofs.ShadowLaws.{WellFormed}
 use Rattle.vyrd_base.proofs.NoStart.{states_along-none, verdict_so_far-none, end_verdict-none}
-use Rattle.vyrd_base.specs.Verdicts.{line_of, violation_at, states_along, first_fault, shape_verdict, verdict_so_far, is_call_open, end_verdict, accepted, verdict}
+use Rattle.vyrd_base.specs.Verdicts.{line_of, violation_at, states_along, first_fault, shape_verdict, is_call_open, end_verdict, accepted, verdict}
 use Rattle.vyrd_base.specs.Histories.{cells_of, is_legal, logged, log_of}
 use Rattle.vyrd_base.proofs.HistoryLaws.{log_entry}
 use Rattle.vyrd_base.proofs.BlockLaws.{entry}

@@ -15,7 +15,7 @@ use Rattle.vyrd_multiset.specs.Procedures.{multiset_procedure}
 use Rattle.vyrd_multiset.specs.Laws.Sound.{gone}
 use Rattle.vyrd_cache.specs.Cells.{lock_of}
 use Rattle.vyrd_cache.specs.Procedures.{cache_procedure}
-use Rattle.vyrd_tree.specs.Cells.{node_cell, root_cell, used_cell, root_lock}
+use Rattle.vyrd_tree.specs.Cells.{node_cell, root_cell, root_lock}
 use Rattle.vyrd_tree.specs.Cells as cells
 use Rattle.vyrd_tree.specs.Contents.{level_at}
 use Rattle.vyrd_every.specs.Guarded.{multiset, cache}

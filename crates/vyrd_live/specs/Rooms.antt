@@ -1,4 +1,4 @@
--- Room for operations. A caller may have so many events in all, so an operation begins only where all events up to its bound
+-- Room for operations. A caller's events are limited in all, so an operation begins only where all events up to its bound
 -- have room.
 use Rattle.std.specs.Prelude.{ℕ, ◌+◌, ◌<◌, ◌≤◌, ⊤, List, [], ◌∷◌, length}
 use Rattle.vyrd_base.specs.declared.header.Header.{Header}
@@ -10,7 +10,7 @@ use Rattle.vyrd_memory.specs.declared.act.Act.TheVariants.{Mark}
 use Rattle.vyrd_memory.specs.Scripts.{Script, next_act, left_after, Plays}
 use Rattle.vyrd_memory.specs.Bounds.{bound_of}
 
--- An event that begins an operation, after so many events of its caller, leaves room for the operation's bound. Any other
+-- An event that begins an operation, after this many events of its caller, leaves room for the operation's bound. Any other
 -- event asks for nothing.
 abbrev pub BeginsWithRoom : Header → ℕ → ℕ → Did → Type 0
 BeginsWithRoom h limit before (Marked (Call method args)) = before + bound_of h method ≤ limit
@@ -21,7 +21,7 @@ abbrev pub HadRoom : Header → ℕ → List Did → Type 0
 HadRoom h limit [] = ⊤
 HadRoom h limit (did ∷ earlier) = BeginsWithRoom h limit (length earlier) did × HadRoom h limit earlier
 
--- the act begins an operation whose bound has no room after so many events of its caller
+-- the act begins an operation whose bound has no room after this many events of its caller
 abbrev pub HasNoRoom : Header → ℕ → ℕ → Act → Type 0
 HasNoRoom h limit before (Mark (Call method args)) = limit < before + bound_of h method
 HasNoRoom h limit before _ = ⊥

@@ -37,7 +37,7 @@ use vyrd_work::{AnyMachine, Work, WorkMachine};
 ///
 /// A verifier takes in the events beside the callers, as far as they reach it, and the rest once all have ended. While the callers
 /// run it asks the gate before each event, as if it were one caller more, and the place is how many it has taken in. Where it has
-/// to be set aside, for want of memory or for a number that comes twice, the history is judged anew at the end.
+/// to be set aside, because there is no memory or a number comes twice, the history is judged anew at the end.
 ///
 /// A run of a correct structure is accepted, in whatever order its callers' events come. For each caller of a multiset or a cache
 /// 6,400,000 events are enough.
@@ -90,7 +90,7 @@ pub fn run_live<R: Threads + Wait + Sync, G: Gate>(
     }
 }
 
-// Plays the callers of a workload, each by a machine of this type.
+/// Plays the callers of a workload, each by a machine of this type.
 fn play<R: Threads + Wait + Sync, G: Gate, M: WorkMachine + Send>(
     rt: &R,
     alloc: Global,
@@ -118,7 +118,7 @@ fn play<R: Threads + Wait + Sync, G: Gate, M: WorkMachine + Send>(
     play_all(rt, alloc, traced, gate, work.header, workers)
 }
 
-// The machine of each hand's caller, with the hand.
+/// The machine of each hand's caller, with the hand.
 fn workers_of<M: WorkMachine>(
     alloc: Global,
     work: &Work,

@@ -11,10 +11,10 @@ use std::thread::Threads;
 use vyrd_base::{Args, Did, Gate, Header, Kind, Method, OpenGate, Stamped, Subject, Verdict, Why};
 use vyrd_work::read_work;
 
-// How often a gate is asked, or looks for another caller, before it gives up.
+/// How often a gate is asked, or looks for another caller, before it gives up.
 const PATIENCE: u64 = 50_000_000;
 
-// The live run of a workload's text, where that is one.
+/// The live run of a workload's text, where that is one.
 fn run_text<R: Threads + Wait + Sync, G: Gate>(
     rt: &R,
     alloc: Global,
@@ -30,8 +30,8 @@ fn run_text<R: Threads + Wait + Sync, G: Gate>(
     Some(run_live(rt, alloc, &work, limit, gate))
 }
 
-// A gate that lets callers 0 and 1 begin once both want to. It looks for the other one so long, and remembers where it didn't
-// find it.
+/// A gate that lets callers 0 and 1 begin once both want to. It looks for the other one so long, and remembers where it didn't
+/// find it.
 #[derive(Drop)]
 struct Meeting {
     first: AtomicBool,
@@ -48,7 +48,7 @@ impl Meeting {
         }
     }
 
-    // Leaves a note in `own`, and looks for one in `other`.
+    /// Leaves a note in `own`, and looks for one in `other`.
     fn meet(&self, own: &AtomicBool, other: &AtomicBool) {
         own.store(true, Ordering::SeqCst);
         for _ in 0..PATIENCE {
@@ -71,7 +71,7 @@ impl Gate for Meeting {
     }
 }
 
-// In one thread, in whatever order, one of the two callers would not find the other's note.
+/// In one thread, in whatever order, one of the two callers would not find the other's note.
 #[test]
 fn two_callers_at_once(rt: HostRuntime) -> Result<(), Fail> {
     let text = b"work multiset 2 2 correct\nop 0 lookup 1\nop 1 lookup 0\nop 1 lookup 0\nend\n";
@@ -89,7 +89,7 @@ fn two_callers_at_once(rt: HostRuntime) -> Result<(), Fail> {
     Ok(())
 }
 
-// The bound of a multiset's operation is 32.
+/// The bound of a multiset's operation is 32.
 #[test]
 fn bound_of_events(rt: HostRuntime) -> Result<(), Fail> {
     let text = b"work multiset 1 1 correct\nop 0 lookup 5\nend\n";
@@ -109,8 +109,8 @@ fn bound_of_events(rt: HostRuntime) -> Result<(), Fail> {
     Ok(())
 }
 
-// A gate that holds each of two callers in the middle of its work until the other one has come to a place. It counts how often
-// it is asked, and gives up after so many questions.
+/// A gate that holds each of two callers in the middle of its work until the other one has come to a place. It counts how often
+/// it is asked, and gives up after a number of questions.
 #[derive(Drop)]
 struct Turnstile {
     asked: AtomicU64,
@@ -132,7 +132,7 @@ impl Turnstile {
         }
     }
 
-    // Whether the caller has come so far that the other one may go on. It notes that this one has come to its place.
+    /// Whether the caller has come so far that the other one may go on. It notes that this one has come to its place.
     fn has_come(&self, caller: u32, place: u64) -> bool {
         match (caller, place) {
             (0, 2) => {
@@ -164,7 +164,7 @@ impl Gate for Turnstile {
     }
 }
 
-// Whoever plays one script after the other doesn't come to this order of events.
+/// Whoever plays one script after the other doesn't come to this order of events.
 #[test]
 fn schedule_forced_by_the_gate(rt: HostRuntime) -> Result<(), Fail> {
     let text = b"work multiset 1 2 broken\nop 0 insert 5\nop 1 insert 6\nop 1 lookup 9\nend\n";
@@ -181,7 +181,7 @@ fn schedule_forced_by_the_gate(rt: HostRuntime) -> Result<(), Fail> {
     Ok(())
 }
 
-// Four callers, each of which inserts its key, looks for it, deletes it and looks for it twice, ten times over.
+/// Four callers, each of which inserts its key, looks for it, deletes it and looks for it twice, ten times over.
 fn four_callers(alloc: Global) -> Result<Vec<u8>, AllocError> {
     let lines = [
         b"op 0 insert 0\nop 0 lookup 0\nop 0 delete 0\nop 0 lookup 0\nop 0 lookup 0\n",
@@ -215,8 +215,8 @@ fn four_callers_beside(rt: HostRuntime) -> Result<(), Fail> {
     Ok(())
 }
 
-// A gate that holds caller 0 at its ninth event until the verifier asked for its eighth. With one caller the verifier asks as
-// caller 1. The gate gives up after so many questions, and remembers it.
+/// A gate that holds caller 0 at its ninth event until the verifier asked for its eighth. With one caller the verifier asks as
+/// caller 1. The gate gives up after a number of questions, and remembers it.
 #[derive(Drop)]
 struct Beside {
     asked: AtomicU64,
@@ -237,7 +237,7 @@ impl Gate for Beside {
     }
 }
 
-// Whoever begins to take in events once the workers have ended doesn't ask in time.
+/// Whoever begins to take in events once the workers have ended doesn't ask in time.
 #[test]
 fn verifier_beside_the_worker(rt: HostRuntime) -> Result<(), Fail> {
     let text = b"work multiset 1 1 correct\nop 0 lookup 5\nop 0 lookup 5\nend\n";
@@ -259,7 +259,7 @@ fn verifier_beside_the_worker(rt: HostRuntime) -> Result<(), Fail> {
     Ok(())
 }
 
-// A mark of caller 0.
+/// A mark of caller 0.
 fn marked(number: u64, kind: Kind) -> Stamped
     ensures { result.number ≡ number }
 {
@@ -270,7 +270,7 @@ fn marked(number: u64, kind: Kind) -> Stamped
     }
 }
 
-// Takes in an event, where none with its number was taken in.
+/// Takes in an event, where none with its number was taken in.
 fn take_new(verifier: &mut Verifier, event: Stamped) -> Result<Option<Verdict>, AllocError>
     requires { event.number < 2 ^ 62 }
 {
@@ -280,7 +280,7 @@ fn take_new(verifier: &mut Verifier, event: Stamped) -> Result<Option<Verdict>, 
     verifier.take_in(event)
 }
 
-// A delete of a key that isn't there replies 1. Its events are taken in last first, and this is answered after each of them.
+/// A delete of a key that isn't there replies 1. Its events are taken in last first, and this is answered after each of them.
 fn answers_backwards(
     verifier: &mut Verifier,
 ) -> Result<(Option<Verdict>, Option<Verdict>, Option<Verdict>), AllocError> {

@@ -17,7 +17,7 @@ use vyrd_base::{Header, Stamped, Verdict};
 use vyrd_judge::{AnyJudge, entry_of};
 use vyrd_relay::Reorder;
 
-// The numbers that a verifier takes in are below this one.
+/// The numbers that a verifier takes in are below this one.
 const NUMBERS: u64 = 1 << 62;
 
 /// Judges a history while its events come in, in whatever order.
@@ -116,7 +116,7 @@ impl Verifier {
     }
 
     /// The verdict about the whole log of the events before the least number that wasn't taken in. It takes no memory, and out of
-    /// memory comes exactly where an earlier `take_in` answered it.
+    /// memory comes exactly when an earlier `take_in` answered it.
     pub fn finish(&self) -> Result<Verdict, AllocError>
         ensures verdict { (taken : List Stamped) → HasTakenIn self.now taken
             → IfOk result (λ v. v ≡ verdict self.now.header [] (log_of (in_order_below self.now.kept.next taken))) }
@@ -129,7 +129,7 @@ impl Verifier {
     }
 }
 
-// Puts an event in order, and shows the judge all whose turn has come.
+/// Puts an event in order, and shows the judge all whose turn has come.
 fn follow(judge: &mut AnyJudge, reorder: &mut Reorder, item: Stamped) -> Result<(), AllocError>
     requires number { item.number < 2 ^ 62 }
     requires new { has reorder.old item.number ≡ false }
@@ -150,7 +150,7 @@ fn follow(judge: &mut AnyJudge, reorder: &mut Reorder, item: Stamped) -> Result<
     Ok(())
 }
 
-// Shows the judge the event whose turn has come, and answers whether there was one.
+/// Shows the judge the event whose turn has come, and answers whether there was one.
 fn advance(judge: &mut AnyJudge, reorder: &mut Reorder) -> Result<bool, AllocError>
     requires few { judge.old.kept.entries ≤ reorder.old.next }
     requires going { judge.old.has_failed ≡ false }
@@ -169,7 +169,7 @@ fn advance(judge: &mut AnyJudge, reorder: &mut Reorder) -> Result<bool, AllocErr
     Ok(true)
 }
 
-// Shows the judge an event, where it leaves an entry.
+/// Shows the judge an event, where it leaves an entry.
 fn show(judge: &mut AnyJudge, event: Stamped) -> Result<(), AllocError>
     requires few { judge.old.kept.entries < 2 ^ 62 }
     requires going { judge.old.has_failed ≡ false }

@@ -98,7 +98,7 @@ impl Watch {
         unreachable!()
     }
 
-    // Takes in the event that comes next, and answers whether there was one.
+    /// Takes in the event that comes next, and answers whether there was one.
     fn take_next<R: Wait, G: Gate>(
         &mut self,
         rt: &R,
@@ -123,7 +123,7 @@ impl Watch {
         true
     }
 
-    // Takes in an event, or sets the verifier aside.
+    /// Takes in an event, or sets the verifier aside.
     fn take_in(&mut self, event: Stamped)
         ensures same { self.new.receiver ≡ self.old.receiver }
         ensures watched { (h : Header) (taken : List Stamped) → HasWatched h self.old taken
@@ -181,8 +181,8 @@ impl Watch {
         }
     }
 
-    // Takes in the event at this place of a lane, and those after it as long as their numbers follow each other. It answers
-    // where it stopped.
+    /// Takes in the event at this place of a lane, and those after it as long as their numbers follow each other. It answers
+    /// where it stopped.
     fn take_run(&mut self, lane: &[Stamped], place: usize) -> usize
         requires { place < length lane.now }
         ensures end { (place < result) × (result ≤ length lane.now) }
@@ -212,7 +212,7 @@ impl Watch {
     }
 }
 
-// Asks the gate until it lets the verifier take in an event, or until the workers have ended.
+/// Asks the gate until it lets the verifier take in an event, or until the workers have ended.
 fn await_turn<R: Wait, G: Gate>(rt: &R, gate: &G, callers: u32, taken: u64, ended: &AtomicBool) {
     for _ in rt.forever() {
         if ended.load(Ordering::SeqCst) || gate.may_start(callers, taken) {
@@ -223,7 +223,7 @@ fn await_turn<R: Wait, G: Gate>(rt: &R, gate: &G, callers: u32, taken: u64, ende
     unreachable!()
 }
 
-// Which hand has at its place the event with the least number. `None` comes where each place is at its lane's end.
+/// Which hand has at its place the event with the least number. `None` comes where each place is at its lane's end.
 fn next_by_number(hands: &[Hand], places: &[u64]) -> Option<usize>
     requires { length places.now ≡ length hands.now }
     ensures found { IfSome result (HasNext hands.now places.now) }

@@ -108,7 +108,7 @@ impl<M: Machine> Worker<M> {
         Ending::Finished
     }
 
-    // Makes room for the next operation, where none is in hand.
+    /// Makes room for the next operation, where none is in hand.
     fn make_room(&mut self) -> Result<(), Reserve>
         requires goes_on { next_act (M.script self.old.machine) ≢ Done }
         requires in_time { is_between (M.script self.old.machine) ≡ false → ∥ EndsWithin self.old.hand.spare (M.script self.old.machine) ∥₁ }
@@ -124,7 +124,7 @@ impl<M: Machine> Worker<M> {
         Ok(())
     }
 
-    // Makes the next event, once the gate lets it start.
+    /// Makes the next event, once the gate lets it start.
     fn make_event<R: Wait, G: Gate>(
         &mut self,
         rt: &R,
@@ -149,7 +149,7 @@ impl<M: Machine> Worker<M> {
     }
 }
 
-// Asks the gate until it lets the caller's next event start, and sends meanwhile.
+/// Asks the gate until it lets the caller's next event start, and sends meanwhile.
 fn wait_for<R: Wait, G: Gate>(rt: &R, gate: &G, hand: &Hand, relay: &Relay, outbox: &mut Outbox)
     requires { HasSent relay.now outbox.old.sender outbox.old.place hand.now }
     ensures { HasSent relay.now outbox.new.sender outbox.new.place hand.now }

@@ -40,14 +40,14 @@ pub(crate) struct Played {
     pub(crate) verdict: Option<Verdict>,
 }
 
-// How many events may be on their way to the verifier at a time. A worker that finds the relay full goes on, and sends later.
+/// How many events may be on their way to the verifier at a time. A worker that finds the relay full goes on, and sends later.
 const RELAY_CAPACITY: u64 = 1024;
 
 /// Plays all workers and closes their memory. The workers have all of its hands, in the order of their callers. A verifier takes
 /// in beside them what they do.
 ///
 /// Each worker has a thread of its own. Where one can't be started, its worker is run by the thread that would have started it.
-/// The error is want of memory.
+/// The error comes where there is no memory.
 pub(crate) fn play_all<R: Threads + Wait + Sync, G: Gate, M: Machine + Send>(
     rt: &R,
     alloc: Global,
@@ -89,7 +89,7 @@ pub(crate) fn play_all<R: Threads + Wait + Sync, G: Gate, M: Machine + Send>(
     })
 }
 
-// Each worker with an outbox for its caller.
+/// Each worker with an outbox for its caller.
 fn jobs_of<M: Machine>(
     alloc: Global,
     relay: &Relay,
@@ -120,7 +120,7 @@ fn jobs_of<M: Machine>(
     Ok(jobs)
 }
 
-// Plays the workers, while the verifier takes in what they do.
+/// Plays the workers, while the verifier takes in what they do.
 fn beside<R: Threads + Wait + Sync, G: Gate, M: Machine + Send>(
     rt: &R,
     traced: &Traced,
@@ -171,7 +171,7 @@ fn beside<R: Threads + Wait + Sync, G: Gate, M: Machine + Send>(
     Ok((done?, watch))
 }
 
-// Plays each worker in a thread of its own, and waits for all.
+/// Plays each worker in a thread of its own, and waits for all.
 fn work_all<R: Threads + Wait + Sync, G: Gate, M: Machine + Send>(
     rt: &R,
     traced: &Traced,
@@ -203,7 +203,7 @@ fn work_all<R: Threads + Wait + Sync, G: Gate, M: Machine + Send>(
     )
 }
 
-// What the workers left, and their outboxes.
+/// What the workers left, and their outboxes.
 fn part_all(
     alloc: Global,
     done: Vec<(Stopped, Outbox)>,
@@ -220,7 +220,7 @@ fn part_all(
     Ok((stopped, outboxes))
 }
 
-// The least caller that stopped because its next operation had no room. It is an error where one stopped for want of memory.
+/// The least caller that stopped because its next operation had no room. It is an error where one stopped because there was no memory.
 fn first_spent(stopped: &[Stopped]) -> Result<Option<u32>, AllocError>
     requires { length stopped.now ≤ 64 }
     ensures { IfOk result (λ first. IsFirstSpent (map (λ s. s.ending) stopped.now) (length stopped.now) first) }
@@ -236,7 +236,7 @@ fn first_spent(stopped: &[Stopped]) -> Result<Option<u32>, AllocError>
     Ok(first)
 }
 
-// The hands, in their order.
+/// The hands, in their order.
 fn hands_of(alloc: Global, stopped: Vec<Stopped>) -> Result<Vec<Hand>, AllocError>
     ensures { IfOk result (λ hands. hands.items ≡ map (λ s. s.hand) stopped.items) }
 {
@@ -246,7 +246,7 @@ fn hands_of(alloc: Global, stopped: Vec<Stopped>) -> Result<Vec<Hand>, AllocErro
         .collect(alloc)
 }
 
-// Takes in what is left after the workers have ended, and answers the verdict where the verifier stands.
+/// Takes in what is left after the workers have ended, and answers the verdict where the verifier stands.
 fn closing_verdict<R: Wait, G: Gate>(
     rt: &R,
     alloc: Global,

@@ -8,18 +8,13 @@ use Rattle.vyrd_base.specs.declared.log.Entry.{Entry}
 use Rattle.vyrd_base.specs.declared.history.Did.{Did}
 use Rattle.vyrd_base.specs.declared.history.Did.TheVariants.{Read, Wrote, Took, Gave, Marked}
 use Rattle.vyrd_base.specs.declared.history.Stamped.{Stamped}
-use Rattle.vyrd_base.specs.declared.verdict.Rule.{Rule}
-use Rattle.vyrd_base.specs.declared.verdict.Rule.TheVariants.{BlockRaced}
 use Rattle.vyrd_base.specs.Places.{newest_first}
 use Rattle.vyrd_base.specs.Callers.{open_call}
-use Rattle.vyrd_base.specs.Front.{first_break}
-use Rattle.vyrd_base.specs.Verdicts.{is_call_open}
-use Rattle.vyrd_base.specs.Histories.{cells_of, is_legal, logged, log_of}
+use Rattle.vyrd_base.specs.Histories.{logged, log_of}
 use Rattle.vyrd_base.proofs.HistoryLaws.{log_entry}
 use Rattle.vyrd_memory.specs.Scripts.{Script, left_after, Plays, PlaysToTheEnd}
 use Rattle.vyrd_memory.specs.Soundness.{Standing, at_rest, may_act, IsSound}
 use Rattle.vyrd_memory.specs.Turns.{part_of}
-use Rattle.vyrd_memory.specs.Runs.{AreSoundScripts, PlayToTheEnd}
 use Rattle.vyrd_memory.specs.LaneRules.{AreSmallReads, KeepsTheRules}
 use Rattle.vyrd_memory.proofs.Standings.{act_of_event, standing_in, KeepsTo, AreAnswers, sound_keeps, sound_left, rests_at_stop}
 use Rattle.vyrd_memory.proofs.Agreements.{Agrees, agrees, keeps_before}

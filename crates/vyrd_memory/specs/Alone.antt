@@ -50,7 +50,7 @@ alone c (step (Give lock) rest) memory = alone c (rest 0) (with_cell memory lock
 alone c (step (Mark kind) rest) memory = after_kind kind memory (alone c (rest 0) memory)
 alone c (step Done rest) memory = None
 
--- there is an outcome, and its reply is 0 exactly where this is so
+-- there is an outcome, and its reply is 0 exactly when this is so
 abbrev pub GivesUpWhere : Type 0 → Option Outcome → Type 0
 GivesUpWhere P end = IsSomeAnd end (λ outcome. outcome.reply ≡ 0 ↔ P)
 

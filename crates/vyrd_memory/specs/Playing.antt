@@ -83,7 +83,7 @@ pub record HasPlayed {M : Type 0} (h : Header) (header_of : M → Header) (scrip
   pub history : (scripts : List Script) → IsPlaying h script scripts before.machines before.words before.history
       → newest_first now.history ≡ after_turns scripts callers (newest_first before.history)
 
--- so many rounds over n callers
+-- this many rounds over n callers
 abbrev pub rounds_over : ℕ → ℕ → List ℕ
 rounds_over n zero = []
 rounds_over n (suc rounds) = numbers_below n ++ rounds_over n rounds

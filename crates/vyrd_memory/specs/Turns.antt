@@ -56,12 +56,12 @@ after_turns scripts (c ∷ callers) earlier = after_turns scripts callers (after
 abbrev pub turns_of : List Turn → List ℕ
 turns_of turns = flat_map (λ turn. replicate turn.count turn.caller) turns
 
--- so many rounds over all callers
+-- this many rounds over all callers
 abbrev pub after_rounds : List Script → ℕ → List Stamped → List Stamped
 after_rounds scripts zero earlier = earlier
 after_rounds scripts (suc n) earlier = after_rounds scripts n (after_turns scripts (numbers_below (length scripts)) earlier)
 
--- the history after the turns and so many rounds, the newest event first
+-- the history after the turns and this many rounds, the newest event first
 abbrev pub run_for : List Script → List Turn → ℕ → List Stamped
 run_for scripts turns n = after_rounds scripts n (after_turns scripts (turns_of turns) [])
 

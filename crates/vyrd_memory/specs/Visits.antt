@@ -32,7 +32,7 @@ rest_of_visit true = visit_on 17 16 6
 abbrev pub visit : Bool → List Act
 visit crosses = Mark (Call MsInsert (record { a = 5; b = 0; c = 0 })) ∷ rest_of_visit crosses
 
--- how many events there are to come at most, after so many
+-- how many events there are to come at most, after this many
 abbrev pub ahead_after : ℕ → ℕ
 ahead_after zero = 32
 ahead_after (suc n) = 8 - n

@@ -1,11 +1,10 @@
 //! What a player has in hand.
 
-ghost use Rattle.std.specs.Prelude.{◌≡◌, ◌≢◌, ◌+◌, ◌<◌, ◌≤◌, ◌-◌, true, IfSome, Option, Some, None, is_none, is_some};
+ghost use Rattle.std.specs.Prelude.{◌≡◌, ◌+◌, ◌<◌, ◌≤◌, ◌-◌, true, IfSome, Option, Some, None, is_none, is_some};
 ghost use Rattle.std.specs.Option.{option_map_or};
 ghost use Rattle.vyrd_base.specs.Subjects.{subject_of, are_args};
-ghost use Rattle.vyrd_memory.specs.declared.act.Act.TheVariants.{Done};
 ghost use Rattle.vyrd_memory.specs.Scripts.{stop, next_act, after_answer, IsAnswer};
-ghost use Rattle.vyrd_memory.specs.Bounds.{bound_of, is_return};
+ghost use Rattle.vyrd_memory.specs.Bounds.{bound_of};
 ghost use Rattle.vyrd_memory.specs.InHand.{IsInHand};
 
 use crate::bound::bound;

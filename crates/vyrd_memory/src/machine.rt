@@ -6,7 +6,6 @@ ghost use Rattle.vyrd_base.specs.declared.log.Kind.TheVariants.{Call};
 ghost use Rattle.vyrd_base.specs.declared.subject.Method.{Method};
 ghost use Rattle.vyrd_base.specs.declared.subject.Args.{Args};
 ghost use Rattle.vyrd_memory.specs.declared.act.Act.TheVariants.{Mark, Done};
-ghost use Rattle.vyrd_memory.specs.declared.op.Op.{Op};
 ghost use Rattle.vyrd_memory.specs.Scripts.{Script, stop, next_act, after_answer, is_between, IsAnswer};
 ghost use Rattle.vyrd_memory.specs.Soundness.{IsSoundSomewhere};
 ghost use Rattle.vyrd_memory.specs.Bounds.{bound_of, EndsWithin, SumsUp, is_return};

@@ -69,7 +69,7 @@ impl<P: Progress> Player<P> {
 }
 
 impl<P: Progress> Player<P> {
-    // The next operation to begin.
+    /// The next operation to begin.
     fn next_op(&self) -> Option<Op>
         ensures { MatchOption result
             (drop self.now.begun self.now.ops.items ≡ [])
@@ -78,7 +78,7 @@ impl<P: Progress> Player<P> {
         self.ops.get(self.begun).copied()
     }
 
-    // Takes the next operation in hand, after the mark of its call.
+    /// Takes the next operation in hand, after the mark of its call.
     fn begin(&mut self, op: Op)
         requires idle { is_none self.old.hand.progress ≡ true }
         requires next { drop self.old.begun self.old.ops.items ≡ op ∷ drop (self.old.begun + 1) self.old.ops.items }

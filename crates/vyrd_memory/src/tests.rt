@@ -9,7 +9,7 @@ use std::alloc::Global;
 use std::test::Fail;
 use vyrd_base::{Args, Did, Header, Kind, Method, Stamped, Subject};
 
-// The acts of a visit: both locks, a load and a store.
+/// The acts of a visit: both locks, a load and a store.
 fn acts(crosses: bool) -> [Act; 9]
     ensures { result ≡ visit crosses }
 {
@@ -29,7 +29,7 @@ fn acts(crosses: bool) -> [Act; 9]
 
 const INSERT: Args = Args { a: 5, b: 0, c: 0 };
 
-// A caller that makes one visit. `done` says how many of its acts are done.
+/// A caller that makes one visit. `done` says how many of its acts are done.
 #[derive(Drop)]
 struct Visitor {
     caller: u32,
@@ -100,14 +100,14 @@ impl Visitor {
     }
 }
 
-// A multiset of two buckets and two callers: words 0 to 15, and the locks 16 and 17.
+/// A multiset of two buckets and two callers: words 0 to 15, and the locks 16 and 17.
 fn header() -> Option<Header>
     ensures { IfSome result (λ h. h ≡ visited) }
 {
     Header::new(1, Subject::Multiset, 2, 2)
 }
 
-// The run of two callers by these turns. The second may take the locks in the other order.
+/// The run of two callers by these turns. The second may take the locks in the other order.
 fn run(alloc: Global, crosses: bool, turns: &[Turn]) -> Result<Result<Ran, StepFault>, Fail>
     requires callers { All (λ turn. turn.caller < 2) turns.now }
 {
@@ -122,7 +122,7 @@ fn turns(caller: u32, count: u32) -> Turn
     Turn { caller, count }
 }
 
-// The event of the act at a place of a visit, where the load finds this value.
+/// The event of the act at a place of a visit, where the load finds this value.
 fn event(crosses: bool, place: usize, found: u64) -> Option<Did> {
     match acts(crosses).get(place) {
         Some(Act::Load(cell)) => Some(Did::Read(*cell, found)),
@@ -134,7 +134,7 @@ fn event(crosses: bool, place: usize, found: u64) -> Option<Did> {
     }
 }
 
-// The history in which the callers have their events in this order, and their loads find these values.
+/// The history in which the callers have their events in this order, and their loads find these values.
 fn history(
     alloc: Global,
     crosses: bool,

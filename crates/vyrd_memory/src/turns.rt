@@ -1,13 +1,13 @@
 //! The run by turns: machines over plain memory, one event at a time.
 
-ghost use Rattle.std.specs.Prelude.{◌≡◌, ◌<◌, ◌≤◌, ◌+◌, ◌^◌, ℕ, true, false, IfOk, MatchOption, Ok, Err, All, [], ◌∷◌, length, vec_len, map, List, replicate, slice_get, Some};
+ghost use Rattle.std.specs.Prelude.{◌≡◌, ◌<◌, ◌≤◌, ◌+◌, true, false, IfOk, MatchOption, Ok, Err, All, [], ◌∷◌, length, vec_len, map, replicate, Some};
 ghost use Rattle.std.specs.List.{list_all};
 ghost use Rattle.vyrd_base.specs.Places.{newest_first, numbers_below};
 ghost use Rattle.vyrd_base.specs.Layout.{plain_words, lock_words};
 ghost use Rattle.vyrd_memory.specs.declared.turns.StepFault.TheVariants.{Stuck};
-ghost use Rattle.vyrd_memory.specs.Scripts.{Script, next_act, is_between, answer_of};
-ghost use Rattle.vyrd_memory.specs.Turns.{after_turn, after_turns, turns_of, is_done, RunsTo, GetsStuck};
-ghost use Rattle.vyrd_memory.specs.Playing.{event_in, words_after_event, IsWithin, IsReady, IsPlaying, HasPlayed, HaveComeToRest, scene, memory_after, total};
+ghost use Rattle.vyrd_memory.specs.Scripts.{next_act, answer_of};
+ghost use Rattle.vyrd_memory.specs.Turns.{turns_of, is_done, RunsTo, GetsStuck};
+ghost use Rattle.vyrd_memory.specs.Playing.{event_in, words_after_event, IsWithin, IsReady, HasPlayed, HaveComeToRest, scene, memory_after, total};
 
 use crate::act::Act;
 use crate::machine::Machine;
@@ -46,7 +46,7 @@ impl fmt::Display for StepFault {
 
 impl Error for StepFault {}
 
-// Does an act of the caller in the memory. There is no event where the act is none, or where it takes a lock that is held.
+/// Does an act of the caller in the memory. There is no event where the act is none, or where it takes a lock that is held.
 fn perform(words: &mut Vec<u64>, caller: u32, act: Act) -> Option<Did>
     requires { IsWithin (vec_len words.old) act }
     ensures event { result ≡ event_in words.old.items act }
@@ -74,7 +74,7 @@ fn perform(words: &mut Vec<u64>, caller: u32, act: Act) -> Option<Did>
     }
 }
 
-// A turn of a caller. `false` says that there was no event.
+/// A turn of a caller. `false` says that there was no event.
 fn turn<M: Machine>(
     header: &Header,
     machines: &mut [M],
@@ -103,7 +103,7 @@ fn turn<M: Machine>(
     Ok(true)
 }
 
-// The answer that an event gives: what was read, and else 0.
+/// The answer that an event gives: what was read, and else 0.
 fn answer(did: Did) -> u64
     ensures { result ≡ answer_of did }
 {
@@ -113,7 +113,7 @@ fn answer(did: Did) -> u64
     }
 }
 
-// A round over all callers. `false` says that there was no event.
+/// A round over all callers. `false` says that there was no event.
 fn round<M: Machine>(
     header: &Header,
     machines: &mut [M],
@@ -136,7 +136,7 @@ fn round<M: Machine>(
     Ok(moved)
 }
 
-// So many turns of a caller.
+/// So many turns of a caller.
 fn repeat<M: Machine>(
     header: &Header,
     machines: &mut [M],
@@ -155,7 +155,7 @@ fn repeat<M: Machine>(
     Ok(())
 }
 
-// All turns, one after the other.
+/// All turns, one after the other.
 fn repeat_all<M: Machine>(
     header: &Header,
     machines: &mut [M],
@@ -174,7 +174,7 @@ fn repeat_all<M: Machine>(
     Ok(())
 }
 
-// Rounds over all callers, until one has no event.
+/// Rounds over all callers, until one has no event.
 fn play_rounds<M: Machine>(
     header: &Header,
     machines: &mut [M],
@@ -190,7 +190,7 @@ fn play_rounds<M: Machine>(
     Ok(())
 }
 
-// Whether all machines are done.
+/// Whether all machines are done.
 fn are_done<M: Machine>(machines: &[M]) -> bool
     ensures { result ≡ list_all (λ m. is_done (next_act (M.script m))) machines.now }
 {
@@ -202,7 +202,7 @@ fn are_done<M: Machine>(machines: &[M]) -> bool
     true
 }
 
-// All words 0 and all locks free.
+/// All words 0 and all locks free.
 fn zeros(alloc: Global, header: &Header) -> Result<Vec<u64>, AllocError>
     ensures { IfOk result (λ words. words.items ≡ replicate (plain_words header.now + lock_words header.now) 0) }
 {
@@ -210,7 +210,7 @@ fn zeros(alloc: Global, header: &Header) -> Result<Vec<u64>, AllocError>
     Vec::from_elem(alloc, 0u64, cells)
 }
 
-// Plays all turns and then rounds. There is nothing where the machines get stuck.
+/// Plays all turns and then rounds. There is nothing where the machines get stuck.
 fn play<M: Machine>(
     alloc: Global,
     header: &Header,

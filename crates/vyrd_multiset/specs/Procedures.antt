@@ -17,7 +17,7 @@ abbrev pub reserve : ℕ → ℕ → Script → Script
 reserve slot value later =
     perform (Store (value_cell slot) value) (perform (Store (state_cell slot) 1) later)
 
--- Look for a free slot from this one on, with so many left: load the states, and reserve the first slot with the state 0.
+-- Look for a free slot from this one on, with this many left: load the states, and reserve the first slot with the state 0.
 abbrev pub find_from : ℕ → ℕ → ℕ → (Option ℕ → Script) → Script
 find_from zero slot value found = found None
 find_from (suc left) slot value found = step (Load (state_cell slot)) (λ state.
@@ -113,7 +113,7 @@ abbrev pub compare : ℕ → ℕ → Script → Script → Script
 compare slot value same other =
     step (Load (value_cell slot)) (λ loaded. if loaded == value then same else other)
 
--- Search a value from this slot on, with so many left: load the states, and the value where the state is 2. The search ends at
+-- Search a value from this slot on, with this many left: load the states, and the value where the state is 2. The search ends at
 -- the first slot with the state 2 and the value.
 abbrev pub search_from : ℕ → ℕ → ℕ → (Option ℕ → Script) → Script
 search_from zero slot value ended = ended None

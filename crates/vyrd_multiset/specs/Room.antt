@@ -4,7 +4,7 @@ use Rattle.vyrd_base.specs.declared.header.Header.{Header}
 use Rattle.vyrd_memory.specs.Alone.{Memory}
 use Rattle.vyrd_multiset.specs.Cells.{bucket_of, first_slot, state_cell}
 
--- how many slots are free among so many from this one on
+-- how many slots are free among this many from this one on
 abbrev pub free_from : Memory → ℕ → ℕ → ℕ
 free_from memory slot zero = 0
 free_from memory slot (suc left) =

@@ -1,6 +1,4 @@
 //! How far an operation of the multiset has come.
-
-ghost use Rattle.std.specs.Prelude.{◌≡◌};
 ghost use Rattle.vyrd_base.specs.declared.subject.Subject.TheVariants.{Multiset};
 ghost use Rattle.vyrd_multiset.specs.Procedures.{multiset_procedure};
 ghost use Rattle.vyrd_multiset.specs.Rests.{rest_of};

@@ -14,7 +14,7 @@ use Rattle.vyrd_program.specs.Steps.{stuck_line}
 abbrev pub generated_line : ℕ → ℕ → List ℕ
 generated_line n events = ended_line (codes "generated: " ++ decimal n ++ codes " operations, " ++ decimal events ++ codes " events")
 
--- the status, the text and the run of the answer to so many operations
+-- the status, the text and the run of the answer to this many operations
 abbrev pub IsGenAnswer : ℕ → ℕ → List ℕ → Option Run → Type 0
 IsGenAnswer n status text None = (status ≡ 8) × (text ≡ stuck_line) × GetsStuck (work_scripts (generated n)) (generated n).turns
 IsGenAnswer n status text (Some run) = (status ≡ status_of run.verdict)

@@ -45,7 +45,7 @@ pub fn batch<R: Threads + Sync, S: Source>(rt: &R, alloc: Global, source: &mut S
     }
 }
 
-// The answer to the bytes of a batch.
+/// The answer to the bytes of a batch.
 fn answer_to<R: Threads + Sync>(rt: &R, alloc: Global, bytes: &[u8]) -> Result<Answer, AllocError>
     ensures answer { IfOk result (λ answer. IsBatchAnswer (batch_logs bytes.now) answer.status answer.text.items) }
     ensures run { IfOk result (λ answer. answer.run ≡ None) }
@@ -58,7 +58,7 @@ fn answer_to<R: Threads + Sync>(rt: &R, alloc: Global, bytes: &[u8]) -> Result<A
     }
 }
 
-// The verdicts about the logs that stand in these spans.
+/// The verdicts about the logs that stand in these spans.
 fn tell<R: Threads + Sync>(
     rt: &R,
     alloc: Global,
@@ -82,7 +82,7 @@ fn tell<R: Threads + Sync>(
     })
 }
 
-// That a batch is refused.
+/// That a batch is refused.
 fn refuse(alloc: Global, log: u64) -> Result<Answer, AllocError>
     ensures status { IfOk result (λ answer. answer.status ≡ 11) }
     ensures text { IfOk result (λ answer. answer.text.items ≡ refused_line log) }

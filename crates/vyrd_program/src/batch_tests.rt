@@ -142,7 +142,7 @@ fn log_at(log: u64) -> &'static [u8] {
     if log % 2 == 0 { REPLIED_1 } else { REPLIED_0 }
 }
 
-/// A batch of so many logs.
+/// A batch of this many logs.
 fn batch_of(alloc: Global, logs: u64) -> Result<Vec<u8>, AllocError> {
     let mut input = Vec::new(alloc);
     input.extend_from_slice(b"batch\n")?;

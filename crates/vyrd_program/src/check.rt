@@ -42,7 +42,7 @@ pub fn check<S: Source>(alloc: Global, max_lines: u64, source: &mut S) -> Answer
     }
 }
 
-// The line of a verdict, with its status.
+/// The line of a verdict, with its status.
 fn answer_with(alloc: Global, verdict: Verdict) -> Result<Answer, AllocError>
     ensures status { IfOk result (λ answer. answer.status ≡ status_of verdict) }
     ensures run { IfOk result (λ answer. answer.run ≡ None) }

@@ -21,7 +21,7 @@ pub enum Form {
     Step { show: Show },
     /// `run`: a workload is played by callers on threads of their own and judged. `--log` and `--history` ask for the same.
     Run { show: Show },
-    /// `gen N`: a workload of so many operations is generated, played by turns and judged.
+    /// `gen N`: a workload of N operations is generated, played by turns and judged.
     Gen { count: u32 },
     /// `movers`: whether the commit blocks of a history are reducible.
     Movers,
@@ -42,7 +42,7 @@ pub fn form_of(words: &[&str]) -> Option<Form>
     }
 }
 
-// The form of one word.
+/// The form of one word.
 fn one_word(word: &str) -> Option<Form>
     ensures { result ≡ one_word word.now }
 {
@@ -60,7 +60,7 @@ fn one_word(word: &str) -> Option<Form>
     }
 }
 
-// The form of two words.
+/// The form of two words.
 fn two_words(word: &str, other: &str) -> Option<Form>
     ensures { result ≡ two_words word.now other.now }
 {
@@ -72,7 +72,7 @@ fn two_words(word: &str, other: &str) -> Option<Form>
     shown_form(word, show)
 }
 
-// What an option asks for.
+/// What an option asks for.
 fn shown_by(option: &str) -> Option<Show>
     ensures { result ≡ shown_by option.now }
 {
@@ -83,7 +83,7 @@ fn shown_by(option: &str) -> Option<Show>
     }
 }
 
-// The form of a word with an option.
+/// The form of a word with an option.
 fn shown_form(word: &str, show: Show) -> Option<Form>
     ensures { result ≡ shown_form word.now show }
 {
@@ -94,7 +94,7 @@ fn shown_form(word: &str, show: Show) -> Option<Form>
     }
 }
 
-// The number from 1 to 200,000 that the word spells.
+/// The number from 1 to 200,000 that the word spells.
 fn count_of(word: &str) -> Option<u32>
     ensures { result ≡ (if is_count word.now then Some (number_of word.now) else None) }
 {
@@ -102,7 +102,7 @@ fn count_of(word: &str) -> Option<u32>
     in_range(number)
 }
 
-// The number, where it is from 1 to 200,000.
+/// The number, where it is from 1 to 200,000.
 fn in_range(number: u32) -> Option<u32>
     ensures { (word : List ℕ) → word ≡ decimal number → result ≡ (if is_count word then Some (number_of word) else None) }
 {

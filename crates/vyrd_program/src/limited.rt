@@ -33,13 +33,13 @@ pub fn check_limited<S: Source, K: Sink>(
     ensures no_further { IsReadNoFurther max_lines (S.rest source.old) (S.rest source.new) }
     ensures unsettled { result.status ≡ 4 → IsUnsettled max_lines (S.rest source.old) (S.rest source.new) }
 
-    // 4, just where a read failed: nothing was written.
+    // 4, exactly when a read failed: nothing was written.
     ensures read_fault { result.status ≡ 4 → HasRisen (S.faults source.old) (S.faults source.new) }
     ensures read_failures_alone { (S.faults source.new ≡ S.faults source.old) ⊎ (result.status ≡ 4) }
     ensures read_fault_stops { result.status ≡ 4 → S.rest source.new ≡ S.left_off source.new }
     ensures read_fault_silent { result.status ≡ 4 → K.taken sink.new ≡ K.taken sink.old }
 
-    // 5, just where a write failed: some of the first bytes of the answer were written.
+    // 5, exactly when a write failed: some of the first bytes of the answer were written.
     ensures write_fault { result.status ≡ 5 → HasRisen (K.faults sink.old) (K.faults sink.new) }
     ensures write_failures_alone { (K.faults sink.new ≡ K.faults sink.old) ⊎ (result.status ≡ 5) }
     ensures write_fault_stops { result.status ≡ 5 → K.taken sink.new ≡ K.left_off sink.new }

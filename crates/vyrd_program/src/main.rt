@@ -57,7 +57,7 @@ fn main(rt: HostRuntime) -> ExitCode {
     ExitCode::from(ended.status)
 }
 
-// The words as text.
+/// The words as text.
 fn as_text(alloc: Global, owned: &[String]) -> Result<Vec<&str>, AllocError>
     ensures { IfOk result (λ words. map (λ word. word.now) words.items ≡ map (λ text. string_bytes text) owned.now) }
 {
@@ -68,7 +68,7 @@ fn as_text(alloc: Global, owned: &[String]) -> Result<Vec<&str>, AllocError>
     Ok(words)
 }
 
-// The words after the program's name. Where the system doesn't give them as text, they are one empty word.
+/// The words after the program's name. Where the system doesn't give them as text, they are one empty word.
 fn words_given(rt: &(impl Env + AllocGlobal)) -> Result<Vec<String>, AllocError> {
     let alloc = rt.alloc();
     let mut words = Vec::new(alloc);

@@ -24,7 +24,7 @@ use vyrd_mover::{
 const LONGEST_HISTORY: usize = 268_435_457;
 
 /// The answer to a history: whether its blocks are reducible, or the first that isn't; or that it is refused; or nothing after
-/// a failed read or want of memory.
+/// a failed read or where there is no memory.
 pub fn movers<S: Source>(alloc: Global, source: &mut S) -> Answer
     ensures statuses { IsMoversStatus result.status ⊎ (result.status ≡ 4) ⊎ (result.status ≡ 6) }
     ensures answers { IsMoversStatus result.status → AnswersMovers (S.rest source.old) result.status result.text.items }
@@ -49,7 +49,7 @@ pub fn movers<S: Source>(alloc: Global, source: &mut S) -> Answer
     }
 }
 
-// The answer to the bytes of a history.
+/// The answer to the bytes of a history.
 fn answer_to(alloc: Global, bytes: &[u8]) -> Result<Answer, AllocError>
     ensures answer { IfOk result (λ answer. IsMoversAnswer (history_reading bytes.now) answer.status answer.text.items) }
     ensures run { IfOk result (λ answer. answer.run ≡ None) }
@@ -62,7 +62,7 @@ fn answer_to(alloc: Global, bytes: &[u8]) -> Result<Answer, AllocError>
     }
 }
 
-// What is said of the blocks of a history.
+/// What is said of the blocks of a history.
 fn tell(alloc: Global, past: &Past) -> Result<Answer, AllocError>
     requires { is_legal (cells_of past.now.header) past.now.history.items ≡ true }
     ensures answer { IfOk result (λ answer. IsMoversAnswer (Ok (recorded_of past.now)) answer.status answer.text.items) }
@@ -81,7 +81,7 @@ fn tell(alloc: Global, past: &Past) -> Result<Answer, AllocError>
     })
 }
 
-// The status that what is said of blocks ends with.
+/// The status that what is said of blocks ends with.
 fn status_of_blocks(blocks: Blocks) -> u8
     ensures { result ≡ status_of_blocks blocks }
 {
@@ -91,7 +91,7 @@ fn status_of_blocks(blocks: Blocks) -> u8
     }
 }
 
-// That a history is refused.
+/// That a history is refused.
 fn refuse(alloc: Global, line: u64, rule: HistoryRule) -> Result<Answer, AllocError>
     ensures status { IfOk result (λ answer. answer.status ≡ 10) }
     ensures text { IfOk result (λ answer. answer.text.items ≡ history_refusal_text line rule) }

@@ -15,7 +15,7 @@ pub(crate) const LONGEST_WORK: usize = 33_554_433;
 /// How many bytes of a batch are read at most: 64 MiB, the last line of 4 bytes, and one byte that shows that there are more.
 pub(crate) const LONGEST_BATCH: usize = 67_108_869;
 
-/// Reads to the source's end, or so many bytes as `most`.
+/// Reads to the source's end, or at most `most` bytes.
 ///
 /// Each read takes at most 65,536 bytes, straight into the vector. The time and the memory grow with the bytes.
 pub fn read_input<S: Source>(
@@ -45,7 +45,7 @@ pub fn read_input<S: Source>(
     Ok(bytes)
 }
 
-// Makes room for a read behind the first bytes, so many as `count`, which stay. There are `most` bytes at most.
+/// Makes room for a read after the first `count` bytes, which stay. There are at most `most` bytes.
 fn make_room(most: usize, count: usize, bytes: &mut Vec<u8>) -> Result<(), AllocError>
     requires within { count ≤ vec_len bytes.old }
     requires few { count < most }
@@ -63,7 +63,7 @@ fn make_room(most: usize, count: usize, bytes: &mut Vec<u8>) -> Result<(), Alloc
     bytes.resize(count + room, 0)
 }
 
-// Reads once, and puts what comes behind the first bytes, so many as `count`. The answer says how much came.
+/// Reads once, and puts what comes after the first `count` bytes. The answer says how much came.
 fn read_behind<S: Source>(
     count: usize,
     bytes: &mut Vec<u8>,

@@ -56,7 +56,7 @@ pub fn read_verdict<S: Source>(
     read_on(&mut checker, &mut buffer, source)
 }
 
-// Reads and checks until the verdict stands, or to the source's end.
+/// Reads and checks until the verdict stands, or to the source's end.
 fn read_on<S: Source>(
     checker: &mut Checker,
     buffer: &mut [u8],
@@ -83,14 +83,14 @@ fn read_on<S: Source>(
     unreachable!()
 }
 
-// That many bytes, all 0.
+/// That many bytes, all 0.
 fn zeros(alloc: Global, n: usize) -> Result<Vec<u8>, AllocError>
     ensures { IfOk result (λ bytes. vec_len bytes ≡ n) }
 {
     vec![in alloc; 0; n]
 }
 
-// Reads once, and checks what came. The answer is the verdict, where it stands now or the source has said its end.
+/// Reads once, and checks what came. The answer is the verdict, where it stands now or the source has said its end.
 fn read_piece<S: Source>(
     checker: &mut Checker,
     buffer: &mut [u8],

@@ -26,7 +26,7 @@ use vyrd_work::{Work, WorkFault, read_work};
 const MOST_EVENTS: u64 = 16_777_216;
 
 /// The answer to a workload: what is to be shown of a live run, with the status of the verdict about it; or that it is refused,
-/// or that a caller's events are spent; or nothing after a failed read or want of memory.
+/// or that a caller's events are spent; or nothing where a read failed or there is no memory.
 pub fn run<R: Threads + Wait + Sync, S: Source, G: Gate>(
     rt: &R,
     alloc: Global,
@@ -56,7 +56,7 @@ pub fn run<R: Threads + Wait + Sync, S: Source, G: Gate>(
     }
 }
 
-// The answer to the bytes of a workload.
+/// The answer to the bytes of a workload.
 fn answer_to<R: Threads + Wait + Sync, G: Gate>(
     rt: &R,
     alloc: Global,
@@ -74,7 +74,7 @@ fn answer_to<R: Threads + Wait + Sync, G: Gate>(
     }
 }
 
-// The answer to a workload that keeps its limits.
+/// The answer to a workload that keeps its limits.
 fn play<R: Threads + Wait + Sync, G: Gate>(
     rt: &R,
     alloc: Global,

@@ -18,7 +18,7 @@ use vyrd_live::run_by_turns;
 use vyrd_work::{AnyMachine, WorkFault, read_work};
 
 /// The answer to a workload: what is to be shown of its run by turns, with the status of the verdict about it; or that it is
-/// refused, or gets stuck; or nothing after a failed read or want of memory.
+/// refused, or gets stuck; or nothing where a read failed or there is no memory.
 pub fn step<S: Source>(alloc: Global, show: Show, source: &mut S) -> Answer
     ensures statuses { IsStepStatus result.status ⊎ (result.status ≡ 4) ⊎ (result.status ≡ 6) }
     ensures answers { IsStepStatus result.status → AnswersInput show (S.rest source.old) result.status result.text.items result.run }
@@ -43,7 +43,7 @@ pub fn step<S: Source>(alloc: Global, show: Show, source: &mut S) -> Answer
     }
 }
 
-// The answer to the bytes of a workload.
+/// The answer to the bytes of a workload.
 fn answer_to(alloc: Global, show: Show, bytes: &[u8]) -> Result<Answer, AllocError>
     ensures answer { IfOk result (λ answer. IsStepAnswer show (work_reading bytes.now) answer.status answer.text.items answer.run) }
     ensures races { IfOk result (λ answer. IfSome answer.run NamesOnlyRaces) }

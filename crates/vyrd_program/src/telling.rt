@@ -33,7 +33,7 @@ pub fn tell(alloc: Global, show: Show, header: Header, run: Run) -> Result<Answe
     Ok(told(text, run))
 }
 
-// What is to be shown of a run.
+/// What is to be shown of a run.
 fn shown(alloc: Global, show: Show, header: Header, run: &Run) -> Result<Vec<u8>, AllocError>
     requires { AllByRecursion (λ e. is_writable header.subject e ≡ true) (log_of run.now.history.items) }
     ensures { IfOk result (λ text. text.items ≡ run_text show header run.now) }
@@ -118,7 +118,7 @@ pub fn generated(alloc: Global, count: u32, run: Run) -> Result<Answer, AllocErr
     Ok(told(text, run))
 }
 
-// This text about a run, with the status of its verdict.
+/// This text about a run, with the status of its verdict.
 fn told(text: Vec<u8>, run: Run) -> Answer
     ensures status { result.status ≡ status_of run.verdict }
     ensures text { result.text.items ≡ text.items }
@@ -134,7 +134,7 @@ fn told(text: Vec<u8>, run: Run) -> Answer
     }
 }
 
-// The line that says how many operations and events there are.
+/// The line that says how many operations and events there are.
 fn counts(alloc: Global, count: u32, events: u64) -> Result<Vec<u8>, AllocError>
     ensures { IfOk result (λ text. text.items ≡ generated_line count events) }
 {

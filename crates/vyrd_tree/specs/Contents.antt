@@ -92,7 +92,7 @@ pub record HasLeft (last : ℕ) (m : Memory) (n : ℕ) : Type 0 where
   pub leads : right_at m node ≡ n
   pub some : n ≢ 0
 
--- so many entries of a node in memory, from this place on
+-- this many entries of a node in memory, from this place on
 abbrev pub entries_from : Memory → ℕ → ℕ → ℕ → List (ℕ × ℕ)
 entries_from m n place many = map (λ j. (key_at m n j, value_at m n j)) (numbers_from place many)
 

@@ -6,7 +6,7 @@ use Rattle.vyrd_memory.specs.Alone.{Memory}
 use Rattle.vyrd_tree.specs.Cells.{count_cell, bound_cell, right_cell, used_cell}
 use Rattle.vyrd_tree.specs.Procedures.Walk.{is_past}
 
--- the first node, from this one on along the right links, whose bound the key isn't past, with so many links at most
+-- the first node, from this one on along the right links, whose bound the key isn't past, with this many links at most
 abbrev pub leaf_from : ℕ → Memory → ℕ → ℕ → ℕ
 leaf_from zero memory key node = node
 leaf_from (suc left) memory key node =

@@ -21,7 +21,7 @@ const ROOM: u32 = 4;
 
 /// What an operation does in the leaf of its key.
 impl Task {
-    /// The place after a walk has arrived at a node with so many entries.
+    /// The place after a walk has arrived at a node with this many entries.
     pub(crate) fn arrived(self, visit: Visit, count: u32) -> Place
         requires { count ≤ 4 }
         ensures { (h : Header) → rest_at h self result ≡ arrived_for h self visit.errand (arrived_at visit (take count visit.entries.slots)) }
@@ -36,7 +36,7 @@ impl Task {
         }
     }
 
-    /// The place of an insert that has arrived at a leaf with so many entries.
+    /// The place of an insert that has arrived at a leaf with this many entries.
     fn insert(self, visit: Visit, count: u32) -> Place
         requires operation { visit.errand ≡ Errand.Operation }
         requires count { count ≤ 4 }
@@ -88,7 +88,7 @@ impl Task {
 
 /// One more entry in a node, which is split where it is full.
 impl Task {
-    /// The place after the walk of a round has arrived at a node with so many entries.
+    /// The place after the walk of a round has arrived at a node with this many entries.
     fn add_child(self, visit: Visit, count: u32, ascent: Ascent) -> Place
         requires errand { visit.errand ≡ Errand.Ascent ascent }
         requires count { count ≤ 4 }
@@ -101,7 +101,7 @@ impl Task {
         self.add(visit, count, (ascent.key, ascent.node.to_word()))
     }
 
-    /// The place where the node of a visit, with so many entries, gets one more.
+    /// The place where the node of a visit, with this many entries, gets one more.
     fn add(self, visit: Visit, count: u32, entry: Entry) -> Place
         requires { count ≤ 4 }
         ensures { (h : Header) → rest_at h self result ≡ add_rest h self visit.errand (arrived_at visit (take count visit.entries.slots)) entry.0 entry.1 }

@@ -1,6 +1,6 @@
 //! The ascent: a new node gets an entry on the next level, in a round for each level.
 
-ghost use Rattle.std.specs.Prelude.{◌≡◌, ◌^◌, ◌<◌};
+ghost use Rattle.std.specs.Prelude.{◌≡◌, ◌<◌};
 ghost use Rattle.vyrd_memory.specs.Scripts.{next_act, after_answer};
 ghost use Rattle.vyrd_tree.specs.Rests.{climbing_rest, rest_at};
 

@@ -50,7 +50,7 @@ impl Entries {
         self.slots[slot.place as usize].1
     }
 
-    /// The place of the first of so many entries that has the key, if any has it.
+    /// The place of the first entry that has the key, among this many.
     fn place_of(self, count: u32, key: u64) -> Option<usize>
         requires { count ≤ 4 }
         ensures { result ≡ place_of key (take count self.slots) }
@@ -82,7 +82,7 @@ impl Entries {
         }
     }
 
-    /// How many of the first so many keys are below the key.
+    /// How many of the first keys, of this number, are below the key.
     pub(crate) fn place_below(self, count: u32, key: u64) -> u32
         requires { count ≤ 4 }
         ensures place { result ≡ place_below key (take count self.slots) }
@@ -92,7 +92,7 @@ impl Entries {
         entries.iter().filter(|entry| entry.0 < key).count() as u32
     }
 
-    /// The slot of the child that the key belongs to: that of the last of the first so many keys that is at most the key, and
+    /// The slot of the child that the key belongs to: that of the last key, among this many, that is at most the key, and
     /// the first slot if there is none.
     pub(crate) fn child_slot(self, count: u32, key: u64) -> Option<Slot>
         requires { count ≤ 4 }

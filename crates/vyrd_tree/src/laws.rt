@@ -1,6 +1,6 @@
 //! Laws of the procedures. Each function does nothing: its contract is the law.
 
-ghost use Rattle.std.specs.Prelude.{◌≡◌, ℕ, ◌+◌, ◌<◌, ◌^◌, true, Some};
+ghost use Rattle.std.specs.Prelude.{◌≡◌, ℕ, ◌+◌, ◌<◌, true, Some};
 ghost use Rattle.vyrd_base.specs.declared.header.Header.{Header};
 ghost use Rattle.vyrd_base.specs.declared.subject.Subject.TheVariants.{Tree};
 ghost use Rattle.vyrd_base.specs.declared.subject.Args.{Args};
@@ -14,7 +14,7 @@ ghost use Rattle.vyrd_tree.specs.Room.{leaf_of, HasNoRoom};
 ghost use Rattle.vyrd_tree.specs.Hanging.{is_hanging};
 ghost use Rattle.vyrd_tree.specs.Passes.{SplitsLeaf, KeepsState};
 
-/// An insert that is played alone replies 0 exactly where its key is absent, the key's leaf has 4 entries, and no node is unused.
+/// An insert that is played alone replies 0 exactly when its key is absent, the key's leaf has 4 entries, and no node is unused.
 pub fn insert_gives_up()
     ensures { (h : Header) (memory : Memory) (state : Amounts) (c : ℕ) (args : Args) → h.subject ≡ Tree → state_in h memory ≡ Some state → are_small args ≡ true →
         GivesUpWhere (HasNoRoom h memory state args.a) (alone c (insert_entry h Correct args.a args.b) memory) }

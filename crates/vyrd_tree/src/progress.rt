@@ -1,6 +1,4 @@
 //! How far an operation of the tree has come.
-
-ghost use Rattle.std.specs.Prelude.{◌≡◌};
 ghost use Rattle.vyrd_base.specs.declared.subject.Subject.TheVariants.{Tree};
 ghost use Rattle.vyrd_tree.specs.Procedures.{tree_procedure};
 ghost use Rattle.vyrd_tree.specs.Rests.{rest_of};

@@ -2,7 +2,7 @@
 
 ghost use Rattle.std.specs.Prelude.{◌≡◌, ◌<◌, ◌≤◌, MatchOption};
 
-/// A slot of a node: the place of an entry among the node's first entries, of which there are so many.
+/// A slot of a node: the place of an entry, and how many first entries the node has.
 #[derive(Clone, Copy)]
 pub(crate) struct Slot {
     pub(crate) place: u32,
@@ -12,7 +12,7 @@ pub(crate) struct Slot {
 }
 
 impl Slot {
-    /// The slot at a place, where there are so many entries.
+    /// The slot at a place, where there are this many entries.
     pub(crate) fn new(place: u32, of: u32) -> Option<Slot>
         requires { of ≤ 4 }
         ensures { MatchOption result (of ≤ place) (λ slot. (slot.place ≡ place) × (slot.of ≡ of)) }

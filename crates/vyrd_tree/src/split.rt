@@ -1,6 +1,6 @@
 //! Unused nodes: the split of a full node, and a new root.
 
-ghost use Rattle.std.specs.Prelude.{◌≡◌, ◌<◌, ◌≤◌, ◌^◌};
+ghost use Rattle.std.specs.Prelude.{◌≡◌, ◌<◌, ◌^◌};
 ghost use Rattle.vyrd_base.specs.declared.header.Header.{Header};
 ghost use Rattle.vyrd_memory.specs.Scripts.{next_act, after_answer};
 ghost use Rattle.vyrd_tree.specs.Rests.{rest_at, after_rest};

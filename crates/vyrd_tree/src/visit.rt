@@ -103,7 +103,7 @@ impl Visit {
         }
     }
 
-    /// The store of these first entries, of which there are so many, from a place on, and of their count.
+    /// The store of this many first entries, from a place on, and of their count.
     pub(crate) fn rewrite(self, entries: [Entry; 4], count: u32, place: u32) -> Storing
         requires { count ≤ 4 }
         ensures { (h : Header) (later : Script) → storing_rest h result later ≡ write_entries self.node.number place (drop place (take count entries))

@@ -27,7 +27,7 @@ impl Task {
         }
     }
 
-    /// The place where a walk goes on at the node of this number, with so many visits left.
+    /// The place where a walk goes on at the node of this number, with this many visits left.
     pub(crate) fn walk(self, header: &Header, errand: Errand, left: u32, number: u64) -> Place
         ensures { rest_at header.now self result ≡ walk_on header.now self errand left number }
     {
@@ -131,7 +131,7 @@ impl Task {
         self.keys_from(header, visit, 0, visit.entry_count())
     }
 
-    /// The place where a node's keys are loaded from a place on, of which there are so many.
+    /// The place where a node's keys, this many, are loaded from a place on.
     fn keys_from(self, header: &Header, visit: Visit, place: u32, count: u32) -> Place
         requires count { count ≤ 4 }
         requires place { place ≤ count }
@@ -154,7 +154,7 @@ impl Task {
         self.keys_from(header, visit, slot.place + 1, slot.of)
     }
 
-    /// The place after all keys were loaded, of which there are so many: down to a child, or the walk has come to its level.
+    /// The place after all keys, this many, were loaded: down to a child, or the walk has come to its level.
     fn keys_loaded(self, header: &Header, visit: Visit, count: u32) -> Place
         requires { count ≤ 4 }
         ensures { rest_at header.now self result ≡ with_keys header.now self visit count (keys_of (take count visit.entries.slots)) }
@@ -169,7 +169,7 @@ impl Task {
         self.values_from(visit, 0, count)
     }
 
-    /// The place where a node's values are loaded from a place on, of which there are so many.
+    /// The place where a node's values, this many, are loaded from a place on.
     fn values_from(self, visit: Visit, place: u32, count: u32) -> Place
         requires count { count ≤ 4 }
         requires place { place ≤ count }

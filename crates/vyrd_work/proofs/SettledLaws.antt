@@ -135,7 +135,7 @@ length_lines : (line next : List ℕ) (lines : List (List ℕ))
     → length (join_with_byte 10 (line ∷ next ∷ lines)) ≡ length line + 1 + length (join_with_byte 10 (next ∷ lines))
 length_lines line next lines = omega (arith, length-append line (10 ∷ join_with_byte 10 (next ∷ lines)))
 
--- the bytes of the lines to come, with 65 for each line that was taken in, are so many
+-- how many bytes the lines to come have, with 65 for each line that was taken in
 abbrev Enough : Workload → List (List ℕ) → Type 0
 Enough w lines = longest_input ≤ 65 * (1 + lines_in w) + length (join_with_byte 10 lines)
 

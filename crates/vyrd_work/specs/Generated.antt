@@ -1,4 +1,4 @@
--- The workload of so many operations that a number is drawn for, one after the other.
+-- The workload of this many operations, for each of which a number is drawn, one after the other.
 use Rattle.std.specs.Prelude.{ℕ, zero, suc, ◌+◌, ◌*◌, ◌/◌, ◌%◌, ◌==◌, nat_lt, List, [], ◌∷◌, refl, if◌then◌else◌}
 use Rattle.vyrd_base.specs.declared.header.Header.{Header}
 use Rattle.vyrd_base.specs.declared.subject.Subject.TheVariants.{Multiset}
@@ -32,7 +32,7 @@ op_from a = op_for (a % 8) ((a / 8) % 256) (a / 2048)
 abbrev pub work_op_from : ℕ → ℕ → WorkOp
 work_op_from i x = record { caller = i % 4; op = op_from (upper x) }
 
--- so many operations from operation i on, after the number x
+-- this many operations from operation i on, after the number x
 abbrev pub ops_from : ℕ → ℕ → ℕ → List WorkOp
 ops_from zero i x = []
 ops_from (suc left) i x = work_op_from i (next_draw x) ∷ ops_from left (i + 1) (next_draw x)

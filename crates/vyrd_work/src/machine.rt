@@ -143,7 +143,7 @@ impl MachineOf<MultisetMachine, CacheMachine, TreeMachine> {
     }
 }
 
-// What the caller of a workload calls.
+/// What the caller of a workload calls.
 fn ops_of(alloc: Global, work: &Work, caller: u32) -> Result<Vec<Op>, AllocError>
     requires { KeepsLimits (workload_of work.now) }
     ensures ops { IfOk result (λ own. own.items ≡ ops_of caller work.now.ops.items) }
@@ -153,7 +153,7 @@ fn ops_of(alloc: Global, work: &Work, caller: u32) -> Result<Vec<Op>, AllocError
     own_ops(alloc, &work.ops, caller)
 }
 
-// The operations of a caller, in their order.
+/// The operations of a caller, in their order.
 fn own_ops(alloc: Global, ops: &[WorkOp], caller: u32) -> Result<Vec<Op>, AllocError>
     ensures { IfOk result (λ own. own.items ≡ ops_of caller ops.now) }
 {

@@ -24,7 +24,7 @@ const MOST_LINES: usize = 200_000;
 
 /// The workload that the bytes say.
 ///
-/// `Refused` comes exactly where they aren't a workload's text, with the first bad line and the first rule that it breaks.
+/// `Refused` comes exactly when they aren't a workload's text, with the first bad line and the first rule that it breaks.
 /// `Memory` may come at any time. The time grows with the bytes, the memory with the operations and the turns.
 pub fn read_work(alloc: Global, bytes: &[u8]) -> Result<Work, WorkFault>
     ensures work { IfOk result (λ work. work_reading bytes.now ≡ Ok (workload_of work)) }
@@ -140,7 +140,7 @@ fn put(item: Item, turns: u32, work: &mut Work) -> Result<u32, AllocError>
     }
 }
 
-/// The first rule that the item breaks after the workload so far, which has so many turns.
+/// The first rule that the item breaks after the workload so far, which has this many turns.
 fn broken_rule(work: &Work, turns: u32, item: Item) -> Option<WorkRule>
     requires sum { turns ≡ turns_in work.now.turns.items }
     requires subject { is_item_of work.now.header.subject item ≡ true }
@@ -172,7 +172,7 @@ fn rule_of_op(work: &Work, op: WorkOp) -> Option<WorkRule>
     None
 }
 
-/// The first rule that these turns break after so many others.
+/// The first rule that these turns break after this many others.
 fn rule_of_turns(work: &Work, turns: u32, more: Turn) -> Option<WorkRule>
     requires { turns ≡ turns_in work.now.turns.items }
     ensures { result ≡ broken_by (workload_of work.now) (Item.Turns more) }

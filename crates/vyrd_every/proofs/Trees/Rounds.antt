@@ -171,7 +171,7 @@ round_right h args next growth rounds = record { right = begin }
                       calm = r.calm;
                     }
 
--- an ascent with so many rounds left
+-- an ascent with this many rounds left
 pub rounds_right : (h : Header) (args : Args) → GrowthRight h args → (left : ℕ)
     → RoundsRight h args (λ level key node. ascend h Correct left level key node (returns 1))
 rounds_right h args growth zero = record { right = λ k g m level key node tree hand up. ended_right h args k g m tree hand up.called_is }

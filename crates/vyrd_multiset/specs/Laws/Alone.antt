@@ -21,7 +21,6 @@ use Rattle.vyrd_memory.specs.declared.op.Variant.TheVariants.{Correct}
 use Rattle.vyrd_memory.specs.Scripts.{Script}
 use Rattle.vyrd_memory.specs.Alone.{Memory, alone, state_in, state_after, MeetsSpecification, IsRightAlone}
 use Rattle.vyrd_multiset.specs.Procedures.{insert, insert_pair, delete, lookup, procedure_of}
-use Rattle.vyrd_multiset.specs.Procedures.{multiset_procedure}
 use Rattle.vyrd_multiset.specs.Contents.{IsMultiset}
 use Rattle.vyrd_multiset.specs.Laws.Alone.Changes.{is_multiset, stands_for}
 use Rattle.vyrd_multiset.specs.Laws.Alone.Played.{Ended, ended_with}

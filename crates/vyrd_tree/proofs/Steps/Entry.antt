@@ -52,7 +52,7 @@ abbrev filled : Header → Task → Errand → Arrived → ℕ → ℕ → Scrip
 filled h task e at key value =
     with_unused h (unsplit h e at.node) (λ new. split_entry h at key value new (close_for e) (after_split h task e (split_key at key value) new))
 
--- the node of a visit, with so many entries
+-- the node of a visit, with this many entries
 abbrev visited : Visit → ℕ → Arrived
 visited v count = arrived_at v (take count v.entries.slots)
 

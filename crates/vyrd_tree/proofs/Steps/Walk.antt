@@ -12,7 +12,7 @@ use Rattle.vyrd_tree.specs.Procedures.Walk.{visit_node}
 use Rattle.vyrd_tree.specs.Rests.Errands.{arrived_for, walk_on, key_for, toward, lost_for}
 use Rattle.vyrd_tree.specs.Rests.Visits.{visiting_rest}
 
--- the visit of a node, with this errand and so many visits left after it
+-- the visit of a node, with this errand and this many visits left after it
 abbrev visit_of : Header → Task → Errand → ℕ → ℕ → Script
 visit_of h task e left number = visit_node h task.variant (key_for task e) (toward e) number (lost_for task e)
     (walk_on h task e left) (arrived_for h task e)

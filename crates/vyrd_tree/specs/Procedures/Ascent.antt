@@ -36,7 +36,7 @@ ascend_once h variant level key node ended next = lock_root h (step (Load (root_
     else unlock_root h (walk_from h variant key (level + 1) h.size root ended (λ at. add_child h level key node at ended next)))
     else unlock_root h ended))
 
--- an ascent with so many rounds left
+-- an ascent with this many rounds left
 abbrev pub ascend : Header → Variant → ℕ → ℕ → ℕ → ℕ → Script → Script
 ascend h variant zero level key node ended = ended
 ascend h variant (suc left) level key node ended =

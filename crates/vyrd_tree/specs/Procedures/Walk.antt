@@ -17,7 +17,7 @@ pub record Arrived : Type 0 where
   pub right : ℕ
   pub entries : List (ℕ × ℕ)
 
--- load a node's keys from this place on, with so many left
+-- load a node's keys from this place on, with this many left
 abbrev pub load_keys : ℕ → ℕ → ℕ → (List ℕ → Script) → Script
 load_keys zero node place loaded = loaded []
 load_keys (suc left) node place loaded =
@@ -50,7 +50,7 @@ to_child h key node count keys lost visit =
     then unlock_node h node lost
     else step (Load (value_cell node (child_place key keys))) (λ child. unlock_node h node (visit child))
 
--- with so many entries: load the keys, and go to a child
+-- with this many entries: load the keys, and go to a child
 abbrev pub descend : Header → ℕ → ℕ → ℕ → Script → (ℕ → Script) → Script
 descend h key node count lost visit = load_keys count node 0 (λ keys. to_child h key node count keys lost visit)
 
@@ -59,7 +59,7 @@ abbrev pub load_rest : ℕ → ℕ → ℕ → ℕ → List ℕ → (Arrived →
 load_rest node level bound right keys arrived = load_values keys node 0 (λ entries.
     arrived (record { node = node; level = level; bound = bound; right = right; entries = entries }))
 
--- with so many entries: load the keys and then the values
+-- with this many entries: load the keys and then the values
 abbrev pub arrive : ℕ → ℕ → ℕ → ℕ → ℕ → (Arrived → Script) → Script
 arrive node level count bound right arrived = load_keys count node 0 (λ keys. load_rest node level bound right keys arrived)
 
@@ -77,7 +77,7 @@ visit_node h variant key toward node lost visit arrived = lock_node h node
     step (Load (bound_cell node)) (λ bound. step (Load (right_cell node)) (λ right.
     pass_on h variant key toward node level count bound right lost visit arrived)))))
 
--- A walk from a node on, with a key, toward a level, and with so many visits left. It is lost where there is no such node, and
+-- A walk from a node on, with a key, toward a level, and with this many visits left. It is lost where there is no such node, and
 -- where no visit is left.
 abbrev pub walk_from : Header → Variant → ℕ → ℕ → ℕ → ℕ → Script → (Arrived → Script) → Script
 walk_from h variant key toward zero node lost arrived = lost

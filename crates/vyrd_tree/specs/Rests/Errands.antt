@@ -56,7 +56,7 @@ abbrev pub arrived_for : Header → Task → Errand → Arrived → Script
 arrived_for h task errand.Operation at = arrived_call h task task.call at
 arrived_for h task (errand.Ascent a) at = add_child h a.level a.key a.node.number at (returns 1) (next_round h task a)
 
--- a walk from a node on, with so many visits left
+-- a walk from a node on, with this many visits left
 abbrev pub walk_on : Header → Task → Errand → ℕ → ℕ → Script
 walk_on h task errand left node =
     walk_from h task.variant (key_for task errand) (toward errand) left node (lost_for task errand) (arrived_for h task errand)
@@ -66,7 +66,7 @@ abbrev pub close_for : Errand → Kind
 close_for errand.Operation = BlockCommit
 close_for (errand.Ascent a) = BlockClose
 
--- what follows where a full node isn't split, for want of an unused node
+-- what follows where a full node isn't split, since no node is unused
 abbrev pub unsplit : Header → Errand → ℕ → Script
 unsplit h errand.Operation node = changes_nothing h node
 unsplit h (errand.Ascent a) node = unlock_node h node (returns 1)

@@ -97,7 +97,7 @@ visit_in n m h variant key toward node lost visit arrived le lost_ends visit_end
         (in_more (n + 8) (m + 8) (arrive node level (min count 4) bound right arrived) (omega (arith, le))
         (arrive_in n node level (min count 4) bound right arrived (four_at_most count) ends)))
 
--- a walk with so many visits left
+-- a walk with this many visits left
 pub walk_in : (n : ℕ) (h : Header) (variant : Variant) (key toward left node : ℕ) (lost : Script) (arrived : Arrived → Script) → EndsByReturn n lost
     → ((at : Arrived) → length at.entries ≤ 4 → EndsByReturn n (arrived at))
     → EndsByReturn (n + 13 * left) (walk_from h variant key toward left node lost arrived)
