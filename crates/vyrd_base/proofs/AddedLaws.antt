@@ -3,10 +3,10 @@ use Rattle.std.proofs.Common.{◌≡◌, ℕ, ◌+◌, List, [], ◌∷◌, ◌+
 use Rattle.std.specs.Prelude.{flat_map}
 use Rattle.std.proofs.lemmas.List.Concat.{flat_map-append}
 use Rattle.vyrd_base.specs.Places.{numbers_below}
-use Rattle.vyrd_base.specs.Amounts.{Amounts, IsAmounts, amount_of, plus_amount, collected}
+use Rattle.vyrd_base.specs.Amounts.{Amounts, IsAmounts, amount_of, plus_amount, collected, given}
 use Rattle.vyrd_base.proofs.PlaceLaws.{numbers_below-push}
 use Rattle.vyrd_base.proofs.AmountLaws.{IsAmounts-with_amount, same_amounts}
-use Rattle.vyrd_base.proofs.SumLaws.{given, given-append, amount_of-plus, amount_of-collected, IsAmounts-collected}
+use Rattle.vyrd_base.proofs.SumLaws.{given-append, amount_of-plus, amount_of-collected, IsAmounts-collected}
 use Rattle.vyrd_base.specs.Added.{added}
 
 pub amount_of-added : (parts : List (ℕ × ℕ)) (s : Amounts) (q : ℕ) → amount_of (added s parts) q ≡ amount_of s q + given q parts

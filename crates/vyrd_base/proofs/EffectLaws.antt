@@ -13,8 +13,9 @@ use Rattle.vyrd_base.specs.Places.{first_answer}
 use Rattle.vyrd_base.specs.Callers.{by_caller, open_or_close, has_block, commit_or_open, has_inner_commit, commit_or_call, has_committed}
 use Rattle.vyrd_base.specs.Shape.{checks_at, broken_rule}
 use Rattle.vyrd_base.specs.Words.{block_writes, ahead_at, writes_ahead, effects_at, effects, is_lone_commit, effects_of_others}
+use Rattle.vyrd_base.specs.Front.{WellFormed}
 use Rattle.vyrd_base.proofs.BlockLaws.{entry, by_same, own_answer, other_answer, own_writes, other_writes}
-use Rattle.vyrd_base.proofs.ShadowLaws.{WellFormed, all_kept, open_kept, block_in_call}
+use Rattle.vyrd_base.proofs.ShadowLaws.{all_kept, open_kept, block_in_call}
 use Rattle.vyrd_base.proofs.TestLaws.{same_number, is_same, flipped, first_true, second_true, neither_true}
 
 -- whether an entry of this kind ends a block

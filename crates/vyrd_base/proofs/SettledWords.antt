@@ -15,9 +15,10 @@ use Rattle.vyrd_base.specs.Layout.{plain_words}
 use Rattle.vyrd_base.specs.Shape.{checks_at, broken_rule, is_held_by_other}
 use Rattle.vyrd_base.specs.Words.{block_writes, given_to, effects_at, effects, value_at_start, value_after, words_after, is_lone_commit, effects_of_others, is_passed}
 use Rattle.vyrd_base.specs.FirstVersion.{old_effects_at, old_effects}
+use Rattle.vyrd_base.specs.Front.{WellFormed}
 use Rattle.vyrd_base.proofs.PlaceLaws.{first_answer-append}
 use Rattle.vyrd_base.proofs.BlockLaws.{entry, by_same, own_answer, other_answer, wrote, wrote_is}
-use Rattle.vyrd_base.proofs.ShadowLaws.{WellFormed, all_kept, write_kept, close_kept, block_commit_kept, caller_kept, holds_other, other_write, own_edge, or_false_right}
+use Rattle.vyrd_base.proofs.ShadowLaws.{all_kept, write_kept, close_kept, block_commit_kept, caller_kept, holds_other, other_write, own_edge, or_false_right}
 use Rattle.vyrd_base.proofs.EffectLaws.{ends_block, same_effects, same_effects_of_others, same_after, same_without_end, ends_committed_block, more_after, more_effects, none_of_both, none_of_others, never, has_block_of, other_inner, own_inner}
 use Rattle.vyrd_base.proofs.TestLaws.{same_number, flipped, first_true, second_true}
 

@@ -12,7 +12,7 @@ use Rattle.vyrd_base.specs.declared.log.Entry.{Entry}
 use Rattle.vyrd_base.specs.Places.{first_answer, numbers_from, newest_first_onto, newest_first}
 use Rattle.vyrd_base.specs.Callers.{by_caller, open_or_close, has_block, write_or_open, holds_word, open_call, call_or_return}
 use Rattle.vyrd_base.specs.Shape.{Check, first_broken, checks_at, broken_rule, is_held_by_other}
-use Rattle.vyrd_base.specs.Front.{first_break}
+use Rattle.vyrd_base.specs.Front.{first_break, WellFormed}
 use Rattle.vyrd_base.specs.Words.{with_write, block_writes, given_to, is_passed}
 use Rattle.vyrd_base.specs.FirstVersion.{old_effects_at, old_effects, old_value_after}
 use Rattle.vyrd_base.specs.Verdicts.{is_call_open}
@@ -20,11 +20,6 @@ use Rattle.vyrd_base.proofs.PlaceLaws.{first_answer-append}
 use Rattle.vyrd_base.proofs.Fronts.{break_after}
 use Rattle.vyrd_base.proofs.BlockLaws.{entry, by_same, own_answer, other_answer, no_answer, wrote, block_value, own_value, own_wrote, other_writes, wrote_is}
 use Rattle.vyrd_base.proofs.TestLaws.{above_of, same_number, flipped}
-
--- each entry keeps the rules after the entries before it, the newest entry first
-abbrev pub WellFormed : Header → List Entry → Type 0
-WellFormed h [] = Unit {0}
-WellFormed h (e ∷ earlier) = (broken_rule h earlier e ≡ None) × WellFormed h earlier
 
 both_none : {A : Type 0} (a b : Option A) → option_or a b ≡ None → (a ≡ None) × (b ≡ None)
 both_none None b e = (refl, e)

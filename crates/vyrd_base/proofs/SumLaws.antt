@@ -2,18 +2,9 @@
 use Rattle.std.proofs.Common.{◌≡◌, ℕ, zero, suc, ◌+◌, ◌*◌, ◌<◌, ◌≤◌, Bool, true, false, cond, List, [], ◌∷◌, ◌++◌, refl, ap, ◌∙◌, sym, arith}
 use Rattle.std.specs.Prelude.{◌==◌, flat_map}
 use Rattle.vyrd_base.specs.Places.{numbers_from}
-use Rattle.vyrd_base.specs.Amounts.{Amounts, IsAmounts, amount_of, plus_amount, collected}
+use Rattle.vyrd_base.specs.Amounts.{Amounts, IsAmounts, amount_of, plus_amount, collected, part_given, given}
 use Rattle.vyrd_base.proofs.AmountLaws.{amount_of-with_amount, IsAmounts-with_amount}
 use Rattle.vyrd_base.proofs.TestLaws.{same_of}
-
--- what one part gives to a key
-abbrev pub part_given : ℕ → ℕ × ℕ → ℕ
-part_given q part = cond (q == part.0) part.1 0
-
--- what parts give to a key
-abbrev pub given : ℕ → List (ℕ × ℕ) → ℕ
-given q [] = 0
-given q (part ∷ parts) = part_given q part + given q parts
 
 pub amount_of-plus : (s : Amounts) (k a q : ℕ) → amount_of (plus_amount s k a) q ≡ amount_of s q + part_given q (k, a)
 amount_of-plus s k a q = amount_of-with_amount s k (amount_of s k + a) q ∙ by_key (q == k) refl

@@ -7,10 +7,10 @@ use Rattle.std.specs.Cmp.{unsigned_tied}
 use Rattle.std.proofs.lemmas.Bool.Decides.{nat_tests}
 use Rattle.std.proofs.lemmas.List.{length-replicate}
 use Rattle.std.proofs.lemmas.Nat.{shr_below}
-use Rattle.vyrd_base.specs.Amounts.{Amounts, IsAmounts, amount_of, with_amount}
+use Rattle.vyrd_base.specs.Amounts.{Amounts, IsAmounts, amount_of, with_amount, given, part_given}
 use Rattle.vyrd_base.specs.Tables.{pair_at, is_taken, first_place, IsWithin, IsFoundAt, IsTable, amounts_in, HasAll}
 use Rattle.vyrd_base.proofs.AmountLaws.{amount_of-with_amount, IsAmounts-with_amount, same_amounts, first_of_and, second_of_and}
-use Rattle.vyrd_base.proofs.SumLaws.{given, part_given, amount_of-plus}
+use Rattle.vyrd_base.proofs.SumLaws.{amount_of-plus}
 use Rattle.vyrd_base.proofs.TestLaws.{same_of, apart_of, same_number, is_same, isnt_same, below_of, not_below_of}
 
 -- ---- what a pair gives

@@ -15,13 +15,12 @@ use Rattle.vyrd_base.specs.Places.{Place, places_after, position_of, newest_firs
 use Rattle.vyrd_base.specs.Amounts.{Amounts}
 use Rattle.vyrd_base.specs.Specification.{start}
 use Rattle.vyrd_base.specs.Shape.{broken_rule}
-use Rattle.vyrd_base.specs.Front.{front, front_after, first_break}
+use Rattle.vyrd_base.specs.Front.{front, front_after, first_break, WellFormed}
 use Rattle.vyrd_base.specs.Commits.{states_of, committed_at, commit_count}
 use Rattle.vyrd_base.specs.Views.{view_of_words}
 use Rattle.vyrd_base.specs.Faults.{commit_fault, fault_of_kind, fault_at}
 use Rattle.vyrd_base.specs.Verdicts.{line_of, violation_at, first_fault, shape_verdict, is_call_open, verdict_so_far, end_verdict, accepted, verdict}
 use Rattle.vyrd_base.specs.FirstVersion.{old_broken_rule, old_front_after, old_front, old_fault_of_kind, old_first_fault, old_verdict_so_far, old_verdict}
-use Rattle.vyrd_base.proofs.ShadowLaws.{WellFormed}
 use Rattle.vyrd_base.proofs.Fronts.{break_after}
 use Rattle.vyrd_base.proofs.NoStart.{line_of-none, states_along-none, start_verdict-none, begun_verdict-none}
 use Rattle.vyrd_base.proofs.VersionWords.{broken_rule-old, first_words_at}

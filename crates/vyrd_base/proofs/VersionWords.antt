@@ -14,8 +14,9 @@ use Rattle.vyrd_base.specs.Layout.{plain_words}
 use Rattle.vyrd_base.specs.Shape.{◌breaks◌, first_broken, checks_at, broken_rule, is_observing, is_held_by_other}
 use Rattle.vyrd_base.specs.Words.{block_writes, writes_ahead, effects_at, effects, effects_of_others, words_with, words_at, words_after}
 use Rattle.vyrd_base.specs.FirstVersion.{old_broken_rule, old_effects_at, old_effects, old_words_after}
+use Rattle.vyrd_base.specs.Front.{WellFormed}
 use Rattle.vyrd_base.proofs.BlockLaws.{entry, by_same}
-use Rattle.vyrd_base.proofs.ShadowLaws.{WellFormed, all_kept}
+use Rattle.vyrd_base.proofs.ShadowLaws.{all_kept}
 use Rattle.vyrd_base.proofs.EffectLaws.{own_inner, other_inner}
 use Rattle.vyrd_base.proofs.TestLaws.{is_same}
 

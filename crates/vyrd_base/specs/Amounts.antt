@@ -33,6 +33,15 @@ abbrev pub collected : List (ℕ × ℕ) → Amounts
 collected [] = []
 collected (part ∷ parts) = plus_amount (collected parts) part.0 part.1
 
+-- what one part gives to a key
+abbrev pub part_given : ℕ → ℕ × ℕ → ℕ
+part_given q part = if q == part.0 then part.1 else 0
+
+-- what parts give to a key
+abbrev pub given : ℕ → List (ℕ × ℕ) → ℕ
+given q [] = 0
+given q (part ∷ parts) = part_given q part + given q parts
+
 -- the keys that are there
 abbrev pub keys_of : Amounts → List ℕ
 keys_of amounts = map (λ entry. entry.0) amounts

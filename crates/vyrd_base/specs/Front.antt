@@ -1,6 +1,6 @@
 -- The well-formed front of a log, and where it ends: the front is the longest beginning of the log in which each entry keeps
 -- the rules of shape, each judged by the entries before it.
-use Rattle.std.specs.Prelude.{List, [], ◌∷◌, Option, Some, None}
+use Rattle.std.specs.Prelude.{◌≡◌, List, [], ◌∷◌, Option, Some, None}
 use Rattle.vyrd_base.specs.declared.header.Header.{Header}
 use Rattle.vyrd_base.specs.declared.log.Entry.{Entry}
 use Rattle.vyrd_base.specs.declared.verdict.Rule.{Rule}
@@ -27,3 +27,9 @@ first_break h entries = first_answer (λ place. broken_rule h place.earlier plac
 abbrev pub unless_broken : Option Rule → List Entry → List Entry
 unless_broken None more = more
 unless_broken (Some rule) more = []
+
+-- the log is well formed, said of its entries the other way round: each keeps the rules after the entries before it, the newest
+-- entry first
+abbrev pub WellFormed : Header → List Entry → Type 0
+WellFormed h [] = Unit {0}
+WellFormed h (e ∷ earlier) = (broken_rule h earlier e ≡ None) × WellFormed h earlier

@@ -13,14 +13,13 @@ use Rattle.vyrd_base.specs.declared.history.Stamped.{Stamped}
 use Rattle.vyrd_base.specs.declared.verdict.Rule.TheVariants.{CallOpen}
 use Rattle.vyrd_base.specs.declared.verdict.Verdict.TheVariants.{Violation, Malformed}
 use Rattle.vyrd_base.specs.Places.{Place, places, places_after, position_of, first_answer, newest_first_onto, newest_first}
-use Rattle.vyrd_base.specs.Front.{front, first_break}
+use Rattle.vyrd_base.specs.Front.{front, first_break, WellFormed}
 use Rattle.vyrd_base.specs.Amounts.{Amounts}
 use Rattle.vyrd_base.specs.Specification.{start}
 use Rattle.vyrd_base.specs.Commits.{next_reply, committed_at, commits_after, commits, states_from, commit_count}
 use Rattle.vyrd_base.specs.Faults.{fault_of_kind, fault_of_commit, return_fault, fault_at}
 use Rattle.vyrd_base.specs.FirstVersion.{old_words_after}
 use Rattle.vyrd_base.specs.Views.{view_of_words}
-use Rattle.vyrd_base.proofs.ShadowLaws.{WellFormed}
 use Rattle.vyrd_base.proofs.NoStart.{states_along-none, verdict_so_far-none, end_verdict-none}
 use Rattle.vyrd_base.specs.Verdicts.{line_of, violation_at, states_along, first_fault, shape_verdict, is_call_open, end_verdict, accepted, verdict}
 use Rattle.vyrd_base.specs.Histories.{cells_of, is_legal, logged, log_of}

@@ -15,7 +15,7 @@ use Rattle.vyrd_base.specs.Amounts.{Amounts, amount_of, keys_of, least, first_di
 use Rattle.vyrd_base.specs.Specification.{next_state, answer_in}
 use Rattle.vyrd_base.specs.Words.{words_at}
 use Rattle.vyrd_base.specs.FirstVersion.{old_words_after}
-use Rattle.vyrd_base.proofs.ShadowLaws.{WellFormed}
+use Rattle.vyrd_base.specs.Front.{WellFormed}
 use Rattle.vyrd_base.proofs.VersionWords.{first_words_at}
 use Rattle.vyrd_base.specs.Views.{view_of_words}
 use Rattle.vyrd_base.specs.Commits.{Committed, next_reply, committed_at, once_returned, state_after, states_from, commit_count}

@@ -9,7 +9,7 @@ use Rattle.vyrd_base.specs.Specification.{start}
 use Rattle.vyrd_base.specs.Commits.{commit_count}
 use Rattle.vyrd_base.specs.FirstVersion.{old_words_after}
 use Rattle.vyrd_base.specs.Views.{view_of_words}
-use Rattle.vyrd_base.proofs.ShadowLaws.{WellFormed}
+use Rattle.vyrd_base.specs.Front.{WellFormed}
 use Rattle.vyrd_memory.specs.declared.act.Act.TheVariants.{Take}
 use Rattle.vyrd_memory.specs.Scripts.{Script, after_answer, left_after}
 use Rattle.vyrd_memory.specs.Soundness.{holds}

@@ -17,8 +17,9 @@ use Rattle.vyrd_base.specs.Shape.{Check, first_broken, checks_at, broken_rule, i
 use Rattle.vyrd_base.specs.Words.{block_writes, given_to, effects_of_others}
 use Rattle.vyrd_base.specs.FirstVersion.{old_effects, old_value_after}
 use Rattle.vyrd_base.specs.Histories.{logged}
+use Rattle.vyrd_base.specs.Front.{WellFormed}
 use Rattle.vyrd_base.proofs.BlockLaws.{entry, own_answer, other_answer, own_writes, other_writes}
-use Rattle.vyrd_base.proofs.ShadowLaws.{WellFormed, holds_other}
+use Rattle.vyrd_base.proofs.ShadowLaws.{holds_other}
 use Rattle.vyrd_base.proofs.VersionWords.{no_inner_commit}
 use Rattle.vyrd_memory.specs.Alone.{with_cell}
 use Rattle.vyrd_memory.specs.Soundness.{Standing}

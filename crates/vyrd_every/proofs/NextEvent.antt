@@ -17,8 +17,8 @@ use Rattle.vyrd_base.specs.Amounts.{Amounts}
 use Rattle.vyrd_base.specs.Specification.{next_state, answer_in}
 use Rattle.vyrd_base.specs.Commits.{commit_count}
 use Rattle.vyrd_base.specs.Histories.{cells_of, value_in, may_do, is_plain, logged}
+use Rattle.vyrd_base.specs.Front.{WellFormed}
 use Rattle.vyrd_base.proofs.BlockLaws.{by_same, wrote}
-use Rattle.vyrd_base.proofs.ShadowLaws.{WellFormed}
 use Rattle.vyrd_base.proofs.TestLaws.{second_true, same_of, same_number}
 use Rattle.vyrd_memory.specs.declared.act.Act.TheVariants.{Mark}
 use Rattle.vyrd_memory.specs.Alone.{Memory}

@@ -5,8 +5,9 @@ use Rattle.std.proofs.lemmas.Bool.Decides.{nat_tests}
 use Rattle.vyrd_base.specs.declared.history.Stamped.{Stamped}
 use Rattle.vyrd_base.specs.Callers.{holds_word}
 use Rattle.vyrd_base.specs.Histories.{Cells, cells_of, is_lock, value_in}
+use Rattle.vyrd_base.specs.Front.{WellFormed}
 use Rattle.vyrd_base.proofs.HistoryLaws.{Legal, last_is_value}
-use Rattle.vyrd_base.proofs.ShadowLaws.{WellFormed, well_formed_sound}
+use Rattle.vyrd_base.proofs.ShadowLaws.{well_formed_sound}
 use Rattle.vyrd_memory.specs.Turns.{part_of}
 use Rattle.vyrd_memory.proofs.Standings.{standing_in, KeepsTo}
 use Rattle.vyrd_memory.proofs.LegalEvents.{AreLegal, does}

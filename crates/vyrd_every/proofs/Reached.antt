@@ -5,12 +5,11 @@ use Rattle.vyrd_base.specs.declared.header.Header.{Header}
 use Rattle.vyrd_base.specs.declared.log.Entry.{Entry}
 use Rattle.vyrd_base.specs.declared.history.Stamped.{Stamped}
 use Rattle.vyrd_base.specs.Places.{newest_first_onto, newest_first}
-use Rattle.vyrd_base.specs.Front.{front, first_break}
+use Rattle.vyrd_base.specs.Front.{front, first_break, WellFormed}
 use Rattle.vyrd_base.specs.Amounts.{Amounts}
 use Rattle.vyrd_base.specs.Specification.{start}
 use Rattle.vyrd_base.specs.Histories.{log_of}
 use Rattle.vyrd_base.proofs.Fronts.{break_after, front_after_whole}
-use Rattle.vyrd_base.proofs.ShadowLaws.{WellFormed}
 use Rattle.vyrd_memory.specs.Scripts.{Script}
 use Rattle.vyrd_memory.proofs.LegalRuns.{IsRun}
 use Rattle.vyrd_memory.proofs.RaceLaws.{newest_log}

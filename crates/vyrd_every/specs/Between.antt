@@ -9,8 +9,8 @@ use Rattle.vyrd_base.specs.Amounts.{Amounts}
 use Rattle.vyrd_base.specs.Specification.{answer_in}
 use Rattle.vyrd_base.specs.Words.{block_writes}
 use Rattle.vyrd_base.specs.Commits.{commit_count}
+use Rattle.vyrd_base.specs.Front.{WellFormed}
 use Rattle.vyrd_base.proofs.HistoryLaws.{log_entry}
-use Rattle.vyrd_base.proofs.ShadowLaws.{WellFormed}
 use Rattle.vyrd_memory.specs.Alone.{Memory}
 use Rattle.vyrd_memory.specs.Scripts.{Script, left_after}
 use Rattle.vyrd_memory.specs.Turns.{part_of, script_of}

@@ -13,8 +13,9 @@ use Rattle.vyrd_base.specs.Shape.{checks_at, broken_rule}
 use Rattle.vyrd_base.specs.Words.{block_writes, effects_at, is_lone_commit}
 use Rattle.vyrd_base.specs.FirstVersion.{old_effects_at}
 use Rattle.vyrd_base.specs.Commits.{is_commit, commit_count}
+use Rattle.vyrd_base.specs.Front.{WellFormed}
 use Rattle.vyrd_base.proofs.BlockLaws.{entry}
-use Rattle.vyrd_base.proofs.ShadowLaws.{WellFormed, all_kept}
+use Rattle.vyrd_base.proofs.ShadowLaws.{all_kept}
 use Rattle.vyrd_base.proofs.EffectLaws.{SameEffects, same_after, ends_committed_block, MoreAt, at_commit, own, other, MoreAtCommit, more_after, never, committed_since_open, own_inner, other_inner, inner_is_committed}
 use Rattle.vyrd_base.proofs.Lasting.{commit_count-cons}
 use Rattle.vyrd_base.proofs.TestLaws.{is_same, isnt_same, lower_isnt, flipped, first_true, second_true}

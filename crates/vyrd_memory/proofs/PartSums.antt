@@ -3,9 +3,9 @@ use Rattle.std.proofs.Common.{◌≡◌, ℕ, zero, suc, ◌+◌, ◌<◌, ◌�
 use Rattle.std.specs.Prelude.{◌≢◌, ◌==◌, flat_map}
 use Rattle.std.proofs.lemmas.Bool.Decides.{nat_tests}
 use Rattle.vyrd_base.specs.Places.{numbers_from}
-use Rattle.vyrd_base.specs.Amounts.{Amounts, IsAmounts, amount_of, collected}
+use Rattle.vyrd_base.specs.Amounts.{Amounts, IsAmounts, amount_of, collected, given}
 use Rattle.vyrd_base.proofs.AmountLaws.{same_amounts}
-use Rattle.vyrd_base.proofs.SumLaws.{given, given-append, amount_of-collected, IsAmounts-collected}
+use Rattle.vyrd_base.proofs.SumLaws.{given-append, amount_of-collected, IsAmounts-collected}
 use Rattle.vyrd_memory.proofs.NumberLists.{flat_map_alike}
 
 -- the part of number i changes from f i to g i, and no other

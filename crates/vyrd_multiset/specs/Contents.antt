@@ -3,8 +3,7 @@ use Rattle.std.specs.Prelude.{◌≡◌, ℕ, ◌+◌, ◌*◌, ◌%◌, ◌/◌
 use Rattle.std.specs.Prelude.{flat_map, if◌then◌else◌}
 use Rattle.vyrd_base.specs.declared.header.Header.{Header}
 use Rattle.vyrd_base.specs.Places.{numbers_below}
-use Rattle.vyrd_base.specs.Amounts.{Amounts, IsAmounts, amount_of}
-use Rattle.vyrd_base.proofs.SumLaws.{given}
+use Rattle.vyrd_base.specs.Amounts.{Amounts, IsAmounts, amount_of, given}
 use Rattle.vyrd_memory.specs.Alone.{Memory}
 
 -- what slot i gives

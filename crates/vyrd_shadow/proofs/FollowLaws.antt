@@ -19,7 +19,7 @@ use Rattle.vyrd_base.specs.Shape.{broken_rule}
 use Rattle.vyrd_base.specs.Starts.{words_at_start}
 use Rattle.vyrd_base.specs.Words.{with_write, block_writes, effects_at, given_to, value_at_start, value_after, words_after}
 use Rattle.vyrd_base.specs.FirstVersion.{old_effects_at, old_effects}
-use Rattle.vyrd_base.proofs.ShadowLaws.{WellFormed}
+use Rattle.vyrd_base.specs.Front.{WellFormed}
 use Rattle.vyrd_base.proofs.EffectLaws.{ends_block}
 use Rattle.vyrd_base.proofs.SettledWords.{settled_value, words_settled, same_here}
 use Rattle.vyrd_base.proofs.PlaceLaws.{first_answer-append}

@@ -6,7 +6,7 @@ use Rattle.vyrd_base.specs.declared.log.StartWord.{StartWord}
 use Rattle.vyrd_base.specs.Places.{first_answer}
 use Rattle.vyrd_base.specs.Callers.{has_block}
 use Rattle.vyrd_base.specs.Words.{block_writes, given_to, words_after}
-use Rattle.vyrd_base.proofs.ShadowLaws.{WellFormed}
+use Rattle.vyrd_base.specs.Front.{WellFormed}
 use Rattle.vyrd_shadow.specs.Blocks.{first_written}
 
 -- The header, the plain words, for each caller the writes that its open block keeps back, each word once in the order of the

@@ -12,10 +12,11 @@ use Rattle.vyrd_base.specs.Places.{first_answer}
 use Rattle.vyrd_base.specs.Callers.{has_block, has_inner_commit, holds_word}
 use Rattle.vyrd_base.specs.Shape.{broken_rule}
 use Rattle.vyrd_base.specs.Words.{block_writes, effects_at, effects_of_others, given_to, is_lone_commit}
+use Rattle.vyrd_base.specs.Front.{WellFormed}
 use Rattle.vyrd_base.proofs.BlockLaws.{entry, by_same, wrote, wrote_is}
 use Rattle.vyrd_base.proofs.EffectLaws.{SameEffects, MoreAtCommit, ends_block, same_after, more_after, own_inner, other_inner, committed_since_open, never}
 use Rattle.vyrd_base.proofs.EffectLaws.MoreAt.{at_commit, own, other}
-use Rattle.vyrd_base.proofs.ShadowLaws.{WellFormed, close_kept, block_commit_kept}
+use Rattle.vyrd_base.proofs.ShadowLaws.{close_kept, block_commit_kept}
 use Rattle.vyrd_base.proofs.TestLaws.{same_number, is_same, is_below, isnt_below, first_true}
 use Rattle.vyrd_shape.specs.Stamps.{has_write, last_effect, last_commit, takes_effect}
 use Rattle.vyrd_shape.proofs.StampLaws.{raised_if}

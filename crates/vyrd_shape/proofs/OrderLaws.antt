@@ -11,10 +11,10 @@ use Rattle.vyrd_base.specs.Callers.{has_block, has_inner_commit, holds_word}
 use Rattle.vyrd_base.specs.Layout.{plain_words}
 use Rattle.vyrd_base.specs.Shape.{broken_rule}
 use Rattle.vyrd_base.specs.Words.{is_lone_commit}
+use Rattle.vyrd_base.specs.Front.{WellFormed}
 use Rattle.vyrd_base.proofs.BlockLaws.{entry, by_same}
 use Rattle.vyrd_base.proofs.EffectLaws.{own_inner, other_inner, never}
 use Rattle.vyrd_base.proofs.ListLaws.{zeros}
-use Rattle.vyrd_base.proofs.ShadowLaws.{WellFormed}
 use Rattle.vyrd_base.proofs.TestLaws.{apart_of, flipped, below_of, is_below, not_below_of, isnt_below}
 use Rattle.vyrd_shape.specs.Stamps.{AreGiven, AreOrdered, AreRaised, AreRanked, CommitStamps, IsAdded, SameOrder, effect_stamp, last_commit, last_effect, rank, takes_effect}
 use Rattle.vyrd_shape.proofs.StampLaws.{raised_if}

@@ -4,7 +4,7 @@ use Rattle.vyrd_base.specs.declared.header.Header.{Header}
 use Rattle.vyrd_base.specs.declared.log.Entry.{Entry}
 use Rattle.vyrd_base.specs.Layout.{plain_words}
 use Rattle.vyrd_base.specs.Callers.{holds_word}
-use Rattle.vyrd_base.proofs.ShadowLaws.{WellFormed}
+use Rattle.vyrd_base.specs.Front.{WellFormed}
 use Rattle.vyrd_shape.specs.declared.phase.Phase.{Phase}
 use Rattle.vyrd_shape.specs.Phases.{phase_of}
 use Rattle.vyrd_shape.specs.Stamps.{CommitStamps, AreOrdered}

@@ -5,10 +5,10 @@ use Rattle.std.specs.Bool.{then_some}
 use Rattle.vyrd_base.specs.declared.subject.Method.{Method}
 use Rattle.vyrd_base.specs.declared.subject.Method.TheVariants.{MsInsert, MsInsertPair, MsDelete, MsLookup, CaWrite, CaFlush, CaEvict, CaRead, TrInsert, TrDelete, TrLookup}
 use Rattle.vyrd_base.specs.declared.subject.Args.{Args}
-use Rattle.vyrd_base.specs.Amounts.{Amounts, IsAmounts, amount_of, with_amount, plus_amount}
+use Rattle.vyrd_base.specs.Amounts.{Amounts, IsAmounts, amount_of, with_amount, plus_amount, part_given}
 use Rattle.vyrd_base.specs.Specification.{is_present}
 use Rattle.vyrd_base.proofs.AmountLaws.{amount_of-with_amount, IsAmounts-with_amount}
-use Rattle.vyrd_base.proofs.SumLaws.{part_given, amount_of-plus}
+use Rattle.vyrd_base.proofs.SumLaws.{amount_of-plus}
 use Rattle.vyrd_base.proofs.TestLaws.{same_of, same_number}
 use Rattle.vyrd_spec.specs.Touching.{touched_by, is_touched, CanChange}
 

@@ -5,10 +5,10 @@ use Rattle.std.specs.List.{AllByRecursion}
 use Rattle.std.proofs.lemmas.List.{get_or_past}
 use Rattle.std.proofs.lemmas.List.Elements.{All-from_recursion}
 use Rattle.vyrd_base.specs.Places.{numbers_below}
-use Rattle.vyrd_base.specs.Amounts.{Amounts, IsAmounts, amount_of, with_amount}
+use Rattle.vyrd_base.specs.Amounts.{Amounts, IsAmounts, amount_of, with_amount, given, part_given}
 use Rattle.vyrd_base.proofs.AmountLaws.{amount_of-with_amount, IsAmounts-with_amount, IsAmounts-push, same_amounts}
 use Rattle.vyrd_base.proofs.PlaceLaws.{numbers_below-push}
-use Rattle.vyrd_base.proofs.SumLaws.{given, part_given, given-append, amount_of-collected}
+use Rattle.vyrd_base.proofs.SumLaws.{given-append, amount_of-collected}
 use Rattle.vyrd_base.proofs.TableLaws.{given_amount}
 use Rattle.vyrd_base.proofs.TestLaws.{same_of, apart_of, below_of, not_below_of, is_below, isnt_below}
 use Rattle.vyrd_spec.specs.Chunks.{chunk_amounts, chunks_formed}

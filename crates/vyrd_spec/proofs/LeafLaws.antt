@@ -4,11 +4,11 @@ use Rattle.std.specs.Prelude.{◌==◌, nat_lt, nat_le, flat_map, map, slice_ind
 use Rattle.std.specs.List.{list_all, list_any, AllByRecursion}
 use Rattle.vyrd_base.specs.Added.{added}
 use Rattle.vyrd_base.specs.Places.{numbers_from, numbers_below}
-use Rattle.vyrd_base.specs.Amounts.{Amounts, amount_of, plus_amount, collected}
+use Rattle.vyrd_base.specs.Amounts.{Amounts, amount_of, plus_amount, collected, given}
 use Rattle.vyrd_base.specs.TreeView.{level_of, count_of, bound_of, right_of, entries_of, entry_parts, node_parts, damage, chain_parts_from, chain_parts}
 use Rattle.vyrd_base.specs.Trees.{last_of, low_of, is_leaf_entry}
 use Rattle.vyrd_base.proofs.AddedLaws.{amount_of-added, added-append, added-collected}
-use Rattle.vyrd_base.proofs.SumLaws.{given, given_at_most}
+use Rattle.vyrd_base.proofs.SumLaws.{given_at_most}
 use Rattle.vyrd_base.proofs.TestLaws.{first_true, second_true, below_of, isnt_same, isnt_at_most, is_same}
 use Rattle.vyrd_spec.specs.Bounds.{AllAmounts}
 use Rattle.vyrd_spec.specs.NodeKeys.{entry_at}

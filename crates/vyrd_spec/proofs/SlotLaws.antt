@@ -4,9 +4,9 @@ use Rattle.std.specs.Prelude.{◌==◌, nat_lt, flat_map, slice_index, All}
 use Rattle.std.proofs.lemmas.List.{get_or_past}
 use Rattle.std.proofs.lemmas.List.Elements.{All-get_or}
 use Rattle.vyrd_base.specs.Places.{numbers_below}
-use Rattle.vyrd_base.specs.Amounts.{Amounts, amount_of, collected}
+use Rattle.vyrd_base.specs.Amounts.{Amounts, amount_of, collected, given}
 use Rattle.vyrd_base.specs.Views.{slot_parts}
-use Rattle.vyrd_base.proofs.SumLaws.{given, given_at_most, given_nothing, amount_of-collected}
+use Rattle.vyrd_base.proofs.SumLaws.{given_at_most, given_nothing, amount_of-collected}
 use Rattle.vyrd_base.proofs.TestLaws.{below_of, not_below_of, isnt_same}
 use Rattle.vyrd_spec.specs.Bounds.{AllAmounts, most_after}
 

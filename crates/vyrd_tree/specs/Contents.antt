@@ -5,9 +5,8 @@ use Rattle.std.specs.Prelude.{flat_map}
 use Rattle.std.specs.List.{AllByRecursion}
 use Rattle.vyrd_base.specs.declared.header.Header.{Header}
 use Rattle.vyrd_base.specs.Places.{numbers_from}
-use Rattle.vyrd_base.specs.Amounts.{Amounts, IsAmounts, amount_of}
+use Rattle.vyrd_base.specs.Amounts.{Amounts, IsAmounts, amount_of, given}
 use Rattle.vyrd_base.specs.TreeView.{entry_parts}
-use Rattle.vyrd_base.proofs.SumLaws.{given}
 use Rattle.vyrd_memory.specs.Alone.{Memory}
 
 -- the words of node n

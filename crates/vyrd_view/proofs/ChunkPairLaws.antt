@@ -2,7 +2,7 @@
 use Rattle.std.proofs.Common.{◌≡◌, ℕ, ◌+◌, ◌*◌, ◌/◌, ◌%◌, ◌<◌, Bool, true, false, cond, List, length, length-set, get_or, set, refl, ap, ◌∙◌, sym, arith, get_or-set_same, get_or-set_other}
 use Rattle.std.specs.Prelude.{◌==◌, ◌≢◌}
 use Rattle.vyrd_base.specs.Views.{chunk_at}
-use Rattle.vyrd_base.proofs.SumLaws.{given, part_given}
+use Rattle.vyrd_base.specs.Amounts.{given, part_given}
 use Rattle.vyrd_base.proofs.TestLaws.{same_of, apart_of, is_same, isnt_same}
 use Rattle.vyrd_view.specs.Pairs.{chunk_amount, chunk_flaw, chunk_pair, chunk_key, HaveChunkKeys}
 use Rattle.vyrd_view.proofs.PairLaws.{given_only, own_part}

@@ -6,10 +6,10 @@ use Rattle.std.proofs.lemmas.List.{get_or-replicate, length-replicate}
 use Rattle.vyrd_base.specs.declared.subject.Subject.{Subject}
 use Rattle.vyrd_base.specs.declared.subject.Subject.TheVariants.{Multiset, Cache, Tree}
 use Rattle.vyrd_base.specs.Places.{numbers_below}
-use Rattle.vyrd_base.specs.Amounts.{amount_of, collected}
+use Rattle.vyrd_base.specs.Amounts.{amount_of, collected, given}
 use Rattle.vyrd_base.specs.Views.{Chunk, chunk_at, parts_of}
 use Rattle.vyrd_base.specs.TreeView.{right_of, node_word, count_of}
-use Rattle.vyrd_base.proofs.SumLaws.{given, amount_of-collected}
+use Rattle.vyrd_base.proofs.SumLaws.{amount_of-collected}
 use Rattle.vyrd_base.proofs.ListLaws.{zeros}
 use Rattle.vyrd_base.proofs.TestLaws.{apart_of, isnt_same, neither_true, isnt_below}
 use Rattle.vyrd_view.specs.Pairs.{is_touched, slot_pair, chunk_pair, chunk_key, chunk_amount, chunk_flaw}

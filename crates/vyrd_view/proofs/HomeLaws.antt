@@ -3,7 +3,7 @@ use Rattle.std.proofs.Common.{◌≡◌, ◌≢◌, ℕ, zero, suc, ◌+◌, ◌
 use Rattle.std.specs.Prelude.{◌==◌, nat_lt, count_by}
 use Rattle.std.proofs.lemmas.List.{get_or_past}
 use Rattle.std.proofs.lemmas.List.Sums.{get_or-le-sum_by}
-use Rattle.vyrd_base.proofs.SumLaws.{given, part_given}
+use Rattle.vyrd_base.specs.Amounts.{given, part_given}
 use Rattle.vyrd_base.proofs.TestLaws.{same_of, apart_of, is_same, below_of, not_below_of}
 use Rattle.vyrd_view.specs.declared.homes.Home.{Home}
 use Rattle.vyrd_view.specs.Homes.{no_home, home_at, is_taken, is_apart, shown_pairs, specified_pairs, first_place, AreHomes, IsHomeOf, IsFoundAt, IsLeastHome}

@@ -1,9 +1,8 @@
 -- What pairs in places give to a key, and how that changes with one pair.
 use Rattle.std.proofs.Common.{◌≡◌, ℕ, zero, suc, ◌+◌, ◌<◌, ◌≤◌, Bool, cond, List, [], ◌∷◌, length, get_or, set, refl, ap, sym, arith}
 use Rattle.std.specs.Prelude.{◌≢◌}
-use Rattle.vyrd_base.proofs.SumLaws.{given, part_given}
 use Rattle.vyrd_base.proofs.TestLaws.{same_number, isnt_same}
-use Rattle.vyrd_base.specs.Amounts.{Amounts}
+use Rattle.vyrd_base.specs.Amounts.{Amounts, given, part_given}
 use Rattle.vyrd_view.specs.Kept.{Kept}
 
 -- one pair gives way to another

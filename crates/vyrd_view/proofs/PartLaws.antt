@@ -3,11 +3,11 @@ use Rattle.std.proofs.Common.{◌≡◌, ℕ, zero, suc, ◌+◌, ◌*◌, ◌^�
 use Rattle.std.specs.Prelude.{◌==◌, ◌≢◌, nat_lt, flat_map, map, slice_index}
 use Rattle.std.proofs.lemmas.Bool.Decides.{nat_tests}
 use Rattle.vyrd_base.specs.Places.{numbers_from, numbers_below}
-use Rattle.vyrd_base.specs.Amounts.{Amounts, amount_of, plus_amount, collected}
+use Rattle.vyrd_base.specs.Amounts.{Amounts, amount_of, plus_amount, collected, given, part_given}
 use Rattle.vyrd_base.specs.Views.{slot_parts, chunk_at, chunk_parts, is_chunk, stored_pair, cached_pair, Chunk}
 use Rattle.vyrd_base.specs.TreeView.{node_word, count_of, entry_parts, node_parts, damage}
 use Rattle.vyrd_base.specs.Added.{added}
-use Rattle.vyrd_base.proofs.SumLaws.{given, part_given, given_at_most, given_nothing, amount_of-collected, amount_of-plus}
+use Rattle.vyrd_base.proofs.SumLaws.{given_at_most, given_nothing, amount_of-collected, amount_of-plus}
 use Rattle.vyrd_base.proofs.AddedLaws.{amount_of-added}
 
 pub part_at_most : (q k a : ℕ) → part_given q (k, a) ≤ a

@@ -3,7 +3,7 @@ use Rattle.std.proofs.Common.{◌≡◌, ℕ, zero, suc, ◌+◌, ◌*◌, ◌/�
 use Rattle.std.specs.Prelude.{◌==◌, ◌≢◌}
 use Rattle.std.proofs.lemmas.List.{drop_more, drop_all}
 use Rattle.vyrd_base.specs.Places.{numbers_from, numbers_below}
-use Rattle.vyrd_base.proofs.SumLaws.{given}
+use Rattle.vyrd_base.specs.Amounts.{given}
 use Rattle.vyrd_base.proofs.TestLaws.{same_of, apart_of}
 use Rattle.vyrd_view.specs.Pairs.{is_touched, EachAtMost}
 use Rattle.vyrd_view.proofs.PartLaws.{part_at_most}

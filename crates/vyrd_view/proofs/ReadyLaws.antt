@@ -8,10 +8,10 @@ use Rattle.vyrd_base.specs.declared.subject.Subject.TheVariants.{Multiset, Cache
 use Rattle.vyrd_base.specs.Limits.{is_known_version, is_sized}
 use Rattle.vyrd_base.specs.Layout.{plain_words, plain_words_of}
 use Rattle.vyrd_base.specs.Places.{numbers_below}
-use Rattle.vyrd_base.specs.Amounts.{collected}
+use Rattle.vyrd_base.specs.Amounts.{collected, given}
 use Rattle.vyrd_base.specs.Views.{view_of_words, parts_of}
 use Rattle.vyrd_base.proofs.AmountLaws.{same_amounts}
-use Rattle.vyrd_base.proofs.SumLaws.{given, amount_of-collected, IsAmounts-collected}
+use Rattle.vyrd_base.proofs.SumLaws.{amount_of-collected, IsAmounts-collected}
 use Rattle.vyrd_base.proofs.TestLaws.{first_true, second_true, at_most_of, below_of, not_below_of}
 use Rattle.vyrd_view.specs.Pairs.{is_touched, slot_pair, chunk_pair, EachAtMost, HaveChunkKeys}
 use Rattle.vyrd_view.specs.Chains.{is_on_chain, is_broken, node_pair, end_pair, tree_pair, is_stale, has_link}

@@ -4,8 +4,9 @@ use Rattle.std.specs.Prelude.{◌==◌, flat_map, slice_index}
 use Rattle.std.proofs.lemmas.List.{map-append}
 use Rattle.vyrd_base.specs.Places.{numbers_below}
 use Rattle.vyrd_base.specs.Views.{slot_parts, chunk_at, chunk_parts, is_chunk, stored_pair, cached_pair, Chunk}
+use Rattle.vyrd_base.specs.Amounts.{given, part_given}
 use Rattle.vyrd_base.proofs.PlaceLaws.{numbers_below-push}
-use Rattle.vyrd_base.proofs.SumLaws.{given, part_given, given-append}
+use Rattle.vyrd_base.proofs.SumLaws.{given-append}
 use Rattle.vyrd_view.specs.Pairs.{slot_pair, chunk_pair, chunk_amount, chunk_flaw}
 use Rattle.vyrd_base.proofs.AddedLaws.{parts-push}
 use Rattle.vyrd_view.proofs.ChunkPairLaws.{pair_even, pair_odd}

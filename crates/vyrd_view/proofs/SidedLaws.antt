@@ -2,9 +2,8 @@
 use Rattle.std.proofs.Common.{◌≡◌, ◌≢◌, ℕ, ◌+◌, ◌<◌, ◌≤◌, min, Bool, true, false, cond, not, List, Option, Some, None, length, length-set, set, refl, ap, ◌∙◌, sym, subst, arith, get_or-set_same, get_or-set_other}
 use Rattle.std.specs.Prelude.{◌==◌, nat_le, count_by}
 use Rattle.std.proofs.lemmas.List.{map-set, length-map}
-use Rattle.vyrd_base.specs.Amounts.{Amounts, IsAmounts, amount_of, with_amount}
+use Rattle.vyrd_base.specs.Amounts.{Amounts, IsAmounts, amount_of, with_amount, given, part_given}
 use Rattle.vyrd_base.proofs.AmountLaws.{amount_of-with_amount, IsAmounts-with_amount, same_amounts}
-use Rattle.vyrd_base.proofs.SumLaws.{given, part_given}
 use Rattle.vyrd_base.proofs.TestLaws.{same_of, apart_of, is_same, isnt_same, at_most_of, above_of}
 use Rattle.vyrd_view.specs.declared.homes.Home.{Home}
 use Rattle.vyrd_view.specs.declared.homes.Homes.{Homes}

@@ -1,7 +1,6 @@
 -- What the two sides have of each key.
 use Rattle.std.specs.Prelude.{◌≡◌, ℕ, ◌+◌, ◌<◌, count_by}
-use Rattle.vyrd_base.specs.Amounts.{Amounts, IsAmounts, amount_of}
-use Rattle.vyrd_base.proofs.SumLaws.{given}
+use Rattle.vyrd_base.specs.Amounts.{Amounts, IsAmounts, amount_of, given}
 use Rattle.vyrd_base.specs.Added.{added}
 use Rattle.vyrd_view.specs.Homes.{home_at, is_apart, IsWithin, shown_pairs, specified_pairs, AreHomes}
 use Rattle.vyrd_view.specs.Rests as rests

@@ -1,8 +1,7 @@
 //! What the parts give, pair by pair.
 
 ghost use Rattle.std.specs.Prelude.{◌≡◌, ℕ, ◌+◌, ◌<◌, ◌≤◌, ◌^◌, [], true, false, length, slice_set, OnOk, OnErr, IfOk};
-ghost use Rattle.vyrd_base.specs.Amounts.{amount_of, with_amount, collected, first_difference};
-ghost use Rattle.vyrd_base.proofs.SumLaws.{given, part_given};
+ghost use Rattle.vyrd_base.specs.Amounts.{amount_of, with_amount, collected, first_difference, given, part_given};
 
 use crate::sides::Sides;
 use crate::steps::Steps;
@@ -27,7 +26,7 @@ pub(crate) struct Parts {
 
 impl Model for Parts {
     ghost use Rattle.std.specs.Prelude.{◌≡◌, ℕ, false};
-    ghost use Rattle.vyrd_base.proofs.SumLaws.{given};
+    ghost use Rattle.vyrd_base.specs.Amounts.{given};
     ghost use Rattle.vyrd_view.specs.Kept.{Kept};
     ghost use Rattle.vyrd_view.specs.Sided.{IsSettled, shown_at, specified_of};
 

@@ -1,8 +1,7 @@
 //! What the words and the specification have of each key.
 
 ghost use Rattle.std.specs.Prelude.{◌≡◌, ℕ, ◌+◌, ◌-◌, ◌<◌, ◌≤◌, ◌^◌, ◌==◌, [], OnOk, IfOk, if◌then◌else◌};
-ghost use Rattle.vyrd_base.specs.Amounts.{amount_of, with_amount};
-ghost use Rattle.vyrd_base.proofs.SumLaws.{part_given};
+ghost use Rattle.vyrd_base.specs.Amounts.{amount_of, with_amount, part_given};
 
 use crate::homes::{Home, Homes};
 use crate::rest::{Both, Rest};

@@ -6,13 +6,13 @@ use Rattle.vyrd_base.specs.declared.subject.Subject.TheVariants.{Cache}
 use Rattle.vyrd_base.specs.declared.log.Entry.{Entry}
 use Rattle.vyrd_base.specs.Places.{numbers_below}
 use Rattle.vyrd_base.specs.Layout.{plain_words, plain_words_of, lock_words_of}
-use Rattle.vyrd_base.specs.Amounts.{Amounts, collected}
+use Rattle.vyrd_base.specs.Amounts.{Amounts, collected, given}
 use Rattle.vyrd_base.specs.Specification.{start}
 use Rattle.vyrd_base.specs.FirstVersion.{old_effects, old_value_after, old_words_after}
 use Rattle.vyrd_base.specs.Views.{chunk_at, chunk_parts, parts_of, view_of_words}
 use Rattle.vyrd_base.specs.Standing.{is_sound, is_sound_chunk}
 use Rattle.vyrd_base.specs.Histories.{cells_of, is_lock}
-use Rattle.vyrd_base.proofs.SumLaws.{given, given_nothing}
+use Rattle.vyrd_base.proofs.SumLaws.{given_nothing}
 use Rattle.vyrd_base.proofs.TestLaws.{both_true, is_below, is_at_most}
 use Rattle.vyrd_memory.specs.Alone.{words_in}
 use Rattle.vyrd_memory.proofs.NumberLists.{element_below, flat_map_alike, pass_all}

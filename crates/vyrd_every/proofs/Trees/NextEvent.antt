@@ -15,9 +15,10 @@ use Rattle.vyrd_base.specs.Specification.{answer_in}
 use Rattle.vyrd_base.specs.Commits.{commit_count}
 use Rattle.vyrd_base.specs.Layout.{plain_words}
 use Rattle.vyrd_base.specs.Histories.{cells_of, value_in, may_do, is_plain, logged}
+use Rattle.vyrd_base.specs.Front.{WellFormed}
 use Rattle.vyrd_base.proofs.BlockLaws.{by_same, wrote, wrote_is}
 use Rattle.vyrd_base.proofs.HistoryLaws.{last_is_value}
-use Rattle.vyrd_base.proofs.ShadowLaws.{WellFormed, well_formed_sound}
+use Rattle.vyrd_base.proofs.ShadowLaws.{well_formed_sound}
 use Rattle.vyrd_base.proofs.TestLaws.{first_true, second_true, same_of, same_number, below_of}
 use Rattle.vyrd_memory.specs.declared.act.Act.TheVariants.{Mark}
 use Rattle.vyrd_memory.specs.Alone.{Memory}

@@ -8,7 +8,7 @@ use Rattle.vyrd_base.specs.Callers.{Called, open_call, holds_word, entries_befor
 use Rattle.vyrd_base.specs.Amounts.{Amounts}
 use Rattle.vyrd_base.specs.Words.{block_writes}
 use Rattle.vyrd_base.specs.Commits.{commit_count}
-use Rattle.vyrd_base.proofs.ShadowLaws.{WellFormed}
+use Rattle.vyrd_base.specs.Front.{WellFormed}
 use Rattle.vyrd_memory.specs.Alone.{Memory}
 use Rattle.vyrd_memory.specs.Scripts.{Script, left_after}
 use Rattle.vyrd_memory.specs.Soundness.{Standing, holds}

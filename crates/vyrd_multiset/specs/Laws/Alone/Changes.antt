@@ -7,11 +7,11 @@ use Rattle.vyrd_base.specs.declared.header.Header.{Header}
 use Rattle.vyrd_base.specs.declared.subject.Subject.TheVariants.{Multiset}
 use Rattle.vyrd_base.specs.Places.{numbers_below, numbers_from}
 use Rattle.vyrd_base.specs.Layout.{plain_words, lock_words, plain_words_of, lock_words_of}
-use Rattle.vyrd_base.specs.Amounts.{Amounts, IsAmounts, amount_of, with_amount, plus_amount, collected}
+use Rattle.vyrd_base.specs.Amounts.{Amounts, IsAmounts, amount_of, with_amount, plus_amount, collected, given, part_given}
 use Rattle.vyrd_base.specs.Views.{slot_parts, parts_of, view_of_words}
 use Rattle.vyrd_base.specs.Standing.{is_sound_slot, is_sound}
 use Rattle.vyrd_base.proofs.AmountLaws.{amount_of-with_amount, IsAmounts-with_amount}
-use Rattle.vyrd_base.proofs.SumLaws.{given, part_given, given-append, amount_of-collected, amount_of-plus, IsAmounts-collected, given_nothing}
+use Rattle.vyrd_base.proofs.SumLaws.{given-append, amount_of-collected, amount_of-plus, IsAmounts-collected, given_nothing}
 use Rattle.vyrd_base.proofs.TestLaws.{same_of, same_number, isnt_same}
 use Rattle.vyrd_memory.specs.Alone.{Memory, words_in, state_in}
 use Rattle.vyrd_memory.proofs.NumberLists.{all_pass, pass_all, flat_map_alike}

@@ -4,8 +4,7 @@ use Rattle.std.proofs.Common.{◌≡◌, ◌≢◌, ℕ, ◌+◌, ◌-◌, ◌*�
 use Rattle.std.specs.Prelude.{◌==◌, ◌&&◌, nat_le}
 use Rattle.std.proofs.lemmas.Bool.Decides.{nat_tests}
 use Rattle.vyrd_base.specs.declared.header.Header.{Header}
-use Rattle.vyrd_base.specs.Amounts.{Amounts, amount_of, with_amount, plus_amount}
-use Rattle.vyrd_base.proofs.SumLaws.{given}
+use Rattle.vyrd_base.specs.Amounts.{Amounts, amount_of, with_amount, plus_amount, given}
 use Rattle.vyrd_base.specs.declared.log.Kind.TheVariants.{BlockOpen, BlockCommit}
 use Rattle.vyrd_base.proofs.TestLaws.{same_of, apart_of}
 use Rattle.vyrd_memory.specs.declared.act.Act.TheVariants.{Store, Mark}

@@ -6,7 +6,8 @@ use Rattle.std.specs.Prelude.{slice_index}
 use Rattle.std.specs.List.{list_any}
 use Rattle.vyrd_base.specs.Places.{numbers_from}
 use Rattle.vyrd_base.specs.TreeView.{right_of, entry_parts, node_parts, damage, chain_parts_from, chain_parts}
-use Rattle.vyrd_base.proofs.SumLaws.{given, given-append}
+use Rattle.vyrd_base.specs.Amounts.{given}
+use Rattle.vyrd_base.proofs.SumLaws.{given-append}
 use Rattle.vyrd_base.proofs.TestLaws.{is_same, isnt_same, isnt_at_most}
 use Rattle.vyrd_memory.specs.Alone.{Memory}
 use Rattle.vyrd_tree.specs.Laws.Alone.Counts.{zero_or, le_or}

@@ -1,8 +1,8 @@
 use Rattle.std.proofs.Common.{◌≡◌, ◌≢◌, ℕ, ◌+◌, ◌*◌, ◌/◌, ◌<◌, Bool, true, false, List, length, length-set, map, get_or, set, ap, sym, ◌∙◌, arith, refl, subst, get_or-set_same, get_or-set_other}
 use Rattle.std.specs.Prelude.{◌==◌}
 use Rattle.vyrd_base.specs.Places.{numbers_below}
+use Rattle.vyrd_base.specs.Amounts.{given}
 use Rattle.vyrd_base.proofs.TestLaws.{same_of, apart_of}
-use Rattle.vyrd_base.proofs.SumLaws.{given}
 use Rattle.vyrd_view.specs.Pairs.{chunk_pair, HaveChunkKeys}
 use Rattle.vyrd_view.proofs.PairLaws.{all_kept}
 use Rattle.vyrd_view.proofs.PlacedLaws.{parts_fresh_more, untouched_end, mapped}

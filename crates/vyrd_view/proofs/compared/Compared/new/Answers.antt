@@ -1,6 +1,6 @@
 use Rattle.std.proofs.Common.{length, ap, ◌∙◌}
 use Rattle.std.proofs.lemmas.List.{length-replicate}
-use Rattle.vyrd_base.proofs.SumLaws.{given}
+use Rattle.vyrd_base.specs.Amounts.{given}
 use Rattle.vyrd_view.specs.Firsts.{nodes_in}
 use Rattle.vyrd_view.proofs.CurrentLaws.{first_give_nothing}
 use Rattle.vyrd_view.proofs.ReadyLaws.{first_current}
