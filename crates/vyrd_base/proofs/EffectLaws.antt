@@ -1,5 +1,5 @@
--- What the effects of the entries owe to one more entry behind them: nothing, but where it ends a block with a lone commit in it. Then
--- the writes of that block take effect at that commit, and all else stays.
+-- What the effects of the entries owe to one more entry behind them: nothing, but where it ends a block with a lone commit in
+-- it. Then the writes of that block take effect at that commit, and all else stays.
 use Rattle.std.proofs.Common.{◌≡◌, ℕ, Bool, true, false, cond, ◌&&◌, ◌||◌, List, [], ◌∷◌, ◌++◌, Option, Some, None, refl, ap, subst, ◌∙◌, sym, append_assoc}
 use Rattle.std.specs.Prelude.{◌==◌, unwrap_or}
 use Rattle.std.specs.Option.{option_or, option_map_or}
@@ -200,8 +200,8 @@ same_after h earlier e wf none = by_end (ends_block e.kind) refl none
     by_end true ends outside = same_without_inner h e.caller e.kind earlier wf [] outside
     by_end false ends outside = same_without_end earlier e.caller e.kind [] ends
 
--- What the two say of one entry, where the writes take effect at the caller's last lone commit with `later'` behind, none of them do with
--- `later`, and all else is the same: that commit itself, an entry of the caller since, or another caller's.
+-- What the two say of one entry, where the writes take effect at the caller's last lone commit with `later'` behind, none of
+-- them do with `later`, and all else is the same: that commit itself, an entry of the caller since, or another caller's.
 pub data MoreAt (c : ℕ) (writes : List (ℕ × ℕ)) (e : Entry) (earlier later later' : List Entry) (before : Type 0) : Type 0 where
   at_commit : e.caller ≡ c → e.kind ≡ Commit → effects_at earlier e.caller e.kind later ≡ []
       → effects_at earlier e.caller e.kind later' ≡ writes → SameEffects earlier (e ∷ later) (e ∷ later')

@@ -1,5 +1,6 @@
--- In a well-formed log a block's writes may as well take effect at its end, once it has ended: no other caller's write has taken effect
--- since the commit in it on a word of the block. So the words after all entries are those of version 1's definition.
+-- In a well-formed log a block's writes may as well take effect at its end, once it has ended: no other caller's write has
+-- taken effect since the commit in it on a word of the block. So the words after all entries are those of version 1's
+-- definition.
 use Rattle.std.proofs.Common.{◌≡◌, ℕ, suc, zero, ◌+◌, ◌<◌, Bool, true, false, cond, ◌&&◌, ◌||◌, List, [], ◌∷◌, ◌++◌, map, Option, Some, None, refl, ap, subst, ◌∙◌, sym}
 use Rattle.std.specs.Prelude.{◌==◌, is_some, unwrap_or}
 use Rattle.std.specs.Option.{option_or}
@@ -117,7 +118,8 @@ none_to w writes none = of_none (first_answer (given_to w) writes) (some_to w wr
 pub holds_is : (c w : ℕ) (earlier : List Entry) → has_block c earlier ≡ true → holds_word c w earlier ≡ list_any (is_to w) (block_writes c earlier)
 holds_is c w earlier inside = ap (λ b. b && wrote c w earlier) inside ∙ wrote_is c w earlier inside ∙ some_to w (block_writes c earlier)
 
--- A word that the caller's open block has written isn't among those to which other callers' writes took effect since the commit in it.
+-- A word that the caller's open block has written isn't among those to which other callers' writes took effect since the commit
+-- in it.
 abbrev pub HeldIsntPassed : ℕ → ℕ → List Entry → Type 0
 HeldIsntPassed c w earlier = has_inner_commit c earlier ≡ true → holds_word c w earlier ≡ true
     → list_any (is_to w) (effects_of_others c earlier []) ≡ false

@@ -1,6 +1,6 @@
--- What a caller is in the middle of at a place of a log: an open execution, an open block, an execution that has committed,
--- a commit inside the open block, and the words that the block has written. The entries before the place are given the nearest first, so each is the
--- answer of the first entry that has one.
+-- What a caller is in the middle of at a place of a log: an open execution, an open block, an execution that has committed, a
+-- commit inside the open block, and the words that the block has written. The entries before the place are given the nearest
+-- first, so each is the answer of the first entry that has one.
 use Rattle.std.specs.Prelude.{ℕ, Bool, true, false, ◌&&◌, ◌==◌, List, [], ◌∷◌, Option, Some, None, unwrap_or, if◌then◌else◌}
 use Rattle.std.specs.Option.{option_flatten}
 use Rattle.vyrd_base.specs.declared.subject.Method.{Method}

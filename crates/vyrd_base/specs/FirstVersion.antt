@@ -1,7 +1,7 @@
--- The verdict as it was while version 1 was the only one: no log began with words, no commit stood inside a block, and a block's
--- writes took effect at its end. That logs of version 1 keep it is the law `first_version_keeps_its_verdicts`. What the rules share
--- is cited; what stands here is what has changed since.
-use Rattle.std.specs.Prelude.{ℕ, ◌+◌, List, [], ◌∷◌, ◌++◌, map, length, Option, Some, None, option_map, option_and_then, unwrap_or, slice_get, if◌then◌else◌}
+-- The verdict as it was while version 1 was the only one: no log began with words, no commit stood inside a block, and a
+-- block's writes took effect at its end. That logs of version 1 keep it is the law `first_version_keeps_its_verdicts`. What the
+-- rules share is cited; what stands here is what has changed since.
+use Rattle.std.specs.Prelude.{ℕ, ◌+◌, List, [], ◌∷◌, ◌++◌, map, length, Option, Some, None, option_map, option_and_then, unwrap_or, slice_get, if◌then◌else◌, is_none, nat_le, ◌^◌}
 use Rattle.std.specs.Bool.{then_some}
 use Rattle.std.specs.Option.{option_or}
 use Rattle.vyrd_base.specs.declared.header.Header.{Header}
@@ -13,7 +13,6 @@ use Rattle.vyrd_base.specs.declared.verdict.Rule.TheVariants.{NoCall, WordRange,
 use Rattle.vyrd_base.specs.declared.verdict.Why.{Why}
 use Rattle.vyrd_base.specs.declared.verdict.Verdict.{Verdict}
 use Rattle.vyrd_base.specs.declared.verdict.Verdict.TheVariants.{Violation, Malformed}
-use Rattle.std.specs.Prelude.{is_none, nat_le, ◌^◌}
 use Rattle.vyrd_base.specs.Places.{Place, places, position_of, newest_first, first_answer, numbers_below}
 use Rattle.vyrd_base.specs.Callers.{open_call, has_block, has_committed}
 use Rattle.vyrd_base.specs.Layout.{plain_words}

@@ -1,5 +1,5 @@
--- A table of pairs of a key and an amount, where a key stands in one of four places in a row. The keys that find no place there are
--- the rest, and have their amounts elsewhere.
+-- A table of pairs of a key and an amount, where a key stands in one of four places in a row. The keys that find no place there
+-- are the rest, and have their amounts elsewhere.
 use Rattle.std.specs.Prelude.{◌≡◌, ◌≢◌, ℕ, Bool, true, ◌+◌, ◌*◌, ◌/◌, ◌%◌, ◌^◌, ◌<◌, ◌≤◌, ◌==◌, not, List, [], ◌∷◌, length, slice_index_or, Option, Some, None}
 use Rattle.vyrd_base.specs.Amounts.{Amounts, IsAmounts, amount_of, plus_amount}
 

@@ -1,5 +1,6 @@
--- The verdict about the bytes of a log, and what is known of it so far. What is wrong with the starting words and entries that were
--- read comes before the fault of the text, since these stand on earlier lines. `max_lines` is the reader's limit, at least 1.
+-- The verdict about the bytes of a log, and what is known of it so far. What is wrong with the starting words and entries that
+-- were read comes before the fault of the text, since these stand on earlier lines. `max_lines` is the reader's limit, at least
+-- 1.
 use Rattle.std.specs.Prelude.{ℕ, true, false, List, Option, None, option_map, option_and_then, unwrap_or, if◌then◌else◌}
 use Rattle.std.specs.Option.{option_or, option_map_or}
 use Rattle.vyrd_base.specs.declared.header.Header.{Header}

@@ -39,8 +39,8 @@ entry_parts (key, value) = if nat_lt key (2 ^ 32) && nat_lt value (2 ^ 32) then 
 abbrev pub node_parts : List ℕ → ℕ → List (ℕ × ℕ)
 node_parts words n = flat_map entry_parts (entries_of words n)
 
--- The parts of the chain of right links from a node on. Before it stand the nodes that are seen, and at most as many follow as are left.
--- The chain ends at a right link 0. One past the nodes or back to a node of the chain is damage.
+-- The parts of the chain of right links from a node on. Before it stand the nodes that are seen, and at most as many follow as
+-- are left. The chain ends at a right link 0. One past the nodes or back to a node of the chain is damage.
 abbrev pub chain_parts_from : ℕ → List ℕ → ℕ → List ℕ → ℕ → List (ℕ × ℕ)
 chain_parts_from size words zero seen n = []
 chain_parts_from size words (suc left) seen n = node_parts words n ++ (elim (right_of words n == 0) [

@@ -1,7 +1,8 @@
--- The words as the effects of the logged writes leave them, from the starting words on. A write outside a block takes effect where
--- it stands. The writes of a block take effect together, one after the other: at the lone commit inside the block, those that
--- are written after it too, and where there is none at the block's end. Those of a block that doesn't end take no effect. A word has
--- the value of the last effect on it. Entries before a place are given the newest first, and those after it the oldest first.
+-- The words as the effects of the logged writes leave them, from the starting words on. A write outside a block takes effect
+-- where it stands. The writes of a block take effect together, one after the other: at the lone commit inside the block, those
+-- that are written after it too, and where there is none at the block's end. Those of a block that doesn't end take no effect.
+-- A word has the value of the last effect on it. Entries before a place are given the newest first, and those after it the
+-- oldest first.
 use Rattle.std.specs.Prelude.{ℕ, Bool, true, false, ◌&&◌, ◌==◌, List, [], ◌∷◌, ◌++◌, map, Option, Some, None, option_map, unwrap_or, if◌then◌else◌}
 use Rattle.std.specs.List.{list_any}
 use Rattle.std.specs.Option.{option_map_or}

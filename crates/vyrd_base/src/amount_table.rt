@@ -1,6 +1,6 @@
 //! Amounts by key in a flat table, where each can be looked up and changed.
 
-ghost use Rattle.std.specs.Prelude.{◌≡◌, ◌≢◌, ◌+◌, ◌-◌, ◌<◌, ◌≤◌, ◌^◌, ◌==◌, ℕ, true, false, length, replicate, [], OnOk, OnErr, IfOk, IfSome, None};
+ghost use Rattle.std.specs.Prelude.{◌≡◌, ◌≢◌, ◌+◌, ◌-◌, ◌<◌, ◌≤◌, ◌^◌, ◌==◌, false, length, replicate, [], OnOk, OnErr, IfOk, IfSome, None};
 ghost use Rattle.vyrd_base.specs.Amounts.{IsAmounts, amount_of, with_amount, plus_amount};
 ghost use Rattle.vyrd_base.specs.Tables.{pair_at, is_taken, first_place, IsFoundAt, IsTable, HasAll, amounts_in};
 
@@ -45,8 +45,8 @@ impl Model for AmountTable {
 }
 
 impl AmountTable {
-    /// The table with no key, with two to four places for each of so many keys. It takes 16 bytes a place, and no further memory for
-    /// the keys that find a place there.
+    /// The table with no key, with two to four places for each of so many keys. It takes 16 bytes a place, and no further
+    /// memory for the keys that find a place there.
     pub fn new(alloc: Global, keys: usize) -> Result<AmountTable, AllocError>
         ensures { IfOk result (λ t. t ≡ []) }
     {

@@ -1,6 +1,6 @@
 //! What the program reads from, writes to and asks before each event, as traits whose meanings contracts can name.
 
-ghost use Rattle.std.specs.Prelude.{◌≡◌, ℕ, ◌+◌, ◌-◌, ◌<◌, ◌≤◌, Bool, true, List, length, Option, Ok, IsOk, IfOk, OnOk, OnErr};
+ghost use Rattle.std.specs.Prelude.{◌≡◌, ℕ, ◌+◌, ◌-◌, ◌<◌, ◌≤◌, Bool, true, List, length, Option, Ok, IsOk, IfOk, OnErr};
 ghost use Rattle.vyrd_base.specs.Devices.{HasRisen, Gives, IsAtEnd, Takes};
 
 use std::error::Error;

@@ -1,6 +1,6 @@
 //! The header of a log: its limits, and what follows from its numbers.
 
-ghost use Rattle.std.specs.Prelude.{◌≡◌, ◌↔◌, ◌==◌, ◌&&◌, ℕ, IsTrue, IfSome, IsSome};
+ghost use Rattle.std.specs.Prelude.{◌≡◌, ◌↔◌, ◌==◌, ◌&&◌, IsTrue, IfSome, IsSome};
 ghost use Rattle.vyrd_base.specs.Limits.{is_within};
 ghost use Rattle.vyrd_base.specs.Subjects.{subject_of, same_subject, are_args};
 

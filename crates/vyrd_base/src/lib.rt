@@ -1,9 +1,10 @@
 //! The plain data of a log and of its verdict, the devices at the program's edge, and every definition of judging.
 //!
-//! A log tells of a concurrent run: who called what, which words were written, and where each call took effect. A log is
-//! a `Header`, in version 2 words that aren't 0 at the start, and a list of entries, and the central type is `Entry`: one
-//! caller and what it did. The answer about a log is a `Verdict`. The crate decides nothing itself. It says, once and for all other crates, which verdict a log has,
-//! and its own calls meet the same definitions: a header's numbers, amounts by key, and what devices give and take.
+//! A log tells of a concurrent run: who called what, which words were written, and where each call took effect. A log is a
+//! `Header`, in version 2 words that aren't 0 at the start, and a list of entries, and the central type is `Entry`: one caller
+//! and what it did. The answer about a log is a `Verdict`. The crate decides nothing itself. It says, once and for all other
+//! crates, which verdict a log has, and its own calls meet the same definitions: a header's numbers, amounts by key, and what
+//! devices give and take.
 //!
 //! What stands in `src/`:
 //!

@@ -1,6 +1,6 @@
 //! A sink in memory.
 
-ghost use Rattle.std.specs.Prelude.{◌≡◌, ◌-◌, ◌<◌, ◌≤◌, min, true, [], length, Some, IfOk, OnErr, is_err, vec_len};
+ghost use Rattle.std.specs.Prelude.{◌≡◌, ◌-◌, ◌<◌, ◌≤◌, min, [], length, Some, IfOk, OnErr, is_err};
 ghost use Rattle.vyrd_base.specs.Devices.{HasRisen, Takes, sure_room_of, next_count, write_fails};
 
 use crate::calls::Calls;

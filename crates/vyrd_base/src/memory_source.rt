@@ -1,6 +1,6 @@
 //! A source in memory.
 
-ghost use Rattle.std.specs.Prelude.{◌≡◌, ◌==◌, ◌<◌, ◌≤◌, min, true, [], length, drop, Some, Ok, IfOk, OnErr, is_err, vec_len};
+ghost use Rattle.std.specs.Prelude.{◌≡◌, ◌==◌, ◌<◌, ◌≤◌, min, length, drop, Some, Ok, IfOk, OnErr, is_err};
 ghost use Rattle.vyrd_base.specs.Devices.{HasRisen, Gives, IsAtEnd, next_count, fails_next};
 
 use crate::calls::Calls;

@@ -166,7 +166,7 @@ fn readers_and_writers(rt: HostRuntime) -> Result<(), Fail> {
     Ok(())
 }
 
-// A stream whose first call is interrupted, and whose later calls take or give a byte.
+/// A stream whose first call is interrupted, and whose later calls take or give a byte.
 #[derive(Drop)]
 struct InterruptedOnce {
     calls: usize,

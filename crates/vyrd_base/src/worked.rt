@@ -1,7 +1,7 @@
 //! Verdicts of small logs, words and histories, worked out by the definitions. Each function does nothing: its contract
 //! has the cases.
 
-ghost use Rattle.std.specs.Prelude.{◌≡◌, ◌+◌, ◌^◌, [], ◌∷◌, ◌++◌, replicate, true, false};
+ghost use Rattle.std.specs.Prelude.{◌≡◌, ◌^◌, [], ◌∷◌, replicate, true, false};
 ghost use Rattle.vyrd_base.specs.Verdicts.{verdict};
 ghost use Rattle.vyrd_base.specs.Standing.{state_of_words};
 ghost use Rattle.vyrd_base.specs.Histories.{is_legal, log_of, cells_of};

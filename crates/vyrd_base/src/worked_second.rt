@@ -1,5 +1,5 @@
-//! Answers about the bytes of small logs of version 2, worked out by the definitions. Each function does nothing: its contract has
-//! the cases. All read at most 268,435,456 lines.
+//! Answers about the bytes of small logs of version 2, worked out by the definitions. Each function does nothing: its contract
+//! has the cases. All read at most 268,435,456 lines.
 
 ghost use Rattle.std.specs.Prelude.{◌≡◌, codes};
 ghost use Rattle.vyrd_base.specs.TextVerdicts.{answer_to};

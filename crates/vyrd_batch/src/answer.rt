@@ -22,7 +22,7 @@ pub fn write_verdicts(verdicts: &[Verdict], out: &mut Vec<u8>) -> Result<(), All
     written
 }
 
-// Appends all of that, or a part of it where memory ran out.
+/// Appends all of that, or a part of it where memory ran out.
 #[tactic(auto, unfolding(crate::specs::BatchAnswers::batch_text))]
 fn write_all(verdicts: &[Verdict], out: &mut Vec<u8>) -> Result<(), AllocError>
     requires { length verdicts.now < 2 ^ 62 }
@@ -33,7 +33,7 @@ fn write_all(verdicts: &[Verdict], out: &mut Vec<u8>) -> Result<(), AllocError>
     write_count(verdicts.len() as u64, out)
 }
 
-// Appends a line for each verdict, or a part of them where memory ran out.
+/// Appends a line for each verdict, or a part of them where memory ran out.
 fn write_lines(verdicts: &[Verdict], out: &mut Vec<u8>) -> Result<(), AllocError>
     requires { length verdicts.now < 2 ^ 62 }
     ensures ok { OnOk result (out.new.items ≡ out.old.items ++ lines_from 0 verdicts.now) }
@@ -45,7 +45,7 @@ fn write_lines(verdicts: &[Verdict], out: &mut Vec<u8>) -> Result<(), AllocError
     Ok(())
 }
 
-// Appends the line that counts the logs.
+/// Appends the line that counts the logs.
 fn write_count(logs: u64, out: &mut Vec<u8>) -> Result<(), AllocError>
     ensures ok { OnOk result (out.new.items ≡ out.old.items ++ count_line logs) }
     ensures err { OnErr result (out.new.items ≡ out.old.items) }
@@ -57,7 +57,7 @@ fn write_count(logs: u64, out: &mut Vec<u8>) -> Result<(), AllocError>
     out.extend_from_slice(line.as_slice())
 }
 
-// Appends the line of a log's verdict, or a part of it where memory ran out.
+/// Appends the line of a log's verdict, or a part of it where memory ran out.
 fn write_log_line(log: u64, verdict: &Verdict, out: &mut Vec<u8>) -> Result<(), AllocError>
     ensures ok { OnOk result (out.new.items ≡ out.old.items ++ log_line log verdict.now) }
     ensures err { OnErr result (take (length out.old.items) out.new.items ≡ out.old.items) }
@@ -96,28 +96,28 @@ pub fn status_of(verdicts: &[Verdict]) -> u8
     0
 }
 
-// Whether some verdict is a violation.
+/// Whether some verdict is a violation.
 fn has_violation(verdicts: &[Verdict]) -> bool
     ensures { result ≡ list_any is_violation verdicts.now }
 {
     verdicts.iter().any(is_violation)
 }
 
-// Whether some verdict is malformed.
+/// Whether some verdict is malformed.
 fn has_malformed(verdicts: &[Verdict]) -> bool
     ensures { result ≡ list_any is_malformed verdicts.now }
 {
     verdicts.iter().any(is_malformed)
 }
 
-// Whether a verdict is a violation.
+/// Whether a verdict is a violation.
 fn is_violation(verdict: &Verdict) -> bool
     ensures { result ≡ is_violation verdict.now }
 {
     matches!(verdict, Verdict::Violation { .. })
 }
 
-// Whether a verdict is malformed.
+/// Whether a verdict is malformed.
 fn is_malformed(verdict: &Verdict) -> bool
     ensures { result ≡ is_malformed verdict.now }
 {

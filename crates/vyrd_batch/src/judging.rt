@@ -39,7 +39,7 @@ pub fn judge_batch<R: Threads + Sync>(
     joined(alloc, &judged)
 }
 
-// The verdicts about the spans of each part.
+/// The verdicts about the spans of each part.
 fn judge_parts<R: Threads + Sync>(
     rt: &R,
     alloc: Global,
@@ -63,7 +63,7 @@ fn judge_parts<R: Threads + Sync>(
     judged
 }
 
-// The verdicts about the spans of a part, one after the other.
+/// The verdicts about the spans of a part, one after the other.
 fn judge_part(alloc: Global, bytes: &[u8], spans: &[Span]) -> Result<Vec<Verdict>, AllocError>
     requires { AllByRecursion (LiesWithin (length bytes.now)) spans.now }
     ensures { IfOk result (λ verdicts. verdicts.items ≡ verdicts_of (map (bytes_of bytes.now) spans.now)) }
@@ -75,7 +75,7 @@ fn judge_part(alloc: Global, bytes: &[u8], spans: &[Span]) -> Result<Vec<Verdict
     Ok(verdicts)
 }
 
-// The verdict about the bytes of a span.
+/// The verdict about the bytes of a span.
 fn judge_span(alloc: Global, bytes: &[u8], span: Span) -> Result<Verdict, AllocError>
     requires { LiesWithin (length bytes.now) span }
     ensures { IfOk result (λ verdict. verdict ≡ text_verdict most_lines (bytes_of bytes.now span)) }
@@ -83,7 +83,7 @@ fn judge_span(alloc: Global, bytes: &[u8], span: Span) -> Result<Verdict, AllocE
     verdict_of(alloc, MOST_LINES, &bytes[span.first..span.past])
 }
 
-// The verdicts of all parts, in their order.
+/// The verdicts of all parts, in their order.
 fn joined(alloc: Global, judged: &[Vec<Verdict>]) -> Result<Vec<Verdict>, AllocError>
     ensures { IfOk result (λ verdicts. verdicts.items ≡ flat_map (λ part. part.items) judged.now) }
 {

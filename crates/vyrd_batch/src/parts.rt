@@ -1,8 +1,6 @@
 //! Spans in parts of about the same weight, so that threads that get a part each end at about the same time.
 
 ghost use Rattle.std.specs.Prelude.{◌≡◌, ◌<◌, ◌≤◌, length, flat_map, IfOk};
-ghost use Rattle.std.specs.List.{AllByRecursion};
-ghost use Rattle.vyrd_batch.specs.Batches.{LiesWithin};
 
 use crate::span::Span;
 use std::alloc::{AllocError, Global};
@@ -28,7 +26,7 @@ pub fn parts_of<'a>(
     Ok(parts)
 }
 
-// How many spans are in the next part.
+/// How many spans are in the next part.
 fn next_part(most: usize, spans: &[Span]) -> usize
     requires { 0 < length spans.now }
     ensures some { 0 < result }

@@ -37,7 +37,7 @@ pub fn read_batch(alloc: Global, bytes: &[u8]) -> Result<Vec<Span>, BatchFault>
     read_logs(alloc, line.len() + 1, rest)
 }
 
-// Where the logs stand from a place of the input on, with these bytes from there on.
+/// Where the logs stand from a place of the input on, with these bytes from there on.
 fn read_logs(alloc: Global, first: usize, bytes: &[u8]) -> Result<Vec<Span>, BatchFault>
     requires { first + length bytes.now < 2 ^ 63 }
     ensures spans { IfOk result (λ spans. logs_from most_logs 0 first bytes.now ≡ Ok spans.items) }
@@ -62,7 +62,7 @@ fn read_logs(alloc: Global, first: usize, bytes: &[u8]) -> Result<Vec<Span>, Bat
     Ok(spans)
 }
 
-// Appends a span.
+/// Appends a span.
 fn keep(span: Span, spans: &mut Vec<Span>) -> Result<(), AllocError>
     ensures { OnOk result (spans.new.items ≡ spans.old.items ++ span ∷ []) }
 {
@@ -70,8 +70,8 @@ fn keep(span: Span, spans: &mut Vec<Span>) -> Result<(), AllocError>
     Ok(())
 }
 
-// Where the bytes of a log stand whose line begins at a place of the input, with these bytes from there on; and what stands
-// behind them.
+/// Where the bytes of a log stand whose line begins at a place of the input, with these bytes from there on; and what stands
+/// behind them.
 fn log_at(place: usize, bytes: &[u8]) -> Option<(Span, &[u8])>
     requires { place + length bytes.now < 2 ^ 63 }
     ensures { MatchOption result (log_at place bytes.now ≡ None)
@@ -89,7 +89,7 @@ fn log_at(place: usize, bytes: &[u8]) -> Option<(Span, &[u8])>
     Some((Span { first, past }, next))
 }
 
-// How many bytes the line before a log says, where it is such a line.
+/// How many bytes the line before a log says, where it is such a line.
 fn size_in(line: &[u8]) -> Option<usize>
     ensures { result ≡ size_in line.now }
 {
@@ -98,7 +98,7 @@ fn size_in(line: &[u8]) -> Option<usize>
     in_range(size)
 }
 
-// The size, where a log may have so many bytes.
+/// The size, where a log may have so many bytes.
 fn in_range(size: u32) -> Option<usize>
     ensures { (line : List ℕ) → line ≡ log_word size → result ≡ size_in line }
 {

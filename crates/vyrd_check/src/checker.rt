@@ -35,7 +35,7 @@ impl Model for Checker {
 }
 
 impl Drop for Checker {
-    // By hand, so that whoever lets a checker go has one call to prove and not the letting go of each of its parts.
+    /// By hand, so that whoever lets a checker go has one call to prove and not the letting go of each of its parts.
     fn drop(self) {
         let Checker {
             text,
@@ -105,7 +105,7 @@ impl Checker {
         }
     }
 
-    // Follows a part of a piece, where no verdict stands.
+    /// Follows a part of a piece, where no verdict stands.
     fn feed_part(&mut self, part: &[u8]) -> Result<(), AllocError>
         requires works { self.old.has_failed ≡ false }
         requires undecided { self.old.so_far ≡ None }

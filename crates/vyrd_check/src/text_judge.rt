@@ -1,6 +1,6 @@
 //! A reader of a log's text, and the judge of what it reads.
 
-ghost use Rattle.std.specs.Prelude.{◌≡◌, ◌++◌, ◌+◌, ◌^◌, ◌≤◌, ◌||◌, ℕ, true, Bool, List, [], length, Option, Some, None, IfOk, OnOk, option_map};
+ghost use Rattle.std.specs.Prelude.{◌≡◌, ◌++◌, ◌+◌, ◌^◌, ◌≤◌, ◌||◌, ℕ, true, List, [], length, Option, Some, None, IfOk, OnOk, option_map};
 ghost use Rattle.std.specs.Bool.{then_some};
 ghost use Rattle.vyrd_base.specs.declared.header.Header.{Header};
 ghost use Rattle.vyrd_base.specs.declared.log.Entry.{Entry};
@@ -98,7 +98,7 @@ impl TextJudge {
     }
 }
 
-// Reads the next piece into the list. The answer is the fault of text, if there is one by now.
+/// Reads the next piece into the list. The answer is the fault of text, if there is one by now.
 fn read(
     reader: &mut LogReader,
     piece: &[u8],
@@ -118,15 +118,15 @@ fn read(
     }
 }
 
-// Whether an entry of the last piece or `end` was read: then no starting word comes any more.
+/// Whether an entry of the last piece or `end` was read: then no starting word comes any more.
 fn has_begun(entries: &[Entry], ended: bool) -> bool
     ensures { result ≡ (has_any entries.now || ended) }
 {
     ended || !entries.is_empty()
 }
 
-// Makes the judge once an entry or `end` was read, where there is none. There is none either where
-// the starting words stand for no state.
+/// Makes the judge once an entry or `end` was read, where there is none. There is none either where
+/// the starting words stand for no state.
 fn begin(
     alloc: Global,
     reader: &LogReader,
@@ -148,7 +148,7 @@ fn begin(
     Ok(())
 }
 
-// Judges further entries, and that no call is open where `end` was read. The answer is what is wrong with all of them.
+/// Judges further entries, and that no call is open where `end` was read. The answer is what is wrong with all of them.
 fn judge_entries(
     judge: &mut Option<AnyJudge>,
     entries: &[Entry],
@@ -167,7 +167,7 @@ fn judge_entries(
     }
 }
 
-// What is wrong where there is no judge: the starting words, once an entry or `end` was read.
+/// What is wrong where there is no judge: the starting words, once an entry or `end` was read.
 fn wrong_start(entries: &[Entry], ended: bool) -> Option<Verdict>
     ensures { result ≡ then_some (has_any entries.now || ended) (Malformed 2 StartState) }
 {
@@ -181,7 +181,7 @@ fn wrong_start(entries: &[Entry], ended: bool) -> Option<Verdict>
     }
 }
 
-// Follows further entries, and then the line `end` where it was read. The answer is what is wrong with all of them.
+/// Follows further entries, and then the line `end` where it was read. The answer is what is wrong with all of them.
 fn follow(
     judge: &mut AnyJudge,
     entries: &[Entry],
@@ -200,7 +200,7 @@ fn follow(
     if ended { open_call(judge) } else { Ok(None) }
 }
 
-// What is wrong where `end` stands after the entries, given that nothing is wrong with them.
+/// What is wrong where `end` stands after the entries, given that nothing is wrong with them.
 fn open_call(judge: &AnyJudge) -> Result<Option<Verdict>, AllocError>
     ensures { (starting : List StartWord) (log : List Entry) → HasFollowed judge.now starting log →
         verdict_so_far judge.now.kept.header starting log ≡ None →

@@ -1,5 +1,5 @@
--- What a proof about a structure has to give: something that holds at the beginning and after every event, with the states that have
--- passed. All that follows of the log goes by this alone.
+-- What a proof about a structure has to give: something that holds at the beginning and after every event, with the states that
+-- have passed. All that follows of the log goes by this alone.
 use Rattle.std.specs.Prelude.{◌≡◌, ℕ, ◌<◌, true, false, List, [], ◌∷◌, length}
 use Rattle.vyrd_base.specs.declared.header.Header.{Header}
 use Rattle.vyrd_base.specs.declared.history.Did.{Did}

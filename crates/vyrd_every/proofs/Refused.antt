@@ -55,8 +55,8 @@ pub not_above : (h : Header) (s : Standing) (k : Hand) (shown : Memory) (lock he
     → DoesRight (multiset h) s k shown (perform (Take lock) later) → ⊥
 not_above h s k shown lock held later is low right = let above : held < lock = right.1.reaches held is in omega (arith, above, low)
 
--- Words of different nodes, and of nodes and others, have different numbers. So the node is the one whose word is loaded, and its lock
--- isn't held.
+-- Words of different nodes, and of nodes and others, have different numbers. So the node is the one whose word is loaded, and
+-- its lock isn't held.
 pub no_node_lock : (h : Header) (s : Standing) (k : TreeHand) (g : Shape) (m : Memory) (node place : ℕ) (rest : ℕ → Script) → node < h.size
     → place < 12 → place ≢ 0 → holds s (cells.lock_of h node) ≡ false → TreeRight h s k g m (step (Load (node_cell node place)) rest) → ⊥
 no_node_lock h s k g m node place rest fits low some free right = by_word right.2.reaches.0

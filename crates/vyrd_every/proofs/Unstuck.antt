@@ -1,4 +1,5 @@
--- The run by turns isn't stuck: a caller that waits for a lock has only lower ones, and whoever holds that lock waits for a higher one.
+-- The run by turns isn't stuck: a caller that waits for a lock has only lower ones, and whoever holds that lock waits for a
+-- higher one.
 use Rattle.std.proofs.Common.{◌≡◌, ℕ, zero, suc, ◌+◌, ◌^◌, ◌<◌, ◌≤◌, ◌⊎◌, inl, inr, Bool, true, false, cond, not, ◌&&◌, ◌||◌, List, [], ◌∷◌, Some, None, length, refl, ap, ◌∙◌, sym, subst, arith}
 use Rattle.std.specs.Prelude.{◌==◌, nat_lt, nat_le, unwrap_or}
 use Rattle.std.specs.Option.{option_or}

@@ -136,8 +136,8 @@ same_from earlier [] tail tail' same = (tt, same)
 same_from earlier (x ∷ later) tail tail' same =
     let rest = same_from (x ∷ earlier) later tail tail' same in ((rest.1.0, rest.0), rest.1.1)
 
--- What the two say of the entries from one on: the writes take effect at a commit, before which so many commits stand, with `tail'`
--- behind and not with `tail`, and all else is the same.
+-- What the two say of the entries from one on: the writes take effect at a commit, before which so many commits stand, with
+-- `tail'` behind and not with `tail`, and all else is the same.
 pub data MoreHere (m : ℕ) (writes : List (ℕ × ℕ)) (earlier : List Entry) (x : Entry) (later tail tail' : List Entry) (rest : Type 0) : Type 0 where
   here : is_commit x.kind ≡ true → m ≡ commit_count earlier
       → effects_at earlier x.caller x.kind (later ++ tail) ≡ [] → effects_at earlier x.caller x.kind (later ++ tail') ≡ writes
@@ -365,7 +365,8 @@ ends_alone h earlier e wf kept ends = by_kind e.kind kept ends
     by_kind Commit kept' ends' = cc
     by_kind BlockOpen kept' ends' = cc
 
--- One more entry that keeps the rules. Its effects, as if blocks took effect at their end, come in the part that `parts_behind` tells.
+-- One more entry that keeps the rules. Its effects, as if blocks took effect at their end, come in the part that `parts_behind`
+-- tells.
 pub parts_more : (h : Header) (before : List (ℕ × ℕ)) (earlier later : List Entry) (e : Entry) → WellFormed h (newest_first_onto earlier later)
     → broken_rule h (newest_first_onto earlier later) e ≡ None → ((c : ℕ) → has_inner_commit c earlier ≡ true → is_ended c later ≡ true)
     → effect_parts before earlier (later ++ e ∷ [])

@@ -1,5 +1,5 @@
--- What starting words that a log may begin with tell: their words and values are in range, and they are few. So all plain words at
--- the start are small, and those that aren't among them are 0.
+-- What starting words that a log may begin with tell: their words and values are in range, and they are few. So all plain words
+-- at the start are small, and those that aren't among them are 0.
 use Rattle.std.proofs.Common.{◌≡◌, ℕ, zero, suc, ◌+◌, ◌<◌, ◌≤◌, ◌^◌, Bool, true, false, cond, not, ◌||◌, List, [], ◌∷◌, length, map, get_or, refl, ap, ◌∙◌, sym, arith}
 use Rattle.std.specs.Prelude.{◌==◌, nat_le, replicate, All, Option, Some, None, unwrap_or}
 use Rattle.std.specs.Option.{option_or}

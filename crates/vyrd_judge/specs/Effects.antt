@@ -11,8 +11,8 @@ use Rattle.vyrd_base.specs.Places.{first_answer}
 use Rattle.vyrd_base.specs.Words.{effects_at, given_to, words_with}
 use Rattle.vyrd_base.specs.Commits.{is_commit, commit_count}
 
--- The effects at the entries from a place on, the last to take effect first, after some effects before. They are parted behind each
--- commit, and so the last part are those after the last commit.
+-- The effects at the entries from a place on, the last to take effect first, after some effects before. They are parted behind
+-- each commit, and so the last part are those after the last commit.
 abbrev pub effect_parts : List (ℕ × ℕ) → List Entry → List Entry → List (List (ℕ × ℕ))
 effect_parts before earlier [] = before ∷ []
 effect_parts before earlier (e ∷ later) =

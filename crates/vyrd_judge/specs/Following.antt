@@ -39,8 +39,8 @@ pub record Kept : Type 0 where
   pub commits : ℕ
   pub observers : ℕ
 
--- The starting words stand for a state, the log keeps all rules, and what is kept stands for both. Its entries may still have to be
--- judged.
+-- The starting words stand for a state, the log keeps all rules, and what is kept stands for both. Its entries may still have
+-- to be judged.
 pub record HasTakenIn (k : Kept) (starting : List StartWord) (log : List Entry) : Type 0 where
   pub started : k.started ≡ length starting
   pub begun : start_verdict k.header starting ≡ None

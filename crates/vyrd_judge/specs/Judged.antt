@@ -59,8 +59,8 @@ MayJudge h state made watches x first since =
     ∥ ((starting : List StartWord) × (log : List Entry) × (xs : List Waiting)
     × Judged h starting log state made watches (x ∷ xs) first since × (length log ≤ 2 ^ 62)) ∥₁
 
--- A commit that is right: its reply is allowed, its view is the state after it, which each open observer has seen, and the words go
--- on to the next commit that waits.
+-- A commit that is right: its reply is allowed, its view is the state after it, which each open observer has seen, and the
+-- words go on to the next commit that waits.
 pub record CommitRight (h : Header) (first : List ℕ) (part : List (ℕ × ℕ)) (rest : List (List (ℕ × ℕ))) (called : Called) (reply : ℕ)
     (before : Amounts) (made : ℕ) (old : List Seen) (after : Amounts) (more : ℕ) (new : List Seen) (next_first : List ℕ)
     (next_since : List (List (ℕ × ℕ))) : Type 0 where

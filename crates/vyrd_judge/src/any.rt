@@ -1,6 +1,6 @@
 //! The judge of a log of any structure.
 
-ghost use Rattle.std.specs.Prelude.{◌≡◌, length, ◌<◌, ◌≤◌, ◌+◌, ◌^◌, ◌∷◌, ◌++◌, ℕ, true, false, List, [], Option, Some, None, Ok, IfOk, OnOk, OnErr, unwrap_or, is_none, IfSome};
+ghost use Rattle.std.specs.Prelude.{◌≡◌, length, ◌<◌, ◌≤◌, ◌+◌, ◌^◌, ◌∷◌, ◌++◌, true, false, List, [], Option, Some, None, Ok, IfOk, OnOk, OnErr, unwrap_or, is_none, IfSome};
 ghost use Rattle.std.specs.Result.{is_err};
 ghost use Rattle.vyrd_base.specs.declared.log.Entry.{Entry};
 ghost use Rattle.vyrd_base.specs.declared.log.StartWord.{StartWord};
@@ -23,7 +23,7 @@ pub struct AnyJudge {
     judge: JudgeOf,
 }
 
-// The judge of each subject.
+/// The judge of each subject.
 #[derive(Drop)]
 enum JudgeOf {
     Multiset(Judge<MultisetSpec>),
@@ -41,7 +41,7 @@ impl Model for AnyJudge {
 }
 
 impl Drop for AnyJudge {
-    // By hand, so that whoever lets a judge go has one call to prove and not the letting go of all that each of the three holds.
+    /// By hand, so that whoever lets a judge go has one call to prove and not the letting go of all that each of the three holds.
     fn drop(self) {
         let AnyJudge { judge } = self;
         drop(judge);
@@ -135,7 +135,8 @@ impl AnyJudge {
         }
     }
 
-    /// Follows the log of a history: its marks and its writes, in their order. The answer is the verdict so far, with all of them.
+    /// Follows the log of a history: its marks and its writes, in their order. The answer is the verdict so far, with all of
+    /// them.
     pub fn follow_history(&mut self, history: &[Stamped]) -> Result<Option<Verdict>, AllocError>
         requires few { self.old.kept.entries + length history.now ≤ 2 ^ 62 }
         ensures answer { (starting : List StartWord) (log : List Entry) → HasFollowed self.old starting log → IfOk result (λ v. v ≡ verdict_so_far self.old.kept.header starting (log ++ log_of history.now)) }

@@ -1,6 +1,6 @@
 //! The numbers of an accepted log.
 
-ghost use Rattle.std.specs.Prelude.{◌≡◌, ◌<◌, ◌≤◌, ◌^◌, ◌+◌, ◌&&◌, Bool, length, IfOk, None, Some, slice_get, slice_index_or, vec_len};
+ghost use Rattle.std.specs.Prelude.{◌≡◌, ◌<◌, ◌+◌, ◌&&◌, Bool, length, IfOk, None, Some, slice_get, slice_index_or, vec_len};
 ghost use Rattle.vyrd_base.specs.declared.header.Header.{Header};
 ghost use Rattle.vyrd_base.specs.Front.{first_break};
 ghost use Rattle.vyrd_base.specs.Commits.{commit_count, is_commit};
@@ -35,14 +35,14 @@ pub(crate) fn is_commit(kind: Kind) -> bool
     matches!(kind, Kind::Commit | Kind::BlockCommit)
 }
 
-// How many commits there are.
+/// How many commits there are.
 fn commit_count(entries: &[Entry]) -> u64
     ensures { result ≡ commit_count entries.now }
 {
     entries.iter().filter(|e| is_commit(e.kind)).count() as u64
 }
 
-// How many observers have returned. An observer that is still open counts for nothing, so a call alone says too little.
+/// How many observers have returned. An observer that is still open counts for nothing, so a call alone says too little.
 fn observer_count(alloc: Global, header: Header, entries: &[Entry]) -> Result<u64, AllocError>
     requires { first_break header entries.now ≡ None }
     ensures { IfOk result (λ n. n ≡ observer_count entries.now) }
@@ -58,7 +58,7 @@ fn observer_count(alloc: Global, header: Header, entries: &[Entry]) -> Result<u6
     Ok(count)
 }
 
-// Whether an observer returns with this entry, with each caller that observes before it. They become those after it.
+/// Whether an observer returns with this entry, with each caller that observes before it. They become those after it.
 fn observer_returns(observing: &mut Vec<bool>, entry: Entry) -> bool
     requires { entry.caller < vec_len observing.old }
     ensures returns { (b : Bool) → slice_get observing.old.items entry.caller ≡ Some b → result ≡ (is_return entry.kind && b) }
@@ -75,7 +75,7 @@ fn observer_returns(observing: &mut Vec<bool>, entry: Entry) -> bool
     was_observing && matches!(entry.kind, Kind::Return(_))
 }
 
-// The entry at a place. Where the log keeps all rules, its caller is one of the header's.
+/// The entry at a place. Where the log keeps all rules, its caller is one of the header's.
 fn entry_at(entries: &[Entry], at: usize) -> Entry
     requires { at < length entries.now }
     ensures entry { (d : Entry) → slice_index_or entries.now at d ≡ result }

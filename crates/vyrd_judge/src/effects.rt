@@ -78,7 +78,7 @@ impl Effects {
         &self.words
     }
 
-    // The caller's open block, if it has one.
+    /// The caller's open block, if it has one.
     fn block_of(&self, caller: u32) -> Option<Block>
         requires { caller < self.now.header.callers }
         ensures { slice_get self.now.open_blocks.items caller ≡ Some result }
@@ -90,8 +90,8 @@ impl Effects {
             .unwrap()
     }
 
-    // The writes take effect that do so at the entry at a place. Its caller has this block before
-    // it. Outside a block a write does so at once.
+    /// The writes take effect that do so at the entry at a place. Its caller has this block before
+    /// it. Outside a block a write does so at once.
     fn take_effect(&mut self, front: &[Entry], at: usize, block: Option<Block>)
         requires within { at < length front.now }
         requires kept { first_break self.old.header front.now ≡ None }
@@ -115,8 +115,8 @@ impl Effects {
         }
     }
 
-    // The same where the caller has an open block. Its writes take effect at a lone commit, those
-    // that are still to come too, and otherwise at its end.
+    /// The same where the caller has an open block. Its writes take effect at a lone commit, those
+    /// that are still to come too, and otherwise at its end.
     fn take_effect_of(&mut self, block: Block, front: &[Entry], at: usize)
         requires within { at < length front.now }
         requires kept { first_break self.old.header front.now ≡ None }
@@ -147,7 +147,7 @@ impl Effects {
         }
     }
 
-    // The writes of the caller from one place to another take effect, in their order.
+    /// The writes of the caller from one place to another take effect, in their order.
     fn write_all(&mut self, caller: u32, front: &[Entry], from: usize, to: usize)
         requires order { from ≤ to }
         requires within { to ≤ length front.now }
@@ -170,8 +170,8 @@ impl Effects {
     }
 }
 
-// How many entries stand before the end of the caller's open block, `None` where it doesn't end. It
-// looks no further than that end, and no further than the caller's next return.
+/// How many entries stand before the end of the caller's open block, `None` where it doesn't end. It
+/// looks no further than that end, and no further than the caller's next return.
 fn len_to_end(caller: u32, later: &[Entry]) -> Option<usize>
     ensures within { IfSome result (λ len. len < length later.now) }
     ensures writes { writes_ahead caller later.now
@@ -189,7 +189,7 @@ fn len_to_end(caller: u32, later: &[Entry]) -> Option<usize>
     None
 }
 
-// The block of an entry's caller after the entry, which stands at this place.
+/// The block of an entry's caller after the entry, which stands at this place.
 fn block_after(block: Option<Block>, kind: Kind, at: usize) -> Option<Block>
     ensures { result ≡ block_after at kind block }
 {

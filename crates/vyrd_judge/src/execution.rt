@@ -1,6 +1,6 @@
 //! The open execution of a caller, and how it sees the states of the specification.
 
-ghost use Rattle.std.specs.Prelude.{◌≡◌, ℕ, true, List, Option, Some, None, map, vec_len};
+ghost use Rattle.std.specs.Prelude.{◌≡◌, true, Option, Some, None, map, vec_len};
 ghost use Rattle.vyrd_base.specs.Commits.{next_reply};
 ghost use Rattle.vyrd_judge.specs.declared.execution.Execution.{Execution};
 ghost use Rattle.vyrd_judge.specs.Executions.{has_method, AreAllowed, seeing};
@@ -37,7 +37,6 @@ pub(crate) fn next_reply(caller: u32, later: &[Entry]) -> Option<u64>
 }
 
 impl Execution {
-    ghost use Rattle.vyrd_base.specs.Specification.{answer_in};
     ghost use Rattle.vyrd_judge.specs.Executions.{answers};
 
     /// Whether it is an observer's, whose reply this state answers.
@@ -55,7 +54,7 @@ impl Execution {
     }
 }
 
-// An execution that sees the specification's state too.
+/// An execution that sees the specification's state too.
 fn seeing<S: Spec>(execution: Option<Execution>, spec: &S) -> Option<Execution>
     requires allowed { (x : Execution) → execution ≡ Some x → has_method (S.header_of spec.now) x.method x.args ≡ true }
     requires subject { (S.header_of spec.now).subject ≡ S.subject }

@@ -1,10 +1,9 @@
 //! All that is kept of a log in which nothing is wrong so far.
 
-ghost use Rattle.std.specs.Prelude.{◌≡◌, ◌<◌, ◌≤◌, ◌+◌, ◌^◌, ◌∷◌, ◌++◌, ◌&&◌, ℕ, Bool, true, List, [], length, Option, Some, None, Ok, IfOk, OnOk, if◌then◌else◌};
+ghost use Rattle.std.specs.Prelude.{◌≡◌, ◌<◌, ◌≤◌, ◌+◌, ◌^◌, ◌∷◌, ◌++◌, true, List, [], length, Option, Some, None, Ok, IfOk, if◌then◌else◌};
 ghost use Rattle.vyrd_base.specs.declared.header.Header.{Header};
 ghost use Rattle.vyrd_base.specs.declared.log.Entry.{Entry};
 ghost use Rattle.vyrd_base.specs.declared.log.StartWord.{StartWord};
-ghost use Rattle.vyrd_base.specs.Layout.{plain_words};
 ghost use Rattle.vyrd_base.specs.Starts.{may_start, words_at_start, state_at_start};
 ghost use Rattle.vyrd_base.specs.Verdicts.{first_fault, verdict, verdict_so_far};
 ghost use Rattle.vyrd_judge.specs.Following.{Kept, HasTakenIn, IsFaultless, IsSomewhere, MayCatchUp, AdvanceGives};
@@ -145,7 +144,7 @@ impl<S: Spec> Follower<S> {
         }
     }
 
-    // Takes in an entry, as `take_in` does.
+    /// Takes in an entry, as `take_in` does.
     #[inline(always)]
     fn take(&mut self, entry: Entry) -> Result<Option<Verdict>, AllocError>
         requires few { self.old.entries < 2 ^ 62 }
@@ -187,7 +186,7 @@ impl<S: Spec> Follower<S> {
         }
     }
 
-    // Judges all entries that wait, as far as they can be judged. The answer is the first fault so far.
+    /// Judges all entries that wait, as far as they can be judged. The answer is the first fault so far.
     #[inline(always)]
     fn catch_up(&mut self) -> Result<Option<Verdict>, AllocError>
         requires { MayCatchUp self.old }
@@ -204,7 +203,7 @@ impl<S: Spec> Follower<S> {
         }
     }
 
-    // Judges the entry that waits first, if there is one and it can be judged.
+    /// Judges the entry that waits first, if there is one and it can be judged.
     #[inline(always)]
     fn judge_first(&mut self) -> Result<Advance, AllocError>
         requires { MayCatchUp self.old }
@@ -230,7 +229,7 @@ impl<S: Spec> Follower<S> {
     }
 }
 
-// A count, with one more where this is true.
+/// A count, with one more where this is true.
 fn counted(count: u64, more: bool) -> u64
     requires { count + 1 < 2 ^ 64 }
     ensures { result ≡ count + (if more then 1 else 0) }

@@ -50,8 +50,8 @@ pub fn judge_log<S: Spec>(
     at_stop(alloc, header, entries, front.is_open, stop)
 }
 
-// The verdict about entries that keep all rules and are no fault. An `end` would stand on the line after the entries. So a rule
-// of text that is broken one line further is broken behind an `end`, where an open call comes first.
+/// The verdict about entries that keep all rules and are no fault. An `end` would stand on the line after the entries. So a rule
+/// of text that is broken one line further is broken behind an `end`, where an open call comes first.
 fn at_stop(
     alloc: Global,
     header: Header,

@@ -1,6 +1,6 @@
 //! The online judge.
 
-ghost use Rattle.std.specs.Prelude.{◌≡◌, length, take, ◌<◌, ◌≤◌, ◌+◌, ◌^◌, ◌∷◌, ◌++◌, ℕ, true, false, List, [], Option, Some, None, Ok, IfOk, OnOk, OnErr, unwrap_or, is_none, IfSome};
+ghost use Rattle.std.specs.Prelude.{◌≡◌, length, take, ◌<◌, ◌≤◌, ◌+◌, ◌^◌, ◌∷◌, ◌++◌, true, false, List, [], Option, Some, None, Ok, IfOk, OnOk, OnErr, unwrap_or, is_none, IfSome};
 ghost use Rattle.std.specs.Result.{is_err};
 ghost use Rattle.vyrd_base.specs.declared.log.Entry.{Entry};
 ghost use Rattle.vyrd_base.specs.declared.log.StartWord.{StartWord};
@@ -29,8 +29,9 @@ use vyrd_spec::Spec;
 ///
 /// Time: an entry takes constant time on average, beside what the specification, the words and the comparison of the views
 /// take, and a commit time in proportion to the callers. Memory: in proportion to the header's words, the keys of the
-/// specification's state and the writes of open blocks. Beside it an entry that waits is kept, and a write that takes effect while
-/// a commit waits, so that memory grows with the log only while some execution stays open; and so do the answers of an open observer.
+/// specification's state and the writes of open blocks. Beside it an entry that waits is kept, and a write that takes effect
+/// while a commit waits, so that memory grows with the log only while some execution stays open; and so do the answers of an
+/// open observer.
 ///
 /// Want of memory may be met in [`Judge::feed`] alone. From then on `feed`, `finish` and `stop` answer it.
 pub struct Judge<S: Spec> {
@@ -40,7 +41,7 @@ pub struct Judge<S: Spec> {
 }
 
 impl<S: Spec> Drop for Judge<S> {
-    // By hand, so that whoever lets a judge go has one call to prove and not the letting go of each of its parts.
+    /// By hand, so that whoever lets a judge go has one call to prove and not the letting go of each of its parts.
     fn drop(self) {
         let Judge {
             follower,
@@ -100,7 +101,7 @@ impl<S: Spec> Judge<S> {
         Ok(Some(Judge::begin(alloc, header, start, &words, spec)?))
     }
 
-    // A judge that has followed no entry, with the specification in its state at the start.
+    /// A judge that has followed no entry, with the specification in its state at the start.
     fn begin(
         alloc: Global,
         header: Header,
@@ -127,8 +128,8 @@ impl<S: Spec> Judge<S> {
         })
     }
 
-    /// Follows one more entry. The answer is the verdict so far, with this entry: `None` where nothing stands yet. Once there is a
-    /// verdict it is answered again, and entries aren't looked at.
+    /// Follows one more entry. The answer is the verdict so far, with this entry: `None` where nothing stands yet. Once there
+    /// is a verdict it is answered again, and entries aren't looked at.
     #[inline(always)]
     pub fn feed(&mut self, entry: Entry) -> Result<Option<Verdict>, AllocError>
         requires few { self.old.kept.entries < 2 ^ 62 }
@@ -177,7 +178,8 @@ impl<S: Spec> Judge<S> {
         Ok(self.so_far)
     }
 
-    /// Follows the log of a history: its marks and its writes, in their order. The answer is the verdict so far, with all of them.
+    /// Follows the log of a history: its marks and its writes, in their order. The answer is the verdict so far, with all of
+    /// them.
     pub fn follow_history(&mut self, history: &[Stamped]) -> Result<Option<Verdict>, AllocError>
         requires few { self.old.kept.entries + length history.now ≤ 2 ^ 62 }
         ensures answer { (starting : List StartWord) (log : List Entry) → HasFollowed self.old starting log → IfOk result (λ v. v ≡ verdict_so_far self.old.kept.header starting (log ++ log_of history.now)) }

@@ -1,6 +1,6 @@
 //! The queue of the entries that wait.
 
-ghost use Rattle.std.specs.Prelude.{◌≡◌, ◌<◌, ◌≤◌, ◌+◌, ◌-◌, ◌^◌, ◌∷◌, ◌++◌, ◌&&◌, ℕ, true, false, List, [], length, Some, None, IfOk, OnOk, slice_get, slice_set, vec_len};
+ghost use Rattle.std.specs.Prelude.{◌≡◌, ◌<◌, ◌≤◌, ◌+◌, ◌-◌, ◌^◌, ◌∷◌, ◌++◌, ◌&&◌, true, false, List, [], length, Some, None, IfOk, OnOk, slice_get, slice_set, vec_len};
 ghost use Rattle.std.specs.Bool.{then_some};
 ghost use Rattle.std.specs.List.{cons_option};
 ghost use Rattle.vyrd_base.specs.Shape.{is_observing};
@@ -52,8 +52,8 @@ impl Queue {
         })
     }
 
-    /// Takes in the entry at a position, which keeps the rules. It waits from then on, where it is one that is judged; and where it
-    /// is a mutator's return its commit has the reply.
+    /// Takes in the entry at a position, which keeps the rules. It waits from then on, where it is one that is judged; and
+    /// where it is a mutator's return its commit has the reply.
     #[inline(always)]
     pub fn follow(&mut self, entry: Entry, position: u64) -> Result<(), AllocError>
         requires may { MayQueue self.old.header self.old.waiting.items self.old.taken self.old.callers.items entry position }
@@ -75,7 +75,7 @@ impl Queue {
         }
     }
 
-    // A call is remembered, and waits where it is an observer's.
+    /// A call is remembered, and waits where it is an observer's.
     #[inline(always)]
     fn call(
         &mut self,
@@ -106,7 +106,7 @@ impl Queue {
         Ok(())
     }
 
-    // A commit waits, and its caller knows its number.
+    /// A commit waits, and its caller knows its number.
     #[inline(always)]
     fn commit(&mut self, caller: u32, position: u64) -> Result<(), AllocError>
         requires caller { caller < self.old.header.callers }
@@ -133,7 +133,7 @@ impl Queue {
         Ok(())
     }
 
-    // An observer's return waits. A mutator's goes to its commit.
+    /// An observer's return waits. A mutator's goes to its commit.
     #[inline(always)]
     fn give_back(&mut self, caller: u32, position: u64, reply: u64) -> Result<(), AllocError>
         requires caller { caller < self.old.header.callers }

@@ -1,9 +1,8 @@
 //! The part of a log that is judged.
 
-ghost use Rattle.std.specs.Prelude.{◌≡◌, ◌+◌, ◌<◌, ◌≤◌, ◌^◌, ◌∷◌, ℕ, List, [], true, false, length, Option, Some, None, Ok, IfOk, OnOk, slice_get, slice_set, vec_len};
+ghost use Rattle.std.specs.Prelude.{◌≡◌, ◌<◌, ◌^◌, ◌∷◌, ℕ, List, [], true, false, Some, None, Ok, IfOk, OnOk, slice_get, slice_set, vec_len};
 ghost use Rattle.vyrd_base.specs.declared.log.Entry.{Entry};
 ghost use Rattle.vyrd_base.specs.declared.log.StartWord.{StartWord};
-ghost use Rattle.vyrd_base.specs.Amounts.{Amounts};
 ghost use Rattle.vyrd_base.specs.Specification.{answer_in};
 ghost use Rattle.vyrd_base.specs.Subjects.{is_observer};
 ghost use Rattle.vyrd_judge.specs.declared.outcome.Outcome.TheVariants.{Goes};
@@ -53,7 +52,7 @@ impl<S: Spec> Replay<S> {
         })
     }
 
-    // An observer begins, in the state here.
+    /// An observer begins, in the state here.
     fn begin(&mut self, caller: u32, method: Method, args: Args)
         requires caller { caller < self.old.header.callers }
         requires allowed { has_method self.old.header method args ≡ true }
@@ -71,7 +70,7 @@ impl<S: Spec> Replay<S> {
         self.watches[caller as usize].begin(method, args, answer);
     }
 
-    // An observer returns. It says whether some state since its call answers the reply.
+    /// An observer returns. It says whether some state since its call answers the reply.
     fn end(&mut self, caller: u32, reply: u64) -> bool
         requires caller { caller < self.old.header.callers }
         ensures answered { (seen : Seen) → slice_get self.old.watches.items caller ≡ Some seen → result ≡ has_answer seen.answers reply }
@@ -85,7 +84,7 @@ impl<S: Spec> Replay<S> {
         watch.has_answer(reply)
     }
 
-    // A commit is judged by its reply and by the words there, which wait first. What is open sees the state after it.
+    /// A commit is judged by its reply and by the words there, which wait first. What is open sees the state after it.
     fn commit(
         &mut self,
         views: &mut Views,
@@ -153,7 +152,7 @@ impl<S: Spec> Replay<S> {
     }
 }
 
-// A closed watch for each caller.
+/// A closed watch for each caller.
 fn closed_watches(alloc: Global, callers: u32) -> Result<Vec<Watch>, AllocError>
     ensures len { IfOk result (λ watches. vec_len watches ≡ callers) }
     ensures closed { IfOk result (λ watches. (c : ℕ) (seen : Seen) → slice_get watches.items c ≡ Some seen → seen.is_open ≡ false) }
@@ -165,7 +164,7 @@ fn closed_watches(alloc: Global, callers: u32) -> Result<Vec<Watch>, AllocError>
     Ok(watches)
 }
 
-// An open observer sees the specification's state too, which differs from the one before in the touched keys alone.
+/// An open observer sees the specification's state too, which differs from the one before in the touched keys alone.
 fn see_one<S: Spec>(watch: &mut Watch, spec: &S, touched: Touched) -> Result<(), AllocError>
     requires allowed { watch.old.is_open ≡ true → has_method (S.header_of spec.now) watch.old.method watch.old.args ≡ true }
     requires observer { watch.old.is_open ≡ true → is_observer watch.old.method ≡ true }
@@ -180,7 +179,7 @@ fn see_one<S: Spec>(watch: &mut Watch, spec: &S, touched: Touched) -> Result<(),
     Ok(())
 }
 
-// Every open observer sees the specification's state too.
+/// Every open observer sees the specification's state too.
 fn see_all<S: Spec>(watches: &mut Vec<Watch>, spec: &S, touched: Touched) -> Result<(), AllocError>
     requires observers { AreObservers (S.header_of spec.now) watches.old.items }
     requires current { (c : ℕ) (seen : Seen) → slice_get watches.old.items c ≡ Some seen → seen.is_open ≡ true →

@@ -1,8 +1,7 @@
 //! The judge at a place of a front: one step for each entry.
 
-ghost use Rattle.std.specs.Prelude.{◌≡◌, ◌≢◌, ◌+◌, ◌<◌, ◌≤◌, ◌^◌, ℕ, true, false, List, ◌∷◌, [], length, map, replicate, take, drop, Option, Some, None, Ok, IfOk, slice_get, slice_set, vec_len};
+ghost use Rattle.std.specs.Prelude.{◌≡◌, ◌+◌, ◌<◌, ◌≤◌, ◌^◌, true, false, [], length, replicate, take, drop, Option, Some, None, Ok, IfOk, slice_get, slice_set, vec_len};
 ghost use Rattle.vyrd_base.specs.declared.log.Entry.{Entry};
-ghost use Rattle.vyrd_base.specs.Amounts.{Amounts};
 ghost use Rattle.vyrd_base.specs.Subjects.{is_observer};
 ghost use Rattle.vyrd_base.specs.Places.{newest_first};
 ghost use Rattle.vyrd_base.specs.Front.{first_break};
@@ -62,7 +61,7 @@ impl<S: Spec> Scan<S> {
         })
     }
 
-    // The caller's execution, if it is in one.
+    /// The caller's execution, if it is in one.
     fn execution_of(&self, caller: u32) -> Option<Execution>
         requires { caller < self.now.header.callers }
         ensures { slice_get self.now.executions.items caller ≡ Some result }
@@ -74,7 +73,7 @@ impl<S: Spec> Scan<S> {
             .unwrap()
     }
 
-    // A call begins an execution, whose first state is the one where the call stands.
+    /// A call begins an execution, whose first state is the one where the call stands.
     fn begin(&mut self, caller: u32, method: Method, args: Args, reply: Option<u64>)
         requires caller { caller < self.old.header.callers }
         requires allowed { has_method self.old.header method args ≡ true }
@@ -93,7 +92,7 @@ impl<S: Spec> Scan<S> {
         self.executions[caller as usize] = Some(execution);
     }
 
-    // A return ends its caller's execution. It is a fault where no state since the call answered an observer's reply.
+    /// A return ends its caller's execution. It is a fault where no state since the call answered an observer's reply.
     fn finish(&mut self, caller: u32, reply: u64) -> Outcome
         requires caller { caller < self.old.header.callers }
         ensures outcome { (x : Execution) → slice_get self.old.executions.items caller ≡ Some (Some x) → result ≡ return_outcome x reply }
@@ -112,9 +111,9 @@ impl<S: Spec> Scan<S> {
         }
     }
 
-    // A commit takes the specification one step on by the reply that its execution will return, and compares the views. The
-    // executions that are open, its own too, then see the state after it. Where the execution doesn't return, the step can't
-    // be known.
+    /// A commit takes the specification one step on by the reply that its execution will return, and compares the views. The
+    /// executions that are open, its own too, then see the state after it. Where the execution doesn't return, the step can't
+    /// be known.
     fn commit(&mut self, caller: u32) -> Result<Outcome, AllocError>
         requires caller { caller < self.old.header.callers }
         requires few { S.made self.old.spec < 2 ^ 62 }

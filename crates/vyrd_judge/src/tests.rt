@@ -1,6 +1,6 @@
 //! Logs whose verdicts are worked out by hand.
 
-ghost use Rattle.std.specs.Prelude.{◌≡◌, ◌≤◌, ◌<◌, ◌+◌, ◌^◌, true, length, IfOk, OnOk};
+ghost use Rattle.std.specs.Prelude.{◌≡◌, ◌≤◌, ◌<◌, ◌+◌, ◌^◌, true, length};
 ghost use Rattle.vyrd_base.specs.Starts.{may_start};
 
 use crate::{AnyJudge, Judge, judge_log};
@@ -173,21 +173,21 @@ fn commit_without_its_write() -> [Entry; 9] {
     ]
 }
 
-// A write of another caller took effect after the commit, on the word that the block writes then.
+/// A write of another caller took effect after the commit, on the word that the block writes then.
 fn word_is_passed() -> [Entry; 7] {
     logged![
         0 INSERT, 0 Write(1, 5), 0 BlockOpen, 0 Commit, 1 INSERT_SIX, 1 Write(0, 1), 0 Write(0, 2)
     ]
 }
 
-// Whether both judges give the log of a multiset, of either version, this verdict.
+/// Whether both judges give the log of a multiset, of either version, this verdict.
 fn both_say(alloc: Global, entries: &[Entry], verdict: Verdict) -> Result<bool, AllocError>
     requires few { length entries.now ≤ 20 }
 {
     Ok(both_say_in(alloc, 1, entries, verdict)? && both_say_in(alloc, 2, entries, verdict)?)
 }
 
-// The same of a log of this version, where the judges agree at each of its entries too.
+/// The same of a log of this version, where the judges agree at each of its entries too.
 fn both_say_in(
     alloc: Global,
     version: u32,
@@ -205,7 +205,7 @@ fn both_say_in(
     Ok(agree && plain == verdict && online == verdict)
 }
 
-// Whether the online judge answers at each entry what the plain judge knows of the entries up to it.
+/// Whether the online judge answers at each entry what the plain judge knows of the entries up to it.
 fn answers_agree<S: Spec>(
     alloc: Global,
     header: Header,
@@ -227,7 +227,7 @@ fn answers_agree<S: Spec>(
     Ok(true)
 }
 
-// An online judge that has followed the entries.
+/// An online judge that has followed the entries.
 fn followed<S: Spec>(
     alloc: Global,
     header: Header,
@@ -341,7 +341,7 @@ fn delete_of_a_start(reply: u64) -> [Entry; 5] {
     logged![0 DELETE, 0 BlockOpen, 0 Write(0, 0), 0 BlockCommit, 0 Return(reply)]
 }
 
-// The verdict about a log that begins with these words, where they stand for a state.
+/// The verdict about a log that begins with these words, where they stand for a state.
 fn judged_from(
     alloc: Global,
     header: Header,
@@ -375,7 +375,7 @@ fn a_commit_costs_what_it_changed(rt: HostRuntime) -> Result<(), Fail> {
     Ok(())
 }
 
-// An insert of a value with its writes, in slot x / 1024 of bucket x mod 1024.
+/// An insert of a value with its writes, in slot x / 1024 of bucket x mod 1024.
 fn insert(judge: &mut Judge<MultisetSpec>, x: u32) -> Result<(), AllocError>
     requires value { x < 4096 }
     requires few { judge.old.kept.entries + 7 ≤ 2 ^ 62 }
@@ -390,7 +390,7 @@ fn insert(judge: &mut Judge<MultisetSpec>, x: u32) -> Result<(), AllocError>
     Ok(())
 }
 
-// A delete of 4095, which stands in slot 3 of bucket 1023.
+/// A delete of 4095, which stands in slot 3 of bucket 1023.
 fn delete_the_last(judge: &mut Judge<MultisetSpec>) -> Result<(), AllocError>
     requires few { judge.old.kept.entries + 5 ≤ 2 ^ 62 }
     ensures counted { judge.new.kept.entries ≤ judge.old.kept.entries + 5 }

@@ -2,7 +2,7 @@
 
 ghost use Rattle.std.specs.VecDeque.{deque_len, deque_capacity};
 ghost use Rattle.std.specs.Prelude.{◌≡◌, ◌<◌, ◌≤◌, ◌^◌, ◌+◌, ◌++◌, ℕ, false, List, [], ◌∷◌, length, map, take, drop, sum, insert, replicate, slice_set, slice_index, Some, IfOk, OnOk, vec_len, vec_capacity, All};
-ghost use Rattle.vyrd_base.specs.Amounts.{Amounts, with_amount, first_difference as least_difference};
+ghost use Rattle.vyrd_base.specs.Amounts.{with_amount, first_difference as least_difference};
 ghost use Rattle.std.specs.Result.{is_err};
 ghost use Rattle.vyrd_base.specs.Layout.{plain_words};
 ghost use Rattle.vyrd_base.specs.Views.{view_of_words};
@@ -28,8 +28,8 @@ const MOST_CHANGED: usize = 1024;
 pub(crate) struct Views {
     header: Header,
     words: Vec<u64>,
-    /// How many of the writes took effect between each commit that waits and the commit before it. Those of a block take effect at
-    /// the lone commit inside it, where there is one.
+    /// How many of the writes took effect between each commit that waits and the commit before it. Those of a block take effect
+    /// at the lone commit inside it, where there is one.
     counts: VecDeque<usize>,
     writes: VecDeque<(u32, u64)>,
     /// How many of the writes took effect after the last commit.
@@ -121,7 +121,7 @@ impl Views {
         }
     }
 
-    // A write takes effect at once, where no commit waits.
+    /// A write takes effect at once, where no commit waits.
     #[inline(always)]
     fn take_effect(&mut self, word: u32, value: u64) -> Result<(), AllocError>
         requires word { word < plain_words self.old.header }
@@ -188,7 +188,7 @@ impl Views {
         Ok(())
     }
 
-    // The first commit no longer waits: its words are those to be compared.
+    /// The first commit no longer waits: its words are those to be compared.
     fn advance(&mut self) -> Result<(), AllocError>
         ensures base { (part : List (ℕ × ℕ)) (rest : List (List (ℕ × ℕ))) → self.old.since ≡ part ∷ rest → OnOk result (self.new.base ≡ self.old.first) }
         ensures first { (part : List (ℕ × ℕ)) (rest : List (List (ℕ × ℕ))) → self.old.since ≡ part ∷ rest → OnOk result (self.new.first ≡ with_writes self.old.first part) }
@@ -207,7 +207,7 @@ impl Views {
         Ok(())
     }
 
-    // The changed words are compared.
+    /// The changed words are compared.
     fn compare_words(&mut self) -> Result<(), AllocError>
         requires sound { self.old.refused ≡ false }
         ensures first { self.new.first ≡ self.old.first }
@@ -227,8 +227,8 @@ impl Views {
         Ok(())
     }
 
-    /// Compares what the words at the first commit that waits show with the specification's state after it: the least key
-    /// where they differ. That commit no longer waits then. The state differs from that of the last comparison in the touched keys
+    /// Compares what the words at the first commit that waits show with the specification's state after it: the least key where
+    /// they differ. That commit no longer waits then. The state differs from that of the last comparison in the touched keys
     /// alone.
     pub fn difference<S: Spec>(
         &mut self,
@@ -252,7 +252,7 @@ impl Views {
         Ok(self.compared.first_difference())
     }
 
-    // The specification has its amount of the key now.
+    /// The specification has its amount of the key now.
     fn specify<S: Spec>(&mut self, spec: &S, key: Option<u64>) -> Result<(), AllocError>
         requires sound { self.old.refused ≡ false }
         ensures specified { OnOk result (self.new.specified ≡ with_key key (S.state spec.now) self.old.specified) }
@@ -269,7 +269,7 @@ impl Views {
     }
 }
 
-// The comparison learns the words. Nobody asks how many steps that takes.
+/// The comparison learns the words. Nobody asks how many steps that takes.
 fn tell_words<L: Ledger>(
     blank: Blank,
     compared: &mut Compared,
@@ -292,7 +292,7 @@ fn tell_words<L: Ledger>(
     compared.words_changed(words, changed, &mut steps)
 }
 
-// The comparison learns all amounts of a state.
+/// The comparison learns all amounts of a state.
 fn tell_amounts(compared: &mut Compared, state: &View) -> Result<(), AllocError>
     requires sound { compared.old.refused ≡ false }
     requires none { compared.old.specified ≡ [] }
@@ -306,7 +306,7 @@ fn tell_amounts(compared: &mut Compared, state: &View) -> Result<(), AllocError>
     Ok(())
 }
 
-// The comparison learns an amount.
+/// The comparison learns an amount.
 fn tell_amount<L: Ledger>(
     blank: Blank,
     compared: &mut Compared,
@@ -325,7 +325,7 @@ fn tell_amount<L: Ledger>(
     compared.spec_changed(key, amount, &mut steps)
 }
 
-// The first writes take effect, and no longer wait.
+/// The first writes take effect, and no longer wait.
 fn catch_up(
     words: &mut Vec<u64>,
     changed: &mut Vec<u32>,
@@ -349,7 +349,7 @@ fn catch_up(
     }
 }
 
-// The place behind the writes of the commit with this index. Those of all commits are so many.
+/// The place behind the writes of the commit with this index. Those of all commits are so many.
 fn place_behind(counts: &VecDeque<usize>, all: usize, index: usize) -> usize
     requires index { index < length counts.now.items }
     requires all { sum counts.now.items ≡ all }
@@ -362,7 +362,7 @@ fn place_behind(counts: &VecDeque<usize>, all: usize, index: usize) -> usize
     place
 }
 
-// The changed words are written from this place on. There is room for that.
+/// The changed words are written from this place on. There is room for that.
 fn put(writes: &mut VecDeque<(u32, u64)>, place: usize, changed: &[u32], words: &[u64])
     requires place { place ≤ length writes.old.items }
     requires room { deque_len writes.old + length changed.now ≤ deque_capacity writes.old }
@@ -374,7 +374,7 @@ fn put(writes: &mut VecDeque<(u32, u64)>, place: usize, changed: &[u32], words: 
     }
 }
 
-// One more write at this place. There is room for it.
+/// One more write at this place. There is room for it.
 fn put_one(writes: &mut VecDeque<(u32, u64)>, place: usize, word: u32, value: u64)
     requires place { place ≤ length writes.old.items }
     requires room { deque_len writes.old < deque_capacity writes.old }
@@ -385,7 +385,7 @@ fn put_one(writes: &mut VecDeque<(u32, u64)>, place: usize, word: u32, value: u6
     let _ = writes.insert(place, (word, value));
 }
 
-// One more word has changed. There is room for it.
+/// One more word has changed. There is room for it.
 #[inline(always)]
 fn note(changed: &mut Vec<u32>, word: u32)
     requires { vec_len changed.old < vec_capacity changed.old }

@@ -1,6 +1,6 @@
 //! What is known of a caller's open observer.
 
-ghost use Rattle.std.specs.Prelude.{◌≡◌, ◌∷◌, ◌||◌, ◌==◌, ◌++◌, ℕ, [], false, true, OnOk};
+ghost use Rattle.std.specs.Prelude.{◌≡◌, ◌∷◌, ◌||◌, ◌==◌, [], false, true, OnOk};
 ghost use Rattle.std.specs.List.{list_any};
 ghost use Rattle.vyrd_judge.specs.Watching.{has_answer, SeesAnswer};
 
@@ -101,7 +101,7 @@ impl Watch {
     }
 }
 
-// Whether a number is among others.
+/// Whether a number is among others.
 fn is_among(numbers: &[u64], number: u64) -> bool
     ensures { result ≡ list_any (λ x. x == number) numbers.now }
 {

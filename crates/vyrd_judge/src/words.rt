@@ -1,6 +1,6 @@
 //! The words of a log, and what of them waits to be compared.
 
-ghost use Rattle.std.specs.Prelude.{◌≡◌, ◌<◌, ◌≤◌, ◌^◌, ◌++◌, ◌∷◌, ℕ, false, List, [], None, length, slice_index, take, IfOk, OnOk, replicate, vec_len, All};
+ghost use Rattle.std.specs.Prelude.{◌≡◌, ◌<◌, ◌^◌, ℕ, false, List, [], length, slice_index, IfOk, OnOk, replicate, vec_len, All};
 ghost use Rattle.vyrd_base.specs.declared.log.Entry.{Entry};
 ghost use Rattle.vyrd_base.specs.declared.log.StartWord.{StartWord};
 ghost use Rattle.vyrd_base.specs.Commits.{commit_count};
@@ -20,7 +20,8 @@ use vyrd_shadow::Shadow;
 pub(crate) struct Words {
     pub shadow: Shadow,
     pub views: Views,
-    /// By caller: the number of the lone commit since its last open, 0 where there is none. The first commit of a log has number 1.
+    /// By caller: the number of the lone commit since its last open, 0 where there is none. The first commit of a log has
+    /// number 1.
     pub inner: Vec<u64>,
     ghost same_header: { views.header ≡ shadow.header },
     ghost callers: { vec_len inner ≡ shadow.header.callers },
@@ -103,7 +104,7 @@ impl Words {
         }
     }
 
-    // What effects have changed is known to the views too.
+    /// What effects have changed is known to the views too.
     #[inline(always)]
     fn pass_on(&mut self) -> Result<(), AllocError>
         requires { self.old.views.refused ≡ false }
@@ -122,7 +123,7 @@ impl Words {
         Ok(())
     }
 
-    // What effects have changed was so at a commit already, behind which so many lists of writes stand.
+    /// What effects have changed was so at a commit already, behind which so many lists of writes stand.
     fn pass_back(&mut self, behind: usize) -> Result<(), AllocError>
         requires some { 0 < behind }
         requires sound { self.old.views.refused ≡ false }
@@ -143,7 +144,7 @@ impl Words {
     }
 }
 
-// The views learn the changed words.
+/// The views learn the changed words.
 #[inline(always)]
 fn give(views: &mut Views, changed: &[u32], words: &[u64]) -> Result<(), AllocError>
     requires changed { All (λ w. w < plain_words views.old.header) changed.now }

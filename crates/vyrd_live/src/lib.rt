@@ -1,8 +1,9 @@
 //! Runs of a workload, judged: live ones, with the callers on threads of their own over one traced memory, and those by turns.
 //!
-//! The central call is [`run_live`]; [`run_by_turns`] is the same without threads, over plain memory. In a live run each caller's machine is played by a worker with a thread of its own, and
-//! what the workers leave is one legal history in which each caller's part plays the caller's script. A [`Run`] has this history, the memory at
-//! the end and the verdict about the history's log. [`judged`] adds the verdict to a history of any run.
+//! The central call is [`run_live`]; [`run_by_turns`] is the same without threads, over plain memory. In a live run each
+//! caller's machine is played by a worker with a thread of its own, and what the workers leave is one legal history in which
+//! each caller's part plays the caller's script. A [`Run`] has this history, the memory at the end and the verdict about the
+//! history's log. [`judged`] adds the verdict to a history of any run.
 //!
 //! A [`Verifier`] judges a history while its events come in, in whatever order. A live run has one beside its workers: they send
 //! their events through a relay as far as it has room, and what didn't reach the verifier is taken in once they have ended.

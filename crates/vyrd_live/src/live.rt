@@ -35,9 +35,9 @@ use vyrd_work::{AnyMachine, Work, WorkMachine};
 /// no operation in hand and no lock held, and the run is `Spent` once the others have ended too. That doesn't come where the
 /// bounds of each caller's operations sum to at most `limit`. `Memory` may come at any time.
 ///
-/// A verifier takes in the events beside the callers, as far as they reach it, and the rest once all have ended. While the callers
-/// run it asks the gate before each event, as if it were one caller more, and the place is how many it has taken in. Where it has
-/// to be set aside, because there is no memory or a number comes twice, the history is judged anew at the end.
+/// A verifier takes in the events beside the callers, as far as they reach it, and the rest once all have ended. While the
+/// callers run it asks the gate before each event, as if it were one caller more, and the place is how many it has taken in.
+/// Where it has to be set aside, because there is no memory or a number comes twice, the history is judged anew at the end.
 ///
 /// A run of a correct structure is accepted, in whatever order its callers' events come. For each caller of a multiset or a cache
 /// 6,400,000 events are enough.

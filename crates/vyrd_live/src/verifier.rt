@@ -22,12 +22,12 @@ const NUMBERS: u64 = 1 << 62;
 
 /// Judges a history while its events come in, in whatever order.
 ///
-/// It has judged the events with the numbers 0 to m - 1, where m is the least number that wasn't taken in, and doesn't keep them.
-/// Those with greater numbers it holds. Time: an event takes what [`AnyJudge::feed`] takes, and what [`Reorder`] takes to put it in
-/// order. Memory: that of the judge, and in proportion to the events held.
+/// It has judged the events with the numbers 0 to m - 1, where m is the least number that wasn't taken in, and doesn't keep
+/// them. Those with greater numbers it holds. Time: an event takes what [`AnyJudge::feed`] takes, and what [`Reorder`] takes to
+/// put it in order. Memory: that of the judge, and in proportion to the events held.
 ///
-/// Out of memory may be met in [`Verifier::take_in`] alone. From then on `take_in` and `finish` answer it, and `had` goes on to say
-/// what was taken in.
+/// Out of memory may be met in [`Verifier::take_in`] alone. From then on `take_in` and `finish` answer it, and `had` goes on to
+/// say what was taken in.
 #[derive(Drop)]
 pub struct Verifier {
     judge: AnyJudge,
@@ -90,8 +90,8 @@ impl Verifier {
         }
     }
 
-    /// Takes in an event where that may be done, and answers whether it was: the number has to be below 2^62 and new, and there has
-    /// to be memory.
+    /// Takes in an event where that may be done, and answers whether it was: the number has to be below 2^62 and new, and there
+    /// has to be memory.
     pub(crate) fn try_take_in(&mut self, item: Stamped) -> bool
         ensures taken { (taken : List Stamped) → HasTakenIn self.old taken → result ≡ true
             → HasTakenIn self.new (taken ++ item ∷ []) }

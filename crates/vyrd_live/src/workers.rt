@@ -220,7 +220,8 @@ fn part_all(
     Ok((stopped, outboxes))
 }
 
-/// The least caller that stopped because its next operation had no room. It is an error where one stopped because there was no memory.
+/// The least caller that stopped because its next operation had no room. It is an error where one stopped because there was no
+/// memory.
 fn first_spent(stopped: &[Stopped]) -> Result<Option<u32>, AllocError>
     requires { length stopped.now ≤ 64 }
     ensures { IfOk result (λ first. IsFirstSpent (map (λ s. s.ending) stopped.now) (length stopped.now) first) }

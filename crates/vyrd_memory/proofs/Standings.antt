@@ -1,4 +1,5 @@
--- Where a caller stands after its part of a history, the newest event first. A sound script that is played keeps to what may be done.
+-- Where a caller stands after its part of a history, the newest event first. A sound script that is played keeps to what may be
+-- done.
 use Rattle.std.proofs.Common.{◌≡◌, true, List, [], ◌∷◌, Option, Some, refl, ap, sym, subst}
 use Rattle.vyrd_base.specs.declared.header.Header.{Header}
 use Rattle.vyrd_base.specs.declared.history.Did.{Did}

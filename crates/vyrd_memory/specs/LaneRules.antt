@@ -30,8 +30,8 @@ KeepsTheRules h c [] = Unit {0}
 KeepsTheRules h c (e ∷ earlier) =
     (e.caller ≡ c → (rule : Rule) → broken_rule h earlier e ≡ Some rule → rule ≡ BlockRaced) × KeepsTheRules h c earlier
 
--- Whatever else is in a history: where the caller's part plays a sound script, however far, and reads values below 2^63 alone, the
--- caller's entries in the log keep all rules of shape, but that they may race.
+-- Whatever else is in a history: where the caller's part plays a sound script, however far, and reads values below 2^63 alone,
+-- the caller's entries in the log keep all rules of shape, but that they may race.
 abbrev pub LanesKeepTheRules : Type 0
 LanesKeepTheRules = (h : Header) (c : ℕ) (script : Script) (history : List Stamped) → c < h.callers → IsSound h at_rest script
     → Plays script (part_of c (newest_first history)) → AreSmallReads (part_of c (newest_first history))

@@ -1,5 +1,5 @@
--- A small script, which the machines of the tests play: a call that takes both locks of a multiset of two buckets, loads word 1 and
--- stores a number there. One of the two callers may take the locks in the other order.
+-- A small script, which the machines of the tests play: a call that takes both locks of a multiset of two buckets, loads word 1
+-- and stores a number there. One of the two callers may take the locks in the other order.
 use Rattle.std.specs.Prelude.{ℕ, zero, suc, ◌-◌, Bool, true, false, List, [], ◌∷◌, refl}
 use Rattle.vyrd_base.specs.declared.header.Header.{Header}
 use Rattle.vyrd_base.specs.declared.subject.Subject.TheVariants.{Multiset}

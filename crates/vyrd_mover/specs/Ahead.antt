@@ -1,5 +1,5 @@
--- What is kept while a history is gone through from its end: for each caller what its block has ahead, how many blocks end, and the
--- first that is broken.
+-- What is kept while a history is gone through from its end: for each caller what its block has ahead, how many blocks end, and
+-- the first that is broken.
 use Rattle.std.specs.Prelude.{◌≡◌, ℕ, ◌+◌, ◌<◌, ◌≤◌, Bool, true, false, List, [], ◌∷◌, length, slice_index_or, slice_set, Option, Some, None, if◌then◌else◌}
 use Rattle.std.specs.Option.{option_map, option_or}
 use Rattle.std.specs.List.{filter_map}
@@ -41,7 +41,8 @@ with_event e is_left is_right ahead = record {
   uncut = if is_right then ahead.uncut else ahead.not_left;
 }
 
--- what is kept of a history from some place on: what each caller has ahead, how many blocks end, and the lines of the first broken one
+-- what is kept of a history from some place on: what each caller has ahead, how many blocks end, and the lines of the first
+-- broken one
 pub record Surveyed : Type 0 where
   pub ahead : List (Option Ahead)
   pub blocks : ℕ

@@ -28,8 +28,8 @@ history_header_from line _ = None
 unfoldable pub history_header_in : List ℕ → Option Header
 history_header_in line = history_header_from line (fields_of line)
 
--- whether a line can say this: numbers are in the text's ranges, and a mark is no write, its method is of the subject, and arguments
--- that the method doesn't have are 0
+-- whether a line can say this: numbers are in the text's ranges, and a mark is no write, its method is of the subject, and
+-- arguments that the method doesn't have are 0
 abbrev pub is_did_of : Subject → Did → Bool
 is_did_of subject (Read cell value) = nat_lt cell (2 ^ 32) && nat_lt value (2 ^ 64)
 is_did_of subject (Wrote cell value) = nat_lt cell (2 ^ 32) && nat_lt value (2 ^ 64)

@@ -1,6 +1,6 @@
--- What bytes say as a history, or their first bad line with the first rule that it breaks. The bytes are cut at their line feeds. Line
--- 1 has to spell a header, and each later line an event or `end`, after which nothing follows. Each event has to be legal after those
--- before it, and each caller's blocks have to be opened and ended in turn.
+-- What bytes say as a history, or their first bad line with the first rule that it breaks. The bytes are cut at their line
+-- feeds. Line 1 has to spell a header, and each later line an event or `end`, after which nothing follows. Each event has to be
+-- legal after those before it, and each caller's blocks have to be opened and ended in turn.
 use Rattle.std.specs.Prelude.{ℕ, ◌+◌, ◌==◌, Bool, true, false, not, ◌&&◌, ◌||◌, nat_lt, List, [], ◌∷◌, ◌++◌, length, Option, Some, None, unwrap_or, Result, Ok, Err, if◌then◌else◌}
 use Rattle.std.specs.Str.{bytes_eq}
 use Rattle.std.specs.List.{slice_split, list_all}

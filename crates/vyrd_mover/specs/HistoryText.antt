@@ -1,5 +1,6 @@
--- A history as a list with its header, and its one text: a line for the header, a line for each event, and the line `end`. The event
--- with the number i stands on line i + 2. Numbers, spaces and line feeds are those of a log, and so are the lines of marks.
+-- A history as a list with its header, and its one text: a line for the header, a line for each event, and the line `end`. The
+-- event with the number i stands on line i + 2. Numbers, spaces and line feeds are those of a log, and so are the lines of
+-- marks.
 use Rattle.std.specs.Prelude.{ℕ, List, [], ◌∷◌, ◌++◌, map, codes, decimal, flat_map}
 use Rattle.vyrd_base.specs.declared.header.Header.{Header}
 use Rattle.vyrd_base.specs.declared.subject.Subject.{Subject}

@@ -1,4 +1,5 @@
--- What is kept of a plain cell while a history is gone through: who has used it, whether it was written, and which locks may guard it.
+-- What is kept of a plain cell while a history is gone through: who has used it, whether it was written, and which locks may
+-- guard it.
 use Rattle.std.specs.Prelude.{◌≡◌, ℕ, ◌+◌, ◌-◌, ◌<◌, Bool, true, false, not, ◌||◌, ◌==◌, List, [], length, slice_index, slice_index_or, slice_set, if◌then◌else◌}
 use Rattle.std.specs.List.{filter}
 use Rattle.vyrd_base.specs.declared.history.Did.{Did}

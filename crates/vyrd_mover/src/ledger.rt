@@ -1,13 +1,12 @@
 //! The events of a history that were read so far, and what the next one may be.
 
-ghost use Rattle.std.specs.Prelude.{◌≡◌, ◌<◌, ◌≤◌, ◌+◌, ◌^◌, ◌==◌, ℕ, Bool, List, true, false, not, None, [], length, replicate, IfOk, OnOk, OnErr};
+ghost use Rattle.std.specs.Prelude.{◌≡◌, ◌<◌, ◌+◌, ◌==◌, true, false, None, [], length, IfOk, OnOk};
 ghost use Rattle.vyrd_base.specs.Layout.{plain_words, lock_words};
 ghost use Rattle.vyrd_base.specs.Places.{newest_first};
 ghost use Rattle.vyrd_base.specs.Histories.{cells_of, is_legal_at, is_plain, is_lock, may_do};
 ghost use Rattle.vyrd_mover.specs.HistoryText.{Recorded, recorded_of};
 ghost use Rattle.vyrd_mover.specs.HistoryReading.{broken_by, is_misplaced, next_place, with_event};
-ghost use Rattle.vyrd_mover.specs.Remembering.{Remembers, values_after, open_after};
-ghost use Rattle.vyrd_mover.specs.Usage.{IsInRange};
+ghost use Rattle.vyrd_mover.specs.Remembering.{Remembers};
 
 use crate::fault::HistoryRule;
 use crate::past::Past;

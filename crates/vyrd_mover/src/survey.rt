@@ -1,6 +1,6 @@
 //! The blocks of a history, gone through from its end.
 
-ghost use Rattle.std.specs.Prelude.{◌≡◌, ℕ, ◌^◌, ◌<◌, true, List, length, replicate, None, IfOk};
+ghost use Rattle.std.specs.Prelude.{◌≡◌, ◌^◌, ◌<◌, true, List, length, replicate, None, IfOk};
 ghost use Rattle.std.specs.Option.{option_map};
 ghost use Rattle.vyrd_base.specs.declared.history.Stamped.{Stamped};
 ghost use Rattle.vyrd_base.specs.Histories.{Cells, cells_of, is_legal};

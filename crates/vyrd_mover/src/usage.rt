@@ -1,6 +1,6 @@
 //! How a plain cell is used.
 
-ghost use Rattle.std.specs.Prelude.{◌≡◌, ◌+◌, ◌-◌, ◌^◌, ◌<◌, ◌≤◌, ◌||◌, [], false, not, length, IfOk, OnOk, if◌then◌else◌};
+ghost use Rattle.std.specs.Prelude.{◌≡◌, ◌+◌, ◌-◌, ◌^◌, ◌<◌, ◌≤◌, ◌||◌, false, length, IfOk, OnOk};
 ghost use Rattle.std.specs.List.{filter};
 ghost use Rattle.vyrd_base.specs.Places.{numbers_from};
 ghost use Rattle.vyrd_mover.specs.Usage.{Use, used_by, unused, joined, has_value, seems_free};

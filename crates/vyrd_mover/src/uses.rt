@@ -1,6 +1,6 @@
 //! How the plain cells of a history are used, and who holds each lock.
 
-ghost use Rattle.std.specs.Prelude.{◌≡◌, ◌+◌, ◌^◌, ◌<◌, ◌≤◌, true, ℕ, List, length, replicate, IfOk, OnOk};
+ghost use Rattle.std.specs.Prelude.{◌≡◌, ◌+◌, ◌^◌, ◌<◌, ◌≤◌, true, List, length, replicate, IfOk, OnOk};
 ghost use Rattle.vyrd_base.specs.declared.history.Stamped.{Stamped};
 ghost use Rattle.vyrd_base.specs.Histories.{Cells, cells_of, is_legal};
 ghost use Rattle.vyrd_mover.specs.RaceFree.{is_race_free};

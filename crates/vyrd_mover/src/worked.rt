@@ -1,7 +1,7 @@
 //! Small histories, worked out by the definitions. Each function does nothing: its contract has the
 //! cases.
 
-ghost use Rattle.std.specs.Prelude.{◌≡◌, true, false};
+ghost use Rattle.std.specs.Prelude.{◌≡◌, true};
 ghost use Rattle.vyrd_base.specs.Histories.{is_legal, cells_of};
 ghost use Rattle.vyrd_base.specs.Samples.{alone, two};
 ghost use Rattle.vyrd_mover.specs.Blocks.{blocks_of};

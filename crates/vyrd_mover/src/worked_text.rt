@@ -1,7 +1,7 @@
 //! Small texts of histories, worked out by the definitions. Each function does nothing: its
 //! contract has the cases.
 
-ghost use Rattle.std.specs.Prelude.{◌≡◌, ◌∷◌, [], codes, Ok};
+ghost use Rattle.std.specs.Prelude.{◌≡◌, [], codes, Ok};
 ghost use Rattle.vyrd_base.specs.Samples.{alone, two};
 ghost use Rattle.vyrd_mover.specs.declared.fault.HistoryRule.TheVariants.{AfterEnd, BadHeader, BadLine, NotLegal, BlockMark, NoLineFeed, NoEnd};
 ghost use Rattle.vyrd_mover.specs.Samples.{insert_alone, insert_alone_text, two_writers, two_writers_text, taken_again, taken_again_text};

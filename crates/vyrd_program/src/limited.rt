@@ -11,9 +11,9 @@ use vyrd_base::{Sink, Source};
 
 /// Reads a log of at most `max_lines` lines, from 1 to 268,435,456, and writes its verdict's line.
 ///
-/// It is `check` with that limit: the status is 0, 1 or 2 by the verdict, 4 after a failed read, 5 after a failed write and 6 where
-/// memory ran out. No more is read once the verdict stands, and the line is made before its first byte is written. The time grows
-/// with the bytes that are read; what is kept doesn't, beside what the judge keeps of open executions.
+/// It is `check` with that limit: the status is 0, 1 or 2 by the verdict, 4 after a failed read, 5 after a failed write and 6
+/// where memory ran out. No more is read once the verdict stands, and the line is made before its first byte is written. The
+/// time grows with the bytes that are read; what is kept doesn't, beside what the judge keeps of open executions.
 pub fn check_limited<S: Source, K: Sink>(
     alloc: Global,
     max_lines: u64,

@@ -56,16 +56,16 @@ pub struct Ended {
 
 /// Carries out the words that stand after the program's name, over a source and a sink.
 ///
-/// `check` reads a log of at most 268,435,456 lines and writes its verdict's line. `step` reads a workload, plays it by turns over
-/// plain memory and writes the verdict's line about the log of that run. `run` plays it by callers on threads of their own, who
-/// ask the gate before each event, and may wait forever where the workload's callers do. With `--log` these two write the log
-/// before the verdict's line, and with `--history` the text of the run's history in place of both; the status stays that of the
-/// verdict. `gen N` generates a workload of N operations, from 1 to 200,000, plays it by turns, and writes how many operations
-/// and events there were and then the verdict's line. `movers` reads a history, and writes whether its commit blocks are
-/// reducible (Lipton, CACM 1975), or which of them is the first that isn't. `batch` reads many logs in one text, judges them on
-/// as many threads as there are processors, and writes a line for each log's verdict, in the order of the logs, and one that
-/// counts them. All other words are answered with the usage line, and the source is left alone. All output is made before its
-/// first byte is written.
+/// `check` reads a log of at most 268,435,456 lines and writes its verdict's line. `step` reads a workload, plays it by turns
+/// over plain memory and writes the verdict's line about the log of that run. `run` plays it by callers on threads of their
+/// own, who ask the gate before each event, and may wait forever where the workload's callers do. With `--log` these two write
+/// the log before the verdict's line, and with `--history` the text of the run's history in place of both; the status stays
+/// that of the verdict. `gen N` generates a workload of N operations, from 1 to 200,000, plays it by turns, and writes how many
+/// operations and events there were and then the verdict's line. `movers` reads a history, and writes whether its commit blocks
+/// are reducible (Lipton, CACM 1975), or which of them is the first that isn't. `batch` reads many logs in one text, judges
+/// them on as many threads as there are processors, and writes a line for each log's verdict, in the order of the logs, and one
+/// that counts them. All other words are answered with the usage line, and the source is left alone. All output is made before
+/// its first byte is written.
 pub fn vyrd<R: Threads + Wait + Sync, S: Source, K: Sink, G: Gate>(
     rt: &R,
     alloc: Global,
@@ -81,7 +81,8 @@ pub fn vyrd<R: Threads + Wait + Sync, S: Source, K: Sink, G: Gate>(
         IsAnswered 268435456 (S.rest source.old) result.status (K.taken sink.old) (K.taken sink.new) }
     ensures check_statuses { form_said words.now ≡ Some Check → (result.status ≤ 6) × (result.status ≢ 3) }
 
-    // `check`: what it takes of the source. It accepts at the source's end alone, and a read that fails behind a verdict is never made.
+    // `check`: what it takes of the source. It accepts at the source's end alone, and a read that fails behind a verdict is
+    // never made.
     ensures consumed { form_said words.now ≡ Some Check → result.status ≤ 2 → IsSettled 268435456 (S.rest source.old) (S.rest source.new) }
     ensures accepted_at_end { form_said words.now ≡ Some Check → result.status ≡ 0 → IsAtEnd (S.rest source.new) }
     ensures no_further { form_said words.now ≡ Some Check → IsReadNoFurther 268435456 (S.rest source.old) (S.rest source.new) }

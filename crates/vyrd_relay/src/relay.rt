@@ -2,7 +2,7 @@
 
 ghost use Rattle.std.specs.Prelude.{◌≡◌, ◌+◌, ◌<◌, ◌≤◌, ◌^◌, [], length, IfOk, OnOk, OnErr, IfSome, IfNone, vec_len, vec_capacity};
 ghost use Rattle.std.specs.List.{All};
-ghost use Rattle.crossbeam_queue.specs.Passes.{view, IsSamePass, IsPassOf, ruled_capacity};
+ghost use Rattle.crossbeam_queue.specs.Passes.{view, IsSamePass, IsPassOf};
 ghost use Rattle.vyrd_relay.specs.declared.known.Known.TheVariants.{Receives};
 ghost use Rattle.vyrd_relay.specs.Knowledge.{new_received, HasBeginning};
 ghost use Rattle.vyrd_relay.specs.Ends.{AreNew, with_pushed, with_popped, with_taken_in, WasFull, WasEmpty, HasAll};
@@ -36,8 +36,8 @@ impl Error for Full {}
 
 /// A bounded queue of events, from the senders of all callers to one receiver. Threads share it by reference.
 ///
-/// What the receiver has had of a sender, and then what is queued of it, is what it sent, in its order, at every moment. Of events
-/// of different senders nothing is said.
+/// What the receiver has had of a sender, and then what is queued of it, is what it sent, in its order, at every moment. Of
+/// events of different senders nothing is said.
 #[derive(Drop)]
 pub struct Relay {
     queue: Queue,
@@ -52,8 +52,8 @@ impl Model for Relay {
 }
 
 impl Relay {
-    /// A relay for at most `capacity` events at a time, with a sender for each caller from 0 on, in their order, and its receiver.
-    /// All of its memory is taken here.
+    /// A relay for at most `capacity` events at a time, with a sender for each caller from 0 on, in their order, and its
+    /// receiver. All of its memory is taken here.
     pub fn new(
         alloc: Global,
         capacity: u64,
@@ -72,8 +72,8 @@ impl Relay {
         Ok((Relay { queue }, ends, Receiver { pass }))
     }
 
-    /// Sends an event of the sender's caller. It is one push of the queue. It may wait for another thread that is in the middle of
-    /// a push or a pop, but never for room, and it takes no memory.
+    /// Sends an event of the sender's caller. It is one push of the queue. It may wait for another thread that is in the middle
+    /// of a push or a pop, but never for room, and it takes no memory.
     ///
     /// `Full` comes only where the queue held its capacity at a step of this call. Nothing was sent then.
     pub fn push_next<R: Wait>(&self, rt: &R, sender: &mut Sender, item: Stamped) -> Result<(), Full>
@@ -93,8 +93,8 @@ impl Relay {
         }
     }
 
-    /// The next event, the oldest in the queue. It is one pop of the queue. It may wait as `push_next` may, but never for an event
-    /// to come, and it takes no memory.
+    /// The next event, the oldest in the queue. It is one pop of the queue. It may wait as `push_next` may, but never for an
+    /// event to come, and it takes no memory.
     ///
     /// `None` comes only where the queue was empty at a step of this call.
     pub fn pop<R: Wait>(&self, rt: &R, receiver: &mut Receiver) -> Option<Stamped>
@@ -127,7 +127,7 @@ impl Relay {
     }
 }
 
-// Makes the senders, in the order of their callers.
+/// Makes the senders, in the order of their callers.
 fn deal_all<J: Number>(
     queue: &Queue,
     senders: u32,

@@ -9,14 +9,14 @@ use std::collections::{BTreeMap, VecDeque};
 use std::marker::Model;
 use vyrd_base::Stamped;
 
-// An event has a place of its own where its number is less than this above the next one. It is as many as a relay holds at most.
+/// An event has a place of its own where its number is less than this above the next one. It is as many as a relay holds at most.
 const NEAR: u64 = 65536;
 
 /// Holds events that come in any order, and hands them out by their numbers: 0, 1, 2 and so on.
 ///
-/// An event that comes fewer than 65,536 numbers early takes constant time on average, and memory for the numbers up to its own.
-/// One that comes earlier takes time in the logarithm of the number of such events, and memory for itself alone. So no gap between
-/// the numbers, however wide, takes memory of its own.
+/// An event that comes fewer than 65,536 numbers early takes constant time on average, and memory for the numbers up to its
+/// own. One that comes earlier takes time in the logarithm of the number of such events, and memory for itself alone. So no gap
+/// between the numbers, however wide, takes memory of its own.
 #[derive(Drop)]
 pub struct Reorder {
     next: u64,
@@ -88,7 +88,7 @@ impl Reorder {
         Some(item)
     }
 
-    // The event with this number, which wasn't handed out, where it is held.
+    /// The event with this number, which wasn't handed out, where it is held.
     fn find(&self, number: u64) -> Option<Stamped>
         requires { self.now.next ≤ number }
         ensures { result ≡ held self.now number }
@@ -100,7 +100,7 @@ impl Reorder {
     }
 }
 
-// Puts an event at its place. Where there is no memory all is as before.
+/// Puts an event at its place. Where there is no memory all is as before.
 fn set_place(
     near: &mut VecDeque<Option<Stamped>>,
     place: usize,
@@ -115,7 +115,7 @@ fn set_place(
     Ok(())
 }
 
-// Makes at least that many places. New ones are empty. Where there is no memory all is as before.
+/// Makes at least that many places. New ones are empty. Where there is no memory all is as before.
 fn make_places(near: &mut VecDeque<Option<Stamped>>, len: usize) -> Result<(), AllocError>
     requires { len ≤ 65536 }
     ensures same { OnOk result ((i : ℕ) → slice_index_or near.new.items i None ≡ slice_index_or near.old.items i None) }

@@ -1,7 +1,6 @@
 //! Each public call once with ample memory, with the answers at a full and an empty queue, and two threads.
 
 ghost use Rattle.std.specs.Prelude.{◌≡◌, ◌+◌, ◌<◌, ◌≤◌, ◌^◌, [], length, IfOk};
-ghost use Rattle.vyrd_relay.specs.Ends.{with_pushed, with_popped};
 
 use crate::{Full, Receiver, Relay, Reorder, Sender};
 use std::alloc::{AllocError, Global};
@@ -11,7 +10,7 @@ use std::thread;
 use std::thread::{Threads, join};
 use vyrd_base::{Did, Stamped};
 
-// An event of caller 0.
+/// An event of caller 0.
 fn event(number: u64) -> Stamped
     ensures caller { result.caller ≡ 0 }
     ensures number { result.number ≡ number }
@@ -23,7 +22,7 @@ fn event(number: u64) -> Stamped
     }
 }
 
-// A relay with one sender.
+/// A relay with one sender.
 fn one(alloc: Global, capacity: u64) -> Result<(Relay, Sender, Receiver), AllocError>
     requires { (1 ≤ capacity) × (capacity ≤ 65536) }
     ensures sender { IfOk result (λ r. r.1 ≡ record { queue = r.0.queue; senders = 1; caller = 0; sent = [] }) }
@@ -62,7 +61,7 @@ fn relay_and_reorder(rt: HostRuntime) -> Result<(), Fail> {
     Ok(())
 }
 
-// Sends that many events, waiting for room.
+/// Sends that many events, waiting for room.
 fn send_all<R: Wait>(rt: &R, relay: &Relay, sender: Sender, count: u64) -> Sender
     requires sender { (sender.queue ≡ relay.now.queue) × (sender.caller ≡ 0) × (sender.sent ≡ []) }
     requires few { count < 2 ^ 32 }
@@ -75,7 +74,7 @@ fn send_all<R: Wait>(rt: &R, relay: &Relay, sender: Sender, count: u64) -> Sende
     sender
 }
 
-// Sends one event, waiting for room.
+/// Sends one event, waiting for room.
 fn send<R: Wait>(rt: &R, relay: &Relay, sender: &mut Sender, number: u64)
     requires sender { (sender.old.queue ≡ relay.now.queue) × (sender.old.caller ≡ 0) }
     requires few { length sender.old.sent < 2 ^ 62 }
@@ -91,7 +90,7 @@ fn send<R: Wait>(rt: &R, relay: &Relay, sender: &mut Sender, number: u64)
     unreachable!()
 }
 
-// Receives that many events, and answers whether their numbers were 0, 1, 2 and so on.
+/// Receives that many events, and answers whether their numbers were 0, 1, 2 and so on.
 fn receive_all<R: Wait>(rt: &R, relay: &Relay, receiver: Receiver, count: u64) -> bool
     requires { receiver.queue ≡ relay.now.queue }
 {
@@ -103,7 +102,7 @@ fn receive_all<R: Wait>(rt: &R, relay: &Relay, receiver: Receiver, count: u64) -
     right
 }
 
-// Receives one event, waiting for it.
+/// Receives one event, waiting for it.
 fn receive<R: Wait>(rt: &R, relay: &Relay, receiver: &mut Receiver) -> Stamped
     requires { receiver.old.queue ≡ relay.now.queue }
     ensures { receiver.new.queue ≡ receiver.old.queue }

@@ -29,9 +29,9 @@ kept_writes kept c = unwrap_or (slice_index_or kept.blocks c None) []
 abbrev pub words_of : List (ℕ × ℕ) → List ℕ
 words_of writes = map (λ write. write.0) writes
 
--- What is kept stands for these entries, given the newest first, after these starting words. Each entry keeps the rules. The words are
--- those after all of them. A caller's block is open exactly where its last open has no close after it, and what an open block keeps
--- has its words, in the order of their first writes, each with its last value.
+-- What is kept stands for these entries, given the newest first, after these starting words. Each entry keeps the rules. The
+-- words are those after all of them. A caller's block is open exactly where its last open has no close after it, and what an
+-- open block keeps has its words, in the order of their first writes, each with its last value.
 pub record HasFollowed (kept : Kept) (starting : List StartWord) (earlier : List Entry) : Type 0 where
   pub rules : WellFormed kept.header earlier
   pub words : kept.words ≡ words_after kept.header starting earlier

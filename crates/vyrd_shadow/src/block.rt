@@ -1,7 +1,6 @@
 //! What a caller's block keeps back.
 
-ghost use Rattle.std.specs.Prelude.{◌≡◌, ℕ, ◌+◌, ◌≤◌, Bool, true, List, [], ◌++◌, length, map, None, Some, IsSome, IfOk, OnOk, OnErr, is_some, is_none, unwrap_or, nat_eq, not, vec_len, vec_capacity, if◌then◌else◌};
-ghost use Rattle.std.specs.List.{list_any};
+ghost use Rattle.std.specs.Prelude.{◌≡◌, ℕ, ◌+◌, ◌≤◌, true, List, [], ◌++◌, length, None, Some, IfOk, OnOk, OnErr, is_some, is_none, unwrap_or, nat_eq, vec_len, vec_capacity, if◌then◌else◌};
 ghost use Rattle.std.specs.Map.{keys_of};
 ghost use Rattle.indexmap.specs.IndexMap.{insert_entry};
 ghost use Rattle.vyrd_shadow.specs.Blocks.{with_writes, AreInRange};

@@ -1,6 +1,6 @@
 //! The words, and what open blocks keep back.
 
-ghost use Rattle.std.specs.Prelude.{◌≡◌, ℕ, ◌<◌, ◌^◌, true, false, List, [], ◌∷◌, ◌++◌, length, map, replicate, Some, None, IfOk, OnOk, OnErr, nat_eq, slice_index, slice_set, if◌then◌else◌};
+ghost use Rattle.std.specs.Prelude.{◌≡◌, ℕ, ◌<◌, ◌^◌, true, false, List, [], ◌∷◌, ◌++◌, length, replicate, Some, None, IfOk, OnOk, OnErr, nat_eq, slice_index, slice_set, if◌then◌else◌};
 ghost use Rattle.std.specs.List.{All};
 ghost use Rattle.indexmap.specs.IndexMap.{insert_entry};
 ghost use Rattle.vyrd_base.specs.declared.log.Kind.TheVariants.{Write, BlockOpen, BlockClose, BlockCommit};
@@ -9,7 +9,6 @@ ghost use Rattle.vyrd_base.specs.declared.log.StartWord.{StartWord};
 ghost use Rattle.vyrd_base.specs.Layout.{plain_words};
 ghost use Rattle.vyrd_base.specs.Shape.{broken_rule};
 ghost use Rattle.vyrd_base.specs.Starts.{words_at_start};
-ghost use Rattle.vyrd_shadow.specs.Blocks.{with_writes};
 ghost use Rattle.vyrd_shadow.specs.Following.{Kept, HasFollowed, is_open, kept_writes, words_of};
 
 use crate::block::Block;

@@ -1,6 +1,6 @@
 //! The pairs of a cache's chunks, each as one number in its chunk's place. A chunk with the number 0 isn't there.
 
-ghost use Rattle.std.specs.Prelude.{◌≡◌, ◌<◌, ◌≤◌, length, replicate, IfOk};
+ghost use Rattle.std.specs.Prelude.{◌≡◌, ◌<◌, length, replicate, IfOk};
 ghost use Rattle.vyrd_base.specs.Amounts.{amount_of, with_amount};
 ghost use Rattle.vyrd_spec.specs.Chunks.{chunk_amounts};
 

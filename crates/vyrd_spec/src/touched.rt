@@ -23,7 +23,7 @@ impl Touched {
     }
 }
 
-// Whether the key is this one.
+/// Whether the key is this one.
 fn is_key(one: Option<u64>, key: u64) -> bool
     ensures { result ≡ is_key one key }
 {

@@ -117,7 +117,8 @@ fn next(
     }
 }
 
-/// An insert: reply 1 is for a key that was absent, reply 2 for one that was present, and both set its value. Reply 0 changes nothing.
+/// An insert: reply 1 is for a key that was absent, reply 2 for one that was present, and both set its value. Reply 0 changes
+/// nothing.
 fn insert(values: &mut AmountTable, key: u64, value: u64, reply: u64) -> Result<bool, AllocError>
     requires small { value < 2 ^ 32 }
     ensures allowed { result ≡ Ok true → by_reply reply (Some values.old)

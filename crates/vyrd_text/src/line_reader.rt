@@ -1,7 +1,7 @@
 //! What reads the lines of a log's text, one after the other, and the lines that lie whole in a
 //! piece where they lie.
 
-ghost use Rattle.std.specs.Prelude.{◌≡◌, ◌+◌, ◌<◌, ◌≤◌, ◌==◌, ℕ, List, [], ◌∷◌, ◌++◌, Some, None, false, true, length, count_by, vec_len, vec_capacity, OnOk, IfNone, IsSome, is_some, if◌then◌else◌};
+ghost use Rattle.std.specs.Prelude.{◌≡◌, ◌+◌, ◌<◌, ◌≤◌, ◌==◌, [], ◌∷◌, ◌++◌, Some, None, false, true, length, count_by, vec_len, vec_capacity, OnOk, IfNone, IsSome, is_some, if◌then◌else◌};
 ghost use Rattle.vyrd_base.specs.declared.log.Entry.{Entry};
 ghost use Rattle.vyrd_base.specs.Lines.{start_in};
 ghost use Rattle.vyrd_text.specs.Readers.{fresh, goes_on};

@@ -1,6 +1,6 @@
 //! The reader of a log's text, which takes the text in pieces of any size.
 
-ghost use Rattle.std.specs.Prelude.{◌≡◌, ◌≤◌, ◌==◌, ℕ, List, [], ◌++◌, true, Err, OnOk, IsSome};
+ghost use Rattle.std.specs.Prelude.{◌≡◌, ◌≤◌, ℕ, List, [], ◌++◌, true, Err, OnOk, IsSome};
 ghost use Rattle.vyrd_base.specs.Reading.{reading};
 ghost use Rattle.vyrd_text.specs.Readers.{HasRead, so_far, whole};
 ghost use Rattle.vyrd_text.specs.Answered.{IsAnswer, UnlessMemory, IsGrownBy};

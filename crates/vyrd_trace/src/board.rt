@@ -25,7 +25,7 @@ pub struct Board {
 }
 
 impl Board {
-    // Makes the hands of the callers from 1 on, each with a record that the one of caller 0 makes for it.
+    /// Makes the hands of the callers from 1 on, each with a record that the one of caller 0 makes for it.
     pub(crate) fn deal_all(
         &self,
         callers: u32,
@@ -46,7 +46,7 @@ impl Board {
         }
     }
 
-    // Makes one record of all, and takes the lanes out of the hands, in their order.
+    /// Makes one record of all, and takes the lanes out of the hands, in their order.
     pub(crate) fn gather_all(
         &self,
         mut hands: Vec<Hand>,

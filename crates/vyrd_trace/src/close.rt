@@ -30,7 +30,7 @@ pub struct Unclosed {
     pub hands: Vec<Hand>,
 }
 
-// The memory that `close` takes before it changes anything.
+/// The memory that `close` takes before it changes anything.
 struct Room {
     history: Vec<Stamped>,
     words: Vec<u64>,
@@ -51,7 +51,7 @@ impl Room {
     }
 }
 
-// An event that holds a place until the right one is written over it.
+/// An event that holds a place until the right one is written over it.
 fn blank() -> Stamped {
     Stamped {
         number: 0,
@@ -60,7 +60,7 @@ fn blank() -> Stamped {
     }
 }
 
-// How many events the hands have.
+/// How many events the hands have.
 fn count_all(hands: &[Hand]) -> usize
     requires limit { All (λ h. h.limit ≤ 16777216) hands.now }
     requires few { length hands.now ≤ 64 }
@@ -73,7 +73,7 @@ fn count_all(hands: &[Hand]) -> usize
     total
 }
 
-// The halves of the cells' words, which are the cells' values where no hand has claimed one.
+/// The halves of the cells' words, which are the cells' values where no hand has claimed one.
 fn halve_words(closed: &atomic_table::Closed<(), Global>, cells: usize, words: &mut Vec<u64>)
     requires closed { IsFull closed.now.words × (slots_len closed.now.words ≡ 1 + cells) }
     requires room { (words.old.items ≡ []) × (cells ≤ vec_capacity words.old) }

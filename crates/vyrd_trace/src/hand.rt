@@ -93,7 +93,7 @@ impl Hand {
         Ok(())
     }
 
-    // The lane and the seat.
+    /// The lane and the seat.
     pub(crate) fn into_parts(self) -> (Vec<Stamped>, Seat<(), Record>)
         ensures lane { result.0.items ≡ self.lane }
         ensures seat { (result.1.table_id ≡ self.table) × (result.1.me.1 ≡ []) }
@@ -103,7 +103,7 @@ impl Hand {
         (lane, seat)
     }
 
-    // A hand with an empty lane.
+    /// A hand with an empty lane.
     pub(crate) fn fresh(alloc: Global, caller: u32, limit: u64, seat: Seat<(), Record>) -> Hand
         requires { (seat.me.0.caller ≡ caller) × (seat.me.0.lane ≡ []) × (seat.me.0.live ≡ true) × (seat.me.0.stage ≡ Rest) × (seat.me.0.gathered ≡ []) × (seat.me.1 ≡ []) }
         ensures { (result.table ≡ seat.table_id) × (result.caller ≡ caller) × (result.limit ≡ limit) × (result.spare ≡ 0) × (result.lane ≡ []) }
@@ -118,7 +118,7 @@ impl Hand {
     }
 }
 
-// Adds an event to a lane that has room for it.
+/// Adds an event to a lane that has room for it.
 pub(crate) fn note(lane: &mut Vec<Stamped>, number: u64, caller: u32, did: Did)
     requires room { vec_len lane.old < vec_capacity lane.old }
     ensures event { lane.new.items ≡ lane.old.items ++ stamp number caller did ∷ [] }

@@ -16,7 +16,7 @@ use atomic_table::Seat;
 use vyrd_base::Did;
 
 impl Board {
-    // Draws the number of one event. `did` says to the contract which event it is, and J says it to the step.
+    /// Draws the number of one event. `did` says to the contract which event it is, and J says it to the step.
     pub(crate) fn draw<J: Intent>(&self, seat: &mut Seat<(), Record>, did: Did) -> u64
         requires table { seat.old.table_id ≡ self.now.table.shared.table_id }
         requires live { seat.old.me.0.live ≡ true }
@@ -31,7 +31,7 @@ impl Board {
         self.table.shared.fetch_add::<Draws<J>>(seat, 0, 1)
     }
 
-    // The first look of a call. Returns the word found.
+    /// The first look of a call. Returns the word found.
     pub(crate) fn look(&self, seat: &mut Seat<(), Record>, cell: u32) -> u64
         requires table { seat.old.table_id ≡ self.now.table.shared.table_id }
         requires live { seat.old.me.0.live ≡ true }
@@ -42,7 +42,7 @@ impl Board {
         self.table.shared.load::<Looks>(seat, cell as usize + 1)
     }
 
-    // Claims a plain cell where its word is still `old`, which was seen before in this call. Returns the word found.
+    /// Claims a plain cell where its word is still `old`, which was seen before in this call. Returns the word found.
     pub(crate) fn claim(&self, seat: &mut Seat<(), Record>, cell: u32, old: u64) -> u64
         requires table { seat.old.table_id ≡ self.now.table.shared.table_id }
         requires live { seat.old.me.0.live ≡ true }
@@ -58,7 +58,7 @@ impl Board {
             .compare_exchange::<TriesAgain>(seat, cell as usize + 1, old, old + 1)
     }
 
-    // Claims a lock where its word is 0. This is the first look of its call. Returns the word found.
+    /// Claims a lock where its word is 0. This is the first look of its call. Returns the word found.
     pub(crate) fn claim_lock(&self, seat: &mut Seat<(), Record>, cell: u32) -> u64
         requires table { seat.old.table_id ≡ self.now.table.shared.table_id }
         requires live { seat.old.me.0.live ≡ true }
@@ -73,7 +73,7 @@ impl Board {
             .compare_exchange::<TriesFirst>(seat, cell as usize + 1, 0, 1)
     }
 
-    // Writes the new word of the cell whose number is drawn, which ends the action.
+    /// Writes the new word of the cell whose number is drawn, which ends the action.
     pub(crate) fn publish(&self, seat: &mut Seat<(), Record>, cell: u32, word: u64)
         requires table { seat.old.table_id ≡ self.now.table.shared.table_id }
         requires live { seat.old.me.0.live ≡ true }
@@ -87,7 +87,7 @@ impl Board {
             .store::<Publishes>(seat, cell as usize + 1, word);
     }
 
-    // Looks at a plain cell, and claims it if it is free then and its word hasn't changed since. Returns the word found.
+    /// Looks at a plain cell, and claims it if it is free then and its word hasn't changed since. Returns the word found.
     pub(crate) fn claim_seen(&self, seat: &mut Seat<(), Record>, cell: u32) -> Result<u64, Busy>
         requires table { seat.old.table_id ≡ self.now.table.shared.table_id }
         requires live { seat.old.me.0.live ≡ true }
@@ -110,7 +110,7 @@ impl Board {
         }
     }
 
-    // A record for the next caller, made by that of caller 0.
+    /// A record for the next caller, made by that of caller 0.
     pub(crate) fn deal(&self, seat: &mut Seat<(), Record>) -> Seat<(), Record>
         requires table { seat.old.table_id ≡ self.now.table.shared.table_id }
         requires live { seat.old.me.0.live ≡ true }
@@ -123,7 +123,7 @@ impl Board {
         self.table.shared.split_seat::<Deals>(seat)
     }
 
-    // The second record's lanes go to the first.
+    /// The second record's lanes go to the first.
     pub(crate) fn gather(&self, seat: &mut Seat<(), Record>, other: Seat<(), Record>)
         requires table { (seat.old.table_id ≡ self.now.table.shared.table_id) × (other.table_id ≡ self.now.table.shared.table_id) }
         requires live { (seat.old.me.0.live ≡ true) × (other.me.0.live ≡ true) }

@@ -13,7 +13,7 @@ use std::sync::Wait;
 use std::test::Fail;
 use std::thread::{Threads, join};
 
-// A memory with two hands.
+/// A memory with two hands.
 fn two(
     alloc: Global,
     plain: u32,
@@ -35,7 +35,7 @@ fn two(
     Ok((traced, first, second))
 }
 
-// The history of two hands: their lanes are its parts.
+/// The history of two hands: their lanes are its parts.
 fn close_two(alloc: Global, traced: Traced, first: Hand, second: Hand) -> Option<Closed>
     requires plan { traced.plan.callers ≡ 2 }
     requires first { IsOf traced first × (first.caller ≡ 0) }
@@ -50,7 +50,7 @@ fn close_two(alloc: Global, traced: Traced, first: Hand, second: Hand) -> Option
     traced.close(hands).ok()
 }
 
-// Loads and stores cell 0, 1,000 times each.
+/// Loads and stores cell 0, 1,000 times each.
 fn work<R: Wait>(rt: &R, traced: &Traced, mut hand: Hand) -> Hand
     requires hand { IsOf traced.now hand × (2000 ≤ hand.spare) }
     requires cell { 0 < traced.now.plan.plain }
@@ -92,7 +92,7 @@ fn two_threads_at_one_cell(rt: HostRuntime) -> Result<(), Fail> {
     Ok(())
 }
 
-// Whether each action of two hands in one thread answers as it is to.
+/// Whether each action of two hands in one thread answers as it is to.
 fn actions_answer(traced: &Traced, first: &mut Hand, second: &mut Hand) -> bool
     requires first { IsOf traced.now first.old × (2 ≤ first.old.spare) }
     requires second { IsOf traced.now second.old × (2 ≤ second.old.spare) }

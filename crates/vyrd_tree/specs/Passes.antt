@@ -12,9 +12,9 @@ use Rattle.vyrd_tree.specs.Procedures.{insert_then}
 use Rattle.vyrd_tree.specs.Procedures.Ascent.{ascend_once}
 use Rattle.vyrd_tree.specs.Hanging.{is_hanging}
 
--- An insert that splits a leaf, played alone, comes to the unlock after its commit with words that stand for the next state with
--- the reply 1, and the new leaf hangs. There it goes on with what is given to follow a split, whatever that is: it may read any cell,
--- so no other memory would do. What `insert_entry` gives is the ascent.
+-- An insert that splits a leaf, played alone, comes to the unlock after its commit with words that stand for the next state
+-- with the reply 1, and the new leaf hangs. There it goes on with what is given to follow a split, whatever that is: it may
+-- read any cell, so no other memory would do. What `insert_entry` gives is the ascent.
 pub record SplitsLeaf (h : Header) (c : ℕ) (args : Args) (memory : Memory) (state : Amounts) : Type 0 where
   pub key : ℕ
   pub leaf : ℕ

@@ -1,6 +1,6 @@
 //! The words against the specification, change by change.
 
-ghost use Rattle.std.specs.Prelude.{◌≡◌, ℕ, ◌+◌, ◌*◌, ◌<◌, ◌≤◌, ◌^◌, [], true, false, length, replicate, All, IfOk, OnOk, OnErr, is_err};
+ghost use Rattle.std.specs.Prelude.{◌≡◌, ◌+◌, ◌*◌, ◌<◌, ◌≤◌, [], false, length, replicate, All, IfOk, OnOk, is_err};
 ghost use Rattle.vyrd_base.specs.Amounts.{with_amount, first_difference};
 ghost use Rattle.vyrd_base.specs.Layout.{plain_words};
 ghost use Rattle.vyrd_base.specs.Views.{view_of_words};

@@ -1,6 +1,6 @@
 //! What is kept of the words, brought up to date.
 
-ghost use Rattle.std.specs.Prelude.{◌≡◌, ℕ, ◌+◌, ◌*◌, ◌<◌, ◌≤◌, true, false, length, All, OnOk, is_err};
+ghost use Rattle.std.specs.Prelude.{◌≡◌, ◌+◌, ◌*◌, ◌<◌, ◌≤◌, false, length, All, OnOk, is_err};
 ghost use Rattle.vyrd_base.specs.Layout.{plain_words};
 ghost use Rattle.vyrd_view.specs.Comparing.{AgreeElsewhere, IsCurrent, keys_of_part, parts_looked_at};
 

@@ -1,6 +1,6 @@
 //! What zeroed words give.
 
-ghost use Rattle.std.specs.Prelude.{◌≡◌, ℕ, ◌+◌, ◌*◌, ◌<◌, ◌≤◌, true, false, length, map, replicate, slice_set, IfOk};
+ghost use Rattle.std.specs.Prelude.{◌≡◌, ◌+◌, ◌*◌, ◌<◌, ◌≤◌, true, false, map, replicate, slice_set, IfOk};
 ghost use Rattle.vyrd_base.specs.Places.{numbers_below};
 ghost use Rattle.vyrd_view.specs.Firsts.{first_pairs_in, first_chunk_pair, nodes_in};
 

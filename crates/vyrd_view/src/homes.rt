@@ -1,6 +1,6 @@
 //! A table in which a key stands in one of a few places in a row.
 
-ghost use Rattle.std.specs.Prelude.{◌≡◌, ℕ, ◌+◌, ◌-◌, ◌*◌, ◌<◌, ◌≤◌, ◌^◌, ◌==◌, true, false, length, slice_set, replicate, count_by, Some, None, IfOk, IfSome, ◌≢◌};
+ghost use Rattle.std.specs.Prelude.{◌≡◌, ℕ, ◌+◌, ◌-◌, ◌<◌, ◌≤◌, ◌^◌, ◌==◌, false, length, slice_set, replicate, count_by, Some, None, IfOk, IfSome, ◌≢◌};
 
 use std::alloc::{AllocError, Global};
 

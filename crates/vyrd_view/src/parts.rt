@@ -1,7 +1,7 @@
 //! What the parts give, pair by pair.
 
 ghost use Rattle.std.specs.Prelude.{◌≡◌, ℕ, ◌+◌, ◌<◌, ◌≤◌, ◌^◌, [], true, false, length, slice_set, OnOk, OnErr, IfOk};
-ghost use Rattle.vyrd_base.specs.Amounts.{amount_of, with_amount, collected, first_difference, given, part_given};
+ghost use Rattle.vyrd_base.specs.Amounts.{with_amount, collected, first_difference, given};
 
 use crate::sides::Sides;
 use crate::steps::Steps;
@@ -51,8 +51,8 @@ impl Parts {
         })
     }
 
-    /// The pair in this place gives way to another. Where it is the same pair nothing is compared. Once memory was refused the value
-    /// may only be dropped.
+    /// The pair in this place gives way to another. Where it is the same pair nothing is compared. Once memory was refused the
+    /// value may only be dropped.
     #[inline(always)]
     pub(crate) fn replace<L: Ledger>(
         &mut self,

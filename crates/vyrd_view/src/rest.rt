@@ -1,6 +1,6 @@
 //! The amounts of keys that have no place of their own.
 
-ghost use Rattle.std.specs.Prelude.{◌≡◌, ℕ, [], true, OnOk};
+ghost use Rattle.std.specs.Prelude.{◌≡◌, [], true, OnOk};
 ghost use Rattle.vyrd_base.specs.Amounts.{IsAmounts, amount_of, with_amount};
 
 use std::alloc::{AllocError, Global};

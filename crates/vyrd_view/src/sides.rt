@@ -183,7 +183,8 @@ impl Sides {
         }
     }
 
-    /// Gives a key that no place has the name of new amounts: in a free place of its own, if there is one and it isn't among the rest.
+    /// Gives a key that no place has the name of new amounts: in a free place of its own, if there is one and it isn't among
+    /// the rest.
     #[inline(never)]
     fn put_anew(&mut self, key: u64, both: Both) -> Result<(), AllocError>
         requires settled { IsSettled self.old }

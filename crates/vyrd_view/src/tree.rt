@@ -1,7 +1,6 @@
 //! The leaves of a tree, as their words change.
 
-ghost use Rattle.std.specs.Prelude.{◌≡◌, ℕ, ◌+◌, ◌-◌, ◌*◌, ◌/◌, ◌%◌, ◌<◌, ◌≤◌, ◌^◌, true, false, Bool, [], ◌∷◌, length, map, All, slice_index_or, OnOk, OnErr, if◌then◌else◌};
-ghost use Rattle.vyrd_base.specs.TreeView.{count_of};
+ghost use Rattle.std.specs.Prelude.{◌≡◌, ℕ, ◌+◌, ◌-◌, ◌*◌, ◌/◌, ◌%◌, ◌<◌, ◌≤◌, ◌^◌, true, false, length, map, slice_index_or, OnOk, OnErr, if◌then◌else◌};
 ghost use Rattle.vyrd_view.specs.Pairs.{EachAtMost};
 ghost use Rattle.vyrd_view.specs.Chains.{entry_pair, node_pair, tree_pair, end_pair, is_stale, has_link, is_on_chain, is_broken};
 ghost use Rattle.vyrd_base.specs.Places.{numbers_below};
@@ -36,8 +35,8 @@ const PRESENT: u64 = 1 << 32;
 /// The key that stands for damage. It is above all others.
 const DAMAGE: u64 = 1 << 33;
 
-/// The places of a tree are brought up to date: those of each leaf that a changed word is in, and, where a right link has changed,
-/// those of the leaves that came to the chain or left it. Once memory was refused the parts may only be dropped.
+/// The places of a tree are brought up to date: those of each leaf that a changed word is in, and, where a right link has
+/// changed, those of the leaves that came to the chain or left it. Once memory was refused the parts may only be dropped.
 pub(crate) fn leaves_changed<L: Ledger>(
     parts: &mut Parts,
     marks: &mut [bool],
@@ -89,7 +88,8 @@ fn end_pair(broken: bool) -> (u64, u64)
     if broken { (DAMAGE, 1) } else { (0, 0) }
 }
 
-/// Each marked node that a changed word is in gives what its words show now. Once memory was refused the parts may only be dropped.
+/// Each marked node that a changed word is in gives what its words show now. Once memory was refused the parts may only be
+/// dropped.
 fn entries_changed<L: Ledger>(
     parts: &mut Parts,
     marks: &[bool],
@@ -146,8 +146,8 @@ fn walk(marks: &mut [bool], words: &[u64]) -> bool
     false
 }
 
-/// The marks become the next ones, and each node that gets a mark or loses one gives what it shows now. Once memory was refused the
-/// parts may only be dropped.
+/// The marks become the next ones, and each node that gets a mark or loses one gives what it shows now. Once memory was refused
+/// the parts may only be dropped.
 fn remark<L: Ledger>(
     parts: &mut Parts,
     marks: &mut [bool],

@@ -1,4 +1,5 @@
--- So many bytes settle what they say: the lines that are taken in are short and few, so reading ends at a line that begins in them.
+-- So many bytes settle what they say: the lines that are taken in are short and few, so reading ends at a line that begins in
+-- them.
 use Rattle.std.proofs.Common.{◌≡◌, ℕ, ◌+◌, ◌*◌, ◌<◌, ◌≤◌, Bool, true, false, cond, List, [], ◌∷◌, ◌++◌, length}
 use Rattle.std.proofs.Common.{Option, Some, None, Result, Ok, Err, refl, ap, subst, sym, ◌∙◌, arith, length-append}
 use Rattle.std.specs.Prelude.{◌==◌, nat_lt}
@@ -29,7 +30,8 @@ use Rattle.vyrd_work.proofs.LimitLaws.{limits_more}
 use Rattle.vyrd_work.proofs.ShortLines.{short_op, short_turns, short_first}
 use Rattle.vyrd_work.proofs.TextLaws.{begun_keeps}
 
--- the lines of two texts in a row: the last line of the first, `p` where no others follow it, goes on with the first of the second
+-- the lines of two texts in a row: the last line of the first, `p` where no others follow it, goes on with the first of the
+-- second
 abbrev joined_first : List ℕ → List (List ℕ) → List ℕ → List ℕ
 joined_first p [] q = p ++ q
 joined_first p (next ∷ ps) q = p

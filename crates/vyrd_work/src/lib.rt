@@ -1,7 +1,7 @@
 //! Workloads: who calls what, and whose turns come in which order, as text and as data.
 //!
-//! The central type is [`Work`]. [`read_work`] reads a workload's text and answers exactly the workload that the bytes say, or the
-//! first bad line with the first rule that it breaks. [`write_work`] writes the one text that is read as a workload, and
+//! The central type is [`Work`]. [`read_work`] reads a workload's text and answers exactly the workload that the bytes say, or
+//! the first bad line with the first rule that it breaks. [`write_work`] writes the one text that is read as a workload, and
 //! [`generate`] makes a workload of many operations from their number alone.
 //!
 //! What the text is and what bytes say stands in `specs/`: `Workloads` has the one text of a workload, `WorkLines` and

@@ -84,7 +84,8 @@ tree_open h locks method committed k g m later tree hand rest =
       rest,
     )
 
--- In an open block of the caller, with the lock of node n held since memory m: what comes next does right, with these writes so far.
+-- In an open block of the caller, with the lock of node n held since memory m: what comes next does right, with these writes so
+-- far.
 abbrev pub InBlock : Header → Method → Bool → TreeHand → Shape → Memory → ℕ → List (ℕ × ℕ) → Script → Type 0
 InBlock h method committed k g m n ws script = (g' : Shape) (m' : Memory) → TreeRely h (holding (lock_of h n ∷ []) method committed false) k g m g' m'
     → TreeRight h (holding (lock_of h n ∷ []) method committed true) (with_pending k ws) g' m' script

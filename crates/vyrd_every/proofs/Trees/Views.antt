@@ -1,4 +1,5 @@
--- What the linked nodes show: the chain from node 0 visits each leaf once, so a key has the amount that the leaf of its range gives.
+-- What the linked nodes show: the chain from node 0 visits each leaf once, so a key has the amount that the leaf of its range
+-- gives.
 use Rattle.std.proofs.Common.{◌≡◌, ◌≢◌, ℕ, zero, suc, ◌+◌, ◌*◌, ◌<◌, ◌≤◌, ◌⊎◌, inl, inr, Bool, true, false, List, [], ◌∷◌, map, min, refl, ap, ◌∙◌, sym, subst, arith}
 use Rattle.std.specs.Prelude.{◌==◌, ◌||◌, nat_le, flat_map}
 use Rattle.std.specs.Prelude.{slice_index}

@@ -1,5 +1,5 @@
--- A walk is never lost, whatever the others do: it visits each node at most once, since every node that it comes to is after all that
--- it has visited, and levels and lows of linked nodes never change.
+-- A walk is never lost, whatever the others do: it visits each node at most once, since every node that it comes to is after
+-- all that it has visited, and levels and lows of linked nodes never change.
 use Rattle.std.proofs.Common.{◌≡◌, ◌≢◌, ℕ, zero, suc, ◌+◌, ◌*◌, ◌<◌, ◌≤◌, ◌⊎◌, inl, inr, Bool, true, false, cond, min, List, [], ◌∷◌, map, refl, ap, ◌∙◌, sym, subst, arith}
 use Rattle.std.specs.Prelude.{◌==◌, ◌||◌, nat_lt}
 use Rattle.vyrd_base.specs.declared.header.Header.{Header}
@@ -29,8 +29,8 @@ use Rattle.vyrd_every.specs.Trees.Others.{TreeRely}
 use Rattle.vyrd_every.specs.Trees.RightScripts.{TreeRight}
 use Rattle.vyrd_every.proofs.Trees.Parts.{HandStands, hand_stays, tree_rely_more, tree_rely_less, tree_load, tree_take, tree_give_last}
 
--- Where a walk is: at a linked node at or below whose range the key is, and after all nodes that it has visited; and with enough visits
--- left for all others.
+-- Where a walk is: at a linked node at or below whose range the key is, and after all nodes that it has visited; and with
+-- enough visits left for all others.
 pub record Walking (size : ℕ) (g : Shape) (m : Memory) (key toward left n : ℕ) (visited : ℕ → Bool) : Type 0 where
   pub linked : g.linked n ≡ true
   pub from : g.low n ≤ key
@@ -296,8 +296,8 @@ visit_right h method committed key toward k g m n lost visit arrived tree at fro
     by_bound (inr some) (inr lt) = inside (λ some. lt)
     by_bound (inr some) (inl le) = subst (λ a. Goal a (nat_lt toward (level_at m n))) (sym (past (bound_at m n) key some le)) (right some le)
 
--- Where a walk arrives: at the node of its level that has the key in its range, with the lock held and the node loaded as it is. From the
--- walk's beginning on others have gone on.
+-- Where a walk arrives: at the node of its level that has the key in its range, with the lock held and the node loaded as it
+-- is. From the walk's beginning on others have gone on.
 abbrev pub Arrives : Header → Method → Bool → TreeHand → Shape → Memory → ℕ → ℕ → (Arrived → Script) → Type 0
 Arrives h method committed k g m key toward arrived = (n : ℕ) (g' : Shape) (m' : Memory) → TreeRely h (holding [] method committed false) k g m g' m'
     → AtNode h (holding (lock_of h n ∷ []) method committed false) k g' m' n → level_at m' n ≡ toward → Covers m' g'.low n key

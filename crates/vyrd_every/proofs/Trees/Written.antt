@@ -1,4 +1,5 @@
--- What writes make of a memory, word by word, and what an act makes of the memory that the log shows and of the one that callers see.
+-- What writes make of a memory, word by word, and what an act makes of the memory that the log shows and of the one that
+-- callers see.
 use Rattle.std.proofs.Common.{◌≡◌, ℕ, Bool, true, false, cond, List, [], ◌∷◌, ◌++◌, Option, Some, None, refl, ap, ◌∙◌, sym, subst, arith}
 use Rattle.std.specs.Prelude.{◌==◌, ◌&&◌, ◌||◌, is_some, unwrap_or}
 use Rattle.std.specs.Option.{option_or}

@@ -25,8 +25,8 @@ add_child h level key node at ended next =
     else with_unused h (unlock_node h at.node ended) (λ new.
     split_entry h at key node new BlockClose (next (level + 1) (split_key at key node) new)))
 
--- One round: on the level above this one, the node gets an entry with this key. The ascent stops, or the next round has the level,
--- the key and the node of the split above.
+-- One round: on the level above this one, the node gets an entry with this key. The ascent stops, or the next round has the
+-- level, the key and the node of the split above.
 abbrev pub ascend_once : Header → Variant → ℕ → ℕ → ℕ → Script → (ℕ → ℕ → ℕ → Script) → Script
 ascend_once h variant level key node ended next = lock_root h (step (Load (root_cell h)) (λ root.
     if nat_lt root h.size

@@ -1,6 +1,6 @@
--- Proofs of laws that an impl in src/ names: no contract says what is defined here.
--- What follows of a tree's rules: the nodes of a level have ranges of keys that share none, and each key has its node. Along right
--- links lows rise, so no node is met twice.
+-- Proofs of laws that an impl in src/ names: no contract says what is defined here. What follows of a tree's rules: the nodes
+-- of a level have ranges of keys that share none, and each key has its node. Along right links lows rise, so no node is met
+-- twice.
 use Rattle.std.proofs.Common.{◌≡◌, ◌≢◌, ℕ, zero, suc, ◌+◌, ◌<◌, ◌≤◌, ◌⊎◌, inl, inr, Bool, true, false, refl, ap, ◌∙◌, sym, subst, arith}
 use Rattle.std.specs.Prelude.{◌==◌, ◌&&◌, ◌||◌, nat_lt}
 use Rattle.std.proofs.lemmas.Bool.Decides.{nat_tests}

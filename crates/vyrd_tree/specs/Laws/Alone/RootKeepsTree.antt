@@ -10,7 +10,8 @@ use Rattle.vyrd_tree.specs.Laws.Alone.Changes.{entries_kept, entries_alike}
 use Rattle.vyrd_tree.specs.Laws.Alone.SplitKeepsTree.{with_low, new_low, old_low, next_or}
 use Rattle.vyrd_tree.specs.Laws.Alone.SplitKeepsTree.{off_words}
 
--- A new root follows the last node, one level above the old root. It has two children: the old root, and another node of its level.
+-- A new root follows the last node, one level above the old root. It has two children: the old root, and another node of its
+-- level.
 pub record IsGrown (size : ℕ) (m m' : Memory) (key child : ℕ) : Type 0 where
   pub room : last_in size m + 1 < size
   pub last_is : last_in size m' ≡ last_in size m + 1

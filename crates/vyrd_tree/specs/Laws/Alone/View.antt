@@ -1,5 +1,5 @@
--- Proofs of laws that an impl in src/ names: no contract says what is defined here.
--- What a tree in words shows: the chain from node 0 visits each leaf once, so a key has the amount that the leaf of its range gives.
+-- Proofs of laws that an impl in src/ names: no contract says what is defined here. What a tree in words shows: the chain from
+-- node 0 visits each leaf once, so a key has the amount that the leaf of its range gives.
 use Rattle.std.proofs.Common.{◌≡◌, ◌≢◌, ℕ, zero, suc, ◌+◌, ◌<◌, ◌≤◌, ◌⊎◌, inl, inr, Bool, true, false, List, [], ◌∷◌, map, min, refl, ap, ◌∙◌, sym, arith}
 use Rattle.std.specs.Prelude.{◌==◌, ◌||◌, nat_le, flat_map}
 use Rattle.std.specs.Prelude.{slice_index}
