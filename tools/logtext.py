@@ -11,11 +11,12 @@ METHODS = {
     "multiset": {"insert": 1, "insert_pair": 2, "delete": 1, "lookup": 1},
     "cache": {"write": 3, "flush": 1, "evict": 1, "read": 1},
     "tree": {"insert": 2, "delete": 1, "lookup": 1},
+    "buffers": {"append": 2, "append_from": 2, "cut": 2, "length": 1, "read": 1},
 }
-OBSERVERS = {"lookup", "read"}
+OBSERVERS = {"lookup", "read", "length"}
 
 # How many words a structure has for each unit of its size, and beside them.
-WORDS = {"multiset": (8, 0), "cache": (5, 0), "tree": (12, 2)}
+WORDS = {"multiset": (8, 0), "cache": (5, 0), "tree": (12, 2), "buffers": (8, 0)}
 
 ANSWER = re.compile(
     r"(?:accepted: \d+ entries, \d+ commits, \d+ observers"

@@ -30,6 +30,7 @@ pub mod KeyLaws
 pub mod DifferenceLaws
 pub mod StopLaws
 pub mod SumLaws
+pub mod TextLaws
 pub mod ListLaws
 pub mod TestLaws
 pub mod SubjectLaws

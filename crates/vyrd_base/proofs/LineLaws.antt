@@ -8,9 +8,9 @@ use Rattle.std.specs.Str.{bytes_eq}
 use Rattle.std.proofs.lemmas.Bool.Decides.{nat_tests}
 use Rattle.std.proofs.lemmas.Slice.Eq.{bytes_eq-Decides}
 use Rattle.vyrd_base.specs.declared.subject.Subject.{Subject}
-use Rattle.vyrd_base.specs.declared.subject.Subject.TheVariants.{Multiset, Cache, Tree}
+use Rattle.vyrd_base.specs.declared.subject.Subject.TheVariants.{Multiset, Cache, Tree, Buffers}
 use Rattle.vyrd_base.specs.declared.subject.Method.{Method}
-use Rattle.vyrd_base.specs.declared.subject.Method.TheVariants.{MsInsert, MsInsertPair, MsDelete, MsLookup, CaWrite, CaFlush, CaEvict, CaRead, TrInsert, TrDelete, TrLookup}
+use Rattle.vyrd_base.specs.declared.subject.Method.TheVariants.{MsInsert, MsInsertPair, MsDelete, MsLookup, CaWrite, CaFlush, CaEvict, CaRead, TrInsert, TrDelete, TrLookup, BuAppend, BuAppendFrom, BuCut, BuLength, BuRead}
 use Rattle.vyrd_base.specs.declared.subject.Args.{Args}
 use Rattle.vyrd_base.specs.declared.log.Kind.{Kind}
 use Rattle.vyrd_base.specs.declared.log.Kind.TheVariants.{Call, Return, Write, Commit, BlockOpen, BlockClose, BlockCommit}
@@ -83,6 +83,11 @@ call_guess Cache CaRead args e = ap (λ x. Some (Call CaRead x)) (args_1 args (p
 call_guess Tree TrInsert args e = ap (λ x. Some (Call TrInsert x)) (args_2 args (padded_of true _ args e) (small_of true _ args e))
 call_guess Tree TrDelete args e = ap (λ x. Some (Call TrDelete x)) (args_1 args (padded_of true _ args e) (small_of true _ args e))
 call_guess Tree TrLookup args e = ap (λ x. Some (Call TrLookup x)) (args_1 args (padded_of true _ args e) (small_of true _ args e))
+call_guess Buffers BuAppend args e = ap (λ x. Some (Call BuAppend x)) (args_2 args (padded_of true _ args e) (small_of true _ args e))
+call_guess Buffers BuAppendFrom args e = ap (λ x. Some (Call BuAppendFrom x)) (args_2 args (padded_of true _ args e) (small_of true _ args e))
+call_guess Buffers BuCut args e = ap (λ x. Some (Call BuCut x)) (args_2 args (padded_of true _ args e) (small_of true _ args e))
+call_guess Buffers BuLength args e = ap (λ x. Some (Call BuLength x)) (args_1 args (padded_of true _ args e) (small_of true _ args e))
+call_guess Buffers BuRead args e = ap (λ x. Some (Call BuRead x)) (args_1 args (padded_of true _ args e) (small_of true _ args e))
 call_guess _ _ args e = cc
 
 kind_guess : (subject : Subject) (kind : Kind) → is_kind_of subject kind ≡ true → guessed_kind subject (kind_fields kind) ≡ Some kind
@@ -125,6 +130,11 @@ plain_name CaRead = refl
 plain_name TrInsert = refl
 plain_name TrDelete = refl
 plain_name TrLookup = refl
+plain_name BuAppend = refl
+plain_name BuAppendFrom = refl
+plain_name BuCut = refl
+plain_name BuLength = refl
+plain_name BuRead = refl
 
 plain_take : (n : ℕ) (numbers : List ℕ) → list_all is_plain_field (map decimal numbers) ≡ true
     → list_all is_plain_field (map decimal (take n numbers)) ≡ true

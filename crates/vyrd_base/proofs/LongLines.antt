@@ -8,7 +8,7 @@ use Rattle.std.proofs.lemmas.Fmt.{length-decimal-le}
 use Rattle.std.proofs.lemmas.Bool.Decides.{nat_tests}
 use Rattle.std.proofs.lemmas.Slice.Eq.{bytes_eq-Decides}
 use Rattle.vyrd_base.specs.declared.subject.Subject.{Subject}
-use Rattle.vyrd_base.specs.declared.subject.Method.TheVariants.{MsInsert, MsInsertPair, MsDelete, MsLookup, CaWrite, CaFlush, CaEvict, CaRead, TrInsert, TrDelete, TrLookup}
+use Rattle.vyrd_base.specs.declared.subject.Method.TheVariants.{MsInsert, MsInsertPair, MsDelete, MsLookup, CaWrite, CaFlush, CaEvict, CaRead, TrInsert, TrDelete, TrLookup, BuAppend, BuAppendFrom, BuCut, BuLength, BuRead}
 use Rattle.vyrd_base.specs.declared.verdict.Rule.TheVariants.{BadHeader, UnknownVersion}
 use Rattle.vyrd_base.specs.declared.subject.Method.{Method}
 use Rattle.vyrd_base.specs.declared.log.Kind.{Kind}
@@ -57,6 +57,11 @@ short_name CaRead = omega arith
 short_name TrInsert = omega arith
 short_name TrDelete = omega arith
 short_name TrLookup = omega arith
+short_name BuAppend = omega arith
+short_name BuAppendFrom = omega arith
+short_name BuCut = omega arith
+short_name BuLength = omega arith
+short_name BuRead = omega arith
 
 -- fewer arguments are no longer
 fewer : (n : ℕ) (numbers : List ℕ) → spaced_length (map decimal (take n numbers)) ≤ spaced_length (map decimal numbers)

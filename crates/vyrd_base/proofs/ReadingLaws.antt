@@ -9,7 +9,7 @@ use Rattle.std.proofs.lemmas.Bool.Decides.{nat_tests}
 use Rattle.std.proofs.Math.Bool.{Bool-set}
 use Rattle.vyrd_base.specs.declared.header.Header.{Header}
 use Rattle.vyrd_base.specs.declared.subject.Subject.{Subject}
-use Rattle.vyrd_base.specs.declared.subject.Subject.TheVariants.{Multiset, Cache, Tree}
+use Rattle.vyrd_base.specs.declared.subject.Subject.TheVariants.{Multiset, Cache, Tree, Buffers}
 use Rattle.vyrd_base.specs.declared.log.Entry.{Entry}
 use Rattle.vyrd_base.specs.declared.log.StartWord.{StartWord}
 use Rattle.vyrd_base.specs.declared.verdict.Rule.TheVariants.{TooManyLines, StartRange, StartOrder, UnknownVersion, BadHeader}
@@ -80,6 +80,7 @@ few_words : (subject : Subject) (size : ℕ) → size ≤ 1024 → plain_words_o
 few_words Multiset size h = omega arith
 few_words Cache size h = omega arith
 few_words Tree size h = omega arith
+few_words Buffers size h = omega arith
 
 low_size : (h : Header) → h.size ≤ 1024
 low_size h = at_most_of h.size 1024 (second_true (nat_le 1 h.size) _ (first_true _ _ (first_true _ _ (second_true (is_known_version h.version) _ h.within))))

@@ -8,13 +8,14 @@ use Rattle.std.proofs.Math.Seq.{drop-append_seam}
 use Rattle.std.proofs.lemmas.List.{replicate-append-replicate, length-replicate}
 use Rattle.vyrd_base.specs.declared.header.Header.{Header}
 use Rattle.vyrd_base.specs.declared.subject.Subject.{Subject}
-use Rattle.vyrd_base.specs.declared.subject.Subject.TheVariants.{Multiset, Cache, Tree}
+use Rattle.vyrd_base.specs.declared.subject.Subject.TheVariants.{Multiset, Cache, Tree, Buffers}
 use Rattle.vyrd_base.specs.Places.{numbers_from, numbers_below}
 use Rattle.vyrd_base.specs.Layout.{plain_words, lock_words}
 use Rattle.vyrd_base.specs.Limits.{is_known_version}
 use Rattle.vyrd_base.specs.Amounts.{plus_amount, collected}
 use Rattle.vyrd_base.specs.Specification.{start}
 use Rattle.vyrd_base.specs.TreeView.{entries_of, entry_parts, node_parts, right_of, damage, chain_parts_from}
+use Rattle.vyrd_base.specs.Buffers.{buffer_at, is_buffer, buffer_parts}
 use Rattle.vyrd_base.specs.Views.{slot_parts, chunk_at, chunk_parts, parts_of, view_of_words}
 use Rattle.vyrd_base.specs.Trees.{nodes, left_of, low_of, is_linked, is_bounded, rises, keys_at, has_sound_keys, is_leaf_entry, begins_with, has_sound_entries, is_only_first, is_sound_node, is_tree}
 use Rattle.vyrd_base.specs.Standing.{is_sound_slot, is_sound_chunk, is_sound, state_of_words}
@@ -40,6 +41,9 @@ chunk_same v w same h = λ i. record {
   stored_lo = same (5 * h + 3) i;
   stored_hi = same (5 * h + 4) i;
 }
+
+buffer_same : (v w : List ℕ) → SameWords v w → (b : ℕ) → buffer_at v b ≡ buffer_at w b
+buffer_same v w same b = λ i. record { count = same (8 * b) i; character = λ k. same (8 * b + (1 + k)) i }
 
 entries_same : (v w : List ℕ) → SameWords v w → (n : ℕ) → entries_of v n ≡ entries_of w n
 entries_same v w same n = λ i.
@@ -101,6 +105,7 @@ sound_same v w same Multiset size = λ i.
     list_all (λ slot. not (same (2 * slot) i == 2) || same (2 * slot + 1) i % size == slot / 4) (numbers_below (4 * size))
 sound_same v w same Cache size = λ i. list_all (λ h. is_sound_chunk (chunk_same v w same h i)) (numbers_below size)
 sound_same v w same Tree size = tree_same v w same size
+sound_same v w same Buffers size = λ i. list_all (λ b. is_buffer (buffer_same v w same b i)) (numbers_below size)
 
 -- They show the same too.
 node_parts_same : (v w : List ℕ) → SameWords v w → (n : ℕ) → node_parts v n ≡ node_parts w n
@@ -126,6 +131,7 @@ parts_same v w same Multiset size = λ i.
     flat_map (λ slot. cond (same (2 * slot) i == 2) ((same (2 * slot + 1) i, 1) ∷ []) []) (numbers_below (4 * size))
 parts_same v w same Cache size = λ i. flat_map (λ h. chunk_parts size h (chunk_same v w same h i)) (numbers_below size)
 parts_same v w same Tree size = chain_same v w same size size [] 0
+parts_same v w same Buffers size = λ i. flat_map (λ b. buffer_parts size b (buffer_same v w same b i)) (numbers_below size)
 
 pub view_same : (h : Header) (v w : List ℕ) → SameWords v w → view_of_words h v ≡ view_of_words h w
 unfolding view_of_words
@@ -171,9 +177,14 @@ free_chunks : (k n : ℕ) → list_all (λ h. is_sound_chunk (chunk_at [] h)) (n
 free_chunks k zero = refl
 free_chunks k (suc n) = free_chunks (k + 1) n
 
+free_buffers : (k n : ℕ) → list_all (λ b. is_buffer (buffer_at [] b)) (numbers_from k n) ≡ true
+free_buffers k zero = refl
+free_buffers k (suc n) = free_buffers (k + 1) n
+
 no_words_sound : (subject : Subject) (size : ℕ) → 1 ≤ size → is_sound subject size [] ≡ true
 no_words_sound Multiset size some = free_slots size 0 (4 * size)
 no_words_sound Cache size some = free_chunks 0 size
+no_words_sound Buffers size some = free_buffers 0 size
 no_words_sound Tree zero some = absurd (omega (arith, some))
 no_words_sound Tree (suc size) some = ap (λ b. b && true && true && true && true) (is_below 0 (suc size) (omega arith))
 
@@ -185,9 +196,14 @@ no_chunks : (size k n : ℕ) → collected (flat_map (λ h. chunk_parts size h (
 no_chunks size k zero = refl
 no_chunks size k (suc n) = ap (λ s. plus_amount s k 0) (no_chunks size (k + 1) n)
 
+no_buffers : (size k n : ℕ) → collected (flat_map (λ b. buffer_parts size b (buffer_at [] b)) (numbers_from k n)) ≡ []
+no_buffers size k zero = refl
+no_buffers size k (suc n) = ap (λ s. plus_amount s k 0) (no_buffers size (k + 1) n)
+
 no_words_empty : (subject : Subject) (size : ℕ) → 1 ≤ size → collected (parts_of subject size []) ≡ []
 no_words_empty Multiset size some = ap collected (no_slots 0 (4 * size))
 no_words_empty Cache size some = no_chunks size 0 size
+no_words_empty Buffers size some = no_buffers size 0 size
 no_words_empty Tree zero some = absurd (omega (arith, some))
 no_words_empty Tree (suc size) some = refl
 

@@ -1,10 +1,10 @@
--- The three subjects and their names: which are the same, how long a name is, and how it is read.
+-- The subjects and their names: which are the same, how long a name is, and how it is read.
 use Rattle.std.proofs.Common.{◌≡◌, ℕ, ◌≤◌, true, List, ◌∷◌, ◌++◌, length, Some, refl, sym, ap, ◌∙◌, arith}
 use Rattle.std.specs.Prelude.{◌==◌}
 use Rattle.std.specs.List.{slice_split}
 use Rattle.std.proofs.lemmas.List.{append_cancel_left}
 use Rattle.vyrd_base.specs.declared.subject.Subject.{Subject}
-use Rattle.vyrd_base.specs.declared.subject.Subject.TheVariants.{Multiset, Cache, Tree}
+use Rattle.vyrd_base.specs.declared.subject.Subject.TheVariants.{Multiset, Cache, Tree, Buffers}
 use Rattle.vyrd_base.specs.Subjects.{same_subject}
 use Rattle.vyrd_base.specs.Spelling.{subject_name}
 use Rattle.vyrd_base.specs.Lines.{subject_called}
@@ -16,34 +16,45 @@ pub same_subjects : (a b : Subject) → same_subject a b ≡ true → a ≡ b
 same_subjects Multiset Multiset e = refl
 same_subjects Cache Cache e = refl
 same_subjects Tree Tree e = refl
+same_subjects Buffers Buffers e = refl
 same_subjects Multiset Cache e = cc
 same_subjects Multiset Tree e = cc
+same_subjects Multiset Buffers e = cc
 same_subjects Cache Multiset e = cc
 same_subjects Cache Tree e = cc
+same_subjects Cache Buffers e = cc
 same_subjects Tree Multiset e = cc
 same_subjects Tree Cache e = cc
+same_subjects Tree Buffers e = cc
+same_subjects Buffers Multiset e = cc
+same_subjects Buffers Cache e = cc
+same_subjects Buffers Tree e = cc
 
 -- a name is a field of its own, and short
 pub plain_subject : (subject : Subject) → is_plain_field (subject_name subject) ≡ true
 plain_subject Multiset = refl
 plain_subject Cache = refl
 plain_subject Tree = refl
+plain_subject Buffers = refl
 
 pub short_subject : (subject : Subject) → length (subject_name subject) ≤ 8
 short_subject Multiset = omega arith
 short_subject Cache = omega arith
 short_subject Tree = omega arith
+short_subject Buffers = omega arith
 
 -- a name is read as the subject that has it
 pub subject_read : (subject : Subject) → subject_called (subject_name subject) ≡ Some subject
 subject_read Multiset = refl
 subject_read Cache = refl
 subject_read Tree = refl
+subject_read Buffers = refl
 
 plain_name : (subject : Subject) → lacks 32 (subject_name subject) ≡ true
 plain_name Multiset = refl
 plain_name Cache = refl
 plain_name Tree = refl
+plain_name Buffers = refl
 
 -- the name before a space is one
 pub one_name : (a b : Subject) (r s : List ℕ) → subject_name a ++ 32 ∷ r ≡ subject_name b ++ 32 ∷ s → r ≡ s

@@ -11,6 +11,7 @@ pub mod Amounts
 pub mod Formed
 pub mod Tables
 pub mod TreeView
+pub mod Buffers
 pub mod Views
 pub mod Specification
 pub mod Commits

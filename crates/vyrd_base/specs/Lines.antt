@@ -5,9 +5,9 @@ use Rattle.std.specs.Str.Parse.{digits_value}
 use Rattle.std.specs.List.{slice_split}
 use Rattle.vyrd_base.specs.declared.header.Header.{Header}
 use Rattle.vyrd_base.specs.declared.subject.Subject.{Subject}
-use Rattle.vyrd_base.specs.declared.subject.Subject.TheVariants.{Multiset, Cache, Tree}
+use Rattle.vyrd_base.specs.declared.subject.Subject.TheVariants.{Multiset, Cache, Tree, Buffers}
 use Rattle.vyrd_base.specs.declared.subject.Method.{Method}
-use Rattle.vyrd_base.specs.declared.subject.Method.TheVariants.{MsInsert, MsInsertPair, MsDelete, MsLookup, CaWrite, CaFlush, CaEvict, CaRead, TrInsert, TrDelete, TrLookup}
+use Rattle.vyrd_base.specs.declared.subject.Method.TheVariants.{MsInsert, MsInsertPair, MsDelete, MsLookup, CaWrite, CaFlush, CaEvict, CaRead, TrInsert, TrDelete, TrLookup, BuAppend, BuAppendFrom, BuCut, BuLength, BuRead}
 use Rattle.vyrd_base.specs.declared.subject.Args.{Args}
 use Rattle.vyrd_base.specs.declared.log.Kind.{Kind}
 use Rattle.vyrd_base.specs.declared.log.Kind.TheVariants.{Call, Return, Write, Commit, BlockOpen, BlockClose, BlockCommit}
@@ -31,6 +31,7 @@ abbrev pub methods_of : Subject → List Method
 methods_of Multiset = MsInsert ∷ MsInsertPair ∷ MsDelete ∷ MsLookup ∷ []
 methods_of Cache = CaWrite ∷ CaFlush ∷ CaEvict ∷ CaRead ∷ []
 methods_of Tree = TrInsert ∷ TrDelete ∷ TrLookup ∷ []
+methods_of Buffers = BuAppend ∷ BuAppendFrom ∷ BuCut ∷ BuLength ∷ BuRead ∷ []
 
 -- the subject's method of that name
 abbrev pub method_called : Subject → List ℕ → Option Method
@@ -80,7 +81,7 @@ start_in line = option_and_then
 
 -- the subject of that name
 abbrev pub subject_called : List ℕ → Option Subject
-subject_called name = find (λ subject. bytes_eq (subject_name subject) name) (Multiset ∷ Cache ∷ Tree ∷ [])
+subject_called name = find (λ subject. bytes_eq (subject_name subject) name) (Multiset ∷ Cache ∷ Tree ∷ Buffers ∷ [])
 
 -- the header with these numbers, whose limits were tested
 abbrev pub header_if : (version : ℕ) (subject : Subject) (size callers : ℕ) (b : Bool) → is_within version size callers ≡ b → Option Header

@@ -1,7 +1,7 @@
 -- Small memories and histories that are worked out.
 use Rattle.std.specs.Prelude.{ℕ, List, [], ◌∷◌, ◌++◌, replicate, refl}
 use Rattle.vyrd_base.specs.declared.header.Header.{Header}
-use Rattle.vyrd_base.specs.declared.subject.Subject.TheVariants.{Multiset, Cache, Tree}
+use Rattle.vyrd_base.specs.declared.subject.Subject.TheVariants.{Multiset, Cache, Tree, Buffers}
 use Rattle.vyrd_base.specs.declared.subject.Method.TheVariants.{MsLookup}
 use Rattle.vyrd_base.specs.declared.log.Kind.TheVariants.{Call, Return}
 use Rattle.vyrd_base.specs.declared.history.Did.{Did}
@@ -18,6 +18,9 @@ cache_of_1 = record { version = 1; subject = Cache; size = 1; callers = 1; withi
 
 abbrev pub tree_of_4 : Header
 tree_of_4 = record { version = 1; subject = Tree; size = 4; callers = 1; within = refl }
+
+abbrev pub buffers_of_1 : Header
+buffers_of_1 = record { version = 1; subject = Buffers; size = 1; callers = 1; within = refl }
 
 -- a tree of two leaves with the keys 1 to 5, each with itself as its value, below a root
 abbrev pub two_leaves : List ℕ

@@ -4,9 +4,9 @@ use Rattle.std.specs.Prelude.{ℕ, ◌^◌, Bool, true, ◌&&◌, nat_lt, List, 
 use Rattle.std.specs.List.{join_with_byte}
 use Rattle.vyrd_base.specs.declared.header.Header.{Header}
 use Rattle.vyrd_base.specs.declared.subject.Subject.{Subject}
-use Rattle.vyrd_base.specs.declared.subject.Subject.TheVariants.{Multiset, Cache, Tree}
+use Rattle.vyrd_base.specs.declared.subject.Subject.TheVariants.{Multiset, Cache, Tree, Buffers}
 use Rattle.vyrd_base.specs.declared.subject.Method.{Method}
-use Rattle.vyrd_base.specs.declared.subject.Method.TheVariants.{MsInsert, MsInsertPair, MsDelete, MsLookup, CaWrite, CaFlush, CaEvict, CaRead, TrInsert, TrDelete, TrLookup}
+use Rattle.vyrd_base.specs.declared.subject.Method.TheVariants.{MsInsert, MsInsertPair, MsDelete, MsLookup, CaWrite, CaFlush, CaEvict, CaRead, TrInsert, TrDelete, TrLookup, BuAppend, BuAppendFrom, BuCut, BuLength, BuRead}
 use Rattle.vyrd_base.specs.declared.subject.Args.{Args}
 use Rattle.vyrd_base.specs.declared.log.Kind.{Kind}
 use Rattle.vyrd_base.specs.declared.log.Kind.TheVariants.{Call, Return, Write, Commit, BlockOpen, BlockClose, BlockCommit}
@@ -27,6 +27,7 @@ abbrev pub subject_name : Subject → List ℕ
 subject_name Multiset = codes "multiset"
 subject_name Cache = codes "cache"
 subject_name Tree = codes "tree"
+subject_name Buffers = codes "buffers"
 
 -- how a method is called, which says what it is only beside its subject
 abbrev pub method_name : Method → List ℕ
@@ -41,6 +42,11 @@ method_name CaRead = codes "read"
 method_name TrInsert = codes "insert"
 method_name TrDelete = codes "delete"
 method_name TrLookup = codes "lookup"
+method_name BuAppend = codes "append"
+method_name BuAppendFrom = codes "append_from"
+method_name BuCut = codes "cut"
+method_name BuLength = codes "length"
+method_name BuRead = codes "read"
 
 -- line 1: `vyrd`, the version, the subject, the size and the number of callers
 abbrev pub header_line : ℕ → Subject → ℕ → ℕ → List ℕ

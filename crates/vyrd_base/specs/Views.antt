@@ -1,12 +1,13 @@
--- What the words of each subject show: each part, a slot, a chunk or a node, gives amounts to keys, and the view has for each
--- key the sum of what it is given. A key whose sum is 0 isn't in the view.
+-- What the words of each subject show: each part, a slot, a chunk, a node or a buffer, gives amounts to keys, and the view has
+-- for each key the sum of what it is given. A key whose sum is 0 isn't in the view.
 use Rattle.std.specs.Prelude.{ℕ, Bool, ◌+◌, ◌*◌, ◌^◌, ◌==◌, ◌&&◌, not, nat_lt, nat_le, List, [], ◌∷◌, slice_index, flat_map, if◌then◌else◌}
 use Rattle.vyrd_base.specs.declared.header.Header.{Header}
 use Rattle.vyrd_base.specs.declared.subject.Subject.{Subject}
-use Rattle.vyrd_base.specs.declared.subject.Subject.TheVariants.{Multiset, Cache, Tree}
+use Rattle.vyrd_base.specs.declared.subject.Subject.TheVariants.{Multiset, Cache, Tree, Buffers}
 use Rattle.vyrd_base.specs.Places.{numbers_below}
 use Rattle.vyrd_base.specs.Amounts.{Amounts, collected}
 use Rattle.vyrd_base.specs.TreeView.{chain_parts}
+use Rattle.vyrd_base.specs.Buffers.{buffer_at, buffer_parts}
 
 -- Slot i has its state (0 free, 1 reserved, 2 valid) in word 2i and its value in word 2i + 1. Where it is valid it gives its
 -- value 1, and else it gives nothing.
@@ -57,11 +58,13 @@ chunk_parts size h c =
     else ((h, (if c.state == 0 then stored_pair c else cached_pair c))
     ∷ (if c.state == 1 && not (cached_pair c == stored_pair c) then (size + h, 1) ∷ [] else []))
 
--- what the parts of a subject of this size give: a multiset's 4 slots in each bucket, a cache's chunks, a tree's leaves
+-- what the parts of a subject of this size give: a multiset's 4 slots in each bucket, a cache's chunks, a tree's leaves, or the
+-- string buffers
 abbrev pub parts_of : Subject → ℕ → List ℕ → List (ℕ × ℕ)
 parts_of Multiset size words = flat_map (slot_parts words) (numbers_below (4 * size))
 parts_of Cache size words = flat_map (λ h. chunk_parts size h (chunk_at words h)) (numbers_below size)
 parts_of Tree size words = chain_parts size words
+parts_of Buffers size words = flat_map (λ b. buffer_parts size b (buffer_at words b)) (numbers_below size)
 
 -- what the words show
 unfoldable pub view_of_words : Header → List ℕ → Amounts

@@ -58,7 +58,7 @@ impl Header {
         self.subject
     }
 
-    /// The size of the subject: buckets of 4 slots, chunks or nodes, from 1 to 1,024.
+    /// The size of the subject: buckets of 4 slots, chunks, nodes or buffers, from 1 to 1,024.
     pub fn size(&self) -> u32
         ensures { result ≡ self.now.size }
     {
@@ -84,6 +84,7 @@ impl Header {
             Subject::Multiset => 8 * self.size,
             Subject::Cache => 5 * self.size,
             Subject::Tree => 12 * self.size + 2,
+            Subject::Buffers => 8 * self.size,
         }
     }
 
@@ -92,18 +93,19 @@ impl Header {
         ensures { result ≡ lock_words self.now }
     {
         match self.subject {
-            Subject::Multiset | Subject::Cache => self.size,
+            Subject::Multiset | Subject::Cache | Subject::Buffers => self.size,
             Subject::Tree => self.size + 2,
         }
     }
 
     /// Whether a log with this header may call the method with these arguments: the method is of the header's subject,
-    /// a chunk's number is below the size, and arguments that the method doesn't have are 0.
+    /// the number of a chunk or of a buffer is below the size, a character is below 255, and arguments that the method doesn't
+    /// have are 0.
     pub fn fits(&self, method: Method, args: Args) -> bool
         ensures { result ≡ (same_subject (subject_of method) self.now.subject && are_args self.now.size method args) }
     {
         method.subject() == self.subject
             && args.are_padded(method.arity())
-            && (!method.takes_chunk() || args.a < self.size)
+            && method.are_ranged(self.size, args)
     }
 }

@@ -1,7 +1,7 @@
 //! The subjects that can be watched, their methods, and the arguments of a call.
 
 ghost use Rattle.std.specs.Prelude.{◌≡◌};
-ghost use Rattle.vyrd_base.specs.Subjects.{subject_of, is_observer, arity_of, are_padded, takes_chunk};
+ghost use Rattle.vyrd_base.specs.Subjects.{subject_of, is_observer, arity_of, are_padded, are_ranged};
 
 /// The data structure that is watched.
 #[derive(Clone, Copy, Debug, PartialEq, Eq)]
@@ -12,6 +12,8 @@ pub enum Subject {
     Cache,
     /// A B-link tree from keys to values, with at most 4 entries in each node (Lehman and Yao, TODS 1981).
     Tree,
+    /// String buffers of at most 7 characters each. A character is a number below 255.
+    Buffers,
 }
 
 /// A method of a subject. Observers only look; all others are mutators, which commit.
@@ -40,6 +42,17 @@ pub enum Method {
     TrDelete,
     /// `lookup k` observes the key's value plus 1, or 0 where the key isn't there.
     TrLookup,
+    /// `append b x` puts the character x at the end of buffer b and replies 1, or replies 0 where the buffer is full.
+    BuAppend,
+    /// `append_from b s` puts the characters of buffer s at the end of buffer b and replies 1, or replies 0 where b hasn't room
+    /// for them.
+    BuAppendFrom,
+    /// `cut b n` keeps the first n characters of buffer b, where there are more, and replies 1.
+    BuCut,
+    /// `length b` observes how many characters buffer b has.
+    BuLength,
+    /// `read b` observes the text of buffer b, as the sum of (character i + 1) * 256^i.
+    BuRead,
 }
 
 impl Method {
@@ -53,6 +66,11 @@ impl Method {
             }
             Method::CaWrite | Method::CaFlush | Method::CaEvict | Method::CaRead => Subject::Cache,
             Method::TrInsert | Method::TrDelete | Method::TrLookup => Subject::Tree,
+            Method::BuAppend
+            | Method::BuAppendFrom
+            | Method::BuCut
+            | Method::BuLength
+            | Method::BuRead => Subject::Buffers,
         }
     }
 
@@ -62,32 +80,45 @@ impl Method {
     {
         match self {
             Method::CaWrite => 3,
-            Method::MsInsertPair | Method::TrInsert => 2,
+            Method::MsInsertPair
+            | Method::TrInsert
+            | Method::BuAppend
+            | Method::BuAppendFrom
+            | Method::BuCut => 2,
             _ => 1,
         }
     }
 
-    /// Whether the first argument is a chunk's number.
-    pub(crate) fn takes_chunk(self) -> bool
-        ensures { result ≡ takes_chunk self }
+    /// Whether the arguments are in their ranges, where there are `size` chunks or buffers.
+    pub(crate) fn are_ranged(self, size: u32, args: Args) -> bool
+        ensures { result ≡ are_ranged size self args }
     {
-        self.subject() == Subject::Cache
+        match self {
+            Method::CaWrite | Method::CaFlush | Method::CaEvict | Method::CaRead => args.a < size,
+            Method::BuAppend => args.a < size && args.b < 255,
+            Method::BuAppendFrom => args.a < size && args.b < size,
+            Method::BuCut | Method::BuLength | Method::BuRead => args.a < size,
+            _ => true,
+        }
     }
 
     /// Whether the method only looks.
     pub fn is_observer(self) -> bool
         ensures { result ≡ is_observer self }
     {
-        matches!(self, Method::MsLookup | Method::CaRead | Method::TrLookup)
+        matches!(
+            self,
+            Method::MsLookup | Method::CaRead | Method::TrLookup | Method::BuLength | Method::BuRead
+        )
     }
 }
 
 /// The arguments of a call. Those that the method doesn't have are 0.
 #[derive(Clone, Copy, Debug, PartialEq, Eq)]
 pub struct Args {
-    /// The first: a value, a chunk or a key.
+    /// The first: a value, a chunk, a key or a buffer.
     pub a: u32,
-    /// The second: a value, or the lower half of a pair.
+    /// The second: a value, the lower half of a pair, a character, a buffer or a number of characters.
     pub b: u32,
     /// The third: the upper half of a pair.
     pub c: u32,

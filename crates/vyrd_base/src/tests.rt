@@ -35,6 +35,7 @@ fn numbers_of_the_header(rt: HostRuntime) -> Result<(), Fail> {
         (Subject::Multiset, 24, 3),
         (Subject::Cache, 15, 3),
         (Subject::Tree, 38, 5),
+        (Subject::Buffers, 24, 3),
     ];
     for (subject, plain, locks) in table {
         let header = Header::new(1, subject, 3, 2).ok_or("a header")?;
@@ -90,6 +91,14 @@ fn methods_that_fit(rt: HostRuntime) -> Result<(), Fail> {
         (Subject::Tree, Method::TrInsert, (9, 8, 0), true),
         (Subject::Tree, Method::TrInsert, (9, 8, 7), false),
         (Subject::Tree, Method::TrLookup, (9, 0, 0), true),
+        (Subject::Buffers, Method::BuAppend, (2, 254, 0), true),
+        (Subject::Buffers, Method::BuAppend, (2, 255, 0), false),
+        (Subject::Buffers, Method::BuAppend, (3, 254, 0), false),
+        (Subject::Buffers, Method::BuAppendFrom, (2, 2, 0), true),
+        (Subject::Buffers, Method::BuAppendFrom, (0, 3, 0), false),
+        (Subject::Buffers, Method::BuCut, (2, 4294967295, 0), true),
+        (Subject::Buffers, Method::BuLength, (2, 1, 0), false),
+        (Subject::Buffers, Method::BuRead, (3, 0, 0), false),
     ];
     for (subject, method, (a, b, c), want) in table {
         let header = Header::new(1, subject, 3, 2).ok_or("a header")?;

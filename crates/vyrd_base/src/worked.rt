@@ -4,14 +4,16 @@
 ghost use Rattle.std.specs.Prelude.{◌≡◌, ◌^◌, [], ◌∷◌, replicate, true, false};
 ghost use Rattle.vyrd_base.specs.Verdicts.{verdict};
 ghost use Rattle.vyrd_base.specs.Standing.{state_of_words};
+ghost use Rattle.vyrd_base.specs.Specification.{next_state, answer_in};
 ghost use Rattle.vyrd_base.specs.Histories.{is_legal, log_of, cells_of};
 ghost use Rattle.vyrd_base.specs.declared.history.Did.TheVariants.{Took, Gave, Read, Wrote, Marked};
-ghost use Rattle.vyrd_base.specs.SampleWords.{multiset_of_2, cache_of_1, tree_of_4, two_leaves, lookup_events, event};
-ghost use Rattle.vyrd_base.specs.Samples.{alone, two, two_on_cache, inserted, claimed, deleted, looked_up, too_early, beside_block, no_block, raced, waits, stray, torn, insert, commit, begin, lookup, return};
+ghost use Rattle.vyrd_base.specs.SampleWords.{multiset_of_2, cache_of_1, tree_of_4, buffers_of_1, two_leaves, lookup_events, event};
+ghost use Rattle.vyrd_base.specs.Samples.{args, alone, two, two_on_cache, inserted, claimed, deleted, looked_up, too_early, beside_block, no_block, raced, waits, stray, torn, insert, commit, begin, lookup, return};
 ghost use Rattle.vyrd_base.specs.declared.verdict.Verdict.TheVariants.{Accepted, Violation, Malformed};
 ghost use Rattle.vyrd_base.specs.declared.verdict.Why.TheVariants.{Reply, View, Observer};
 ghost use Rattle.vyrd_base.specs.declared.verdict.Rule.TheVariants.{BlockRaced, CallOpen, ValueRange, WordRange, CallerRange, SecondCommit, ReturnInBlock, NoCommit};
 ghost use Rattle.vyrd_base.specs.declared.log.Kind.TheVariants.{Write};
+ghost use Rattle.vyrd_base.specs.declared.subject.Method.TheVariants.{BuAppend, BuAppendFrom, BuCut, BuLength, BuRead};
 
 /// Logs that keep the rules and refine the specification.
 #[tactic(auto, unfolding(crate::proofs::Opened::opened))]
@@ -63,6 +65,28 @@ pub fn standing_words()
     ensures empty_tree { state_of_words tree_of_4 (replicate 56 0) ≡ Some [] }
     ensures tree { state_of_words tree_of_4 two_leaves
         ≡ Some ((1, 4294967297) ∷ (2, 4294967298) ∷ (3, 4294967299) ∷ (4, 4294967300) ∷ (5, 4294967301) ∷ []) }
+    ensures text { state_of_words buffers_of_1 (2 ∷ 65 ∷ 66 ∷ 999 ∷ replicate 5 0) ≡ Some ((0, 17218) ∷ []) }
+    ensures text_of_8 { state_of_words buffers_of_1 (8 ∷ replicate 8 0) ≡ None }
+    ensures no_character { state_of_words buffers_of_1 (1 ∷ 255 ∷ replicate 7 0) ≡ None }
+{}
+
+/// What the operations of string buffers lead to. The text of the characters 65 and 66 is 17218, and that of 7 zeros
+/// 282578800148737.
+#[tactic(auto, unfolding(crate::proofs::Opened::opened))]
+pub fn texts()
+    ensures appended { next_state BuAppend (args 0 66 0) 1 ((0, 66) ∷ []) ≡ Some ((0, 17218) ∷ []) }
+    ensures not_appended { next_state BuAppend (args 0 66 0) 0 ((0, 66) ∷ []) ≡ None }
+    ensures full { next_state BuAppend (args 0 66 0) 0 ((0, 282578800148737) ∷ []) ≡ Some ((0, 282578800148737) ∷ []) }
+    ensures past_full { next_state BuAppend (args 0 66 0) 1 ((0, 282578800148737) ∷ []) ≡ None }
+    ensures doubled { next_state BuAppendFrom (args 0 0 0) 1 ((0, 66) ∷ []) ≡ Some ((0, 16962) ∷ []) }
+    ensures from_empty { next_state BuAppendFrom (args 0 1 0) 1 ((0, 282578800148737) ∷ []) ≡ Some ((0, 282578800148737) ∷ []) }
+    ensures too_long { next_state BuAppendFrom (args 0 1 0) 1 ((0, 282578800148737) ∷ (1, 1) ∷ []) ≡ None }
+    ensures cut { next_state BuCut (args 0 1 0) 1 ((0, 17218) ∷ []) ≡ Some ((0, 66) ∷ []) }
+    ensures cut_whole { next_state BuCut (args 0 0 0) 1 ((0, 17218) ∷ []) ≡ Some [] }
+    ensures cut_nothing { next_state BuCut (args 0 9 0) 1 ((0, 17218) ∷ []) ≡ Some ((0, 17218) ∷ []) }
+    ensures length { answer_in ((0, 17218) ∷ []) BuLength (args 0 0 0) ≡ 2 }
+    ensures read { answer_in ((0, 17218) ∷ []) BuRead (args 0 0 0) ≡ 17218 }
+    ensures empty { answer_in [] BuLength (args 0 0 0) ≡ 0 }
 {}
 
 /// A legal history and its log.

@@ -6,7 +6,7 @@ use Rattle.vyrd_base.specs.declared.subject.Subject.TheVariants.{Cache}
 use Rattle.vyrd_base.specs.declared.subject.Method.{Method}
 use Rattle.vyrd_base.specs.declared.subject.Method.TheVariants.{MsInsert, MsInsertPair, MsDelete}
 use Rattle.vyrd_base.specs.declared.subject.Method.TheVariants.{MsLookup, CaWrite, CaFlush, CaEvict}
-use Rattle.vyrd_base.specs.declared.subject.Method.TheVariants.{CaRead, TrInsert, TrDelete, TrLookup}
+use Rattle.vyrd_base.specs.declared.subject.Method.TheVariants.{CaRead, TrInsert, TrDelete, TrLookup, BuAppend, BuAppendFrom, BuCut, BuLength, BuRead}
 use Rattle.vyrd_base.specs.declared.subject.Args.{Args}
 use Rattle.vyrd_base.specs.Amounts.{Amounts}
 use Rattle.vyrd_base.specs.Specification.{next_state}
@@ -32,6 +32,11 @@ refused MsLookup args state of changes = cc
 refused TrInsert args state of changes = cc
 refused TrDelete args state of changes = cc
 refused TrLookup args state of changes = cc
+refused BuAppend args state of changes = cc
+refused BuAppendFrom args state of changes = cc
+refused BuCut args state of changes = cc
+refused BuLength args state of changes = cc
+refused BuRead args state of changes = cc
 
 no_state : (o : Option Amounts) → o ≡ None → IsSome o → ⊥
 no_state None e some = cc

@@ -5,7 +5,7 @@ use Rattle.vyrd_base.specs.declared.header.Header.{Header}
 use Rattle.vyrd_base.specs.declared.subject.Subject.TheVariants.{Cache}
 use Rattle.vyrd_base.specs.declared.subject.Method.{Method}
 use Rattle.vyrd_base.specs.declared.subject.Method.TheVariants.{MsInsert, MsInsertPair, MsDelete, MsLookup, CaWrite, CaFlush, CaEvict, CaRead, TrInsert, TrDelete}
-use Rattle.vyrd_base.specs.declared.subject.Method.TheVariants.{TrLookup}
+use Rattle.vyrd_base.specs.declared.subject.Method.TheVariants.{TrLookup, BuAppend, BuAppendFrom, BuCut, BuLength, BuRead}
 use Rattle.vyrd_base.specs.declared.subject.Args.{Args}
 use Rattle.vyrd_base.specs.Subjects.{subject_of}
 use Rattle.vyrd_base.proofs.TestLaws.{isnt_same}
@@ -153,6 +153,11 @@ is_write MsLookup of_cache flush evict read = cc
 is_write TrInsert of_cache flush evict read = cc
 is_write TrDelete of_cache flush evict read = cc
 is_write TrLookup of_cache flush evict read = cc
+is_write BuAppend of_cache flush evict read = cc
+is_write BuAppendFrom of_cache flush evict read = cc
+is_write BuCut of_cache flush evict read = cc
+is_write BuLength of_cache flush evict read = cc
+is_write BuRead of_cache flush evict read = cc
 
 pub begun_write : (h : Header) (variant : Variant) (method : Method) (args : Args) (action : Action) (low high : ℕ) → subject_of method ≡ Cache
     → method ≢ CaFlush → method ≢ CaEvict → method ≢ CaRead → variant ≡ Correct → action ≡ Write → low ≡ args.b → high ≡ args.c

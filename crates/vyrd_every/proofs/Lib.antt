@@ -4,9 +4,10 @@ mod Acts
 mod Followed
 -- and some steps don't
 mod Refused
--- the procedures of the two structures that locks guard do right
+-- the procedures of the three structures that locks guard do right
 mod Multisets
 mod Caches
+mod Buffers
 -- one more event keeps the invariant
 mod Logs
 mod Raw

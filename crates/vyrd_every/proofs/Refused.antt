@@ -1,11 +1,12 @@
 -- Steps that don't do right.
-use Rattle.std.proofs.Common.{◌≡◌, ◌≢◌, ◌⊎◌, inl, inr, ℕ, ◌+◌, ◌*◌, ◌/◌, ◌<◌, ◌≤◌, true, false, [], Option, Some, refl, ap, ◌∙◌, sym, arith, None}
-use Rattle.std.specs.Prelude.{◌==◌}
+use Rattle.std.proofs.Common.{◌≡◌, ◌≢◌, ◌⊎◌, inl, inr, ℕ, ◌+◌, ◌*◌, ◌/◌, ◌<◌, ◌≤◌, true, false, [], ◌∷◌, Option, Some, refl, ap, ◌∙◌, sym, arith, None}
+use Rattle.std.specs.Prelude.{◌==◌, ◌||◌}
 use Rattle.std.specs.List.{list_any}
 use Rattle.vyrd_base.specs.declared.header.Header.{Header}
 use Rattle.vyrd_base.specs.declared.subject.Args.{Args}
 use Rattle.vyrd_base.specs.declared.subject.Method.{Method}
-use Rattle.vyrd_base.specs.declared.subject.Method.TheVariants.{MsInsert, CaWrite}
+use Rattle.vyrd_base.specs.declared.subject.Method.TheVariants.{MsInsert, CaWrite, BuAppendFrom}
+use Rattle.vyrd_base.proofs.TestLaws.{isnt_same}
 use Rattle.vyrd_memory.specs.declared.act.Act.TheVariants.{Load, Store, Take, Give}
 use Rattle.vyrd_memory.specs.declared.op.Variant.TheVariants.{Broken}
 use Rattle.vyrd_memory.specs.Alone.{Memory}
@@ -15,10 +16,12 @@ use Rattle.vyrd_multiset.specs.Procedures.{multiset_procedure}
 use Rattle.vyrd_multiset.specs.Laws.Sound.{gone}
 use Rattle.vyrd_cache.specs.Cells.{lock_of}
 use Rattle.vyrd_cache.specs.Procedures.{cache_procedure}
+use Rattle.vyrd_buffers.specs.Cells as texts
+use Rattle.vyrd_buffers.specs.Procedures.{buffers_procedure}
 use Rattle.vyrd_tree.specs.Cells.{node_cell, root_cell, root_lock}
 use Rattle.vyrd_tree.specs.Cells as cells
 use Rattle.vyrd_tree.specs.Contents.{level_at}
-use Rattle.vyrd_every.specs.Guarded.{multiset, cache}
+use Rattle.vyrd_every.specs.Guarded.{multiset, cache, buffers}
 use Rattle.vyrd_every.specs.Hands.{Hand}
 use Rattle.vyrd_every.specs.RightScripts.{DoesRight, IsRight}
 use Rattle.vyrd_every.specs.Trees.Shapes.{Shape}
@@ -49,6 +52,37 @@ lock_too_early h args right =
   where
     locked : Standing
     locked = after_act (just_called CaWrite) (Take (lock_of h args.a))
+
+-- the memory in which all buffers have one character
+abbrev all_short : Memory
+all_short = λ w. 1
+
+-- the first lock was given back when the characters are loaded
+pub no_source_lock : (h : Header) (args : Args) → args.a ≢ args.b
+    → IsRight (buffers h) (buffers_procedure h Broken) (record { method = BuAppendFrom; args = args }) → ⊥
+no_source_lock h args apart right =
+    let begun = right (calling BuAppendFrom args) all_short (λ slot. refl) refl in
+    let taken = begun.2 all_short (rely_same (buffers h) first begun.0 all_short) in
+    let counted = taken.2 all_short (rely_same (buffers h) first taken.0 all_short) in
+    let given = counted.2 all_short (rely_same (buffers h) between counted.0 all_short) in
+    let taken_too = given.2 all_short (rely_same (buffers h) second given.0 all_short) in
+    let counted_too = taken_too.2 all_short (rely_same (buffers h) second taken_too.0 all_short) in
+    never (ap (λ locks. list_any (λ held. held == source) (texts.lock_of h args.a ∷ locks)) (gone (texts.lock_of h args.b) [])
+    ∙ ap (λ b. b || false) (isnt_same (texts.lock_of h args.a) source (λ same. apart (omega (arith, same)))))
+    counted_too.1.reaches.0.held
+  where
+    -- the lock of the buffer whose first character is loaded
+    source : ℕ
+    source = texts.lock_of h ((8 * args.b + (1 + 0)) / 8)
+
+    first : Standing
+    first = after_act (just_called BuAppendFrom) (Take (texts.lock_of h args.b))
+
+    between : Standing
+    between = after_act first (Give (texts.lock_of h args.b))
+
+    second : Standing
+    second = after_act between (Take (texts.lock_of h args.a))
 
 -- a lock that isn't above one that is held
 pub not_above : (h : Header) (s : Standing) (k : Hand) (shown : Memory) (lock held : ℕ) (later : Script) → holds s held ≡ true → lock ≤ held

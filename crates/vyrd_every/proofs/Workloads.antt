@@ -1,12 +1,12 @@
 -- The laws, of workloads.
-use Rattle.std.proofs.Common.{◌≡◌, ℕ, ◌+◌, ◌*◌, ◌<◌, ◌≤◌, inl, inr, Bool, true, false, List, [], ◌∷◌, Option, Some, None, option_map, length, refl, ap, ◌∙◌, sym, subst, arith}
+use Rattle.std.proofs.Common.{◌≡◌, ℕ, ◌+◌, ◌*◌, ◌<◌, ◌≤◌, Bool, true, false, List, [], ◌∷◌, Option, Some, None, option_map, length, refl, ap, ◌∙◌, sym, subst, arith}
 use Rattle.std.specs.Prelude.{nat_le}
 use Rattle.std.specs.Option.{option_or}
 use Rattle.std.proofs.lemmas.Bool.Decides.{nat_tests}
 use Rattle.std.specs.List.{AllByRecursion}
 use Rattle.vyrd_base.specs.declared.header.Header.{Header}
 use Rattle.vyrd_base.specs.declared.subject.Subject.{Subject}
-use Rattle.vyrd_base.specs.declared.subject.Subject.TheVariants.{Multiset, Cache, Tree}
+use Rattle.vyrd_base.specs.declared.subject.Subject.TheVariants.{Multiset, Cache, Tree, Buffers}
 use Rattle.vyrd_base.specs.declared.log.Kind.{Kind}
 use Rattle.vyrd_base.specs.declared.log.Entry.{Entry}
 use Rattle.vyrd_base.specs.declared.history.Stamped.{Stamped}
@@ -34,16 +34,18 @@ use Rattle.vyrd_work.specs.WorkLimits.{KeepsLimits}
 use Rattle.vyrd_work.specs.WorkScripts.{procedure_in, ops_of, work_script, work_scripts}
 use Rattle.vyrd_work.proofs.ScriptLaws.{ops_are_few, ops_are_callable}
 use Rattle.vyrd_work.proofs.SoundScripts.{script_at, scripts_sound}
-use Rattle.vyrd_every.specs.Schedules.{IsCorrect, IsCorrectMultiset, IsCorrectCache, IsCorrectMultisetOrCache, IsSchedule}
+use Rattle.vyrd_every.specs.Schedules.{IsCorrect, has_few_events, IsCorrectWithFewEvents, IsSchedule}
 use Rattle.vyrd_every.specs.Structures.{Structure}
 use Rattle.vyrd_every.specs.Hands.{empty_hand}
 use Rattle.vyrd_every.specs.RightScripts.{DoesRight, IsRight, AreRight}
-use Rattle.vyrd_every.specs.Guarded.{multiset, cache}
+use Rattle.vyrd_every.specs.Guarded.{multiset, cache, buffers}
 use Rattle.vyrd_every.proofs.Followed.{operations_right}
 use Rattle.vyrd_every.proofs.Multisets.Guards.{multiset_fits}
 use Rattle.vyrd_every.proofs.Multisets.Wholes.{multiset_right}
 use Rattle.vyrd_every.proofs.Caches.Guards.{cache_fits}
 use Rattle.vyrd_every.proofs.Caches.Wholes.{cache_right}
+use Rattle.vyrd_every.proofs.Buffers.Guards.{buffers_fit}
+use Rattle.vyrd_every.proofs.Buffers.Wholes.{buffers_right}
 use Rattle.vyrd_every.specs.Trees.Starts.{IsCorrectTree}
 use Rattle.vyrd_every.proofs.Keeping.{Keeping}
 use Rattle.vyrd_every.proofs.Trees.Wholes.{tree_script_right}
@@ -54,6 +56,7 @@ use Rattle.vyrd_every.proofs.Accepted.{AreDone, whole_run, none_open_at_end, no_
 use Rattle.vyrd_every.proofs.Unstuck.{never_stuck}
 use Rattle.vyrd_multiset.specs.Procedures.{multiset_procedure}
 use Rattle.vyrd_cache.specs.Procedures.{cache_procedure}
+use Rattle.vyrd_buffers.specs.Procedures.{buffers_procedure}
 
 -- the script of a caller does right, if the procedure of each operation does
 script_right : (S : Structure) (w : Workload) (procedure : Op → Script) (c : ℕ) (now : Memory)
@@ -69,23 +72,32 @@ script_right S w procedure c now same low callable each =
         let e : 0 + c ≡ c = omega arith in
         script_at (work_script w) 0 w.header.callers c low ∙ ap (work_script w) e ∙ ap (λ p. operations p (ops_of c w.ops)) same
 
--- so do the scripts of a workload of the correct multiset, and of the correct cache
-multisets_right : (w : Workload) → KeepsLimits w → IsCorrectMultiset w → AreRight (multiset w.header) (work_scripts w)
-multisets_right w limits is = record {
-  fits = multiset_fits w.header limits.version is.subject;
+-- so do the scripts of a workload of the correct multiset, of the correct cache, and of correct string buffers
+multisets_right : (w : Workload) → KeepsLimits w → w.header.subject ≡ Multiset → IsCorrect w → AreRight (multiset w.header) (work_scripts w)
+multisets_right w limits subject correct = record {
+  fits = multiset_fits w.header limits.version subject;
   sound = scripts_sound w limits;
   right = λ c low now. script_right (multiset w.header) w (multiset_procedure w.header Correct) c now
-      (λ i. procedure_in (is.subject i) w.header (is.variant i)) low (ops_are_callable w c limits)
-      (λ op callable. multiset_right w.header op is.subject callable);
+      (λ i. procedure_in (subject i) w.header (correct i)) low (ops_are_callable w c limits)
+      (λ op callable. multiset_right w.header op subject callable);
 }
 
-caches_right : (w : Workload) → KeepsLimits w → IsCorrectCache w → AreRight (cache w.header) (work_scripts w)
-caches_right w limits is = record {
-  fits = cache_fits w.header limits.version is.subject;
+caches_right : (w : Workload) → KeepsLimits w → w.header.subject ≡ Cache → IsCorrect w → AreRight (cache w.header) (work_scripts w)
+caches_right w limits subject correct = record {
+  fits = cache_fits w.header limits.version subject;
   sound = scripts_sound w limits;
   right = λ c low now. script_right (cache w.header) w (cache_procedure w.header Correct) c now
-      (λ i. procedure_in (is.subject i) w.header (is.variant i)) low (ops_are_callable w c limits)
-      (λ op callable. cache_right w.header op is.subject callable);
+      (λ i. procedure_in (subject i) w.header (correct i)) low (ops_are_callable w c limits)
+      (λ op callable. cache_right w.header op subject callable);
+}
+
+buffer_scripts_right : (w : Workload) → KeepsLimits w → w.header.subject ≡ Buffers → IsCorrect w → AreRight (buffers w.header) (work_scripts w)
+buffer_scripts_right w limits subject correct = record {
+  fits = buffers_fit w.header limits.version subject;
+  sound = scripts_sound w limits;
+  right = λ c low now. script_right (buffers w.header) w (buffers_procedure w.header Correct) c now
+      (λ i. procedure_in (subject i) w.header (correct i)) low (ops_are_callable w c limits)
+      (λ op callable. buffers_right w.header op subject callable);
 }
 
 -- a header's size is 1 or more
@@ -109,9 +121,10 @@ pub keeping : (w : Workload) → KeepsLimits w → IsCorrect w → Keeping w.hea
 keeping w limits is = by_subject w.header.subject refl
   where
     by_subject : (s : Subject) → w.header.subject ≡ s → Keeping w.header (work_scripts w)
-    by_subject Multiset e = keeping_of (multiset w.header) (work_scripts w) (multisets_right w limits (record { subject = e; variant = is }))
-    by_subject Cache e = keeping_of (cache w.header) (work_scripts w) (caches_right w limits (record { subject = e; variant = is }))
+    by_subject Multiset e = keeping_of (multiset w.header) (work_scripts w) (multisets_right w limits e is)
+    by_subject Cache e = keeping_of (cache w.header) (work_scripts w) (caches_right w limits e is)
     by_subject Tree e = trees_right w limits (record { subject = e; variant = is })
+    by_subject Buffers e = keeping_of (buffers w.header) (work_scripts w) (buffer_scripts_right w limits e is)
 
 -- there is no first fault
 none_first : (h : Header) → h.version ≡ 1 → (scripts : List Script) (k : Keeping h scripts) (history : List Stamped) → IsRun h scripts (newest_first history)
@@ -167,7 +180,7 @@ schedule_accepted w history limits is schedule =
 pub not_stuck : (w : Workload) → KeepsLimits w → IsCorrect w → GetsStuck (work_scripts w) w.turns → ⊥
 not_stuck w limits is stuck = never_stuck w.header (work_scripts w) (keeping w limits is) w.turns stuck
 
--- 32 events for each operation of a multiset, and 16 for each of a cache
+-- 32 events for each operation of a multiset or of string buffers, and 16 for each of a cache
 multiset_sum : (h : Header) (ops : List Op) → h.subject ≡ Multiset → bounds_of h ops ≡ 32 * length ops
 multiset_sum h [] is = refl
 multiset_sum h (op ∷ ops) is = omega (arith, ap (λ s. bound_in s h.size op.method) is, multiset_sum h ops is)
@@ -176,13 +189,25 @@ cache_sum : (h : Header) (ops : List Op) → h.subject ≡ Cache → bounds_of h
 cache_sum h [] is = refl
 cache_sum h (op ∷ ops) is = omega (arith, ap (λ s. bound_in s h.size op.method) is, cache_sum h ops is)
 
+buffers_sum : (h : Header) (ops : List Op) → h.subject ≡ Buffers → bounds_of h ops ≡ 32 * length ops
+buffers_sum h [] is = refl
+buffers_sum h (op ∷ ops) is = omega (arith, ap (λ s. bound_in s h.size op.method) is, buffers_sum h ops is)
+
 pub few_multiset_events : (w : Workload) (c : ℕ) → KeepsLimits w → w.header.subject ≡ Multiset → bounds_of w.header (ops_of c w.ops) ≤ 6400000
 few_multiset_events w c limits is = omega (arith, multiset_sum w.header (ops_of c w.ops) is, ops_are_few w c limits)
 
 pub few_cache_events : (w : Workload) (c : ℕ) → KeepsLimits w → w.header.subject ≡ Cache → bounds_of w.header (ops_of c w.ops) ≤ 3200000
 few_cache_events w c limits is = omega (arith, cache_sum w.header (ops_of c w.ops) is, ops_are_few w c limits)
 
--- so 6,400,000 are enough for both
-pub few_events : (w : Workload) (c : ℕ) → KeepsLimits w → IsCorrectMultisetOrCache w → bounds_of w.header (ops_of c w.ops) ≤ 6400000
-few_events w c limits (inl is) = few_multiset_events w c limits is.subject
-few_events w c limits (inr is) = let few = few_cache_events w c limits is.subject in omega (arith, few)
+pub few_buffer_events : (w : Workload) (c : ℕ) → KeepsLimits w → w.header.subject ≡ Buffers → bounds_of w.header (ops_of c w.ops) ≤ 6400000
+few_buffer_events w c limits is = omega (arith, buffers_sum w.header (ops_of c w.ops) is, ops_are_few w c limits)
+
+-- so 6,400,000 are enough for each of them
+pub few_events : (w : Workload) (c : ℕ) → KeepsLimits w → IsCorrectWithFewEvents w → bounds_of w.header (ops_of c w.ops) ≤ 6400000
+few_events w c limits is = by_subject w.header.subject refl is.few
+  where
+    by_subject : (s : Subject) → w.header.subject ≡ s → has_few_events s ≡ true → bounds_of w.header (ops_of c w.ops) ≤ 6400000
+    by_subject Multiset e few = few_multiset_events w c limits e
+    by_subject Cache e few = let fewer = few_cache_events w c limits e in omega (arith, fewer)
+    by_subject Tree e few = cc
+    by_subject Buffers e few = few_buffer_events w c limits e

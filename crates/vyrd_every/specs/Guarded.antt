@@ -1,10 +1,11 @@
--- The multiset and the cache, as the proof sees them.
+-- The multiset, the cache and the string buffers, as the proof sees them.
 use Rattle.std.proofs.Common.{◌≡◌, ℕ, ◌+◌, ◌*◌, ◌/◌, refl, ◌∙◌, arith}
 use Rattle.vyrd_base.specs.declared.header.Header.{Header}
 use Rattle.vyrd_memory.proofs.Memories as memories
 use Rattle.vyrd_multiset.specs.Cells as slots
 use Rattle.vyrd_multiset.specs.Contents.{IsMultiset}
 use Rattle.vyrd_cache.specs.Cells as chunks
+use Rattle.vyrd_buffers.specs.Cells as texts
 use Rattle.vyrd_every.specs.Structures.{Structure}
 
 -- no state of a slot is both
@@ -36,6 +37,22 @@ cache h = record {
   header = h;
   words = 5 * h.size;
   guard = λ cell. chunks.lock_of h (cell / 5);
+  Stands = λ memory state. memories.Stands h memory state;
+  Free = λ memory slot. ⊥;
+  Reserved = λ memory slot. ⊥;
+  Same = λ a b slot. Unit {0};
+  same = λ a slot. tt;
+  same_more = λ a b c slot first second. tt;
+  stays = λ a b slot same one. one;
+  apart = λ a slot free one. free;
+}
+
+-- A string buffer has eight words, and its lock guards them. Nothing is reserved here either.
+abbrev pub buffers : Header → Structure
+buffers h = record {
+  header = h;
+  words = 8 * h.size;
+  guard = λ cell. texts.lock_of h (cell / 8);
   Stands = λ memory state. memories.Stands h memory state;
   Free = λ memory slot. ⊥;
   Reserved = λ memory slot. ⊥;

@@ -7,5 +7,5 @@ pub mod Hands
 pub mod Others
 pub mod RightScripts
 pub mod Between
--- The third structure, with definitions of its own on the same plan:
+-- The tree, with definitions of its own on the same plan:
 pub mod Trees

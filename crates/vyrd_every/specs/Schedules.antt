@@ -1,7 +1,8 @@
 -- A schedule of a workload, and the workloads whose every schedule is accepted.
-use Rattle.std.specs.Prelude.{◌≡◌, ◌⊎◌, Bool, true, List, [], None}
+use Rattle.std.specs.Prelude.{◌≡◌, Bool, true, false, List, [], None}
 use Rattle.std.specs.List.{AllByRecursion}
-use Rattle.vyrd_base.specs.declared.subject.Subject.TheVariants.{Multiset, Cache}
+use Rattle.vyrd_base.specs.declared.subject.Subject.{Subject}
+use Rattle.vyrd_base.specs.declared.subject.Subject.TheVariants.{Multiset, Cache, Tree, Buffers}
 use Rattle.vyrd_base.specs.declared.history.Stamped.{Stamped}
 use Rattle.vyrd_base.specs.declared.header.Header.{Header}
 use Rattle.vyrd_base.specs.declared.log.Kind.{Kind}
@@ -25,19 +26,18 @@ pub record IsSchedule (w : Workload) (history : List Stamped) : Type 0 where
 abbrev pub IsCorrect : Workload → Type 0
 IsCorrect w = w.variant ≡ Correct
 
--- the structure is a multiset, in its correct variant
-pub record IsCorrectMultiset (w : Workload) : Type 0 where
-  pub subject : w.header.subject ≡ Multiset
-  pub variant : w.variant ≡ Correct
+-- Whether an operation of the subject has few events, however large the structure is. A tree's walk is longer where the tree is
+-- larger.
+abbrev pub has_few_events : Subject → Bool
+has_few_events Multiset = true
+has_few_events Cache = true
+has_few_events Tree = false
+has_few_events Buffers = true
 
--- the structure is a cache, in its correct variant
-pub record IsCorrectCache (w : Workload) : Type 0 where
-  pub subject : w.header.subject ≡ Cache
+-- the structure is one of those, in its correct variant
+pub record IsCorrectWithFewEvents (w : Workload) : Type 0 where
   pub variant : w.variant ≡ Correct
-
--- the structure is one of the two: those whose callers have few events, however long the workload is
-abbrev pub IsCorrectMultisetOrCache : Workload → Type 0
-IsCorrectMultisetOrCache w = IsCorrectMultiset w ⊎ IsCorrectCache w
+  pub few : has_few_events w.header.subject ≡ true
 
 -- no place of a log whose entry is of this kind is a fault
 abbrev pub HasNoFault : (Kind → Bool) → Header → List Entry → Type 0

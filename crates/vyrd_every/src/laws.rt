@@ -1,9 +1,9 @@
-//! Laws of the schedules of a correct structure: the multiset, the cache and the B-link tree. Each function
+//! Laws of the schedules of a correct structure: the multiset, the cache, the B-link tree and string buffers. Each function
 //! does nothing: its contract is the law.
 
 ghost use Rattle.std.specs.Prelude.{◌≡◌, ◌≤◌, ℕ, false, List, [], None};
 ghost use Rattle.vyrd_base.specs.declared.history.Stamped.{Stamped};
-ghost use Rattle.vyrd_base.specs.declared.subject.Subject.TheVariants.{Cache, Multiset};
+ghost use Rattle.vyrd_base.specs.declared.subject.Subject.TheVariants.{Buffers, Cache, Multiset};
 ghost use Rattle.vyrd_base.specs.Places.{newest_first};
 ghost use Rattle.vyrd_base.specs.Front.{first_break};
 ghost use Rattle.vyrd_base.specs.Commits.{is_commit};
@@ -48,11 +48,13 @@ pub fn turns_arent_stuck()
     ensures { (w : Workload) → KeepsLimits w → IsCorrect w → GetsStuck (work_scripts w) w.turns → ⊥ }
 {}
 
-/// The operations of a caller of the multiset have at most 6,400,000 events, and those of a caller of the
+/// The operations of a caller of the multiset or of string buffers have at most 6,400,000 events, and those of a caller of the
 /// cache half as many. A tree's walk is longer where the tree is larger.
 pub fn bounds_are_few()
     ensures of_multiset { (w : Workload) (c : ℕ) → KeepsLimits w → w.header.subject ≡ Multiset →
         bounds_of w.header (ops_of c w.ops) ≤ 6400000 }
     ensures of_cache { (w : Workload) (c : ℕ) → KeepsLimits w → w.header.subject ≡ Cache →
         bounds_of w.header (ops_of c w.ops) ≤ 3200000 }
+    ensures of_buffers { (w : Workload) (c : ℕ) → KeepsLimits w → w.header.subject ≡ Buffers →
+        bounds_of w.header (ops_of c w.ops) ≤ 6400000 }
 {}

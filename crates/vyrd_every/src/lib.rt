@@ -1,4 +1,4 @@
-//! Every schedule of the correct multiset, of the correct cache and of the correct B-link tree is accepted.
+//! Every schedule of the correct multiset, cache, B-link tree and string buffers is accepted.
 //!
 //! A schedule is a legal history in which each caller of a workload plays its script to the end. `laws`
 //! says of each that its log is accepted, and that the run by turns doesn't get stuck; `tree_laws` says

@@ -3,7 +3,7 @@
 ghost use Rattle.std.specs.Prelude.{◌≡◌, ◌≢◌, ◌≤◌, ℕ, ◌<◌, true, false, None};
 ghost use Rattle.vyrd_base.specs.declared.header.Header.{Header};
 ghost use Rattle.vyrd_base.specs.declared.subject.Args.{Args};
-ghost use Rattle.vyrd_base.specs.declared.subject.Method.TheVariants.{MsInsert, CaWrite};
+ghost use Rattle.vyrd_base.specs.declared.subject.Method.TheVariants.{MsInsert, CaWrite, BuAppendFrom};
 ghost use Rattle.vyrd_memory.specs.declared.act.Act.TheVariants.{Load, Store, Take};
 ghost use Rattle.vyrd_memory.specs.declared.op.Variant.TheVariants.{Broken};
 ghost use Rattle.vyrd_memory.specs.Alone.{Memory};
@@ -11,8 +11,9 @@ ghost use Rattle.vyrd_memory.specs.Scripts.{Script, step, perform};
 ghost use Rattle.vyrd_memory.specs.Soundness.{Standing, holds};
 ghost use Rattle.vyrd_multiset.specs.Procedures.{multiset_procedure};
 ghost use Rattle.vyrd_cache.specs.Procedures.{cache_procedure};
+ghost use Rattle.vyrd_buffers.specs.Procedures.{buffers_procedure};
 ghost use Rattle.vyrd_tree.specs.Cells.{node_cell, root_cell, lock_of, root_lock};
-ghost use Rattle.vyrd_every.specs.Guarded.{multiset, cache};
+ghost use Rattle.vyrd_every.specs.Guarded.{multiset, cache, buffers};
 ghost use Rattle.vyrd_every.specs.Hands.{Hand};
 ghost use Rattle.vyrd_every.specs.RightScripts.{DoesRight, IsRight};
 ghost use Rattle.vyrd_every.specs.Trees.Shapes.{Shape};
@@ -29,6 +30,13 @@ pub fn slot_looked_for_without_the_lock()
 pub fn lock_given_back_before_the_writes()
     ensures { (h : Header) (args : Args) →
         IsRight (cache h) (cache_procedure h Broken) (record { method = CaWrite; args = args }) → ⊥ }
+{}
+
+/// Characters that are loaded without the lock of their buffer: the broken append from another buffer
+/// doesn't do right.
+pub fn characters_loaded_without_the_lock()
+    ensures { (h : Header) (args : Args) → args.a ≢ args.b →
+        IsRight (buffers h) (buffers_procedure h Broken) (record { method = BuAppendFrom; args = args }) → ⊥ }
 {}
 
 /// A lock that is taken below one that is held, whatever else the caller does.

@@ -6,7 +6,7 @@ use Rattle.vyrd_base.specs.declared.header.Header.{Header}
 use Rattle.vyrd_base.specs.Amounts.{Amounts}
 use Rattle.vyrd_base.specs.Subjects.{is_observer}
 use Rattle.vyrd_base.proofs.BlockLaws.{by_same}
-use Rattle.vyrd_base.specs.declared.subject.Method.TheVariants.{MsInsert, MsInsertPair, MsDelete, MsLookup, CaWrite, CaFlush, CaEvict, CaRead, TrInsert, TrDelete, TrLookup}
+use Rattle.vyrd_base.specs.declared.subject.Method.TheVariants.{MsInsert, MsInsertPair, MsDelete, MsLookup, CaWrite, CaFlush, CaEvict, CaRead, TrInsert, TrDelete, TrLookup, BuAppend, BuAppendFrom, BuCut, BuLength, BuRead}
 use Rattle.vyrd_base.proofs.TestLaws.{same_number, same_of}
 use Rattle.vyrd_judge.specs.Executions.{has_method}
 use Rattle.vyrd_judge.specs.Watching.{Seen, has_answer, SeesAnswer, SeesState}
@@ -14,6 +14,7 @@ use Rattle.vyrd_spec.specs.Touching.{touched_by, is_touched}
 use Rattle.vyrd_spec.proofs.TouchLaws.{untouched}
 use Rattle.vyrd_base.specs.declared.subject.Method.{Method}
 use Rattle.vyrd_base.specs.declared.subject.Args.{Args}
+use Rattle.vyrd_base.specs.Buffers.{text_length}
 use Rattle.vyrd_base.specs.Specification.{next_state, answer_in}
 use Rattle.vyrd_base.specs.Amounts.{amount_of}
 use Rattle.vyrd_judge.specs.Reached.{AreObservers, AreCurrent, AllSee}
@@ -137,6 +138,8 @@ answer_by_amount : (s t : Amounts) (method : Method) (args : Args) → amount_of
 answer_by_amount s t MsLookup args same = ap (λ n. cond (not (n == 0)) 1 0) same
 answer_by_amount s t CaRead args same = same
 answer_by_amount s t TrLookup args same = ap (λ n. cond (not (n == 0)) (n - 2 ^ 32 + 1) 0) same
+answer_by_amount s t BuLength args same = ap text_length same
+answer_by_amount s t BuRead args same = same
 answer_by_amount s t MsInsert args same = refl
 answer_by_amount s t MsInsertPair args same = refl
 answer_by_amount s t MsDelete args same = refl
@@ -145,6 +148,9 @@ answer_by_amount s t CaFlush args same = refl
 answer_by_amount s t CaEvict args same = refl
 answer_by_amount s t TrInsert args same = refl
 answer_by_amount s t TrDelete args same = refl
+answer_by_amount s t BuAppend args same = refl
+answer_by_amount s t BuAppendFrom args same = refl
+answer_by_amount s t BuCut args same = refl
 
 -- after a step that doesn't touch its key an observer's answer is known already
 pub still_current : (method : Method) (args : Args) (reply : ℕ) (s t : Amounts) (watches : List Seen) → next_state method args reply s ≡ Some t

@@ -9,7 +9,7 @@ use Rattle.std.proofs.lemmas.List.Elements.{All-nil, All-cons}
 use Rattle.vyrd_base.specs.declared.header.Header.{Header}
 use Rattle.vyrd_base.specs.declared.log.StartWord.{StartWord}
 use Rattle.vyrd_base.specs.declared.subject.Subject.{Subject}
-use Rattle.vyrd_base.specs.declared.subject.Subject.TheVariants.{Multiset, Cache, Tree}
+use Rattle.vyrd_base.specs.declared.subject.Subject.TheVariants.{Multiset, Cache, Tree, Buffers}
 use Rattle.vyrd_base.specs.Limits.{is_known_version}
 use Rattle.vyrd_base.specs.Layout.{plain_words, plain_words_of}
 use Rattle.vyrd_base.specs.Places.{numbers_from, first_answer}
@@ -79,6 +79,7 @@ few_words : (subject : Subject) (size : ℕ) → size ≤ 1024 → plain_words_o
 few_words Multiset size few = omega (arith, few)
 few_words Cache size few = omega (arith, few)
 few_words Tree size few = omega (arith, few)
+few_words Buffers size few = omega (arith, few)
 
 pub plain_words_few : (h : Header) → plain_words h < 2 ^ 32
 plain_words_few h =

@@ -15,7 +15,7 @@ use crate::online::Judge;
 use std::alloc::{AllocError, Global};
 use std::marker::Model;
 use vyrd_base::{Entry, Header, Rule, Stamped, StartWord, Subject, Verdict};
-use vyrd_spec::{CacheSpec, MultisetSpec, TreeSpec};
+use vyrd_spec::{BufferSpec, CacheSpec, MultisetSpec, TreeSpec};
 
 /// A judge that follows a log of any structure, by the specification of its header's subject. It is seen as the [`Judge`] of
 /// that specification, with the same calls, the same costs and the same answer to want of memory.
@@ -29,6 +29,7 @@ enum JudgeOf {
     Multiset(Judge<MultisetSpec>),
     Cache(Judge<CacheSpec>),
     Tree(Judge<TreeSpec>),
+    Buffers(Judge<BufferSpec>),
 }
 
 impl Model for AnyJudge {
@@ -41,7 +42,7 @@ impl Model for AnyJudge {
 }
 
 impl Drop for AnyJudge {
-    /// By hand, so that whoever lets a judge go has one call to prove and not the letting go of all that each of the three holds.
+    /// By hand, so that whoever lets a judge go has one call to prove and not the letting go of all that each of the four holds.
     fn drop(self) {
         let AnyJudge { judge } = self;
         drop(judge);
@@ -61,6 +62,7 @@ impl AnyJudge {
             Subject::Multiset => JudgeOf::Multiset(Judge::new(alloc, header)?),
             Subject::Cache => JudgeOf::Cache(Judge::new(alloc, header)?),
             Subject::Tree => JudgeOf::Tree(Judge::new(alloc, header)?),
+            Subject::Buffers => JudgeOf::Buffers(Judge::new(alloc, header)?),
         };
         Ok(AnyJudge { judge })
     }
@@ -93,6 +95,10 @@ impl AnyJudge {
                 Some(judge) => JudgeOf::Tree(judge),
                 None => return Ok(None),
             },
+            Subject::Buffers => match Judge::start_from(alloc, header, start)? {
+                Some(judge) => JudgeOf::Buffers(judge),
+                None => return Ok(None),
+            },
         };
         Ok(Some(AnyJudge { judge }))
     }
@@ -114,6 +120,7 @@ impl AnyJudge {
             JudgeOf::Multiset(judge) => judge.feed(entry),
             JudgeOf::Cache(judge) => judge.feed(entry),
             JudgeOf::Tree(judge) => judge.feed(entry),
+            JudgeOf::Buffers(judge) => judge.feed(entry),
         }
     }
 
@@ -132,6 +139,7 @@ impl AnyJudge {
             JudgeOf::Multiset(judge) => judge.follow(entries),
             JudgeOf::Cache(judge) => judge.follow(entries),
             JudgeOf::Tree(judge) => judge.follow(entries),
+            JudgeOf::Buffers(judge) => judge.follow(entries),
         }
     }
 
@@ -151,6 +159,7 @@ impl AnyJudge {
             JudgeOf::Multiset(judge) => judge.follow_history(history),
             JudgeOf::Cache(judge) => judge.follow_history(history),
             JudgeOf::Tree(judge) => judge.follow_history(history),
+            JudgeOf::Buffers(judge) => judge.follow_history(history),
         }
     }
 
@@ -162,6 +171,7 @@ impl AnyJudge {
             JudgeOf::Multiset(judge) => judge.so_far(),
             JudgeOf::Cache(judge) => judge.so_far(),
             JudgeOf::Tree(judge) => judge.so_far(),
+            JudgeOf::Buffers(judge) => judge.so_far(),
         }
     }
 
@@ -174,6 +184,7 @@ impl AnyJudge {
             JudgeOf::Multiset(judge) => judge.finish(),
             JudgeOf::Cache(judge) => judge.finish(),
             JudgeOf::Tree(judge) => judge.finish(),
+            JudgeOf::Buffers(judge) => judge.finish(),
         }
     }
 
@@ -187,6 +198,7 @@ impl AnyJudge {
             JudgeOf::Multiset(judge) => judge.stop(line, rule),
             JudgeOf::Cache(judge) => judge.stop(line, rule),
             JudgeOf::Tree(judge) => judge.stop(line, rule),
+            JudgeOf::Buffers(judge) => judge.stop(line, rule),
         }
     }
 }

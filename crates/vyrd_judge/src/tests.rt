@@ -8,7 +8,7 @@ use std::alloc::{AllocError, Global};
 use std::test::Fail;
 use vyrd_base::Kind::{BlockClose, BlockCommit, BlockOpen, Call, Commit, Return, Write};
 use vyrd_base::{Args, Entry, Header, Kind, Method, Rule, StartWord, Stop, Subject, Verdict, Why};
-use vyrd_spec::{CacheSpec, MultisetSpec, Spec, TreeSpec};
+use vyrd_spec::{BufferSpec, CacheSpec, MultisetSpec, Spec, TreeSpec};
 
 const INSERT: Kind = Call(Method::MsInsert, Args { a: 5, b: 0, c: 0 });
 
@@ -17,6 +17,8 @@ const INSERT_SIX: Kind = Call(Method::MsInsert, Args { a: 6, b: 0, c: 0 });
 const DELETE: Kind = Call(Method::MsDelete, Args { a: 5, b: 0, c: 0 });
 
 const LOOKUP: Kind = Call(Method::MsLookup, Args { a: 5, b: 0, c: 0 });
+
+const APPEND: Kind = Call(Method::BuAppend, Args { a: 1, b: 65, c: 0 });
 
 /// The entries of a log: each a caller and what it does.
 macro_rules! logged {
@@ -196,12 +198,25 @@ fn both_say_in(
 ) -> Result<bool, AllocError>
     requires few { length entries.now ≤ 20 }
 {
-    let Some(header) = Header::new(version, Subject::Multiset, 1, 2) else {
-        return Ok(false);
-    };
-    let plain = judge_log::<MultisetSpec>(alloc, header, entries, Stop::End)?;
-    let online = followed::<MultisetSpec>(alloc, header, entries)?.finish()?;
-    let agree = answers_agree::<MultisetSpec>(alloc, header, entries)?;
+    match Header::new(version, Subject::Multiset, 1, 2) {
+        Some(header) => judges_say::<MultisetSpec>(alloc, header, entries, verdict),
+        None => Ok(false),
+    }
+}
+
+/// The same of a log with this header.
+fn judges_say<S: Spec>(
+    alloc: Global,
+    header: Header,
+    entries: &[Entry],
+    verdict: Verdict,
+) -> Result<bool, AllocError>
+    requires subject { header.subject ≡ S.subject }
+    requires few { length entries.now ≤ 20 }
+{
+    let plain = judge_log::<S>(alloc, header, entries, Stop::End)?;
+    let online = followed::<S>(alloc, header, entries)?.finish()?;
+    let agree = answers_agree::<S>(alloc, header, entries)?;
     Ok(agree && plain == verdict && online == verdict)
 }
 
@@ -298,6 +313,46 @@ fn absent_insert_replies_2(rt: HostRuntime) -> Result<(), Fail> {
     Ok(())
 }
 
+/// Whole logs of two buffers, whose words begin at 0 and at 8.
+#[test]
+fn verdicts_on_buffers(rt: HostRuntime) -> Result<(), Fail> {
+    let header = Header::new(1, Subject::Buffers, 2, 2).ok_or("no header")?;
+    let whole = accepted(8, 1, 1);
+    assert!(rt; judges_say::<BufferSpec>(rt.alloc(), header, &append_and_read(66), whole)?);
+    let misread = violation(9, Why::Observer(65));
+    assert!(rt; judges_say::<BufferSpec>(rt.alloc(), header, &append_and_read(65), misread)?);
+    let uncounted = violation(5, Why::View(1));
+    assert!(rt;
+        judges_say::<BufferSpec>(rt.alloc(), header, &append_without_its_count(), uncounted)?
+    );
+    let doubled = accepted(12, 2, 0);
+    assert!(rt; judges_say::<BufferSpec>(rt.alloc(), header, &append_to_itself(1), doubled)?);
+    let has_room = violation(12, Why::Reply(0));
+    assert!(rt; judges_say::<BufferSpec>(rt.alloc(), header, &append_to_itself(0), has_room)?);
+    Ok(())
+}
+
+/// The character 65 alone is the text 66.
+fn append_and_read(text: u64) -> [Entry; 8] {
+    let read = Call(Method::BuRead, Args { a: 1, b: 0, c: 0 });
+    logged![
+        0 APPEND, 0 BlockOpen, 0 Write(9, 65), 0 Write(8, 1), 0 BlockCommit, 0 Return(1),
+        1 read, 1 Return(text)
+    ]
+}
+
+fn append_without_its_count() -> [Entry; 5] {
+    logged![0 APPEND, 0 BlockOpen, 0 Write(9, 65), 0 BlockCommit, 0 Return(1)]
+}
+
+fn append_to_itself(reply: u64) -> [Entry; 12] {
+    let double = Call(Method::BuAppendFrom, Args { a: 1, b: 1, c: 0 });
+    logged![
+        0 APPEND, 0 BlockOpen, 0 Write(9, 65), 0 Write(8, 1), 0 BlockCommit, 0 Return(1),
+        1 double, 1 BlockOpen, 1 Write(10, 65), 1 Write(8, 2), 1 BlockCommit, 1 Return(reply)
+    ]
+}
+
 /// Logs that begin with words: a value that can be deleted, and a chunk that can be read.
 #[test]
 fn verdicts_from_starting_words(rt: HostRuntime) -> Result<(), Fail> {
@@ -319,6 +374,25 @@ fn a_chunk_at_the_start(rt: HostRuntime) -> Result<(), Fail> {
     ];
     let read = Call(Method::CaRead, Args { a: 0, b: 0, c: 0 });
     let verdict = judged_from(rt.alloc(), header, &start, &logged![0 read, 0 Return(7)])?;
+    assert_eq!(rt; verdict, Some(accepted(2, 0, 1)));
+    Ok(())
+}
+
+#[test]
+fn a_text_at_the_start(rt: HostRuntime) -> Result<(), Fail> {
+    let header = Header::new(2, Subject::Buffers, 1, 1).ok_or("no header")?;
+    let start = [
+        StartWord { word: 0, value: 2 },
+        StartWord { word: 1, value: 65 },
+        StartWord { word: 2, value: 66 },
+    ];
+    let read = Call(Method::BuRead, Args { a: 0, b: 0, c: 0 });
+    let verdict = judged_from(
+        rt.alloc(),
+        header,
+        &start,
+        &logged![0 read, 0 Return(17218)],
+    )?; // 66 + 67 * 256
     assert_eq!(rt; verdict, Some(accepted(2, 0, 1)));
     Ok(())
 }

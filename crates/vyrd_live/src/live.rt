@@ -11,7 +11,7 @@ ghost use Rattle.vyrd_memory.specs.Runs.{PlayToTheEnd};
 ghost use Rattle.vyrd_work.specs.Workloads.{workload_of};
 ghost use Rattle.vyrd_work.specs.WorkLimits.{KeepsLimits};
 ghost use Rattle.vyrd_work.specs.WorkScripts.{ops_of, work_scripts};
-ghost use Rattle.vyrd_every.specs.Schedules.{IsCorrect, IsCorrectMultisetOrCache};
+ghost use Rattle.vyrd_every.specs.Schedules.{IsCorrect, IsCorrectWithFewEvents};
 ghost use Rattle.vyrd_live.specs.declared.run.LiveFault.TheVariants.{Memory};
 ghost use Rattle.vyrd_live.specs.Workers.{IsWorkerOf, HavePlayed};
 ghost use Rattle.vyrd_live.specs.LiveRuns.{AllHadRoom, IsCause, IsTooLow};
@@ -39,7 +39,7 @@ use vyrd_work::{AnyMachine, Work, WorkMachine};
 /// callers run it asks the gate before each event, as if it were one caller more, and the place is how many it has taken in.
 /// Where it has to be set aside, because there is no memory or a number comes twice, the history is judged anew at the end.
 ///
-/// A run of a correct structure is accepted, in whatever order its callers' events come. For each caller of a multiset or a cache
+/// A run of a correct structure is accepted, in whatever order its callers' events come. For each caller of one that is no tree
 /// 6,400,000 events are enough.
 ///
 /// It may wait forever: where the gate never lets an event start, or where callers wait for locks that they hold crosswise. The
@@ -62,7 +62,7 @@ pub fn run_live<R: Threads + Wait + Sync, G: Gate>(
     ensures too_low { IfErr result (IsTooLow (workload_of work.now) limit) }
     ensures every_schedule { IsCorrect (workload_of work.now) →
         IfOk result (λ run. run.verdict ≡ accepted (log_of run.history.items)) }
-    ensures never_spent { IsCorrectMultisetOrCache (workload_of work.now) → 6400000 ≤ limit →
+    ensures never_spent { IsCorrectWithFewEvents (workload_of work.now) → 6400000 ≤ limit →
         IfErr result (λ fault. fault ≡ Memory) }
 {
     let Ok(played) = play::<R, G, AnyMachine>(rt, alloc, work, limit, gate) else {

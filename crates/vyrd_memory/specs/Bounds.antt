@@ -2,7 +2,7 @@
 use Rattle.std.specs.Prelude.{◌≡◌, ℕ, ◌+◌, ◌-◌, ◌*◌, ◌≤◌, ⊤, Bool, true, false, List, [], ◌∷◌}
 use Rattle.vyrd_base.specs.declared.header.Header.{Header}
 use Rattle.vyrd_base.specs.declared.subject.Subject.{Subject}
-use Rattle.vyrd_base.specs.declared.subject.Subject.TheVariants.{Multiset, Cache, Tree}
+use Rattle.vyrd_base.specs.declared.subject.Subject.TheVariants.{Multiset, Cache, Tree, Buffers}
 use Rattle.vyrd_base.specs.declared.subject.Method.{Method}
 use Rattle.vyrd_base.specs.declared.subject.Method.TheVariants.{TrInsert}
 use Rattle.vyrd_base.specs.declared.log.Kind.TheVariants.{Call, Return}
@@ -22,6 +22,7 @@ abbrev pub bound_in : Subject → ℕ → Method → ℕ
 bound_in Multiset n method = 32
 bound_in Cache n method = 16
 bound_in Tree n method = tree_bound n method
+bound_in Buffers n method = 32
 
 -- the bound of an operation of the method
 abbrev pub bound_of : Header → Method → ℕ

@@ -11,6 +11,9 @@ const MULTISET: u64 = 32;
 /// The most events of a cache's operation.
 const CACHE: u64 = 16;
 
+/// The most events of an operation on string buffers.
+const BUFFERS: u64 = 32;
+
 /// How many walks an insert into a tree makes at most: one down to the leaf, and one for each of 16 rounds upwards.
 const INSERT_WALKS: u64 = 17;
 
@@ -23,6 +26,7 @@ pub(crate) fn bound(header: &Header, method: Method) -> u64
     match header.subject() {
         Subject::Multiset => MULTISET,
         Subject::Cache => CACHE,
+        Subject::Buffers => BUFFERS,
         Subject::Tree => {
             let walk = 16 * u64::from(header.size()) + 40;
             if method == Method::TrInsert {

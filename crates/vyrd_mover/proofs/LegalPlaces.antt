@@ -4,7 +4,7 @@ use Rattle.std.specs.Prelude.{◌==◌, nat_le, nat_lt}
 use Rattle.std.specs.List.{list_all}
 use Rattle.vyrd_base.specs.declared.header.Header.{Header}
 use Rattle.vyrd_base.specs.declared.subject.Subject.{Subject}
-use Rattle.vyrd_base.specs.declared.subject.Subject.TheVariants.{Multiset, Cache, Tree}
+use Rattle.vyrd_base.specs.declared.subject.Subject.TheVariants.{Multiset, Cache, Tree, Buffers}
 use Rattle.vyrd_base.specs.declared.history.Did.{Did}
 use Rattle.vyrd_base.specs.declared.history.Did.TheVariants.{Read, Wrote, Took, Gave, Marked}
 use Rattle.vyrd_base.specs.declared.history.Stamped.{Stamped}
@@ -58,6 +58,7 @@ small_subject : (subject : Subject) (size : ℕ) → size ≤ 1024 → plain_wor
 small_subject Multiset size low = omega arith
 small_subject Cache size low = omega arith
 small_subject Tree size low = omega arith
+small_subject Buffers size low = omega arith
 
 sized : (h : Header) → is_sized h.size h.callers ≡ true
 sized h = second_true (is_known_version h.version) _ h.within

@@ -10,7 +10,7 @@ use Rattle.vyrd_work.specs.WorkReading.{Refusal, work_reading}
 use Rattle.vyrd_work.specs.Generated.{generated}
 use Rattle.vyrd_work.proofs.TextLaws.{reading_sound}
 use Rattle.vyrd_work.proofs.GeneratedLaws.{generated_keeps}
-use Rattle.vyrd_every.specs.Schedules.{IsCorrect, IsCorrectMultisetOrCache}
+use Rattle.vyrd_every.specs.Schedules.{IsCorrect, IsCorrectWithFewEvents}
 use Rattle.vyrd_every.proofs.Workloads.{schedule_accepted, not_stuck, few_events}
 use Rattle.vyrd_live.specs.declared.run.Run.{Run}
 use Rattle.vyrd_live.specs.declared.run.Overrun.{Overrun}
@@ -49,16 +49,12 @@ run_accepted show w status text None (Some spent) limits is answer = inr answer.
 run_accepted show w status text (Some run) (Some spent) limits is answer = absurd answer
 run_accepted show w status text None None limits is answer = absurd answer
 
--- the callers of a multiset or a cache have room for all of their events
+-- the callers of a structure whose operations have few events have room for all of them
 run_unspent : (show : Show) (w : Workload) (status : ℕ) (text : List ℕ) (run : Option Run) (spent : Option Overrun) → KeepsLimits w
-    → IsCorrectMultisetOrCache w → IsPlayedAnswer show w status text run spent → status ≡ 9 → ⊥
+    → IsCorrectWithFewEvents w → IsPlayedAnswer show w status text run spent → status ≡ 9 → ⊥
 run_unspent show w status text (Some run) None limits is answer nine =
-    let none : status ≡ 0 = answer.0 ∙ live_accepted w run limits (correct is) answer.2 in
+    let none : status ≡ 0 = answer.0 ∙ live_accepted w run limits is.variant answer.2 in
     absurd (omega (arith, none, nine))
-  where
-    correct : IsCorrectMultisetOrCache w → IsCorrect w
-    correct (inl is) = is.variant
-    correct (inr is) = is.variant
 run_unspent show w status text None (Some spent) limits is answer nine =
     let few = few_events w spent.caller limits is in
     let long = answer.4 in

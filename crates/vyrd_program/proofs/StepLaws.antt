@@ -1,6 +1,6 @@
 -- What is known of the run of a workload that keeps its limits, and of the input that it was read from.
-use Rattle.std.proofs.Common.{◌≡◌, ℕ, true, not, ◌||◌, List, [], ◌∷◌, ◌++◌, length, Option, Some, None, refl, ap, ◌∙◌, sym, subst, arith, inl, inr, append-nil}
-use Rattle.std.specs.Prelude.{◌⊎◌, nat_lt, IfSome, MatchOption}
+use Rattle.std.proofs.Common.{◌≡◌, ℕ, true, List, [], ◌∷◌, ◌++◌, length, Option, Some, None, refl, ap, ◌∙◌, sym, subst, arith, inl, inr, append-nil}
+use Rattle.std.specs.Prelude.{◌⊎◌, IfSome, MatchOption}
 use Rattle.std.specs.List.{AllByRecursion, cons_option}
 use Rattle.vyrd_base.specs.declared.header.Header.{Header}
 use Rattle.vyrd_base.specs.declared.log.Kind.{Kind}
@@ -10,7 +10,7 @@ use Rattle.vyrd_base.specs.declared.subject.Subject.{Subject}
 use Rattle.vyrd_base.specs.declared.history.Did.{Did}
 use Rattle.vyrd_base.specs.declared.history.Did.TheVariants.{Read, Wrote, Took, Gave, Marked}
 use Rattle.vyrd_base.specs.declared.history.Stamped.{Stamped}
-use Rattle.vyrd_base.specs.Subjects.{same_subject, subject_of, are_args, are_padded, arity_of, takes_chunk}
+use Rattle.vyrd_base.specs.Subjects.{same_subject, subject_of, are_args, are_padded, are_ranged, arity_of}
 use Rattle.vyrd_base.specs.Devices.{IsAtEnd}
 use Rattle.vyrd_base.specs.Histories.{cells_of, is_legal, logged, log_of}
 use Rattle.vyrd_base.specs.Verdicts.{verdict}
@@ -60,7 +60,7 @@ call_is_writable h e fits = by_kind e.kind fits
         ≡ true = second_true (same_subject (subject_of method) h.subject) (are_args h.size method args) fits in
         both_true (same_subject (subject_of method) h.subject) (are_padded (arity_of method) args)
         (first_true (same_subject (subject_of method) h.subject) (are_args h.size method args) fits)
-        (first_true (are_padded (arity_of method) args) (not (takes_chunk method) || nat_lt args.a h.size) range)
+        (first_true (are_padded (arity_of method) args) (are_ranged h.size method args) range)
     by_kind (Return reply) fits = refl
     by_kind (Write word value) fits = refl
     by_kind Commit fits = refl

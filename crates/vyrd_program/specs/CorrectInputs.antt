@@ -2,7 +2,7 @@
 use Rattle.std.specs.Prelude.{◌≡◌, ℕ, List, Option, Some, Ok}
 use Rattle.vyrd_work.specs.Workloads.{Workload}
 use Rattle.vyrd_work.specs.WorkReading.{work_reading}
-use Rattle.vyrd_every.specs.Schedules.{IsCorrect, IsCorrectMultisetOrCache}
+use Rattle.vyrd_every.specs.Schedules.{IsCorrect, IsCorrectWithFewEvents}
 
 -- the input tells its bytes, and they are a workload of a correct structure
 pub record SaysCorrect (input : Option (List ℕ)) : Type 0 where
@@ -12,10 +12,10 @@ pub record SaysCorrect (input : Option (List ℕ)) : Type 0 where
   pub read : work_reading bytes ≡ Ok work
   pub correct : IsCorrect work
 
--- they are a workload of the correct multiset or of the correct cache, whose callers have few events
+-- they are a workload of a correct structure whose callers have few events
 pub record SaysFewEvents (input : Option (List ℕ)) : Type 0 where
   pub bytes : List ℕ
   pub told : input ≡ Some bytes
   pub work : Workload
   pub read : work_reading bytes ≡ Ok work
-  pub correct : IsCorrectMultisetOrCache work
+  pub correct : IsCorrectWithFewEvents work

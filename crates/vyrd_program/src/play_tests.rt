@@ -146,6 +146,56 @@ fn worked() -> [Row<'static>; 13] {
 }
 
 #[test]
+fn buffers_by_turns(rt: HostRuntime) -> Result<(), Fail> {
+    let alloc = rt.alloc();
+    for row in worked_buffers() {
+        assert_row(&rt, alloc, &row)?;
+    }
+    Ok(())
+}
+
+/// Worked workloads of string buffers. In the two with `cut` it comes while the other caller appends the buffer that is cut.
+fn worked_buffers() -> [Row<'static>; 5] {
+    [
+        Row {
+            name: "buffer_is_appended",
+            words: &["step"],
+            work: b"work buffers 2 2 correct\nop 0 append 0 65\nop 0 append 1 66\nop 0 append_from 0 1\nop 1 read 0\nturn 0 100\nend\n",
+            status: 0,
+            answer: b"accepted: 20 entries, 3 commits, 1 observers\n",
+        },
+        Row {
+            name: "text_is_read",
+            words: &["step", "--log"],
+            work: b"work buffers 2 2 correct\nop 0 append 0 65\nop 0 append 1 66\nop 0 append_from 0 1\nop 1 read 0\nturn 0 100\nend\n",
+            status: 0,
+            answer: b"vyrd 1 buffers 2 2\n0 call append 0 65\n0 open\n0 write 1 65\n0 write 0 1\n0 close commit\n0 return 1\n0 call append 1 66\n0 open\n0 write 9 66\n0 write 8 1\n0 close commit\n0 return 1\n0 call append_from 0 1\n0 open\n0 write 2 66\n0 write 0 2\n0 close commit\n0 return 1\n1 call read 0\n1 return 17218\nend\naccepted: 20 entries, 3 commits, 1 observers\n",
+        },
+        Row {
+            name: "buffer_cut_while_it_is_appended",
+            words: &["step"],
+            work: b"work buffers 2 2 broken\nop 0 append 1 66\nop 0 append_from 0 1\nop 1 cut 1 0\nturn 0 13\nturn 1 20\nend\n",
+            status: 1,
+            answer: b"violation at line 17: view differs at key 0\n",
+        },
+        Row {
+            name: "buffer_locked_while_it_is_appended",
+            words: &["step"],
+            work: b"work buffers 2 2 correct\nop 0 append 1 66\nop 0 append_from 0 1\nop 1 cut 1 0\nturn 0 13\nturn 1 20\nend\n",
+            status: 0,
+            answer: b"accepted: 17 entries, 3 commits, 0 observers\n",
+        },
+        Row {
+            name: "character_out_of_range",
+            words: &["step"],
+            work: b"work buffers 2 2 correct\nop 0 append 1 255\nend\n",
+            status: 7,
+            answer: b"workload refused at line 2: argument out of range\n",
+        },
+    ]
+}
+
+#[test]
 fn write_of_a_log_that_fails(rt: HostRuntime) -> Result<(), Fail> {
     let alloc = rt.alloc();
     let work = b"work multiset 1 1 correct\nop 0 lookup 5\nend\n";
@@ -201,9 +251,9 @@ fn twenty_live_runs(rt: HostRuntime) -> Result<(), Fail> {
     Ok(())
 }
 
-/// A workload of three callers who share a few keys, on a multiset, a cache or a tree of this size.
+/// A workload of three callers who share a few keys, on a multiset, a cache, a tree or string buffers.
 fn mixed_work(alloc: Global, size: u32) -> Result<Vec<u8>, AllocError> {
-    let (subject, methods): (&[u8], [&[u8]; 4]) = match size % 3 {
+    let (subject, methods): (&[u8], [&[u8]; 4]) = match size % 4 {
         0 => (
             b"multiset",
             [b"insert 1", b"delete 1", b"insert_pair 1 2", b"lookup 2"],
@@ -212,9 +262,13 @@ fn mixed_work(alloc: Global, size: u32) -> Result<Vec<u8>, AllocError> {
             b"cache",
             [b"write 0 1 2", b"flush 0", b"evict 0", b"read 0"],
         ),
-        _ => (
+        2 => (
             b"tree",
             [b"insert 1 7", b"delete 2", b"insert 2 8", b"lookup 1"],
+        ),
+        _ => (
+            b"buffers",
+            [b"append 0 65", b"append_from 1 0", b"cut 1 2", b"read 1"],
         ),
     };
     let mut work = Vec::new(alloc);

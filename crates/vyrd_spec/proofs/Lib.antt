@@ -2,10 +2,13 @@ pub mod AmountSteps
 pub mod StepLaws
 pub mod TouchLaws
 pub mod ChangeLaws
-pub mod ChunkLaws
+pub mod RowAmounts
 pub mod RowLaws
+pub mod SoundRows
 pub mod SlotLaws
 pub mod ChunkWordLaws
+pub mod TextSteps
+pub mod BufferWordLaws
 pub mod StartFromLaws
 pub mod NeighbourLaws
 pub mod NodeLaws

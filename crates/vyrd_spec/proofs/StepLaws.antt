@@ -2,16 +2,18 @@
 use Rattle.std.proofs.Common.{◌≡◌, ℕ, zero, suc, ◌+◌, ◌-◌, ◌*◌, ◌^◌, ◌<◌, ◌≤◌, Bool, true, false, cond, not, Option, Some, None, refl, ap, ◌∙◌, sym, subst, arith}
 use Rattle.std.specs.Prelude.{◌==◌, ◌≢◌, IfSome}
 use Rattle.std.specs.Bool.{then_some}
-use Rattle.vyrd_base.specs.declared.subject.Subject.TheVariants.{Multiset, Cache, Tree}
+use Rattle.vyrd_base.specs.declared.subject.Subject.TheVariants.{Multiset, Cache, Tree, Buffers}
 use Rattle.vyrd_base.specs.declared.subject.Method.{Method}
-use Rattle.vyrd_base.specs.declared.subject.Method.TheVariants.{MsInsert, MsInsertPair, MsDelete, MsLookup, CaWrite, CaFlush, CaEvict, CaRead, TrInsert, TrDelete, TrLookup}
+use Rattle.vyrd_base.specs.declared.subject.Method.TheVariants.{MsInsert, MsInsertPair, MsDelete, MsLookup, CaWrite, CaFlush, CaEvict, CaRead, TrInsert, TrDelete, TrLookup, BuAppend, BuAppendFrom, BuCut, BuLength, BuRead}
 use Rattle.vyrd_base.specs.declared.subject.Args.{Args}
 use Rattle.vyrd_base.specs.Amounts.{Amounts, IsAmounts, amount_of, with_amount, plus_amount}
-use Rattle.vyrd_base.specs.Specification.{next_state, by_reply, is_present}
+use Rattle.vyrd_base.specs.Buffers.{has_room, joined, cut_to}
+use Rattle.vyrd_base.specs.Specification.{next_state, by_reply, is_present, after_append}
 use Rattle.vyrd_base.specs.Subjects.{subject_of}
 use Rattle.vyrd_base.proofs.AmountLaws.{amount_of-with_amount, IsAmounts-with_amount}
 use Rattle.vyrd_base.proofs.TestLaws.{same_of, apart_of}
-use Rattle.vyrd_spec.specs.Bounds.{AllAmounts}
+use Rattle.vyrd_base.proofs.TextLaws.{joined_below, cut_below}
+use Rattle.vyrd_spec.specs.Bounds.{AllAmounts, AreTexts}
 
 some_is : (s t : Amounts) → ◌≡◌ {A = Option Amounts} (Some s) (Some t) → s ≡ t
 some_is s t e = cc
@@ -31,6 +33,17 @@ by_replies Q (suc (suc (suc n))) at_0 at_1 at_2 t h0 h1 h2 e = cc
 pub where_allowed : (Q : Amounts → Type 0) (b : Bool) (s : Amounts) → Q s → IfSome (then_some b s) Q
 where_allowed Q true s h = h
 where_allowed Q false s h = tt
+
+where_true : (Q : Amounts → Type 0) (b : Bool) (s : Amounts) → (b ≡ true → Q s) → IfSome (then_some b s) Q
+where_true Q true s h = h refl
+where_true Q false s h = tt
+
+-- the same of a text that is appended, or that there is no room for
+pub by_append : (Q : Amounts → Type 0) (reply b more : ℕ) (s t : Amounts) → Q s
+    → (has_room (amount_of s b) more ≡ true → Q (with_amount s b (joined (amount_of s b) more))) → after_append reply s b more ≡ Some t → Q t
+by_append Q reply b more s t kept appended =
+    let room : Bool = has_room (amount_of s b) more in
+    by_replies Q reply _ _ _ t (where_allowed Q (not room) s kept) (where_true Q room (with_amount s b (joined (amount_of s b) more)) appended) tt
 
 -- a step leaves amounts
 pub next_state-formed : (method : Method) (args : Args) (reply : ℕ) (s t : Amounts) → IsAmounts s
@@ -57,6 +70,17 @@ next_state-formed TrDelete args reply s t is =
 next_state-formed MsLookup args reply s t is = λ e. cc
 next_state-formed CaRead args reply s t is = λ e. cc
 next_state-formed TrLookup args reply s t is = λ e. cc
+next_state-formed BuAppend args reply s t is =
+    let text : ℕ = amount_of s args.a in
+    by_append IsAmounts reply args.a (args.b + 1) s t is (λ room. IsAmounts-with_amount s args.a (joined text (args.b + 1)) is)
+next_state-formed BuAppendFrom args reply s t is =
+    let text : ℕ = amount_of s args.a in
+    let more : ℕ = amount_of s args.b in
+    by_append IsAmounts reply args.a more s t is (λ room. IsAmounts-with_amount s args.a (joined text more) is)
+next_state-formed BuCut args reply s t is =
+    by_replies IsAmounts reply _ _ _ t tt (IsAmounts-with_amount s args.a (cut_to args.b (amount_of s args.a)) is) tt
+next_state-formed BuLength args reply s t is = λ e. cc
+next_state-formed BuRead args reply s t is = λ e. cc
 
 -- what holds of each key with its amount holds after a key gets an amount of which it holds
 pub AllAmounts-with_amount : (passes : ℕ → ℕ → Type 0) (s : Amounts) (k a : ℕ) → AllAmounts passes s → (a ≢ 0 → passes k a)
@@ -123,6 +147,11 @@ next_state-counts most CaRead args reply s t of low low_b all = cc
 next_state-counts most TrInsert args reply s t of low low_b all = cc
 next_state-counts most TrDelete args reply s t of low low_b all = cc
 next_state-counts most TrLookup args reply s t of low low_b all = cc
+next_state-counts most BuAppend args reply s t of low low_b all = cc
+next_state-counts most BuAppendFrom args reply s t of low low_b all = cc
+next_state-counts most BuCut args reply s t of low low_b all = cc
+next_state-counts most BuLength args reply s t of low low_b all = cc
+next_state-counts most BuRead args reply s t of low low_b all = cc
 
 -- chunks and pairs
 abbrev pub ArePairs : Amounts → Type 0
@@ -145,6 +174,11 @@ next_state-pairs MsLookup args reply s t of low low_b low_c all = cc
 next_state-pairs TrInsert args reply s t of low low_b low_c all = cc
 next_state-pairs TrDelete args reply s t of low low_b low_c all = cc
 next_state-pairs TrLookup args reply s t of low low_b low_c all = cc
+next_state-pairs BuAppend args reply s t of low low_b low_c all = cc
+next_state-pairs BuAppendFrom args reply s t of low low_b low_c all = cc
+next_state-pairs BuCut args reply s t of low low_b low_c all = cc
+next_state-pairs BuLength args reply s t of low low_b low_c all = cc
+next_state-pairs BuRead args reply s t of low low_b low_c all = cc
 
 -- keys, and values with 2^32 added
 abbrev pub AreValues : Amounts → Type 0
@@ -173,3 +207,49 @@ next_state-values CaWrite args reply s t of low low_b all = cc
 next_state-values CaFlush args reply s t of low low_b all = cc
 next_state-values CaEvict args reply s t of low low_b all = cc
 next_state-values CaRead args reply s t of low low_b all = cc
+next_state-values BuAppend args reply s t of low low_b all = cc
+next_state-values BuAppendFrom args reply s t of low low_b all = cc
+next_state-values BuCut args reply s t of low low_b all = cc
+next_state-values BuLength args reply s t of low low_b all = cc
+next_state-values BuRead args reply s t of low low_b all = cc
+
+-- the text of a buffer is one of at most 7 characters
+pub is_text : (s : Amounts) (b : ℕ) → AreTexts s → amount_of s b < 256 ^ 7
+is_text s b all = by_zero (amount_of s b == 0) refl
+  where
+    by_zero : (z : Bool) → (amount_of s b == 0) ≡ z → amount_of s b < 256 ^ 7
+    by_zero true e = let none = same_of (amount_of s b) 0 e in omega (arith, none)
+    by_zero false e = (all b (apart_of (amount_of s b) 0 e)).1
+
+with_text : (s : Amounts) (b text : ℕ) → b < 2 ^ 32 → AreTexts s → text < 256 ^ 7 → AreTexts (with_amount s b text)
+with_text s b text low all small =
+    AllAmounts-with_amount (λ buffer text. (buffer < 2 ^ 32) × (text < 256 ^ 7)) s b text all (λ some. (low, small))
+
+-- a step of the string buffers keeps the texts in range
+pub next_state-texts : (method : Method) (args : Args) (reply : ℕ) (s t : Amounts) → subject_of method ≡ Buffers
+    → args.a < 2 ^ 32 → args.b < 2 ^ 32 → AreTexts s → next_state method args reply s ≡ Some t → AreTexts t
+next_state-texts BuAppend args reply s t of low low_b all =
+    let text : ℕ = amount_of s args.a in
+    by_append AreTexts reply args.a (args.b + 1) s t all
+    (λ room. with_text s args.a (joined text (args.b + 1)) low all (joined_below text (args.b + 1) (is_text s args.a all) (omega arith) room))
+next_state-texts BuAppendFrom args reply s t of low low_b all =
+    let text : ℕ = amount_of s args.a in
+    let more : ℕ = amount_of s args.b in
+    by_append AreTexts reply args.a more s t all
+    (λ room. with_text s args.a (joined text more) low all (joined_below text more (is_text s args.a all) (is_text s args.b all) room))
+next_state-texts BuCut args reply s t of low low_b all =
+    let text : ℕ = amount_of s args.a in
+    by_replies AreTexts reply _ _ _ t tt (with_text s args.a (cut_to args.b text) low all (cut_below args.b text (is_text s args.a all))) tt
+next_state-texts BuLength args reply s t of low low_b all = λ e. cc
+next_state-texts BuRead args reply s t of low low_b all = λ e. cc
+next_state-texts MsInsert args reply s t of low low_b all = cc
+next_state-texts MsInsertPair args reply s t of low low_b all = cc
+next_state-texts MsDelete args reply s t of low low_b all = cc
+next_state-texts MsLookup args reply s t of low low_b all = cc
+next_state-texts CaWrite args reply s t of low low_b all = cc
+next_state-texts CaFlush args reply s t of low low_b all = cc
+next_state-texts CaEvict args reply s t of low low_b all = cc
+next_state-texts CaRead args reply s t of low low_b all = cc
+next_state-texts TrInsert args reply s t of low low_b all = cc
+next_state-texts TrDelete args reply s t of low low_b all = cc
+next_state-texts TrLookup args reply s t of low low_b all = cc

@@ -26,3 +26,11 @@ small_chunks pairs small = λ chunk some. let here = small chunk some in (omega 
 pub small_values : (values : Amounts) → AllAmounts (λ key amount. (key < 2 ^ 32) × (2 ^ 32 ≤ amount) × (amount < 2 ^ 64)) values
     → AllAmounts (λ key amount. (key < 2 ^ 63) × (amount < 2 ^ 64)) values
 small_values values small = λ key some. let here = small key some in (omega (arith, here.0), here.2)
+
+-- buffers, and texts of at most 7 characters
+abbrev pub AreTexts : Amounts → Type 0
+AreTexts texts = AllAmounts (λ buffer text. (buffer < 2 ^ 32) × (text < 256 ^ 7)) texts
+
+-- Buffers are few.
+pub small_texts : (texts : Amounts) → AreTexts texts → AllAmounts (λ buffer text. (buffer < 2 ^ 63) × (text < 2 ^ 64)) texts
+small_texts texts small = λ buffer some. let here = small buffer some in (omega (arith, here.0), omega (arith, here.1))

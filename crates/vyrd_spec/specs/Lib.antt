@@ -1,5 +1,7 @@
 pub mod Bounds
 pub mod Touching
+pub mod Rows
 pub mod Chunks
+pub mod Texts
 pub mod Neighbours
 pub mod NodeKeys

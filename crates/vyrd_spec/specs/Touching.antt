@@ -1,13 +1,14 @@
 -- The keys whose amount a step can change.
-use Rattle.std.specs.Prelude.{◌≡◌, ◌≢◌, ℕ, Bool, false, ◌||◌, ◌==◌, Option, Some, None}
+use Rattle.std.specs.Prelude.{◌≡◌, ◌≢◌, ℕ, Bool, false, ◌||◌, ◌==◌, nat_lt, Option, Some, None}
+use Rattle.std.specs.Bool.{then_some}
 use Rattle.vyrd_base.specs.declared.subject.Method.{Method}
-use Rattle.vyrd_base.specs.declared.subject.Method.TheVariants.{MsInsert, MsInsertPair, MsDelete, CaWrite, TrInsert, TrDelete}
+use Rattle.vyrd_base.specs.declared.subject.Method.TheVariants.{MsInsert, MsInsertPair, MsDelete, CaWrite, TrInsert, TrDelete, BuAppend, BuAppendFrom, BuCut}
 use Rattle.vyrd_base.specs.declared.subject.Args.{Args}
 use Rattle.vyrd_base.specs.Amounts.{Amounts, IsAmounts, amount_of, with_amount}
 use Rattle.vyrd_base.specs.Specification.{next_state}
 use Rattle.vyrd_spec.specs.declared.touched.Touched.{Touched}
 
--- the keys of a call
+-- The keys of a call. A buffer has at most 7 characters, so that a cut to 7 or more leaves all.
 abbrev pub touched_by : Method → Args → Touched
 touched_by MsInsert args = record { first = Some args.a; second = None }
 touched_by MsInsertPair args = record { first = Some args.a; second = Some args.b }
@@ -15,6 +16,9 @@ touched_by MsDelete args = record { first = Some args.a; second = None }
 touched_by CaWrite args = record { first = Some args.a; second = None }
 touched_by TrInsert args = record { first = Some args.a; second = None }
 touched_by TrDelete args = record { first = Some args.a; second = None }
+touched_by BuAppend args = record { first = Some args.a; second = None }
+touched_by BuAppendFrom args = record { first = Some args.a; second = None }
+touched_by BuCut args = record { first = then_some (nat_lt args.b 7) args.a; second = None }
 touched_by _ args = record { first = None; second = None }
 
 -- whether a key is this one

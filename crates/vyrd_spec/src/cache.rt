@@ -5,10 +5,10 @@ ghost use Rattle.vyrd_base.specs.declared.subject.Subject.TheVariants.{Cache};
 ghost use Rattle.vyrd_base.specs.Specification.{next_state};
 ghost use Rattle.vyrd_base.specs.Subjects.{subject_of, is_observer};
 ghost use Rattle.vyrd_spec.specs.Bounds.{AllAmounts, small_chunks};
-ghost use Rattle.vyrd_spec.specs.Chunks.{chunk_amounts, chunks_formed};
+ghost use Rattle.vyrd_spec.specs.Rows.{row_amounts, row_formed};
 
 use crate::chunk_words::pairs_of;
-use crate::chunks::{chunks_shown, no_pairs, pair_of, write_pair};
+use crate::row::{amount_at, empty_row, row_shown, set_amount};
 use crate::spec::Spec;
 use crate::touched::{Touched, touched_by};
 use std::alloc::{AllocError, Global};
@@ -23,27 +23,27 @@ pub struct CacheSpec {
     pairs: Vec<u64>,
     ghost few: { made ≤ 2 ^ 62 },
     ghost count: { length pairs.items ≡ header.size },
-    ghost small: { AllAmounts (λ chunk pair. (chunk < 2 ^ 32) × (pair < 2 ^ 64)) (chunk_amounts pairs.items) },
+    ghost small: { AllAmounts (λ chunk pair. (chunk < 2 ^ 32) × (pair < 2 ^ 64)) (row_amounts pairs.items) },
 }
 
 impl Spec for CacheSpec {
     ghost subject = { Cache };
 
-    ghost state = { λ s. chunk_amounts s.pairs.items };
+    ghost state = { λ s. row_amounts s.pairs.items };
 
     ghost header_of = { λ s. s.header };
 
     ghost made = { λ s. s.made };
 
-    ghost is_formed = { λ s. chunks_formed s.pairs.items };
+    ghost is_formed = { λ s. row_formed s.pairs.items };
 
-    ghost is_small = { λ s. small_chunks (chunk_amounts s.pairs.items) s.small };
+    ghost is_small = { λ s. small_chunks (row_amounts s.pairs.items) s.small };
 
     fn start(alloc: Global, header: Header) -> Result<Self, AllocError> {
         Ok(CacheSpec {
             header,
             made: 0,
-            pairs: no_pairs(alloc, header.size() as usize)?,
+            pairs: empty_row(alloc, header.size() as usize)?,
         })
     }
 
@@ -71,11 +71,11 @@ impl Spec for CacheSpec {
     }
 
     fn answer(&self, _method: Method, args: Args) -> u64 {
-        pair_of(&self.pairs, u64::from(args.a))
+        amount_at(&self.pairs, u64::from(args.a))
     }
 
     fn amount(&self, key: u64) -> u64 {
-        pair_of(&self.pairs, key)
+        amount_at(&self.pairs, key)
     }
 
     fn touched(&self, method: Method, args: Args) -> Touched {
@@ -83,7 +83,7 @@ impl Spec for CacheSpec {
     }
 
     fn view(&self, alloc: Global) -> Result<View, AllocError> {
-        chunks_shown(alloc, &self.pairs)
+        row_shown(alloc, &self.pairs)
     }
 }
 
@@ -92,8 +92,8 @@ fn next(pairs: &mut Vec<u64>, method: Method, args: Args, reply: u64) -> bool
     requires subject { subject_of method ≡ Cache }
     requires mutator { is_observer method ≡ false }
     requires chunk { args.a < length pairs.old.items }
-    ensures allowed { result ≡ true → next_state method args reply (chunk_amounts pairs.old.items) ≡ Some (chunk_amounts pairs.new.items) }
-    ensures refused { result ≡ false → next_state method args reply (chunk_amounts pairs.old.items) ≡ None }
+    ensures allowed { result ≡ true → next_state method args reply (row_amounts pairs.old.items) ≡ Some (row_amounts pairs.new.items) }
+    ensures refused { result ≡ false → next_state method args reply (row_amounts pairs.old.items) ≡ None }
     ensures count { length pairs.new.items ≡ length pairs.old.items }
     ensures unchanged { result ≡ false → pairs.new ≡ pairs.old }
 
@@ -104,7 +104,7 @@ fn next(pairs: &mut Vec<u64>, method: Method, args: Args, reply: u64) -> bool
         return false;
     }
     if method == Method::CaWrite {
-        write_pair(
+        set_amount(
             pairs,
             args.a as usize,
             u64::from(args.c) * (1 << 32) + u64::from(args.b),

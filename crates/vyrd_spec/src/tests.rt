@@ -1,10 +1,11 @@
 //! Each call of each specification once, with replies that the table allows and some that it doesn't, and words to start from.
 
 ghost use Rattle.std.specs.Prelude.{◌≡◌, ◌<◌, ◌^◌, true, false, All, IfOk, []};
+ghost use Rattle.vyrd_base.specs.declared.subject.Subject.TheVariants.{Buffers};
 ghost use Rattle.vyrd_base.specs.Specification.{next_state};
 ghost use Rattle.vyrd_base.specs.Subjects.{subject_of, is_observer, are_args};
 
-use crate::{CacheSpec, MultisetSpec, Spec, TreeSpec};
+use crate::{BufferSpec, CacheSpec, MultisetSpec, Spec, TreeSpec};
 use std::alloc::{AllocError, Global};
 use std::test::Fail;
 use vyrd_base::{Args, Header, Method, Subject, View};
@@ -82,6 +83,31 @@ fn steps_of_the_tree(rt: HostRuntime) -> Result<(), Fail> {
     Ok(())
 }
 
+#[test]
+fn steps_of_the_buffers(rt: HostRuntime) -> Result<(), Fail> {
+    let header = Header::new(1, Subject::Buffers, 2, 1).ok_or("a header")?;
+    let mut spec = BufferSpec::start(rt.alloc(), header)?;
+    assert_eq!(rt; spec.step(Method::BuAppend, args(1, 65, 0), 1)?, true);
+    assert_eq!(rt; spec.step(Method::BuAppend, args(1, 66, 0), 0)?, false);
+    assert_eq!(rt; spec.step(Method::BuAppend, args(1, 66, 0), 1)?, true);
+    assert_eq!(rt; spec.answer(Method::BuLength, args(1, 0, 0)), 2);
+    assert_eq!(rt; spec.answer(Method::BuRead, args(1, 0, 0)), 17218); // 66 + 67 * 256
+    assert_eq!(rt; spec.answer(Method::BuRead, args(0, 0, 0)), 0);
+    assert_eq!(rt; spec.view(rt.alloc())?.pairs(), [(1, 17218)].as_slice());
+    Ok(())
+}
+
+#[test]
+fn calls_touch_the_buffer_that_they_may_change(rt: HostRuntime) -> Result<(), Fail> {
+    let header = Header::new(1, Subject::Buffers, 2, 1).ok_or("a header")?;
+    let spec = BufferSpec::start(rt.alloc(), header)?;
+    let copied = spec.touched(Method::BuAppendFrom, args(0, 1, 0));
+    assert_eq!(rt; (copied.first, copied.second), (Some(0), None));
+    assert!(rt; spec.touched(Method::BuCut, args(1, 6, 0)).has(1));
+    assert!(rt; !spec.touched(Method::BuCut, args(1, 7, 0)).has(1));
+    Ok(())
+}
+
 /// Whether each word is below 2^63.
 fn are_words(words: &[u64]) -> bool
     ensures { result ≡ true → All (λ word. word < 2 ^ 63) words.now }
@@ -128,6 +154,84 @@ fn whole_chunks_are_a_start(rt: HostRuntime) -> Result<(), Fail> {
     assert!(rt; started::<CacheSpec>(rt.alloc(), header, &[1, 7, 0, 8, 0])?.is_none());
     assert!(rt; started::<CacheSpec>(rt.alloc(), header, &[3, 7, 0, 7, 0])?.is_none());
     assert!(rt; started::<CacheSpec>(rt.alloc(), header, &[2, 7, 4294967296, 7, 0])?.is_none());
+    Ok(())
+}
+
+/// Two buffers: one with the text AB, which is 66 + 67 * 256 = 17218 as a number, and one with the character 0 six times, which
+/// is 1 + 256 + .. + 256^5 = 1103823438081.
+const TWO_BUFFERS: [u64; 16] = [2, 65, 66, 255, 300, 0, 0, 0, 6, 0, 0, 0, 0, 0, 0, 9];
+
+/// What a call with its reply leaves of these two buffers, where the reply is allowed.
+fn left_by(alloc: Global, method: Method, args: Args, reply: u64) -> Result<Option<View>, Fail>
+    requires subject { subject_of method ≡ Buffers }
+    requires args { are_args 2 method args ≡ true }
+    requires mutator { is_observer method ≡ false }
+{
+    let header = Header::new(1, Subject::Buffers, 2, 1).ok_or("a header")?;
+    if !are_words(&TWO_BUFFERS) {
+        return Err(Fail::from("words"));
+    }
+    let Some(mut spec) = BufferSpec::start_from(alloc, header, &TWO_BUFFERS)? else {
+        return Err(Fail::from("a state"));
+    };
+    if spec.step(method, args, reply)? {
+        Ok(Some(spec.view(alloc)?))
+    } else {
+        Ok(None)
+    }
+}
+
+#[test]
+fn characters_are_appended_and_cut(rt: HostRuntime) -> Result<(), Fail> {
+    let longer = left_by(rt.alloc(), Method::BuAppend, args(1, 254, 0), 1)?.ok_or("seven")?;
+    let shorter = left_by(rt.alloc(), Method::BuCut, args(0, 1, 0), 1)?.ok_or("one")?;
+    let as_long = left_by(rt.alloc(), Method::BuCut, args(0, 2, 0), 1)?.ok_or("two")?;
+    let emptied = left_by(rt.alloc(), Method::BuCut, args(1, 0, 0), 1)?.ok_or("none")?;
+    let seven = [(0, 17218), (1, 71777222884655361)]; // 1103823438081 + 255 * 256^6
+    assert_eq!(rt; longer.pairs(), seven.as_slice());
+    assert_eq!(rt; shorter.pairs(), [(0, 66), (1, 1103823438081)].as_slice());
+    assert_eq!(rt;
+        as_long.pairs(),
+        [(0, 17218), (1, 1103823438081)].as_slice()
+    );
+    assert_eq!(rt; emptied.pairs(), [(0, 17218)].as_slice());
+    Ok(())
+}
+
+#[test]
+fn buffers_are_appended_where_both_fit(rt: HostRuntime) -> Result<(), Fail> {
+    let twice = left_by(rt.alloc(), Method::BuAppendFrom, args(0, 0, 0), 1)?.ok_or("ABAB")?;
+    let too_long = left_by(rt.alloc(), Method::BuAppendFrom, args(0, 1, 0), 0)?.ok_or("eight")?;
+    let four = [(0, 1128416066), (1, 1103823438081)]; // 17218 + 17218 * 256^2
+    assert_eq!(rt; twice.pairs(), four.as_slice());
+    assert_eq!(rt;
+        too_long.pairs(),
+        [(0, 17218), (1, 1103823438081)].as_slice()
+    );
+    Ok(())
+}
+
+#[test]
+fn other_replies_of_buffers_are_refused(rt: HostRuntime) -> Result<(), Fail> {
+    assert!(rt; left_by(rt.alloc(), Method::BuAppend, args(1, 0, 0), 0)?.is_none());
+    assert!(rt; left_by(rt.alloc(), Method::BuAppend, args(1, 0, 0), 2)?.is_none());
+    assert!(rt; left_by(rt.alloc(), Method::BuAppendFrom, args(0, 0, 0), 0)?.is_none());
+    assert!(rt; left_by(rt.alloc(), Method::BuAppendFrom, args(0, 1, 0), 1)?.is_none());
+    assert!(rt; left_by(rt.alloc(), Method::BuCut, args(0, 1, 0), 0)?.is_none());
+    Ok(())
+}
+
+#[test]
+fn characters_below_the_count_are_a_start(rt: HostRuntime) -> Result<(), Fail> {
+    let header = Header::new(1, Subject::Buffers, 1, 1).ok_or("a header")?;
+    let text = started::<BufferSpec>(rt.alloc(), header, &[2, 65, 66, 255, 0, 0, 0, 0])?;
+    let empty = started::<BufferSpec>(rt.alloc(), header, &[0, 65, 0, 0, 0, 0, 0, 0])?;
+    assert_eq!(rt; text.ok_or("AB")?.pairs(), [(0, 17218)].as_slice());
+    assert_eq!(rt; empty.ok_or("none")?.pairs(), [].as_slice());
+    assert!(rt;
+        started::<BufferSpec>(rt.alloc(), header, &[8, 65, 66, 67, 68, 69, 70, 71])?.is_none()
+    );
+    assert!(rt; started::<BufferSpec>(rt.alloc(), header, &[2, 65, 255, 0, 0, 0, 0, 0])?.is_none());
     Ok(())
 }
 

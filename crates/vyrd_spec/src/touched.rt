@@ -43,7 +43,14 @@ pub(crate) fn touched_by(method: Method, args: Args) -> Touched
         | Method::MsDelete
         | Method::CaWrite
         | Method::TrInsert
-        | Method::TrDelete => Touched {
+        | Method::TrDelete
+        | Method::BuAppend
+        | Method::BuAppendFrom => Touched {
+            first: key,
+            second: None,
+        },
+        // A buffer has at most 7 characters, so that a cut to 7 or more changes none.
+        Method::BuCut if args.b < 7 => Touched {
             first: key,
             second: None,
         },

@@ -1,24 +1,24 @@
 -- A line has one reading: its parts are what stands between its spaces.
-use Rattle.std.proofs.Common.{◌≡◌, ℕ, ◌<◌, ◌^◌, true, List, ◌∷◌, ◌++◌, get_or, Option, Some, None, refl, ap, sym, ◌∙◌, arith}
+use Rattle.std.proofs.Common.{◌≡◌, ℕ, ◌<◌, ◌^◌, true, ◌&&◌, List, ◌∷◌, ◌++◌, get_or, Option, Some, None, refl, ap, sym, ◌∙◌, arith}
 use Rattle.std.specs.Prelude.{◌==◌, nat_lt, codes, decimal}
 use Rattle.std.specs.List.{slice_split}
 use Rattle.std.proofs.lemmas.List.{append_cancel_left}
 use Rattle.std.proofs.lemmas.Fmt.{decimal_injective}
 use Rattle.vyrd_base.specs.declared.subject.Subject.{Subject}
-use Rattle.vyrd_base.specs.declared.subject.Subject.TheVariants.{Multiset}
+use Rattle.vyrd_base.specs.declared.subject.Subject.TheVariants.{Multiset, Buffers}
 use Rattle.vyrd_base.specs.declared.subject.Method.{Method}
-use Rattle.vyrd_base.specs.declared.subject.Method.TheVariants.{MsInsert, MsInsertPair, MsDelete, MsLookup}
+use Rattle.vyrd_base.specs.declared.subject.Method.TheVariants.{MsInsert, MsInsertPair, MsDelete, MsLookup, BuAppend, BuAppendFrom, BuCut, BuLength, BuRead}
 use Rattle.vyrd_base.specs.declared.log.Kind.{Kind}
 use Rattle.vyrd_base.specs.declared.log.Kind.TheVariants.{Call, Return, Write, Commit, BlockOpen, BlockClose, BlockCommit}
 use Rattle.vyrd_base.specs.declared.log.Entry.{Entry}
-use Rattle.vyrd_base.specs.Subjects.{subject_of, same_subject}
+use Rattle.vyrd_base.specs.Subjects.{arity_of, are_padded, subject_of, same_subject}
 use Rattle.vyrd_base.specs.Spelling.{method_name, entry_line, is_entry_of}
 use Rattle.vyrd_base.specs.Lines.{entry_in}
 use Rattle.vyrd_base.proofs.SplitLaws.{split_at, decimal_lacks, no_space}
 use Rattle.vyrd_base.proofs.LineLaws.{entry_in-entry_line}
 use Rattle.vyrd_base.proofs.ReadingSound.{entry_in_sound}
 use Rattle.vyrd_base.proofs.TestLaws.{both_true, first_true, second_true, below_of, is_below}
-use Rattle.vyrd_text.specs.Spelled.{kind_text, AreArgsRead, IsKindRead}
+use Rattle.vyrd_text.specs.Spelled.{kind_text, call_text, AreArgsRead, IsCallRead, IsKindRead}
 
 -- the number before a space and what follows the space are one
 pub one_before_space : (m n : ℕ) (r s : List ℕ) → m < 2 ^ 64 → n < 2 ^ 64 → decimal m ++ 32 ∷ r ≡ decimal n ++ 32 ∷ s → (m ≡ n) × (r ≡ s)
@@ -44,6 +44,28 @@ no_value text w r low e none subject Commit ok f = absurd (let h : 119 ≡ 99 = 
 no_value text w r low e none subject BlockOpen ok f = absurd (let h : 119 ≡ 111 = ap (λ t. get_or t 0 0) f in omega (arith, h))
 no_value text w r low e none subject BlockClose ok f = absurd (let h : 119 ≡ 99 = ap (λ t. get_or t 0 0) f in omega (arith, h))
 no_value text w r low e none subject BlockCommit ok f = absurd (let h : 119 ≡ 99 = ap (λ t. get_or t 0 0) f in omega (arith, h))
+
+-- nor is a word before what no call spells a call
+pub no_call : (subject : Subject) (text : List ℕ) → IsCallRead subject text None → IsKindRead subject (codes "call " ++ text) None
+no_call subject text none (Call method args) ok e =
+    let same_padded : (same_subject (subject_of method) subject && are_padded (arity_of method) args) ≡ true =
+    first_true _ _ (first_true _ _ (first_true _ _ ok)) in
+    none method args
+    (first_true _ _ same_padded)
+    (second_true (same_subject (subject_of method) subject) _ same_padded)
+    (below_of args.a (2 ^ 32) (second_true (same_subject (subject_of method) subject && are_padded (arity_of method) args) _
+    (first_true _ _ (first_true _ _ ok))))
+    (below_of args.b (2 ^ 32) (second_true (same_subject (subject_of method) subject && are_padded (arity_of method) args
+    && nat_lt args.a (2 ^ 32)) _ (first_true _ _ ok)))
+    (below_of args.c (2 ^ 32) (second_true (same_subject (subject_of method) subject && are_padded (arity_of method) args
+    && nat_lt args.a (2 ^ 32) && nat_lt args.b (2 ^ 32)) _ ok))
+    (append_cancel_left (codes "call ") text (call_text method args) e)
+no_call subject text none (Return reply) ok e = absurd (let h : 99 ≡ 114 = ap (λ t. get_or t 0 0) e in omega (arith, h))
+no_call subject text none (Write word value) ok e = absurd (let h : 99 ≡ 119 = ap (λ t. get_or t 0 0) e in omega (arith, h))
+no_call subject text none Commit ok e = absurd (let h : 97 ≡ 111 = ap (λ t. get_or t 1 0) e in omega (arith, h))
+no_call subject text none BlockOpen ok e = absurd (let h : 99 ≡ 111 = ap (λ t. get_or t 0 0) e in omega (arith, h))
+no_call subject text none BlockClose ok e = absurd (let h : 97 ≡ 108 = ap (λ t. get_or t 1 0) e in omega (arith, h))
+no_call subject text none BlockCommit ok e = absurd (let h : 97 ≡ 108 = ap (λ t. get_or t 1 0) e in omega (arith, h))
 
 -- one number before a space and no number after it are not two arguments
 pub no_second : (text : List ℕ) (m : ℕ) (r : List ℕ) → m < 2 ^ 64 → text ≡ decimal m ++ 32 ∷ r
@@ -75,6 +97,16 @@ no_multiset_method text insert delete lookup pair MsInsertPair rest is e = pair 
 no_multiset_method text insert delete lookup pair MsDelete rest is e = delete rest e
 no_multiset_method text insert delete lookup pair MsLookup rest is e = lookup rest e
 no_multiset_method text insert delete lookup pair _ rest is e = cc
+
+pub no_buffers_method : (text : List ℕ) → ((rest : List ℕ) → text ≡ codes "append " ++ rest → ⊥) → ((rest : List ℕ) → text ≡ codes "append_from " ++ rest → ⊥)
+    → ((rest : List ℕ) → text ≡ codes "cut " ++ rest → ⊥) → ((rest : List ℕ) → text ≡ codes "length " ++ rest → ⊥) → ((rest : List ℕ) → text ≡ codes "read " ++ rest → ⊥)
+    → (method : Method) (rest : List ℕ) → same_subject (subject_of method) Buffers ≡ true → text ≡ method_name method ++ 32 ∷ rest → ⊥
+no_buffers_method text append from cut length read BuAppend rest is e = append rest e
+no_buffers_method text append from cut length read BuAppendFrom rest is e = from rest e
+no_buffers_method text append from cut length read BuCut rest is e = cut rest e
+no_buffers_method text append from cut length read BuLength rest is e = length rest e
+no_buffers_method text append from cut length read BuRead rest is e = read rest e
+no_buffers_method text append from cut length read _ rest is e = cc
 
 -- an entry's line is its caller, a space and what it says
 pub entry_line_is : (caller : ℕ) (kind : Kind) → entry_line (record { caller = caller; kind = kind }) ≡ decimal caller ++ 32 ∷ kind_text kind

@@ -51,6 +51,9 @@ pub fn read_subject(text: &[u8]) -> Option<(Subject, &[u8])>
     if let Some(rest) = after(text, b"tree ") {
         return Some((Subject::Tree, rest));
     }
+    if let Some(rest) = after(text, b"buffers ") {
+        return Some((Subject::Buffers, rest));
+    }
     None
 }
 

@@ -95,6 +95,7 @@ fn read_method(subject: Subject, text: &[u8]) -> Option<(Method, &[u8])>
         Subject::Multiset => read_multiset_method(text),
         Subject::Cache => read_cache_method(text),
         Subject::Tree => read_tree_method(text),
+        Subject::Buffers => read_buffers_method(text),
     }
 }
 
@@ -154,6 +155,30 @@ fn read_tree_method(text: &[u8]) -> Option<(Method, &[u8])>
     }
     if let Some(rest) = after(text, b"lookup ") {
         return Some((Method::TrLookup, rest));
+    }
+    None
+}
+
+/// The method of string buffers before a space, and what stands after that space.
+fn read_buffers_method(text: &[u8]) -> Option<(Method, &[u8])>
+    ensures { MatchOption result
+        ((method : Method) (rest : List ℕ) → same_subject (subject_of method) Subject.Buffers ≡ true → text.now ≡ method_name method ++ 32 ∷ rest → ⊥)
+        (λ r. (same_subject (subject_of r.0) Subject.Buffers ≡ true) × (text.now ≡ method_name r.0 ++ 32 ∷ r.1.now)) }
+{
+    if let Some(rest) = after(text, b"append ") {
+        return Some((Method::BuAppend, rest));
+    }
+    if let Some(rest) = after(text, b"append_from ") {
+        return Some((Method::BuAppendFrom, rest));
+    }
+    if let Some(rest) = after(text, b"cut ") {
+        return Some((Method::BuCut, rest));
+    }
+    if let Some(rest) = after(text, b"length ") {
+        return Some((Method::BuLength, rest));
+    }
+    if let Some(rest) = after(text, b"read ") {
+        return Some((Method::BuRead, rest));
     }
     None
 }

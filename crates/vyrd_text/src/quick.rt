@@ -246,6 +246,7 @@ fn read_method(subject: Subject, text: &[u8]) -> Option<(Method, &[u8])>
         Subject::Multiset => read_multiset_method(text),
         Subject::Cache => read_cache_method(text),
         Subject::Tree => read_tree_method(text),
+        Subject::Buffers => read_buffers_method(text),
     }
 }
 
@@ -300,6 +301,35 @@ fn read_tree_method(text: &[u8]) -> Option<(Method, &[u8])>
         [b'i', b'n', b's', b'e', b'r', b't', b' ', rest @ ..] => Some((Method::TrInsert, rest)),
         [b'd', b'e', b'l', b'e', b't', b'e', b' ', rest @ ..] => Some((Method::TrDelete, rest)),
         [b'l', b'o', b'o', b'k', b'u', b'p', b' ', rest @ ..] => Some((Method::TrLookup, rest)),
+        _ => None,
+    }
+}
+
+/// The method of string buffers before a space, and what stands after that space.
+#[inline(always)]
+fn read_buffers_method(text: &[u8]) -> Option<(Method, &[u8])>
+    ensures { IfSome result (λ r. (same_subject (subject_of r.0) Subject.Buffers ≡ true) × (text.now ≡ method_name r.0 ++ 32 ∷ r.1.now)) }
+{
+    match text {
+        [b'a', b'p', b'p', b'e', b'n', b'd', b' ', rest @ ..] => Some((Method::BuAppend, rest)),
+        [b'c', b'u', b't', b' ', rest @ ..] => Some((Method::BuCut, rest)),
+        [b'l', b'e', b'n', b'g', b't', b'h', b' ', rest @ ..] => Some((Method::BuLength, rest)),
+        [b'r', b'e', b'a', b'd', b' ', rest @ ..] => Some((Method::BuRead, rest)),
+        [
+            b'a',
+            b'p',
+            b'p',
+            b'e',
+            b'n',
+            b'd',
+            b'_',
+            b'f',
+            b'r',
+            b'o',
+            b'm',
+            b' ',
+            rest @ ..,
+        ] => Some((Method::BuAppendFrom, rest)),
         _ => None,
     }
 }

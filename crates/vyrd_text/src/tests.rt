@@ -281,6 +281,39 @@ fn one_line(rt: HostRuntime) -> Result<(), Fail> {
     Ok(())
 }
 
+/// The lines of string buffers, read and written, and two of other subjects.
+#[test]
+fn lines_of_string_buffers(rt: HostRuntime) -> Result<(), Fail> {
+    let table = [
+        (
+            b"0 call append 1 254".as_slice(),
+            Method::BuAppend,
+            (1, 254),
+        ),
+        (b"0 call append_from 1 0", Method::BuAppendFrom, (1, 0)),
+        (
+            b"0 call cut 1 4294967295",
+            Method::BuCut,
+            (1, 4_294_967_295),
+        ),
+        (b"0 call length 1", Method::BuLength, (1, 0)),
+        (b"0 call read 1", Method::BuRead, (1, 0)),
+    ];
+    for (text, method, (a, b)) in table {
+        let entry = Entry {
+            caller: 0,
+            kind: Kind::Call(method, Args { a, b, c: 0 }),
+        };
+        let mut line = Vec::new(rt.alloc());
+        write_line(&entry, &mut line)?;
+        assert_eq!(rt; line.as_slice(), text);
+        assert_eq!(rt; read_line(Subject::Buffers, text), Some(entry));
+    }
+    assert_eq!(rt; read_line(Subject::Cache, b"0 call append 1 254"), None);
+    assert_eq!(rt; read_line(Subject::Buffers, b"0 call insert 1"), None);
+    Ok(())
+}
+
 #[test]
 fn verdicts(rt: HostRuntime) -> Result<(), Fail> {
     let mut text = Vec::new(rt.alloc());

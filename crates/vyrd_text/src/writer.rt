@@ -216,6 +216,7 @@ pub fn name_of_subject(subject: Subject) -> &'static [u8]
         Subject::Multiset => b"multiset",
         Subject::Cache => b"cache",
         Subject::Tree => b"tree",
+        Subject::Buffers => b"buffers",
     }
 }
 
@@ -232,6 +233,10 @@ fn name_of_method(method: Method) -> &'static [u8]
         Method::CaWrite => b"write",
         Method::CaFlush => b"flush",
         Method::CaEvict => b"evict",
-        Method::CaRead => b"read",
+        Method::CaRead | Method::BuRead => b"read",
+        Method::BuAppend => b"append",
+        Method::BuAppendFrom => b"append_from",
+        Method::BuCut => b"cut",
+        Method::BuLength => b"length",
     }
 }

@@ -1,11 +1,11 @@
 -- The two places of a chunk.
-use Rattle.std.proofs.Common.{◌≡◌, ℕ, ◌+◌, ◌*◌, ◌/◌, ◌%◌, ◌<◌, Bool, true, false, cond, List, length, length-set, get_or, set, refl, ap, ◌∙◌, sym, arith, get_or-set_same, get_or-set_other}
+use Rattle.std.proofs.Common.{◌≡◌, ℕ, ◌+◌, ◌*◌, ◌/◌, ◌%◌, ◌<◌, Bool, true, false, cond, List, length, set, refl, ap, ◌∙◌, sym, arith}
 use Rattle.std.specs.Prelude.{◌==◌, ◌≢◌}
 use Rattle.vyrd_base.specs.Views.{chunk_at}
-use Rattle.vyrd_base.specs.Amounts.{given, part_given}
+use Rattle.vyrd_base.specs.Amounts.{given}
 use Rattle.vyrd_base.proofs.TestLaws.{same_of, apart_of, is_same, isnt_same}
 use Rattle.vyrd_view.specs.Pairs.{chunk_amount, chunk_flaw, chunk_pair, chunk_key, HaveChunkKeys}
-use Rattle.vyrd_view.proofs.PairLaws.{given_only, own_part}
+use Rattle.vyrd_view.proofs.PairLaws.{one_gives, keys-set}
 
 even_test : (h : ℕ) → ((2 * h) % 2 == 0) ≡ true
 even_test h = is_same ((2 * h) % 2) 0 (omega arith)
@@ -59,28 +59,13 @@ keys_differ size m n in_m in_n apart = by_tests (m % 2 == 0) (n % 2 == 0) refl r
         let also : n % 2 ≢ 0 = apart_of (n % 2) 0 f in
         λ same. apart (omega (arith, same, odd, also))
 
-pub keys-set : (size : ℕ) (pairs : List (ℕ × ℕ)) (place : ℕ) (pair : ℕ × ℕ) → pair.0 ≡ chunk_key size place → HaveChunkKeys size pairs
-    → HaveChunkKeys size (set pairs place pair)
-keys-set size pairs place pair is keys m low = by_test (m == place) refl
-  where
-    inside : m < length pairs
-    inside = omega (arith, low, length-set pairs place pair)
-
-    by_test : (b : Bool) → (m == place) ≡ b → (get_or (set pairs place pair) m (0, 0)).0 ≡ chunk_key size m
-    by_test true e =
-        let same : m ≡ place = same_of m place e in
-        let here : place < length pairs = omega (arith, same, inside) in
-        ap (λ k. (get_or (set pairs place pair) k (0, 0)).0) same ∙ ap (λ p. p.0) (get_or-set_same pairs place pair (0, 0) here)
-        ∙ is ∙ ap (chunk_key size) (sym same)
-    by_test false e = ap (λ p. p.0) (get_or-set_other pairs place m pair (0, 0) (apart_of m place e)) ∙ keys m inside
-
 -- only the place of a key gives to it
-pub one_gives : (size : ℕ) (pairs : List (ℕ × ℕ)) (place : ℕ) (pair : ℕ × ℕ) → length pairs ≡ 2 * size → place < length pairs
+pub chunk_alone_gives : (size : ℕ) (pairs : List (ℕ × ℕ)) (place : ℕ) (pair : ℕ × ℕ) → length pairs ≡ 2 * size → place < length pairs
     → pair.0 ≡ chunk_key size place → HaveChunkKeys size pairs → given pair.0 (set pairs place pair) ≡ pair.1
-one_gives size pairs place pair count low is keys =
-    given_only pair.0 (set pairs place pair) place (omega (arith, length-set pairs place pair, low))
-    (λ i inside other.
-    let within : i < length pairs = omega (arith, inside, length-set pairs place pair) in
-    λ same. keys_differ size i place (omega (arith, within, count)) (omega (arith, low, count)) other
-    (sym (keys-set size pairs place pair is keys i inside) ∙ same ∙ is))
-    ∙ ap (part_given pair.0) (get_or-set_same pairs place pair (0, 0) low) ∙ own_part pair.0 pair.1
+chunk_alone_gives size pairs place pair count low is keys =
+    one_gives pairs place pair low
+    (λ i within other same. keys_differ size i place (omega (arith, within, count)) (omega (arith, low, count)) other (sym (keys i within) ∙ same ∙ is))
+
+pub chunk_keys-set : (size : ℕ) (pairs : List (ℕ × ℕ)) (place : ℕ) (pair : ℕ × ℕ) → pair.0 ≡ chunk_key size place → HaveChunkKeys size pairs
+    → HaveChunkKeys size (set pairs place pair)
+chunk_keys-set size = keys-set (λ m k. k ≡ chunk_key size m)

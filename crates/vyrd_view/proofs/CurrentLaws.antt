@@ -4,7 +4,7 @@ use Rattle.std.specs.Prelude.{◌==◌, ◌≢◌, nat_le, nat_lt, slice_index}
 use Rattle.std.specs.List.{list_any}
 use Rattle.std.proofs.lemmas.List.{get_or-replicate, length-replicate}
 use Rattle.vyrd_base.specs.declared.subject.Subject.{Subject}
-use Rattle.vyrd_base.specs.declared.subject.Subject.TheVariants.{Multiset, Cache, Tree}
+use Rattle.vyrd_base.specs.declared.subject.Subject.TheVariants.{Multiset, Cache, Tree, Buffers}
 use Rattle.vyrd_base.specs.Places.{numbers_below}
 use Rattle.vyrd_base.specs.Amounts.{amount_of, collected, given}
 use Rattle.vyrd_base.specs.Views.{Chunk, chunk_at, parts_of}
@@ -12,12 +12,13 @@ use Rattle.vyrd_base.specs.TreeView.{right_of, node_word, count_of}
 use Rattle.vyrd_base.proofs.SumLaws.{amount_of-collected}
 use Rattle.vyrd_base.proofs.ListLaws.{zeros}
 use Rattle.vyrd_base.proofs.TestLaws.{apart_of, isnt_same, neither_true, isnt_below}
-use Rattle.vyrd_view.specs.Pairs.{is_touched, slot_pair, chunk_pair, chunk_key, chunk_amount, chunk_flaw}
+use Rattle.vyrd_view.specs.Pairs.{is_touched, slot_pair, chunk_pair, chunk_key, chunk_amount, chunk_flaw, buffer_pair}
 use Rattle.vyrd_view.specs.Chains.{chain_nodes_from, chain_breaks_from, is_on_chain, is_broken, entry_pair, node_pair, end_pair, is_stale, has_link}
-use Rattle.vyrd_view.specs.Firsts.{first_pairs_in, first_chunk_pair}
+use Rattle.vyrd_view.specs.Firsts.{first_pairs_in, first_chunk_pair, first_buffer_pair}
 use Rattle.vyrd_view.specs.Comparing.{pairs_in, AgreeElsewhere}
 use Rattle.vyrd_view.proofs.PlacedLaws.{mapped, length_mapped, at_mapped}
-use Rattle.vyrd_view.proofs.ShowingLaws.{slots_give, chunks_give, nothing_given}
+use Rattle.vyrd_view.proofs.BufferLaws.{same_buffer, empty_buffer}
+use Rattle.vyrd_view.proofs.ShowingLaws.{slots_give, chunks_give, buffers_give, nothing_given}
 use Rattle.vyrd_view.proofs.ShowingTree.{places_give}
 use Rattle.vyrd_view.proofs.TreePairLaws.{tree_pairs}
 
@@ -27,6 +28,7 @@ pub pairs_show : (subject : Subject) (size : ℕ) (words : List ℕ) (q : ℕ) �
 pairs_show Multiset size words q some = slots_give q words (4 * size) ∙ sym (amount_of-collected (parts_of Multiset size words) q)
 pairs_show Cache size words q some = chunks_give q size words size ∙ sym (amount_of-collected (parts_of Cache size words) q)
 pairs_show Tree size words q some = places_give q size words some ∙ sym (amount_of-collected (parts_of Tree size words) q)
+pairs_show Buffers size words q some = buffers_give q size words size ∙ sym (amount_of-collected (parts_of Buffers size words) q)
 
 -- a word of a part that no changed word is in hasn't changed
 pub word_untouched : (size part w : ℕ) (changed : List ℕ) → w / size ≡ part → is_touched size part changed ≡ false
@@ -84,6 +86,11 @@ module _ (before words changed : List ℕ) (elsewhere : AgreeElsewhere before wo
   pub chunk_pair_untouched : (size m : ℕ) → is_touched 5 (m / 2) changed ≡ false → chunk_pair size words m ≡ chunk_pair size before m
   chunk_pair_untouched size m untouched =
       ap (λ (c : Chunk). cond {A = ℕ × ℕ} (m % 2 == 0) (m / 2, chunk_amount c) (size + m / 2, chunk_flaw c)) (chunk_untouched (m / 2) untouched)
+
+  pub buffer_untouched : (size b : ℕ) → is_touched 8 b changed ≡ false → buffer_pair size words b ≡ buffer_pair size before b
+  buffer_untouched size b untouched =
+      same_buffer size b words before (same_word 8 b (8 * b) (omega arith) untouched)
+      (λ i low. same_word 8 b (8 * b + (1 + i)) (omega (arith, low)) untouched)
 
   same_node_word : (n i : ℕ) → i < 12 → is_touched 12 n changed ≡ false → node_word words n i ≡ node_word before n i
   same_node_word n i low untouched = same_word 12 n (12 * n + i) (omega arith) untouched
@@ -223,17 +230,21 @@ first_pairs_are Tree size n some = tree_pairs size (replicate n 0) (set (replica
     (length-replicate (4 * size + 1) (0, 0)) (λ i low. first_is_marked n size i some)
     (λ m low. get_or-replicate (4 * size + 1) m (0, 0) (0, 0) (omega (arith, low)) ∙ sym (no_node n (set (replicate size false) 0 true) m))
     (get_or-replicate (4 * size + 1) (4 * size) (0, 0) (0, 0) (omega arith) ∙ sym (ap end_pair (end_is_whole n size some)))
+first_pairs_are Buffers size n some = mapped (buffer_pair size (replicate n 0)) (map first_buffer_pair (numbers_below size)) size
+    (length_mapped first_buffer_pair size)
+    (λ i low. at_mapped first_buffer_pair size i low ∙ sym (empty_buffer n size i))
 
 given_copies : (q n : ℕ) → given q (replicate n (0, 0)) ≡ 0
 given_copies q zero = refl
 given_copies q (suc n) = omega (arith, nothing_given q 0, given_copies q n)
 
+given_keys : (q : ℕ) (key : ℕ → ℕ) (ns : List ℕ) → given q (map (λ n. (key n, 0)) ns) ≡ 0
+given_keys q key [] = refl
+given_keys q key (n ∷ ns) = omega (arith, nothing_given q (key n), given_keys q key ns)
+
 -- they give nothing
 pub first_give_nothing : (subject : Subject) (size q : ℕ) → given q (first_pairs_in subject size) ≡ 0
 first_give_nothing Multiset size q = given_copies q (4 * size)
-first_give_nothing Cache size q = given_chunks (numbers_below (2 * size))
-  where
-    given_chunks : (ns : List ℕ) → given q (map (first_chunk_pair size) ns) ≡ 0
-    given_chunks [] = refl
-    given_chunks (k ∷ ns) = omega (arith, nothing_given q (chunk_key size k), given_chunks ns)
+first_give_nothing Cache size q = given_keys q (chunk_key size) (numbers_below (2 * size))
 first_give_nothing Tree size q = given_copies q (4 * size + 1)
+first_give_nothing Buffers size q = given_keys q (λ b. b) (numbers_below size)

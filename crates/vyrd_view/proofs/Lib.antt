@@ -6,6 +6,7 @@ pub mod PairLaws
 pub mod PlacedLaws
 pub mod SlotLaws
 pub mod ChunkPairLaws
+pub mod BufferLaws
 pub mod NodeLaws
 pub mod WalkLaws
 pub mod TreePairLaws

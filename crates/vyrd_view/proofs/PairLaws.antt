@@ -1,7 +1,7 @@
 -- What pairs in places give to a key, and how that changes with one pair.
-use Rattle.std.proofs.Common.{◌≡◌, ℕ, zero, suc, ◌+◌, ◌<◌, ◌≤◌, Bool, cond, List, [], ◌∷◌, length, get_or, set, refl, ap, sym, arith}
-use Rattle.std.specs.Prelude.{◌≢◌}
-use Rattle.vyrd_base.proofs.TestLaws.{same_number, isnt_same}
+use Rattle.std.proofs.Common.{◌≡◌, ℕ, zero, suc, ◌+◌, ◌<◌, ◌≤◌, Bool, true, false, cond, List, [], ◌∷◌, length, length-set, get_or, set, refl, ap, ◌∙◌, sym, subst, arith, get_or-set_same, get_or-set_other}
+use Rattle.std.specs.Prelude.{◌==◌, ◌≢◌}
+use Rattle.vyrd_base.proofs.TestLaws.{same_number, same_of, apart_of, isnt_same}
 use Rattle.vyrd_base.specs.Amounts.{Amounts, given, part_given}
 use Rattle.vyrd_view.specs.Kept.{Kept}
 
@@ -50,3 +50,31 @@ given_only q (p ∷ pairs) (suc place) low apart =
       other_part q p.0 p.1 elsewhere,
       given_only q pairs place (omega arith) (λ i inside other. apart (suc i) (omega (arith, inside)) (λ same. other (omega (arith, same)))),
     )
+
+-- a pair comes to a place, and no other place has its key
+pub one_gives : (pairs : List (ℕ × ℕ)) (place : ℕ) (pair : ℕ × ℕ) → place < length pairs
+    → ((i : ℕ) → i < length pairs → i ≢ place → (get_or pairs i (0, 0)).0 ≢ pair.0) → given pair.0 (set pairs place pair) ≡ pair.1
+one_gives pairs place pair low apart =
+    given_only pair.0 (set pairs place pair) place (omega (arith, length-set pairs place pair, low))
+    (λ i inside other same.
+    let within : i < length pairs = omega (arith, inside, length-set pairs place pair) in
+    apart i within other (sym (ap (λ p. p.0) (get_or-set_other pairs place i pair (0, 0) other)) ∙ same))
+    ∙ ap (part_given pair.0) (get_or-set_same pairs place pair (0, 0) low) ∙ own_part pair.0 pair.1
+
+-- a pair with a key of its place comes to a place
+pub keys-set : (IsKey : ℕ → ℕ → Type 0) (pairs : List (ℕ × ℕ)) (place : ℕ) (pair : ℕ × ℕ) → IsKey place pair.0
+    → ((m : ℕ) → m < length pairs → IsKey m (get_or pairs m (0, 0)).0)
+    → (m : ℕ) → m < length (set pairs place pair) → IsKey m (get_or (set pairs place pair) m (0, 0)).0
+keys-set IsKey pairs place pair is keys m low = by_test (m == place) refl
+  where
+    inside : m < length pairs
+    inside = omega (arith, low, length-set pairs place pair)
+
+    by_test : (b : Bool) → (m == place) ≡ b → IsKey m (get_or (set pairs place pair) m (0, 0)).0
+    by_test true e =
+        let same : place ≡ m = sym (same_of m place e) in
+        let here : place < length pairs = omega (arith, same, inside) in
+        subst (λ k. IsKey k (get_or (set pairs place pair) k (0, 0)).0) same
+        (subst (λ (p : ℕ × ℕ). IsKey place p.0) (sym (get_or-set_same pairs place pair (0, 0) here)) is)
+    by_test false e =
+        subst (λ (p : ℕ × ℕ). IsKey m p.0) (sym (get_or-set_other pairs place m pair (0, 0) (apart_of m place e))) (keys m inside)

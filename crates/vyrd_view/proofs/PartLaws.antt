@@ -1,10 +1,11 @@
--- How much the parts of a slot, a chunk and a node give to a key.
+-- How much the parts of a slot, a chunk, a buffer and a node give to a key.
 use Rattle.std.proofs.Common.{◌≡◌, ℕ, zero, suc, ◌+◌, ◌*◌, ◌^◌, ◌<◌, ◌≤◌, min, Bool, true, false, cond, not, ◌&&◌, List, [], ◌∷◌, ◌++◌, refl, ap, ◌∙◌, arith}
 use Rattle.std.specs.Prelude.{◌==◌, ◌≢◌, nat_lt, flat_map, map, slice_index}
 use Rattle.std.proofs.lemmas.Bool.Decides.{nat_tests}
 use Rattle.vyrd_base.specs.Places.{numbers_from, numbers_below}
 use Rattle.vyrd_base.specs.Amounts.{Amounts, amount_of, plus_amount, collected, given, part_given}
 use Rattle.vyrd_base.specs.Views.{slot_parts, chunk_at, chunk_parts, is_chunk, stored_pair, cached_pair, Chunk}
+use Rattle.vyrd_base.specs.Buffers.{Buffer, buffer_at, buffer_parts, is_buffer, text_of}
 use Rattle.vyrd_base.specs.TreeView.{node_word, count_of, entry_parts, node_parts, damage}
 use Rattle.vyrd_base.specs.Added.{added}
 use Rattle.vyrd_base.proofs.SumLaws.{given_at_most, given_nothing, amount_of-collected, amount_of-plus}
@@ -72,6 +73,28 @@ past_is_new size n words within =
     amount_of-collected (flat_map (λ h. chunk_parts size h (chunk_at words h)) (numbers_below n)) (size + n)
     ∙ given_nothing (λ h. chunk_parts size h (chunk_at words h)) (size + n) 0 n
     (λ j from to. chunk_elsewhere size j (size + n) (chunk_at words j) (omega arith) (omega arith))
+
+buffer_elsewhere : (size n q : ℕ) (b : Buffer) → q ≢ n → q ≢ size + n → given q (buffer_parts size n b) ≡ 0
+buffer_elsewhere size n q b apart past = by_buffer (is_buffer b)
+  where
+    by_buffer : (sound : Bool) → given q (cond {A = List (ℕ × ℕ)} sound ((n, text_of b.character b.count) ∷ []) ((size + n, 1) ∷ [])) ≡ 0
+    by_buffer true = omega (arith, part_elsewhere q n (text_of b.character b.count) apart)
+    by_buffer false = omega (arith, part_elsewhere q (size + n) 1 past)
+
+-- the parts of the buffers before one give nothing to its keys
+pub buffer_is_new : (size n : ℕ) (words : List ℕ) → n < size
+    → amount_of (collected (flat_map (λ b. buffer_parts size b (buffer_at words b)) (numbers_below n))) n ≡ 0
+buffer_is_new size n words within =
+    amount_of-collected (flat_map (λ b. buffer_parts size b (buffer_at words b)) (numbers_below n)) n
+    ∙ given_nothing (λ b. buffer_parts size b (buffer_at words b)) n 0 n
+    (λ j from to. buffer_elsewhere size j n (buffer_at words j) (omega arith) (omega arith))
+
+pub damage_is_new : (size n : ℕ) (words : List ℕ) → n < size
+    → amount_of (collected (flat_map (λ b. buffer_parts size b (buffer_at words b)) (numbers_below n))) (size + n) ≡ 0
+damage_is_new size n words within =
+    amount_of-collected (flat_map (λ b. buffer_parts size b (buffer_at words b)) (numbers_below n)) (size + n)
+    ∙ given_nothing (λ b. buffer_parts size b (buffer_at words b)) (size + n) 0 n
+    (λ j from to. buffer_elsewhere size j (size + n) (buffer_at words j) (omega arith) (omega arith))
 
 less_of : (x y : ℕ) (b : Bool) → nat_lt x y ≡ b → b ≡ true → x < y
 less_of x y b e f = grind (arith, nat_tests)

@@ -1,9 +1,10 @@
 -- Pairs in places, as a loop over changed words brings them up to date.
-use Rattle.std.proofs.Common.{◌≡◌, ℕ, zero, suc, ◌+◌, ◌*◌, ◌/◌, ◌<◌, ◌≤◌, Bool, true, false, ◌||◌, List, [], ◌∷◌, length, map, get_or, set, drop, refl, ap, ◌∙◌, sym, arith, get_or-set_same, get_or-set_other}
+use Rattle.std.proofs.Common.{◌≡◌, ℕ, zero, suc, ◌+◌, ◌*◌, ◌/◌, ◌<◌, ◌≤◌, Bool, true, false, ◌||◌, List, [], ◌∷◌, ◌++◌, length, map, get_or, set, drop, refl, ap, ◌∙◌, sym, arith, get_or-set_same, get_or-set_other}
 use Rattle.std.specs.Prelude.{◌==◌, ◌≢◌}
-use Rattle.std.proofs.lemmas.List.{drop_more, drop_all}
+use Rattle.std.proofs.lemmas.List.{drop_more, drop_all, map-append}
 use Rattle.vyrd_base.specs.Places.{numbers_from, numbers_below}
 use Rattle.vyrd_base.specs.Amounts.{given}
+use Rattle.vyrd_base.proofs.PlaceLaws.{numbers_below-push}
 use Rattle.vyrd_base.proofs.TestLaws.{same_of, apart_of}
 use Rattle.vyrd_view.specs.Pairs.{is_touched, EachAtMost}
 use Rattle.vyrd_view.proofs.PartLaws.{part_at_most}
@@ -83,6 +84,10 @@ pub mapped : (f : ℕ → ℕ × ℕ) (pairs : List (ℕ × ℕ)) (n : ℕ) → 
 mapped f pairs n is each =
     mapped_from f pairs 0 (λ i low. let at : 0 + i ≡ i = omega arith in each i (omega (arith, low)) ∙ ap f (sym at))
     ∙ ap (λ m. map f (numbers_below m)) is
+
+-- one place more
+pub mapped-push : (f : ℕ → ℕ × ℕ) (n : ℕ) → map f (numbers_below (n + 1)) ≡ map f (numbers_below n) ++ f n ∷ []
+mapped-push f n = ap (map f) (numbers_below-push n) ∙ map-append f (numbers_below n) (n ∷ [])
 
 length_mapped_from : (f : ℕ → ℕ × ℕ) (k n : ℕ) → length (map f (numbers_from k n)) ≡ n
 length_mapped_from f k zero = refl

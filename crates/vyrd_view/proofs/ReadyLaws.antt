@@ -1,10 +1,10 @@
 -- What is kept of the words before is ready to be brought up to date.
-use Rattle.std.proofs.Common.{◌≡◌, ℕ, ◌+◌, ◌*◌, ◌/◌, ◌^◌, ◌<◌, ◌≤◌, Bool, true, false, ◌&&◌, List, length, length-set, map, replicate, get_or, set, refl, ap, ◌∙◌, sym, subst, arith}
+use Rattle.std.proofs.Common.{◌≡◌, ℕ, ◌+◌, ◌*◌, ◌/◌, ◌%◌, ◌^◌, ◌<◌, ◌≤◌, Bool, true, false, ◌&&◌, List, length, length-set, map, replicate, get_or, set, refl, ap, ◌∙◌, sym, subst, arith}
 use Rattle.std.specs.Prelude.{nat_lt, nat_le}
 use Rattle.std.proofs.lemmas.List.{get_or_past, length-replicate}
 use Rattle.vyrd_base.specs.declared.header.Header.{Header}
 use Rattle.vyrd_base.specs.declared.subject.Subject.{Subject}
-use Rattle.vyrd_base.specs.declared.subject.Subject.TheVariants.{Multiset, Cache, Tree}
+use Rattle.vyrd_base.specs.declared.subject.Subject.TheVariants.{Multiset, Cache, Tree, Buffers}
 use Rattle.vyrd_base.specs.Limits.{is_known_version, is_sized}
 use Rattle.vyrd_base.specs.Layout.{plain_words, plain_words_of}
 use Rattle.vyrd_base.specs.Places.{numbers_below}
@@ -13,15 +13,16 @@ use Rattle.vyrd_base.specs.Views.{view_of_words, parts_of}
 use Rattle.vyrd_base.proofs.AmountLaws.{same_amounts}
 use Rattle.vyrd_base.proofs.SumLaws.{amount_of-collected, IsAmounts-collected}
 use Rattle.vyrd_base.proofs.TestLaws.{first_true, second_true, at_most_of, below_of, not_below_of}
-use Rattle.vyrd_view.specs.Pairs.{is_touched, slot_pair, chunk_pair, EachAtMost, HaveChunkKeys}
+use Rattle.vyrd_view.specs.Pairs.{is_touched, slot_pair, chunk_pair, buffer_pair, EachAtMost, HaveChunkKeys, HaveBufferKeys}
 use Rattle.vyrd_view.specs.Chains.{is_on_chain, is_broken, node_pair, end_pair, tree_pair, is_stale, has_link}
 use Rattle.vyrd_view.specs.Firsts.{first_pairs_in}
 use Rattle.vyrd_view.specs.Comparing.{pairs_in, AreMarks, IsCurrent, AgreeElsewhere}
 use Rattle.vyrd_view.proofs.PlacedLaws.{length_mapped, at_mapped}
 use Rattle.vyrd_view.proofs.SlotLaws.{slot_at_most}
 use Rattle.vyrd_view.proofs.ChunkPairLaws.{key_of_pair}
+use Rattle.vyrd_view.proofs.BufferLaws.{key_of_buffer}
 use Rattle.vyrd_view.proofs.TreePairLaws.{tree_pair_at_most, tree_pair_node, tree_pair_end}
-use Rattle.vyrd_view.proofs.CurrentLaws.{pairs_show, first_pairs_are, first_is_marked, slot_untouched, chunk_pair_untouched, node_untouched, chain_untouched, end_untouched}
+use Rattle.vyrd_view.proofs.CurrentLaws.{pairs_show, first_pairs_are, first_is_marked, slot_untouched, chunk_pair_untouched, buffer_untouched, node_untouched, chain_untouched, end_untouched}
 
 -- a header's size is within its limits
 pub sized : (h : Header) → (1 ≤ h.size) × (h.size ≤ 1024)
@@ -128,6 +129,30 @@ module _ (h : Header) (before words changed : List ℕ) (pairs : List (ℕ × �
         ap (λ s. get_or s (4 * h.size) (0, 0)) tree_given ∙ at_mapped (tree_pair h.size before) (4 * h.size + 1) (4 * h.size) (omega arith)
         ∙ tree_pair_end h.size before ∙ ap end_pair (sym (end_untouched before words changed elsewhere unlinked h.size))
 
+  module _ (is : h.subject ≡ Buffers) where
+    buffers_given : pairs ≡ map (buffer_pair h.size before) (numbers_below h.size)
+    buffers_given = current.given ∙ ap (λ s. pairs_in s h.size before) is
+
+    pub buffers_count : length pairs ≡ h.size
+    buffers_count = ap length buffers_given ∙ length_mapped (buffer_pair h.size before) h.size
+
+    buffers_at : (b : ℕ) → b < length pairs → get_or pairs b (0, 0) ≡ buffer_pair h.size before b
+    buffers_at b low =
+        ap (λ s. get_or s b (0, 0)) buffers_given ∙ at_mapped (buffer_pair h.size before) h.size b (omega (arith, low, buffers_count))
+
+    pub buffers_keys : HaveBufferKeys h.size pairs
+    buffers_keys b low =
+        ap (λ (p : ℕ × ℕ). p.0 % h.size) (buffers_at b low) ∙ key_of_buffer h.size before b (omega (arith, low, buffers_count))
+
+    pub buffers_others : (b : ℕ) → b < length pairs → is_touched 8 b changed ≡ false → get_or pairs b (0, 0) ≡ buffer_pair h.size words b
+    buffers_others b low untouched = buffers_at b low ∙ sym (buffer_untouched before words changed elsewhere h.size b untouched)
+
+    pub buffers_current : (pairs' : List (ℕ × ℕ)) → pairs' ≡ map (buffer_pair h.size words) (numbers_below h.size) → IsCurrent h words pairs' marks next
+    buffers_current pairs' now = record {
+      given = now ∙ ap (λ s. pairs_in s h.size words) (sym is);
+      marked = subst (λ s. AreMarks s h.size words marks next) (sym is) tt;
+    }
+
 -- what is kept of words shows what the words show
 pub current_shows : (h : Header) (words : List ℕ) (pairs : List (ℕ × ℕ)) (marks next : List Bool) → IsCurrent h words pairs marks next
     → collected pairs ≡ view_of_words h words
@@ -155,3 +180,4 @@ first_current h words pairs marks next n nodes zeroed first count are room = rec
       λ i low. ap (λ s. get_or s i false) (are ∙ ap (λ k. set (replicate k false) 0 true) (count is))
           ∙ first_is_marked n h.size i (sized h).0 ∙ ap (λ w. is_on_chain h.size w i) (sym zeroed),
     )
+    by_subject Buffers is = subst (λ s. AreMarks s h.size words marks next) (sym is) tt

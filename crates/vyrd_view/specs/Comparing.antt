@@ -3,10 +3,10 @@ use Rattle.std.specs.Prelude.{◌≡◌, ℕ, Bool, false, ◌+◌, ◌*◌, ◌
 use Rattle.std.specs.List.{list_any}
 use Rattle.vyrd_base.specs.declared.header.Header.{Header}
 use Rattle.vyrd_base.specs.declared.subject.Subject.{Subject}
-use Rattle.vyrd_base.specs.declared.subject.Subject.TheVariants.{Multiset, Cache, Tree}
+use Rattle.vyrd_base.specs.declared.subject.Subject.TheVariants.{Multiset, Cache, Tree, Buffers}
 use Rattle.vyrd_base.specs.Places.{numbers_below}
 use Rattle.vyrd_base.specs.Amounts.{Amounts}
-use Rattle.vyrd_view.specs.Pairs.{slot_pair, chunk_pair}
+use Rattle.vyrd_view.specs.Pairs.{slot_pair, chunk_pair, buffer_pair}
 use Rattle.vyrd_view.specs.Chains.{tree_pair, is_on_chain, has_link}
 
 -- the header, the words that are compared, the specification's amounts, and whether memory was refused
@@ -21,6 +21,7 @@ abbrev pub pairs_in : Subject → ℕ → List ℕ → List (ℕ × ℕ)
 pairs_in Multiset size words = map (slot_pair words) (numbers_below (4 * size))
 pairs_in Cache size words = map (chunk_pair size words) (numbers_below (2 * size))
 pairs_in Tree size words = map (tree_pair size words) (numbers_below (4 * size + 1))
+pairs_in Buffers size words = map (buffer_pair size words) (numbers_below size)
 
 -- a tree's nodes on the chain of leaves are marked, and no others are
 abbrev pub AreMarks : Subject → ℕ → List ℕ → List Bool → List Bool → Type 0
@@ -28,6 +29,7 @@ AreMarks Multiset size words marks next = Unit {0}
 AreMarks Cache size words marks next = Unit {0}
 AreMarks Tree size words marks next =
     (length marks ≡ size) × (length next ≡ size) × ((n : ℕ) → n < size → slice_index_or marks n false ≡ is_on_chain size words n)
+AreMarks Buffers size words marks next = Unit {0}
 
 -- what is kept is that of these words
 pub record IsCurrent (header : Header) (words : List ℕ) (pairs : List (ℕ × ℕ)) (marks next : List Bool) : Type 0 where
@@ -43,6 +45,7 @@ abbrev pub keys_of_part : Subject → ℕ
 keys_of_part Multiset = 1
 keys_of_part Cache = 2
 keys_of_part Tree = 4
+keys_of_part Buffers = 1
 
 -- how many parts are looked at at most: one for each changed word, and all nodes of a tree where a right link has changed
 abbrev pub parts_looked_at : Subject → ℕ → List ℕ → ℕ

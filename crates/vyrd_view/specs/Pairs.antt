@@ -1,7 +1,8 @@
 -- The pairs of a key and an amount that the parts of each subject give, each in a place of its own. A pair (0, 0) gives nothing.
-use Rattle.std.specs.Prelude.{◌≡◌, ℕ, Bool, ◌+◌, ◌*◌, ◌/◌, ◌%◌, ◌<◌, ◌≤◌, ◌==◌, ◌&&◌, not, List, length, slice_index, slice_index_or, if◌then◌else◌}
+use Rattle.std.specs.Prelude.{◌≡◌, ℕ, Bool, ◌+◌, ◌*◌, ◌/◌, ◌%◌, ◌<◌, ◌≤◌, ◌==◌, ◌&&◌, not, List, length, slice_index, slice_index_or, Option, Some, None, if◌then◌else◌}
 use Rattle.std.specs.List.{list_any}
 use Rattle.vyrd_base.specs.Views.{Chunk, chunk_at, is_chunk, cached_pair, stored_pair}
+use Rattle.vyrd_base.specs.Buffers.{Buffer, buffer_at, is_buffer, text_of}
 
 -- whether a changed word is in this part, where each part has `size` words
 abbrev pub is_touched : ℕ → ℕ → List ℕ → Bool
@@ -34,3 +35,17 @@ chunk_key size m = if m % 2 == 0 then m / 2 else size + m / 2
 -- each place has its key
 abbrev pub HaveChunkKeys : ℕ → List (ℕ × ℕ) → Type 0
 HaveChunkKeys size pairs = (m : ℕ) → m < length pairs → (slice_index_or pairs m (0, 0)).0 ≡ chunk_key size m
+
+-- the text of a buffer, or none where its words are no buffer
+abbrev pub text_shown : Buffer → Option ℕ
+text_shown b = if is_buffer b then Some (text_of b.character b.count) else None
+
+-- a buffer gives its text under its key, and 1 under the key past the buffers where its words are no buffer
+abbrev pub buffer_pair : ℕ → List ℕ → ℕ → ℕ × ℕ
+buffer_pair size words b =
+    if is_buffer (buffer_at words b) then (b, text_of (buffer_at words b).character (buffer_at words b).count) else (size + b, 1)
+
+-- Modulo the size each place has the number of its buffer for a key. So it may be the buffer's own key or the one past the
+-- buffers, and no two places have one key.
+abbrev pub HaveBufferKeys : ℕ → List (ℕ × ℕ) → Type 0
+HaveBufferKeys size pairs = (b : ℕ) → b < length pairs → (slice_index_or pairs b (0, 0)).0 % size ≡ b

@@ -8,6 +8,7 @@ use crate::cache::chunks_changed;
 use crate::multiset::slots_changed;
 use crate::parts::Parts;
 use crate::steps::Steps;
+use crate::string_buffers::buffers_changed;
 use crate::tree::leaves_changed;
 use crate::words::copy_changed;
 use std::alloc::AllocError;
@@ -43,5 +44,6 @@ pub(crate) fn bring_up_to_date<L: Ledger>(
         Subject::Multiset => slots_changed(parts, words, changed, steps),
         Subject::Cache => chunks_changed(parts, size, words, changed, steps),
         Subject::Tree => leaves_changed(parts, marks, next, words, changed, steps),
+        Subject::Buffers => buffers_changed(parts, size, words, changed, steps),
     }
 }

@@ -2,7 +2,7 @@
 
 ghost use Rattle.std.specs.Prelude.{◌≡◌, ◌+◌, ◌*◌, ◌<◌, ◌≤◌, true, false, map, replicate, slice_set, IfOk};
 ghost use Rattle.vyrd_base.specs.Places.{numbers_below};
-ghost use Rattle.vyrd_view.specs.Firsts.{first_pairs_in, first_chunk_pair, nodes_in};
+ghost use Rattle.vyrd_view.specs.Firsts.{first_pairs_in, first_chunk_pair, first_buffer_pair, nodes_in};
 
 use std::alloc::{AllocError, Global};
 use vyrd_base::{Header, Subject};
@@ -16,6 +16,7 @@ pub(crate) fn first_pairs(alloc: Global, header: Header) -> Result<Vec<(u64, u64
         Subject::Multiset => nothing(alloc, 4 * size),
         Subject::Cache => first_chunks(alloc, size),
         Subject::Tree => nothing(alloc, 4 * size + 1),
+        Subject::Buffers => first_buffers(alloc, size),
     }
 }
 
@@ -39,12 +40,23 @@ fn first_chunks(alloc: Global, size: usize) -> Result<Vec<(u64, u64)>, AllocErro
     Ok(pairs)
 }
 
+/// The place of each buffer, with its key.
+fn first_buffers(alloc: Global, size: usize) -> Result<Vec<(u64, u64)>, AllocError>
+    ensures { IfOk result (λ pairs. pairs.items ≡ map first_buffer_pair (numbers_below size)) }
+{
+    let mut pairs = Vec::with_capacity(alloc, size)?;
+    for number in 0..size {
+        pairs.push((number as u64, 0))?;
+    }
+    Ok(pairs)
+}
+
 /// No marks at all: one for each node of a tree, and none for another subject.
 pub(crate) fn no_marks(alloc: Global, header: Header) -> Result<Vec<bool>, AllocError>
     ensures { IfOk result (λ marks. marks.items ≡ replicate (nodes_in header.subject header.size) false) }
 {
     let nodes = match header.subject() {
-        Subject::Multiset | Subject::Cache => 0,
+        Subject::Multiset | Subject::Cache | Subject::Buffers => 0,
         Subject::Tree => header.size() as usize,
     };
     vec![in alloc; false; nodes]

@@ -3,11 +3,13 @@
 //! The central type is `Compared`. It keeps the words and the specification's amounts, is told what changes on either side,
 //! and names the least key at which the two differ. Its contract: `first_difference` answers exactly the first difference of
 //! `view_of_words` and those amounts, and what a change costs depends on the words that changed alone, not on the words that
-//! there are. `Steps` counts that cost: one step is one part decoded (a slot, a chunk or a node) or one key compared.
+//! there are. `Steps` counts that cost: one step is one part decoded (a slot, a chunk, a node or a buffer) or one key compared.
 //!
 //! `view_of` shows words from scratch, as a whole view, and `first_difference` compares two whole views.
 #![tactic(auto)]
 
+mod buffer;
+mod buffers;
 mod cache;
 mod chain;
 mod chunk;
@@ -24,6 +26,7 @@ mod shown;
 mod sides;
 mod slots;
 mod steps;
+mod string_buffers;
 #[cfg(test)]
 mod tests;
 mod tree;

@@ -4,6 +4,7 @@ ghost use Rattle.std.specs.Prelude.{◌≡◌, length, IfOk};
 ghost use Rattle.vyrd_base.specs.Layout.{plain_words};
 ghost use Rattle.vyrd_base.specs.Views.{view_of_words};
 
+use crate::buffers::buffers;
 use crate::chain::chain;
 use crate::chunks::chunks;
 use crate::slots::slots;
@@ -30,5 +31,6 @@ fn gathered(alloc: Global, header: Header, words: &[u64]) -> Result<AmountMap, A
         Subject::Multiset => slots(alloc, size, words),
         Subject::Cache => chunks(alloc, size, words),
         Subject::Tree => chain(alloc, size, words),
+        Subject::Buffers => buffers(alloc, size, words),
     }
 }

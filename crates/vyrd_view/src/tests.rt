@@ -58,6 +58,30 @@ fn leaves_show_their_entries(rt: HostRuntime) -> Result<(), Fail> {
 }
 
 #[test]
+fn buffers_show_their_texts(rt: HostRuntime) -> Result<(), Fail> {
+    let header = Header::new(1, Subject::Buffers, 2, 1).ok_or("a header")?;
+    let sound = view_of(
+        rt.alloc(),
+        header,
+        &[2, 65, 66, 300, 0, 0, 0, 0, 0, 65, 0, 0, 0, 0, 0, 0],
+    )?;
+    let full = view_of(
+        rt.alloc(),
+        header,
+        &[0, 0, 0, 0, 0, 0, 0, 0, 7, 254, 254, 254, 254, 254, 254, 254],
+    )?;
+    let damaged = view_of(
+        rt.alloc(),
+        header,
+        &[8, 65, 66, 67, 68, 69, 70, 71, 2, 65, 255, 0, 0, 0, 0, 0],
+    )?;
+    assert_eq!(rt; sound.pairs(), [(0, 17218)].as_slice());
+    assert_eq!(rt; full.pairs(), [(1, 72057594037927935)].as_slice());
+    assert_eq!(rt; damaged.pairs(), [(2, 1), (3, 1)].as_slice());
+    Ok(())
+}
+
+#[test]
 fn one_slot_changed(rt: HostRuntime) -> Result<(), Fail> {
     let header = Header::new(1, Subject::Multiset, 1, 1).ok_or("a header")?;
     let view = view_of(rt.alloc(), header, &[2, 5, 0, 0, 0, 0, 0, 0])?;
@@ -116,6 +140,46 @@ fn linked_leaf_is_shown(rt: HostRuntime) -> Result<(), Fail> {
         &[(5, 4294967305), (7, 4294967296)],
     )?;
     assert_eq!(rt; back, (Some(5), Some(8589934592)));
+    Ok(())
+}
+
+#[test]
+fn changed_buffer_is_shown(rt: HostRuntime) -> Result<(), Fail> {
+    let header = Header::new(1, Subject::Buffers, 2, 1).ok_or("a header")?;
+    let whole = view_of(
+        rt.alloc(),
+        header,
+        &[1, 65, 66, 0, 0, 0, 0, 0, 2, 65, 66, 0, 0, 0, 0, 0],
+    )?;
+    let found = differences::<Brand>(
+        rt.alloc(),
+        Blank::new(1),
+        Subject::Buffers,
+        &[(1, 65), (2, 66), (0, 2), (9, 65), (10, 66), (8, 2), (0, 1)],
+        whole.pairs(),
+    )?;
+    assert_eq!(rt; found, (Some(0), None));
+    Ok(())
+}
+
+#[test]
+fn damaged_buffer_differs_until_it_is_mended(rt: HostRuntime) -> Result<(), Fail> {
+    let damaged = differences::<Brand>(
+        rt.alloc(),
+        Blank::new(1),
+        Subject::Buffers,
+        &[(9, 65), (10, 66), (8, 2), (10, 255)],
+        &[(1, 17218)],
+    )?;
+    assert_eq!(rt; damaged, (Some(3), Some(1)));
+    let mended = differences::<Brand>(
+        rt.alloc(),
+        Blank::new(1),
+        Subject::Buffers,
+        &[(9, 65), (10, 66), (8, 8), (10, 255), (8, 2), (10, 66)],
+        &[(1, 17218)],
+    )?;
+    assert_eq!(rt; mended, (Some(1), None));
     Ok(())
 }
 

@@ -3,7 +3,7 @@ use Rattle.std.proofs.Common.{◌≡◌, ℕ, zero, suc, ◌+◌, ◌<◌, map, 
 use Rattle.std.specs.Prelude.{slice_index_or}
 use Rattle.vyrd_base.specs.declared.header.Header.{Header}
 use Rattle.vyrd_base.specs.declared.subject.Subject.{Subject}
-use Rattle.vyrd_base.specs.declared.subject.Subject.TheVariants.{Multiset, Cache, Tree}
+use Rattle.vyrd_base.specs.declared.subject.Subject.TheVariants.{Multiset, Cache, Tree, Buffers}
 use Rattle.vyrd_base.specs.Places.{numbers_from}
 use Rattle.vyrd_memory.specs.declared.op.Variant.{Variant}
 use Rattle.vyrd_memory.specs.Scripts.{Script, stop}
@@ -13,6 +13,7 @@ use Rattle.vyrd_memory.specs.Runs.{AreSoundScripts}
 use Rattle.vyrd_multiset.specs.Laws.{multiset_is_sound}
 use Rattle.vyrd_cache.specs.Laws.{cache_is_sound}
 use Rattle.vyrd_tree.specs.Laws.{tree_is_sound}
+use Rattle.vyrd_buffers.specs.Laws.{buffers_are_sound}
 use Rattle.vyrd_work.specs.Workloads.{Workload}
 use Rattle.vyrd_work.specs.WorkLimits.{KeepsLimits}
 use Rattle.vyrd_work.specs.WorkScripts.{procedure_in, ops_of, work_script, work_scripts}
@@ -35,6 +36,8 @@ procedures_sound Cache h variant is = λ op callable.
     cache_is_sound h variant op is (callable_method h op callable ∙ is) (callable_args h op callable) (callable_small h op callable)
 procedures_sound Tree h variant is = λ op callable.
     tree_is_sound h variant op is (callable_method h op callable ∙ is) (callable_args h op callable) (callable_small h op callable)
+procedures_sound Buffers h variant is = λ op callable.
+    buffers_are_sound h variant op is (callable_method h op callable ∙ is) (callable_args h op callable) (callable_small h op callable)
 
 pub scripts_sound : (w : Workload) → KeepsLimits w → AreSoundScripts w.header (work_scripts w)
 scripts_sound w limits = record {

@@ -2,7 +2,7 @@
 use Rattle.std.specs.Prelude.{ℕ, ◌==◌, List, map, filter_map, Option, Some, None, if◌then◌else◌}
 use Rattle.vyrd_base.specs.declared.header.Header.{Header}
 use Rattle.vyrd_base.specs.declared.subject.Subject.{Subject}
-use Rattle.vyrd_base.specs.declared.subject.Subject.TheVariants.{Multiset, Cache, Tree}
+use Rattle.vyrd_base.specs.declared.subject.Subject.TheVariants.{Multiset, Cache, Tree, Buffers}
 use Rattle.vyrd_base.specs.Places.{numbers_below}
 use Rattle.vyrd_memory.specs.declared.op.Op.{Op}
 use Rattle.vyrd_memory.specs.declared.op.Variant.{Variant}
@@ -10,6 +10,7 @@ use Rattle.vyrd_memory.specs.Scripts.{Script, operations}
 use Rattle.vyrd_multiset.specs.Procedures.{multiset_procedure}
 use Rattle.vyrd_cache.specs.Procedures.{cache_procedure}
 use Rattle.vyrd_tree.specs.Procedures.{tree_procedure}
+use Rattle.vyrd_buffers.specs.Procedures.{buffers_procedure}
 use Rattle.vyrd_work.specs.declared.work.WorkOp.{WorkOp}
 use Rattle.vyrd_work.specs.Workloads.{Workload}
 
@@ -26,6 +27,7 @@ abbrev pub procedure_in : Subject → Header → Variant → Op → Script
 procedure_in Multiset h variant op = multiset_procedure h variant op
 procedure_in Cache h variant op = cache_procedure h variant op
 procedure_in Tree h variant op = tree_procedure h variant op
+procedure_in Buffers h variant op = buffers_procedure h variant op
 
 -- the script of a caller
 abbrev pub work_script : Workload → ℕ → Script

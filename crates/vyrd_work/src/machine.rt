@@ -10,6 +10,7 @@ ghost use Rattle.vyrd_work.specs.WorkScripts.{work_script, ops_of};
 use crate::work::{Work, WorkOp};
 use std::alloc::{AllocError, Global};
 use vyrd_base::Subject;
+use vyrd_buffers::BufferMachine;
 use vyrd_cache::CacheMachine;
 use vyrd_memory::{Act, Machine, Op};
 use vyrd_multiset::MultisetMachine;
@@ -17,36 +18,39 @@ use vyrd_tree::TreeMachine;
 
 /// A caller of a structure that is known only as the program runs: one machine of several kinds.
 #[derive(Drop)]
-pub enum MachineOf<M: Machine, C: Machine, T: Machine> {
+pub enum MachineOf<M: Machine, C: Machine, T: Machine, B: Machine> {
     /// A caller of a multiset.
     Multiset(M),
     /// A caller of a cache.
     Cache(C),
     /// A caller of a tree.
     Tree(T),
+    /// A caller of string buffers.
+    Buffers(B),
 }
 
 /// A caller of any structure. `AnyMachine::new` makes that of a workload's caller.
-pub type AnyMachine = MachineOf<MultisetMachine, CacheMachine, TreeMachine>;
+pub type AnyMachine = MachineOf<MultisetMachine, CacheMachine, TreeMachine, BufferMachine>;
 
-impl<M: Machine, C: Machine, T: Machine> Machine for MachineOf<M, C, T> {
+impl<M: Machine, C: Machine, T: Machine, B: Machine> Machine for MachineOf<M, C, T, B> {
     ghost use Rattle.vyrd_work.specs.declared.machine.MachineOf.TheVariants as of;
 
-    ghost header_of = { elim [ of.Multiset m ↦ M.header_of m | of.Cache m ↦ C.header_of m | of.Tree m ↦ T.header_of m ] };
+    ghost header_of = { elim [ of.Multiset m ↦ M.header_of m | of.Cache m ↦ C.header_of m | of.Tree m ↦ T.header_of m | of.Buffers m ↦ B.header_of m ] };
 
-    ghost caller_of = { elim [ of.Multiset m ↦ M.caller_of m | of.Cache m ↦ C.caller_of m | of.Tree m ↦ T.caller_of m ] };
+    ghost caller_of = { elim [ of.Multiset m ↦ M.caller_of m | of.Cache m ↦ C.caller_of m | of.Tree m ↦ T.caller_of m | of.Buffers m ↦ B.caller_of m ] };
 
-    ghost script = { elim [ of.Multiset m ↦ M.script m | of.Cache m ↦ C.script m | of.Tree m ↦ T.script m ] };
+    ghost script = { elim [ of.Multiset m ↦ M.script m | of.Cache m ↦ C.script m | of.Tree m ↦ T.script m | of.Buffers m ↦ B.script m ] };
 
-    ghost ahead = { elim [ of.Multiset m ↦ M.ahead m | of.Cache m ↦ C.ahead m | of.Tree m ↦ T.ahead m ] };
+    ghost ahead = { elim [ of.Multiset m ↦ M.ahead m | of.Cache m ↦ C.ahead m | of.Tree m ↦ T.ahead m | of.Buffers m ↦ B.ahead m ] };
 
-    ghost op_ahead = { elim [ of.Multiset m ↦ M.op_ahead m | of.Cache m ↦ C.op_ahead m | of.Tree m ↦ T.op_ahead m ] };
+    ghost op_ahead = { elim [ of.Multiset m ↦ M.op_ahead m | of.Cache m ↦ C.op_ahead m | of.Tree m ↦ T.op_ahead m | of.Buffers m ↦ B.op_ahead m ] };
 
     fn wants(&self) -> Act {
         match self {
             MachineOf::Multiset(machine) => machine.wants(),
             MachineOf::Cache(machine) => machine.wants(),
             MachineOf::Tree(machine) => machine.wants(),
+            MachineOf::Buffers(machine) => machine.wants(),
         }
     }
 
@@ -55,6 +59,7 @@ impl<M: Machine, C: Machine, T: Machine> Machine for MachineOf<M, C, T> {
             MachineOf::Multiset(machine) => machine.took(answer),
             MachineOf::Cache(machine) => machine.took(answer),
             MachineOf::Tree(machine) => machine.took(answer),
+            MachineOf::Buffers(machine) => machine.took(answer),
         }
     }
 
@@ -63,6 +68,7 @@ impl<M: Machine, C: Machine, T: Machine> Machine for MachineOf<M, C, T> {
             MachineOf::Multiset(machine) => machine.left(),
             MachineOf::Cache(machine) => machine.left(),
             MachineOf::Tree(machine) => machine.left(),
+            MachineOf::Buffers(machine) => machine.left(),
         }
     }
 
@@ -71,6 +77,7 @@ impl<M: Machine, C: Machine, T: Machine> Machine for MachineOf<M, C, T> {
             MachineOf::Multiset(machine) => machine.op_left(),
             MachineOf::Cache(machine) => machine.op_left(),
             MachineOf::Tree(machine) => machine.op_left(),
+            MachineOf::Buffers(machine) => machine.op_left(),
         }
     }
 
@@ -79,22 +86,23 @@ impl<M: Machine, C: Machine, T: Machine> Machine for MachineOf<M, C, T> {
             MachineOf::Multiset(machine) => machine.between(),
             MachineOf::Cache(machine) => machine.between(),
             MachineOf::Tree(machine) => machine.between(),
+            MachineOf::Buffers(machine) => machine.between(),
         }
     }
 
-    ghost is_sound = { elim [ of.Multiset m ↦ M.is_sound m | of.Cache m ↦ C.is_sound m | of.Tree m ↦ T.is_sound m ] };
+    ghost is_sound = { elim [ of.Multiset m ↦ M.is_sound m | of.Cache m ↦ C.is_sound m | of.Tree m ↦ T.is_sound m | of.Buffers m ↦ B.is_sound m ] };
 
-    ghost ends_in_time = { elim [ of.Multiset m ↦ M.ends_in_time m | of.Cache m ↦ C.ends_in_time m | of.Tree m ↦ T.ends_in_time m ] };
+    ghost ends_in_time = { elim [ of.Multiset m ↦ M.ends_in_time m | of.Cache m ↦ C.ends_in_time m | of.Tree m ↦ T.ends_in_time m | of.Buffers m ↦ B.ends_in_time m ] };
 
-    ghost next_bound = { elim [ of.Multiset m ↦ M.next_bound m | of.Cache m ↦ C.next_bound m | of.Tree m ↦ T.next_bound m ] };
+    ghost next_bound = { elim [ of.Multiset m ↦ M.next_bound m | of.Cache m ↦ C.next_bound m | of.Tree m ↦ T.next_bound m | of.Buffers m ↦ B.next_bound m ] };
 
-    ghost sums = { elim [ of.Multiset m ↦ M.sums m | of.Cache m ↦ C.sums m | of.Tree m ↦ T.sums m ] };
+    ghost sums = { elim [ of.Multiset m ↦ M.sums m | of.Cache m ↦ C.sums m | of.Tree m ↦ T.sums m | of.Buffers m ↦ B.sums m ] };
 
-    ghost op_is_ahead = { elim [ of.Multiset m ↦ M.op_is_ahead m | of.Cache m ↦ C.op_is_ahead m | of.Tree m ↦ T.op_is_ahead m ] };
+    ghost op_is_ahead = { elim [ of.Multiset m ↦ M.op_is_ahead m | of.Cache m ↦ C.op_is_ahead m | of.Tree m ↦ T.op_is_ahead m | of.Buffers m ↦ B.op_is_ahead m ] };
 
-    ghost rests = { elim [ of.Multiset m ↦ M.rests m | of.Cache m ↦ C.rests m | of.Tree m ↦ T.rests m ] };
+    ghost rests = { elim [ of.Multiset m ↦ M.rests m | of.Cache m ↦ C.rests m | of.Tree m ↦ T.rests m | of.Buffers m ↦ B.rests m ] };
 
-    ghost done = { elim [ of.Multiset m ↦ M.done m | of.Cache m ↦ C.done m | of.Tree m ↦ T.done m ] };
+    ghost done = { elim [ of.Multiset m ↦ M.done m | of.Cache m ↦ C.done m | of.Tree m ↦ T.done m | of.Buffers m ↦ B.done m ] };
 }
 
 /// A machine that can be made for a caller of a workload.
@@ -109,13 +117,13 @@ pub trait WorkMachine: Machine + Sized {
         ensures bound { IfOk result (λ m. Self.ahead m ≡ bounds_of work.now.header (ops_of caller work.now.ops.items)) };
 }
 
-impl WorkMachine for MachineOf<MultisetMachine, CacheMachine, TreeMachine> {
+impl WorkMachine for MachineOf<MultisetMachine, CacheMachine, TreeMachine, BufferMachine> {
     fn of_caller(alloc: Global, work: &Work, caller: u32) -> Result<Self, AllocError> {
         AnyMachine::new(alloc, work, caller)
     }
 }
 
-impl MachineOf<MultisetMachine, CacheMachine, TreeMachine> {
+impl MachineOf<MultisetMachine, CacheMachine, TreeMachine, BufferMachine> {
     /// The machine of a caller of the workload, which keeps its limits. It does the caller's operations in their order.
     pub fn new(alloc: Global, work: &Work, caller: u32) -> Result<AnyMachine, AllocError>
         requires limits { KeepsLimits (workload_of work.now) }
@@ -138,6 +146,10 @@ impl MachineOf<MultisetMachine, CacheMachine, TreeMachine> {
             Subject::Tree => {
                 let machine = TreeMachine::new(alloc, work.header, caller, work.variant, &ops)?;
                 Ok(MachineOf::Tree(machine))
+            }
+            Subject::Buffers => {
+                let machine = BufferMachine::new(alloc, work.header, caller, work.variant, &ops)?;
+                Ok(MachineOf::Buffers(machine))
             }
         }
     }

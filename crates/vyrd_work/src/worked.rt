@@ -33,6 +33,8 @@ pub fn refused_texts()
     ensures no_turns { work_reading (codes "work multiset 1 2 correct\nturn 0 0\nend\n") ≡ refused 2 BadLine }
     ensures caller { work_reading (codes "work multiset 1 2 correct\nop 1 insert 5\nturn 2 1\nend\n") ≡ refused 3 CallerRange }
     ensures chunk { work_reading (codes "work cache 1 2 correct\nop 0 flush 1\nend\n") ≡ refused 2 ArgumentRange }
+    ensures buffer { work_reading (codes "work buffers 2 1 correct\nop 0 append_from 1 2\nend\n") ≡ refused 2 ArgumentRange }
+    ensures character { work_reading (codes "work buffers 2 1 correct\nop 0 append 1 255\nend\n") ≡ refused 2 ArgumentRange }
     ensures op_after_turn { work_reading (codes "work multiset 1 2 correct\nturn 0 1\nop 0 insert 5\nend\n") ≡ refused 3 OpAfterTurn }
     ensures caller_first { work_reading (codes "work multiset 1 2 correct\nturn 0 1\nop 2 insert 5\nend\n") ≡ refused 3 CallerRange }
     ensures too_many_turns { work_reading (codes "work multiset 1 2 correct\nturn 0 3999999\nturn 1 2\nend\n") ≡ refused 3 TooManyTurns }

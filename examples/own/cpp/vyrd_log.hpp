@@ -35,7 +35,7 @@ public:
         unsigned caller;
     };
 
-    // SUBJECT is multiset, cache or tree; SIZE is from 1 to 1,024 and CALLERS from 1 to 64. Callers count from 0.
+    // SUBJECT is multiset, cache, tree or buffers; SIZE is from 1 to 1,024 and CALLERS from 1 to 64. Callers count from 0.
     VyrdLog(const std::string &subject, unsigned size, unsigned callers)
         : text("vyrd 1 " + subject + " " + std::to_string(size) + " " + std::to_string(callers) + "\n") {}
 

@@ -47,7 +47,7 @@ final class VyrdLog {
 
     private final StringBuilder text = new StringBuilder();
 
-    /** SUBJECT is multiset, cache or tree; SIZE is from 1 to 1,024 and CALLERS from 1 to 64. Callers count from 0. */
+    /** SUBJECT is multiset, cache, tree or buffers; SIZE is from 1 to 1,024 and CALLERS from 1 to 64. Callers count from 0. */
     VyrdLog(String subject, int size, int callers) {
         text.append("vyrd 1 " + subject + " " + size + " " + callers + "\n");
     }

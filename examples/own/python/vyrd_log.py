@@ -42,7 +42,7 @@ class Lines:
 
 
 class VyrdLog:
-    """`subject` is multiset, cache or tree; `size` is from 1 to 1,024, `callers` from 1 to 64. Callers count from 0."""
+    """`subject` is multiset, cache, tree or buffers; `size` is from 1 to 1,024, `callers` from 1 to 64. Callers count from 0."""
 
     def __init__(self, subject, size, callers):
         self._order = threading.Lock()

@@ -9,7 +9,7 @@ use Rattle.vyrd_base.specs.declared.header.Header.{Header}
 use Rattle.vyrd_base.specs.declared.subject.Subject.TheVariants.{Cache}
 use Rattle.vyrd_base.specs.declared.subject.Method.{Method}
 use Rattle.vyrd_base.specs.declared.subject.Method.TheVariants.{MsInsert, MsInsertPair, MsDelete, MsLookup, CaWrite, CaFlush, CaEvict, CaRead, TrInsert, TrDelete}
-use Rattle.vyrd_base.specs.declared.subject.Method.TheVariants.{TrLookup}
+use Rattle.vyrd_base.specs.declared.subject.Method.TheVariants.{TrLookup, BuAppend, BuAppendFrom, BuCut, BuLength, BuRead}
 use Rattle.vyrd_base.specs.declared.subject.Args.{Args}
 use Rattle.vyrd_base.specs.Subjects.{subject_of, is_observer, are_args}
 use Rattle.vyrd_base.specs.Layout.{plain_words, lock_words, plain_words_of, lock_words_of}
@@ -334,3 +334,8 @@ procedure_right_alone h method args is of_cache fit few = by_method method of_ca
     by_method TrInsert of_cache low = cc
     by_method TrDelete of_cache low = cc
     by_method TrLookup of_cache low = cc
+    by_method BuAppend of_cache low = cc
+    by_method BuAppendFrom of_cache low = cc
+    by_method BuCut of_cache low = cc
+    by_method BuLength of_cache low = cc
+    by_method BuRead of_cache low = cc

@@ -6,7 +6,7 @@ use Rattle.vyrd_base.specs.declared.header.Header.{Header}
 use Rattle.vyrd_base.specs.declared.subject.Subject.TheVariants.{Cache}
 use Rattle.vyrd_base.specs.declared.subject.Method.{Method}
 use Rattle.vyrd_base.specs.declared.subject.Method.TheVariants.{MsInsert, MsInsertPair, MsDelete, MsLookup, CaWrite, CaFlush, CaEvict, CaRead, TrInsert, TrDelete}
-use Rattle.vyrd_base.specs.declared.subject.Method.TheVariants.{TrLookup}
+use Rattle.vyrd_base.specs.declared.subject.Method.TheVariants.{TrLookup, BuAppend, BuAppendFrom, BuCut, BuLength, BuRead}
 use Rattle.vyrd_base.specs.declared.log.Kind.TheVariants.{Return, Commit, BlockOpen, BlockClose, BlockCommit}
 use Rattle.vyrd_base.specs.declared.subject.Args.{Args}
 use Rattle.vyrd_base.specs.Subjects.{subject_of}
@@ -128,3 +128,8 @@ procedure_ends h variant method args is of_cache =
     by_method TrInsert of_cache = cc
     by_method TrDelete of_cache = cc
     by_method TrLookup of_cache = cc
+    by_method BuAppend of_cache = cc
+    by_method BuAppendFrom of_cache = cc
+    by_method BuCut of_cache = cc
+    by_method BuLength of_cache = cc
+    by_method BuRead of_cache = cc

@@ -7,7 +7,7 @@ use Rattle.vyrd_base.specs.declared.header.Header.{Header}
 use Rattle.vyrd_base.specs.declared.subject.Subject.TheVariants.{Cache}
 use Rattle.vyrd_base.specs.declared.subject.Method.{Method}
 use Rattle.vyrd_base.specs.declared.subject.Method.TheVariants.{MsInsert, MsInsertPair, MsDelete, MsLookup, CaWrite, CaFlush, CaEvict, CaRead, TrInsert, TrDelete}
-use Rattle.vyrd_base.specs.declared.subject.Method.TheVariants.{TrLookup}
+use Rattle.vyrd_base.specs.declared.subject.Method.TheVariants.{TrLookup, BuAppend, BuAppendFrom, BuCut, BuLength, BuRead}
 use Rattle.vyrd_base.specs.declared.subject.Args.{Args}
 use Rattle.vyrd_base.specs.declared.log.Kind.TheVariants.{Return, Commit, BlockOpen, BlockCommit}
 use Rattle.vyrd_base.specs.Subjects.{subject_of, is_observer, are_args}
@@ -250,6 +250,11 @@ chunk_below size method args of_cache fit = by_method method of_cache fit
     by_method TrInsert of_cache fit = cc
     by_method TrDelete of_cache fit = cc
     by_method TrLookup of_cache fit = cc
+    by_method BuAppend of_cache fit = cc
+    by_method BuAppendFrom of_cache fit = cc
+    by_method BuCut of_cache fit = cc
+    by_method BuLength of_cache fit = cc
+    by_method BuRead of_cache fit = cc
 
 pub procedure_sound : (h : Header) (variant : Variant) (method : Method) (args : Args) → h.subject ≡ Cache → subject_of method ≡ Cache
     → are_args h.size method args ≡ true → are_small args ≡ true → IsSound h (just_called method) (procedure_of h variant method args)
@@ -267,3 +272,8 @@ procedure_sound h variant method args is of_cache fit small = by_method method o
     by_method TrInsert of_cache low = cc
     by_method TrDelete of_cache low = cc
     by_method TrLookup of_cache low = cc
+    by_method BuAppend of_cache low = cc
+    by_method BuAppendFrom of_cache low = cc
+    by_method BuCut of_cache low = cc
+    by_method BuLength of_cache low = cc
+    by_method BuRead of_cache low = cc

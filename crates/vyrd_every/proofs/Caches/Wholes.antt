@@ -4,7 +4,7 @@ use Rattle.std.specs.Prelude.{◌==◌, ◌&&◌, nat_lt}
 use Rattle.vyrd_base.specs.declared.header.Header.{Header}
 use Rattle.vyrd_base.specs.declared.subject.Subject.TheVariants.{Cache}
 use Rattle.vyrd_base.specs.declared.subject.Method.{Method}
-use Rattle.vyrd_base.specs.declared.subject.Method.TheVariants.{MsInsert, MsInsertPair, MsDelete, MsLookup, CaWrite, CaFlush, CaEvict, CaRead, TrInsert, TrDelete, TrLookup}
+use Rattle.vyrd_base.specs.declared.subject.Method.TheVariants.{MsInsert, MsInsertPair, MsDelete, MsLookup, CaWrite, CaFlush, CaEvict, CaRead, TrInsert, TrDelete, TrLookup, BuAppend, BuAppendFrom, BuCut, BuLength, BuRead}
 use Rattle.vyrd_base.specs.declared.subject.Args.{Args}
 use Rattle.vyrd_base.specs.declared.log.Kind.TheVariants.{Return, BlockOpen, BlockClose, BlockCommit}
 use Rattle.vyrd_base.specs.Callers.{Called}
@@ -431,6 +431,11 @@ procedure_right h k before MsLookup args is of low few none called_is = cc
 procedure_right h k before TrInsert args is of low few none called_is = cc
 procedure_right h k before TrDelete args is of low few none called_is = cc
 procedure_right h k before TrLookup args is of low few none called_is = cc
+procedure_right h k before BuAppend args is of low few none called_is = cc
+procedure_right h k before BuAppendFrom args is of low few none called_is = cc
+procedure_right h k before BuCut args is of low few none called_is = cc
+procedure_right h k before BuLength args is of low few none called_is = cc
+procedure_right h k before BuRead args is of low few none called_is = cc
 
 -- so each operation that may be called does right
 pub cache_right : (h : Header) (op : Op) → h.subject ≡ Cache → is_callable h op ≡ true → IsRight (cache h) (cache_procedure h Correct) op

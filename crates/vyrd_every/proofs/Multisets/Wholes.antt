@@ -6,7 +6,7 @@ use Rattle.std.proofs.lemmas.Bool.Decides.{nat_tests}
 use Rattle.vyrd_base.specs.declared.header.Header.{Header}
 use Rattle.vyrd_base.specs.declared.subject.Subject.TheVariants.{Multiset}
 use Rattle.vyrd_base.specs.declared.subject.Method.{Method}
-use Rattle.vyrd_base.specs.declared.subject.Method.TheVariants.{MsInsert, MsInsertPair, MsDelete, MsLookup, CaWrite, CaFlush, CaEvict, CaRead, TrInsert, TrDelete, TrLookup}
+use Rattle.vyrd_base.specs.declared.subject.Method.TheVariants.{MsInsert, MsInsertPair, MsDelete, MsLookup, CaWrite, CaFlush, CaEvict, CaRead, TrInsert, TrDelete, TrLookup, BuAppend, BuAppendFrom, BuCut, BuLength, BuRead}
 use Rattle.vyrd_base.specs.declared.subject.Args.{Args}
 use Rattle.vyrd_base.specs.Callers.{Called}
 use Rattle.vyrd_base.specs.Subjects.{is_observer, subject_of}
@@ -322,6 +322,11 @@ procedure_right h k shown CaRead args of none is = cc
 procedure_right h k shown TrInsert args of none is = cc
 procedure_right h k shown TrDelete args of none is = cc
 procedure_right h k shown TrLookup args of none is = cc
+procedure_right h k shown BuAppend args of none is = cc
+procedure_right h k shown BuAppendFrom args of none is = cc
+procedure_right h k shown BuCut args of none is = cc
+procedure_right h k shown BuLength args of none is = cc
+procedure_right h k shown BuRead args of none is = cc
 
 -- so each operation that may be called does right
 pub multiset_right : (h : Header) (op : Op) → h.subject ≡ Multiset → is_callable h op ≡ true → IsRight (multiset h) (multiset_procedure h Correct) op

@@ -4,7 +4,7 @@ use Rattle.std.specs.Prelude.{◌||◌, ◌&&◌, nat_lt}
 use Rattle.vyrd_base.specs.declared.header.Header.{Header}
 use Rattle.vyrd_base.specs.declared.subject.Subject.TheVariants.{Tree}
 use Rattle.vyrd_base.specs.declared.subject.Method.{Method}
-use Rattle.vyrd_base.specs.declared.subject.Method.TheVariants.{MsInsert, MsInsertPair, MsDelete, MsLookup, CaWrite, CaFlush, CaEvict, CaRead, TrInsert, TrDelete, TrLookup}
+use Rattle.vyrd_base.specs.declared.subject.Method.TheVariants.{MsInsert, MsInsertPair, MsDelete, MsLookup, CaWrite, CaFlush, CaEvict, CaRead, TrInsert, TrDelete, TrLookup, BuAppend, BuAppendFrom, BuCut, BuLength, BuRead}
 use Rattle.vyrd_base.specs.declared.subject.Args.{Args}
 use Rattle.vyrd_base.specs.declared.log.Kind.TheVariants.{Call, Return, Write, Commit, BlockOpen, BlockClose, BlockCommit}
 use Rattle.vyrd_base.specs.Subjects.{subject_of}
@@ -52,6 +52,11 @@ procedure_right h k g m CaWrite args of small_key small tree hand bare = cc
 procedure_right h k g m CaFlush args of small_key small tree hand bare = cc
 procedure_right h k g m CaEvict args of small_key small tree hand bare = cc
 procedure_right h k g m CaRead args of small_key small tree hand bare = cc
+procedure_right h k g m BuAppend args of small_key small tree hand bare = cc
+procedure_right h k g m BuAppendFrom args of small_key small tree hand bare = cc
+procedure_right h k g m BuCut args of small_key small tree hand bare = cc
+procedure_right h k g m BuLength args of small_key small tree hand bare = cc
+procedure_right h k g m BuRead args of small_key small tree hand bare = cc
 
 follows_commit : (k : TreeHand) (rest later : Script) (g : Shape) (m : Memory) (state : Amounts) → TreeCommits k rest g m state
     → TreeCommits k (followed_by rest later) g m state

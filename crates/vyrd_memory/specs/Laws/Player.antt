@@ -6,9 +6,9 @@ use Rattle.std.specs.Option.{option_map_or}
 use Rattle.std.proofs.Math.Logic.{∥∥₁_map}
 use Rattle.vyrd_base.specs.declared.header.Header.{Header}
 use Rattle.vyrd_base.specs.declared.subject.Subject.{Subject}
-use Rattle.vyrd_base.specs.declared.subject.Subject.TheVariants.{Multiset, Cache, Tree}
+use Rattle.vyrd_base.specs.declared.subject.Subject.TheVariants.{Multiset, Cache, Tree, Buffers}
 use Rattle.vyrd_base.specs.declared.subject.Method.{Method}
-use Rattle.vyrd_base.specs.declared.subject.Method.TheVariants.{MsInsert, MsInsertPair, MsDelete, MsLookup, CaWrite, CaFlush, CaEvict, CaRead, TrInsert, TrDelete}
+use Rattle.vyrd_base.specs.declared.subject.Method.TheVariants.{MsInsert, MsInsertPair, MsDelete, MsLookup, CaWrite, CaFlush, CaEvict, CaRead, TrInsert, TrDelete, BuAppend, BuAppendFrom, BuCut, BuLength, BuRead}
 use Rattle.vyrd_base.specs.declared.subject.Method.TheVariants.{TrLookup}
 use Rattle.vyrd_base.specs.declared.subject.Args.{Args}
 use Rattle.vyrd_base.specs.declared.log.Kind.TheVariants.{Call, Return, Write, Commit, BlockOpen, BlockClose, BlockCommit}
@@ -80,6 +80,7 @@ followed-in_time h n a b hand = ∥∥₁_map hand (λ is. followed-ends n a b i
 pub bound_is_some : (subject : Subject) (n : ℕ) (method : Method) → 1 ≤ bound_in subject n method
 bound_is_some Multiset n method = omega arith
 bound_is_some Cache n method = omega arith
+bound_is_some Buffers n method = omega arith
 bound_is_some Tree n MsInsert = omega arith
 bound_is_some Tree n MsInsertPair = omega arith
 bound_is_some Tree n MsDelete = omega arith
@@ -91,6 +92,11 @@ bound_is_some Tree n CaRead = omega arith
 bound_is_some Tree n TrInsert = omega arith
 bound_is_some Tree n TrDelete = omega arith
 bound_is_some Tree n TrLookup = omega arith
+bound_is_some Tree n BuAppend = omega arith
+bound_is_some Tree n BuAppendFrom = omega arith
+bound_is_some Tree n BuCut = omega arith
+bound_is_some Tree n BuLength = omega arith
+bound_is_some Tree n BuRead = omega arith
 
 pub operations-in_time : (h : Header) (body : Op → Script) (ops : List Op) → AreBounded h body → are_callable h ops ≡ true
     → EndsWithin (first_bound h ops) (operations body ops)

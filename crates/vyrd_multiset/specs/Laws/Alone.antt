@@ -11,7 +11,7 @@ use Rattle.std.proofs.lemmas.Bool.Decides.{nat_tests}
 use Rattle.vyrd_base.specs.declared.header.Header.{Header}
 use Rattle.vyrd_base.specs.declared.subject.Subject.TheVariants.{Multiset}
 use Rattle.vyrd_base.specs.declared.subject.Method.{Method}
-use Rattle.vyrd_base.specs.declared.subject.Method.TheVariants.{MsInsert, MsInsertPair, MsDelete, MsLookup, CaWrite, CaFlush, CaEvict, CaRead, TrInsert, TrDelete, TrLookup}
+use Rattle.vyrd_base.specs.declared.subject.Method.TheVariants.{MsInsert, MsInsertPair, MsDelete, MsLookup, CaWrite, CaFlush, CaEvict, CaRead, TrInsert, TrDelete, TrLookup, BuAppend, BuAppendFrom, BuCut, BuLength, BuRead}
 use Rattle.vyrd_base.specs.declared.subject.Args.{Args}
 use Rattle.vyrd_base.specs.Subjects.{subject_of, is_observer}
 use Rattle.vyrd_base.specs.Amounts.{Amounts, amount_of, with_amount, plus_amount}
@@ -135,6 +135,11 @@ by_method_right h CaRead args is of c memory s m = absurd (cc)
 by_method_right h TrInsert args is of c memory s m = absurd (cc)
 by_method_right h TrDelete args is of c memory s m = absurd (cc)
 by_method_right h TrLookup args is of c memory s m = absurd (cc)
+by_method_right h BuAppend args is of c memory s m = absurd (cc)
+by_method_right h BuAppendFrom args is of c memory s m = absurd (cc)
+by_method_right h BuCut args is of c memory s m = absurd (cc)
+by_method_right h BuLength args is of c memory s m = absurd (cc)
+by_method_right h BuRead args is of c memory s m = absurd (cc)
 
 pub procedure_right_alone : (h : Header) (method : Method) (args : Args)
     → h.subject ≡ Multiset → subject_of method ≡ Multiset

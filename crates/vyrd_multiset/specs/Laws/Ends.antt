@@ -5,7 +5,7 @@ use Rattle.std.specs.Prelude.{◌==◌, is_some}
 use Rattle.vyrd_base.specs.declared.header.Header.{Header}
 use Rattle.vyrd_base.specs.declared.subject.Subject.TheVariants.{Multiset}
 use Rattle.vyrd_base.specs.declared.subject.Method.{Method}
-use Rattle.vyrd_base.specs.declared.subject.Method.TheVariants.{MsInsert, MsInsertPair, MsDelete, MsLookup, CaWrite, CaFlush, CaEvict, CaRead, TrInsert, TrDelete, TrLookup}
+use Rattle.vyrd_base.specs.declared.subject.Method.TheVariants.{MsInsert, MsInsertPair, MsDelete, MsLookup, CaWrite, CaFlush, CaEvict, CaRead, TrInsert, TrDelete, TrLookup, BuAppend, BuAppendFrom, BuCut, BuLength, BuRead}
 use Rattle.vyrd_base.specs.declared.subject.Args.{Args}
 use Rattle.vyrd_base.specs.declared.log.Kind.TheVariants.{Commit, BlockOpen, BlockCommit}
 use Rattle.vyrd_base.specs.Subjects.{subject_of}
@@ -185,6 +185,11 @@ by_method_ends h variant CaRead args of = cc
 by_method_ends h variant TrInsert args of = cc
 by_method_ends h variant TrDelete args of = cc
 by_method_ends h variant TrLookup args of = cc
+by_method_ends h variant BuAppend args of = cc
+by_method_ends h variant BuAppendFrom args of = cc
+by_method_ends h variant BuCut args of = cc
+by_method_ends h variant BuLength args of = cc
+by_method_ends h variant BuRead args of = cc
 
 pub procedure_ends : (h : Header) (variant : Variant) (method : Method) (args : Args)
     → h.subject ≡ Multiset → subject_of method ≡ Multiset

@@ -7,7 +7,7 @@ use Rattle.std.proofs.lemmas.Bool.Decides.{nat_tests}
 use Rattle.vyrd_base.specs.declared.header.Header.{Header}
 use Rattle.vyrd_base.specs.declared.subject.Subject.TheVariants.{Multiset}
 use Rattle.vyrd_base.specs.declared.subject.Method.{Method}
-use Rattle.vyrd_base.specs.declared.subject.Method.TheVariants.{MsInsert, MsInsertPair, MsDelete, MsLookup, CaWrite, CaFlush, CaEvict, CaRead, TrInsert, TrDelete, TrLookup}
+use Rattle.vyrd_base.specs.declared.subject.Method.TheVariants.{MsInsert, MsInsertPair, MsDelete, MsLookup, CaWrite, CaFlush, CaEvict, CaRead, TrInsert, TrDelete, TrLookup, BuAppend, BuAppendFrom, BuCut, BuLength, BuRead}
 use Rattle.vyrd_base.specs.declared.subject.Args.{Args}
 use Rattle.vyrd_base.specs.declared.log.Kind.TheVariants.{BlockCommit}
 use Rattle.vyrd_base.specs.Limits.{is_within}
@@ -317,6 +317,11 @@ by_method_sound h variant CaRead args is of small_x small_y = cc
 by_method_sound h variant TrInsert args is of small_x small_y = cc
 by_method_sound h variant TrDelete args is of small_x small_y = cc
 by_method_sound h variant TrLookup args is of small_x small_y = cc
+by_method_sound h variant BuAppend args is of small_x small_y = cc
+by_method_sound h variant BuAppendFrom args is of small_x small_y = cc
+by_method_sound h variant BuCut args is of small_x small_y = cc
+by_method_sound h variant BuLength args is of small_x small_y = cc
+by_method_sound h variant BuRead args is of small_x small_y = cc
 
 pub procedure_sound : (h : Header) (variant : Variant) (method : Method) (args : Args)
     → h.subject ≡ Multiset → subject_of method ≡ Multiset → are_small args ≡ true

@@ -33,7 +33,7 @@ use Rattle.vyrd_base.specs.declared.header.Header.{Header}
 use Rattle.vyrd_base.specs.declared.subject.Subject.TheVariants.{Tree}
 use Rattle.vyrd_base.specs.declared.subject.Method.{Method}
 use Rattle.vyrd_base.specs.declared.subject.Method.TheVariants.{MsInsert, MsInsertPair, MsDelete, MsLookup, CaWrite, CaFlush}
-use Rattle.vyrd_base.specs.declared.subject.Method.TheVariants.{CaEvict, CaRead, TrInsert, TrDelete, TrLookup}
+use Rattle.vyrd_base.specs.declared.subject.Method.TheVariants.{CaEvict, CaRead, TrInsert, TrDelete, TrLookup, BuAppend, BuAppendFrom, BuCut, BuLength, BuRead}
 use Rattle.vyrd_base.specs.declared.subject.Args.{Args}
 use Rattle.vyrd_base.specs.Subjects.{subject_of, is_observer}
 use Rattle.vyrd_base.specs.Amounts.{Amounts, amount_of, with_amount}
@@ -144,6 +144,11 @@ by_method_right h CaWrite args is of small_key small c memory s st = absurd (cc)
 by_method_right h CaFlush args is of small_key small c memory s st = absurd (cc)
 by_method_right h CaEvict args is of small_key small c memory s st = absurd (cc)
 by_method_right h CaRead args is of small_key small c memory s st = absurd (cc)
+by_method_right h BuAppend args is of small_key small c memory s st = absurd (cc)
+by_method_right h BuAppendFrom args is of small_key small c memory s st = absurd (cc)
+by_method_right h BuCut args is of small_key small c memory s st = absurd (cc)
+by_method_right h BuLength args is of small_key small c memory s st = absurd (cc)
+by_method_right h BuRead args is of small_key small c memory s st = absurd (cc)
 
 pub procedure_right_alone : (h : Header) (method : Method) (args : Args)
     → h.subject ≡ Tree → subject_of method ≡ Tree → are_small args ≡ true

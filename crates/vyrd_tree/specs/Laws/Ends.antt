@@ -9,7 +9,7 @@ use Rattle.vyrd_base.specs.declared.header.Header.{Header}
 use Rattle.vyrd_base.specs.declared.subject.Subject.TheVariants.{Tree}
 use Rattle.vyrd_base.specs.declared.subject.Method.{Method}
 use Rattle.vyrd_base.specs.declared.subject.Method.TheVariants.{MsInsert, MsInsertPair, MsDelete, MsLookup, CaWrite, CaFlush, CaEvict, CaRead, TrInsert}
-use Rattle.vyrd_base.specs.declared.subject.Method.TheVariants.{TrDelete, TrLookup}
+use Rattle.vyrd_base.specs.declared.subject.Method.TheVariants.{TrDelete, TrLookup, BuAppend, BuAppendFrom, BuCut, BuLength, BuRead}
 use Rattle.vyrd_base.specs.declared.log.Kind.{Kind}
 use Rattle.vyrd_base.specs.declared.log.Kind.TheVariants.{Commit, BlockOpen, BlockClose, BlockCommit}
 use Rattle.vyrd_base.specs.declared.subject.Args.{Args}
@@ -268,6 +268,11 @@ by_method_ends h variant CaWrite args of = cc
 by_method_ends h variant CaFlush args of = cc
 by_method_ends h variant CaEvict args of = cc
 by_method_ends h variant CaRead args of = cc
+by_method_ends h variant BuAppend args of = cc
+by_method_ends h variant BuAppendFrom args of = cc
+by_method_ends h variant BuCut args of = cc
+by_method_ends h variant BuLength args of = cc
+by_method_ends h variant BuRead args of = cc
 
 pub procedure_ends : (h : Header) (variant : Variant) (method : Method) (args : Args)
     → h.subject ≡ Tree → subject_of method ≡ Tree

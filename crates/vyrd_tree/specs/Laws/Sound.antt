@@ -10,7 +10,7 @@ use Rattle.vyrd_base.specs.declared.header.Header.{Header}
 use Rattle.vyrd_base.specs.declared.subject.Subject.TheVariants.{Tree}
 use Rattle.vyrd_base.specs.declared.subject.Method.{Method}
 use Rattle.vyrd_base.specs.declared.subject.Method.TheVariants.{MsInsert, MsInsertPair, MsDelete, MsLookup, CaWrite, CaFlush, CaEvict, CaRead, TrInsert}
-use Rattle.vyrd_base.specs.declared.subject.Method.TheVariants.{TrDelete, TrLookup}
+use Rattle.vyrd_base.specs.declared.subject.Method.TheVariants.{TrDelete, TrLookup, BuAppend, BuAppendFrom, BuCut, BuLength, BuRead}
 use Rattle.vyrd_base.specs.declared.subject.Args.{Args}
 use Rattle.vyrd_base.specs.declared.log.Kind.{Kind}
 use Rattle.vyrd_base.specs.declared.log.Kind.TheVariants.{BlockOpen, BlockClose, BlockCommit}
@@ -342,6 +342,11 @@ by_method_sound h variant CaWrite args is of k v = cc
 by_method_sound h variant CaFlush args is of k v = cc
 by_method_sound h variant CaEvict args is of k v = cc
 by_method_sound h variant CaRead args is of k v = cc
+by_method_sound h variant BuAppend args is of k v = cc
+by_method_sound h variant BuAppendFrom args is of k v = cc
+by_method_sound h variant BuCut args is of k v = cc
+by_method_sound h variant BuLength args is of k v = cc
+by_method_sound h variant BuRead args is of k v = cc
 
 pub procedure_sound : (h : Header) (variant : Variant) (method : Method) (args : Args)
     → h.subject ≡ Tree → subject_of method ≡ Tree → are_small args ≡ true

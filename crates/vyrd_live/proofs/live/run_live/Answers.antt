@@ -1,4 +1,4 @@
--- A correct multiset or cache is accepted in every schedule, and its callers' events have room.
+-- A correct structure is accepted in every schedule, and where its operations have few events its callers have room for them.
 use Rattle.std.proofs.Common.{[], ◌≡◌, ◌<◌, ◌≤◌, true, ap, ◌∙◌, sym, arith, subst, rules}
 use Rattle.vyrd_base.specs.Histories.{cells_of, is_legal, log_of}
 use Rattle.vyrd_base.specs.Verdicts.{verdict}

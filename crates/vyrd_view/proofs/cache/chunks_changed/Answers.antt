@@ -1,12 +1,12 @@
 use Rattle.std.proofs.Common.{◌≡◌, ◌≢◌, ℕ, ◌+◌, ◌*◌, ◌/◌, ◌<◌, Bool, true, false, List, length, length-set, map, get_or, set, ap, sym, ◌∙◌, arith, refl, subst, get_or-set_same, get_or-set_other}
 use Rattle.std.specs.Prelude.{◌==◌}
 use Rattle.vyrd_base.specs.Places.{numbers_below}
-use Rattle.vyrd_base.specs.Amounts.{given}
 use Rattle.vyrd_base.proofs.TestLaws.{same_of, apart_of}
+use Rattle.vyrd_base.specs.Amounts.{given}
 use Rattle.vyrd_view.specs.Pairs.{chunk_pair, HaveChunkKeys}
 use Rattle.vyrd_view.proofs.PairLaws.{all_kept}
 use Rattle.vyrd_view.proofs.PlacedLaws.{parts_fresh_more, untouched_end, mapped}
-use Rattle.vyrd_view.proofs.ChunkPairLaws.{half_even, half_odd, pair_even, pair_odd, key_even, key_odd, keys-set, one_gives}
+use Rattle.vyrd_view.proofs.ChunkPairLaws.{half_even, half_odd, pair_even, pair_odd, key_even, key_odd, chunk_keys-set, chunk_alone_gives}
 use Rattle.vyrd_view.proofs.cache.chunks_changed.Goals as goal
 
 -- both places of a chunk, one after the other
@@ -45,7 +45,7 @@ replace-requires-clause-fits g c =
     let within : 2 * h < length pairs = omega (arith, c.requires.count, c.requires.places, c.loop-word.invariant.count) in
     omega (
       arith,
-      one_gives c.args.size pairs (2 * h) (h, c.decoded_chunk-shown.result.amount) (c.loop-word.invariant.count ∙ c.requires.places) within
+      chunk_alone_gives c.args.size pairs (2 * h) (h, c.decoded_chunk-shown.result.amount) (c.loop-word.invariant.count ∙ c.requires.places) within
           (sym (key_even c.args.size h)) c.loop-word.invariant.keys,
     )
 
@@ -64,8 +64,8 @@ replace-requires-in-loop-word-clause-fits g c =
     omega (
       arith,
       ap (λ s. given (c.args.size + h) (set s (2 * h + 1) flaw)) is,
-      one_gives c.args.size once (2 * h + 1) flaw count within (sym (key_odd c.args.size h))
-          (keys-set c.args.size pairs (2 * h) shown (sym (key_even c.args.size h)) c.loop-word.invariant.keys),
+      chunk_alone_gives c.args.size once (2 * h + 1) flaw count within (sym (key_odd c.args.size h))
+          (chunk_keys-set c.args.size pairs (2 * h) shown (sym (key_even c.args.size h)) c.loop-word.invariant.keys),
     )
 
 pub loop-word-preserved : goal.loop-word-preserved
@@ -88,8 +88,8 @@ loop-word-preserved g c =
       specified = ap (λ k. k.specified) second ∙ ap (λ k. k.specified) first ∙ c.loop-word.invariant.specified;
       count = count ∙ c.loop-word.invariant.count;
       keys = subst (λ s. HaveChunkKeys size s) (sym is)
-          (keys-set size once (2 * h + 1) flaw (sym (key_odd size h))
-          (keys-set size pairs (2 * h) shown (sym (key_even size h)) c.loop-word.invariant.keys));
+          (chunk_keys-set size once (2 * h + 1) flaw (sym (key_odd size h))
+          (chunk_keys-set size pairs (2 * h) shown (sym (key_even size h)) c.loop-word.invariant.keys));
       others = parts_fresh_more 5 2 (chunk_pair size c.args.words.now) pairs now c.args.changed.now c.loop-word.word-index
           c.loop-word-test.true count
           (λ m low half. ap (λ s. get_or s m (0, 0)) is

@@ -1,12 +1,12 @@
 use Rattle.std.proofs.Common.{◌≡◌, ◌*◌, length, map, get_or, ap, ◌∙◌, sym, subst, arith}
-use Rattle.vyrd_base.specs.declared.subject.Subject.TheVariants.{Multiset, Cache, Tree}
+use Rattle.vyrd_base.specs.declared.subject.Subject.TheVariants.{Multiset, Cache, Tree, Buffers}
 use Rattle.vyrd_base.specs.Places.{numbers_below}
 use Rattle.vyrd_view.specs.Kept.{Kept}
-use Rattle.vyrd_view.specs.Pairs.{slot_pair, chunk_pair, HaveChunkKeys}
+use Rattle.vyrd_view.specs.Pairs.{slot_pair, chunk_pair, buffer_pair, HaveChunkKeys, HaveBufferKeys}
 use Rattle.vyrd_view.specs.Chains.{is_on_chain, is_broken, end_pair}
 use Rattle.vyrd_view.specs.Comparing.{IsCurrent}
 use Rattle.vyrd_view.proofs.OutcomeLaws.{then_ok}
-use Rattle.vyrd_view.proofs.ReadyLaws.{sized, word_count, slots_count, slots_ones, slots_others, slots_current, chunks_count, chunks_keys, chunks_others, marks_count, tree_count, tree_most, tree_others, tree_marks, tree_end}
+use Rattle.vyrd_view.proofs.ReadyLaws.{sized, word_count, slots_count, slots_ones, slots_others, slots_current, chunks_count, chunks_keys, chunks_others, buffers_count, buffers_keys, buffers_others, marks_count, tree_count, tree_most, tree_others, tree_marks, tree_end}
 use Rattle.vyrd_view.proofs.current.bring_up_to_date.Goals as goal
 
 pub slots_changed-requires-clause-count : goal.slots_changed-requires-clause-count
@@ -96,6 +96,24 @@ leaves_changed-requires-clause-end g c = λ unlinked.
     ap (λ k. get_or c.args.parts.now.pairs (4 * k) (0, 0)) same
     ∙ tree_end c.args.header c.args.kept.now c.args.words.now c.args.changed.now c.args.parts.now.pairs c.args.marks.now c.args.next.now c.requires.current c.requires.elsewhere is unlinked
     ∙ ap (λ k. end_pair (is_broken k c.args.words.now)) (sym same)
+
+pub buffers_changed-requires-clause-places : goal.buffers_changed-requires-clause-places
+buffers_changed-requires-clause-places g c =
+    let is : c.args.header.subject ≡ Buffers = sym c.subject.ensures ∙ c.in-Buffers.is in
+    buffers_count c.args.header c.args.kept.now c.args.words.now c.args.changed.now c.args.parts.now.pairs c.args.marks.now c.args.next.now c.requires.current c.requires.elsewhere is
+    ∙ sym c.size-size.ensures
+
+pub buffers_changed-requires-clause-keys : goal.buffers_changed-requires-clause-keys
+buffers_changed-requires-clause-keys g c =
+    let is : c.args.header.subject ≡ Buffers = sym c.subject.ensures ∙ c.in-Buffers.is in
+    subst (λ n. HaveBufferKeys n c.args.parts.now.pairs) (sym c.size-size.ensures)
+    (buffers_keys c.args.header c.args.kept.now c.args.words.now c.args.changed.now c.args.parts.now.pairs c.args.marks.now c.args.next.now c.requires.current c.requires.elsewhere is)
+
+pub buffers_changed-requires-clause-others : goal.buffers_changed-requires-clause-others
+buffers_changed-requires-clause-others g c = λ b low untouched.
+    let is : c.args.header.subject ≡ Buffers = sym c.subject.ensures ∙ c.in-Buffers.is in
+    buffers_others c.args.header c.args.kept.now c.args.words.now c.args.changed.now c.args.parts.now.pairs c.args.marks.now c.args.next.now c.requires.current c.requires.elsewhere is b low untouched
+    ∙ ap (λ n. buffer_pair n c.args.words.now b) (sym c.size-size.ensures)
 
 pub returns-in-Multiset-clause-current : goal.returns-in-Multiset-clause-current
 returns-in-Multiset-clause-current g c =

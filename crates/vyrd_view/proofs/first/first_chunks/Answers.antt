@@ -1,13 +1,9 @@
 use Rattle.std.proofs.Common.{◌≡◌, ℕ, ◌+◌, ◌*◌, List, [], ◌∷◌, ◌++◌, map, ap, ◌∙◌, sym, arith}
-use Rattle.std.proofs.lemmas.List.{map-append}
 use Rattle.vyrd_base.specs.Places.{numbers_below}
-use Rattle.vyrd_base.proofs.PlaceLaws.{numbers_below-push}
 use Rattle.vyrd_view.specs.Firsts.{first_chunk_pair}
+use Rattle.vyrd_view.proofs.PlacedLaws.{mapped-push}
 use Rattle.vyrd_view.proofs.ChunkPairLaws.{key_even, key_odd}
 use Rattle.vyrd_view.proofs.first.first_chunks.Goals as goal
-
-pushed : (f : ℕ → ℕ × ℕ) (n : ℕ) → map f (numbers_below (n + 1)) ≡ map f (numbers_below n) ++ f n ∷ []
-pushed f n = ap (map f) (numbers_below-push n) ∙ map-append f (numbers_below n) (n ∷ [])
 
 two_more : (size h : ℕ) (pairs once twice : List (ℕ × ℕ)) → pairs ≡ map (first_chunk_pair size) (numbers_below (2 * h))
     → once ≡ pairs ++ (h, 0) ∷ [] → twice ≡ once ++ (size + h, 0) ∷ [] → twice ≡ map (first_chunk_pair size) (numbers_below (2 * (h + 1)))
@@ -16,8 +12,8 @@ two_more size h pairs once twice before first second =
     second ∙ ap (λ s. s ++ (size + h, 0) ∷ []) (first ∙ ap (λ s. s ++ (h, 0) ∷ []) before)
     ∙ ap (λ (k : ℕ). (map (first_chunk_pair size) (numbers_below (2 * h)) ++ (k, 0) ∷ []) ++ (size + h, 0) ∷ []) (sym (key_even size h))
     ∙ ap (λ (k : ℕ). (map (first_chunk_pair size) (numbers_below (2 * h)) ++ first_chunk_pair size (2 * h) ∷ []) ++ (k, 0) ∷ []) (sym (key_odd size h))
-    ∙ ap (λ s. s ++ first_chunk_pair size (2 * h + 1) ∷ []) (sym (pushed (first_chunk_pair size) (2 * h)))
-    ∙ sym (pushed (first_chunk_pair size) (2 * h + 1)) ∙ ap (λ k. map (first_chunk_pair size) (numbers_below k)) (sym two)
+    ∙ ap (λ s. s ++ first_chunk_pair size (2 * h + 1) ∷ []) (sym (mapped-push (first_chunk_pair size) (2 * h)))
+    ∙ sym (mapped-push (first_chunk_pair size) (2 * h + 1)) ∙ ap (λ k. map (first_chunk_pair size) (numbers_below k)) (sym two)
 
 pub loop-number-preserved : goal.loop-number-preserved
 loop-number-preserved c =

@@ -11,3 +11,6 @@ returns-in-Cache-clause-verdict c = finished c.finish-in-Cache.result (ap judge_
 
 pub returns-in-Tree-clause-verdict : goal.returns-in-Tree-clause-verdict
 returns-in-Tree-clause-verdict c = finished c.finish-in-Tree.result (ap judge_in (sym c.in-Tree.is) ∙ c.self.view_is) c.finish-in-Tree.ensures.verdict
+
+pub returns-in-Buffers-clause-verdict : goal.returns-in-Buffers-clause-verdict
+returns-in-Buffers-clause-verdict c = finished c.finish-in-Buffers.result (ap judge_in (sym c.in-Buffers.is) ∙ c.self.view_is) c.finish-in-Buffers.ensures.verdict

@@ -2,7 +2,7 @@ use Rattle.std.proofs.Common.{ap, sym, ◌∙◌}
 use Rattle.vyrd_base.specs.Histories.{log_of}
 use Rattle.vyrd_judge.specs.AnyJudges.{judge_in}
 use Rattle.vyrd_judge.proofs.AnyLaws.{answered}
-use Rattle.vyrd_judge.proofs.any.AnyJudge.follow_history.Goals.{in-Multiset, in-Cache, in-Tree}
+use Rattle.vyrd_judge.proofs.any.AnyJudge.follow_history.Goals.{in-Multiset, in-Cache, in-Tree, in-Buffers}
 use Rattle.vyrd_judge.proofs.any.AnyJudge.follow_history.Goals as goal
 
 pub returns-clause-answer : goal.returns-clause-answer
@@ -10,4 +10,5 @@ returns-clause-answer c = elim c.match-self.branch [
   | in-Multiset w ↦ answered (log_of c.args.history.now) (ap judge_in (sym w.in-Multiset.is) ∙ c.self.view_is) w.result-is w.follow_history.ensures.answer
   | in-Cache w ↦ answered (log_of c.args.history.now) (ap judge_in (sym w.in-Cache.is) ∙ c.self.view_is) w.result-is w.follow_history-in-Cache.ensures.answer
   | in-Tree w ↦ answered (log_of c.args.history.now) (ap judge_in (sym w.in-Tree.is) ∙ c.self.view_is) w.result-is w.follow_history-in-Tree.ensures.answer
+  | in-Buffers w ↦ answered (log_of c.args.history.now) (ap judge_in (sym w.in-Buffers.is) ∙ c.self.view_is) w.result-is w.follow_history-in-Buffers.ensures.answer
 ]

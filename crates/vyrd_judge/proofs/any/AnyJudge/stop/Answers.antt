@@ -14,3 +14,7 @@ returns-in-Cache-clause-verdict c =
 pub returns-in-Tree-clause-verdict : goal.returns-in-Tree-clause-verdict
 returns-in-Tree-clause-verdict c =
     stopped c.stop-in-Tree.result c.args.line c.args.rule (ap judge_in (sym c.in-Tree.is) ∙ c.self.view_is) c.stop-in-Tree.ensures.verdict
+
+pub returns-in-Buffers-clause-verdict : goal.returns-in-Buffers-clause-verdict
+returns-in-Buffers-clause-verdict c =
+    stopped c.stop-in-Buffers.result c.args.line c.args.rule (ap judge_in (sym c.in-Buffers.is) ∙ c.self.view_is) c.stop-in-Buffers.ensures.verdict

@@ -1,5 +1,5 @@
 use Rattle.std.proofs.Common.{arith}
-use Rattle.vyrd_spec.specs.Chunks.{chunk_amounts}
+use Rattle.vyrd_spec.specs.Rows.{row_amounts}
 use Rattle.vyrd_spec.proofs.StepLaws.{next_state-pairs}
 use Rattle.vyrd_spec.proofs.cache.CacheSpecSpec.step.Goals as goal
 
@@ -9,5 +9,5 @@ invariant_of-self-clause-few c = omega (arith, c.requires.few)
 pub invariant_of-self-clause-small : goal.invariant_of-self-clause-small
 invariant_of-self-clause-small c =
     let numbers = c.next-allowed.ensures.numbers in
-    next_state-pairs c.args.method c.args.args c.args.reply (chunk_amounts c.args.self.now.pairs.items) (chunk_amounts c.next-allowed.new.pairs.items)
+    next_state-pairs c.args.method c.args.args c.args.reply (row_amounts c.args.self.now.pairs.items) (row_amounts c.next-allowed.new.pairs.items)
     c.requires.subject numbers.0 numbers.1 numbers.2 c.args.self.now.small (c.next-allowed.ensures.allowed c.if-allowed.true)

@@ -1,0 +1,100 @@
+-- When an operation gives up, by what the specification allows.
+use Rattle.std.proofs.Common.{◌≡◌, ℕ, zero, suc, ◌+◌, ◌<◌, ◌≤◌, Bool, true, false, not, Option, Some, None, refl, ap, ◌∙◌, sym, subst, arith}
+use Rattle.std.specs.Prelude.{IsSome, nat_le}
+use Rattle.std.specs.Bool.{then_some}
+use Rattle.std.proofs.lemmas.Bool.Decides.{nat_tests}
+use Rattle.vyrd_base.specs.declared.header.Header.{Header}
+use Rattle.vyrd_base.specs.declared.subject.Subject.TheVariants.{Buffers}
+use Rattle.vyrd_base.specs.declared.subject.Method.TheVariants.{BuAppend, BuAppendFrom, BuCut}
+use Rattle.vyrd_base.specs.Amounts.{Amounts, amount_of, with_amount}
+use Rattle.vyrd_base.specs.Buffers.{text_length, has_room, joined}
+use Rattle.vyrd_base.specs.Specification.{after_append}
+use Rattle.vyrd_base.proofs.TextLaws.{length_at_most, one_character}
+use Rattle.vyrd_memory.specs.declared.op.Op.{Op}
+use Rattle.vyrd_memory.specs.declared.op.Variant.TheVariants.{Correct}
+use Rattle.vyrd_memory.specs.Scripts.{Script}
+use Rattle.vyrd_memory.specs.Alone.{Memory, state_in, alone, GivesUpWhere, state_after, MeetsSpecification}
+use Rattle.vyrd_memory.proofs.Memories.{stands}
+use Rattle.vyrd_buffers.specs.Procedures.{append, append_from, cut}
+use Rattle.vyrd_buffers.specs.Laws.Alone.{append_alone, append_from_alone, cut_alone}
+use Rattle.vyrd_buffers.specs.Laws.Alone.Done.{Appends}
+
+no_state : (o : Option Amounts) → o ≡ None → IsSome o → ⊥
+no_state None e some = cc
+no_state (Some state) e some = cc
+
+-- an append that is allowed to reply 0 has no room, and one that has no room is allowed no other reply
+without_room : (state : Amounts) (b more : ℕ) → IsSome (after_append 0 state b more) → has_room (amount_of state b) more ≡ false
+without_room state b more some = by_room (has_room (amount_of state b) more) some
+  where
+    by_room : (room : Bool) → IsSome (then_some (not room) state) → room ≡ false
+    by_room true some = absurd (no_state None refl some)
+    by_room false some = refl
+
+only_zero : (reply : ℕ) (state : Amounts) (b more : ℕ) → has_room (amount_of state b) more ≡ false → IsSome (after_append reply state b more)
+    → reply ≡ 0
+only_zero zero state b more full some = refl
+only_zero (suc zero) state b more full some =
+    absurd (no_state (then_some (has_room (amount_of state b) more) (with_amount state b (joined (amount_of state b) more)))
+    (ap (λ room. then_some room (with_amount state b (joined (amount_of state b) more))) full) some)
+only_zero (suc (suc zero)) state b more full some = absurd (no_state None refl some)
+only_zero (suc (suc (suc reply))) state b more full some = absurd (no_state None refl some)
+
+-- so it gives up exactly where there is no room
+append_meets : (h : Header) (op : Op) (script : Script) (c : ℕ) (memory : Memory) (state : Amounts) (b more : ℕ) → Appends op state b more
+    → MeetsSpecification h op script c memory state → (P : Type 0)
+    → (has_room (amount_of state b) more ≡ false → P) → (P → has_room (amount_of state b) more ≡ false)
+    → GivesUpWhere P (alone c script memory)
+append_meets h op script c memory state b more says m P to from =
+    subst (GivesUpWhere P) (sym m.ends) (
+      (λ none. to (without_room state b more (subst (λ reply. IsSome (after_append reply state b more)) none some))),
+      (λ p. only_zero m.outcome.reply state b more (from p) some),
+    )
+  where
+    some : IsSome (after_append m.outcome.reply state b more)
+    some = subst (λ (o : Option Amounts). IsSome o) (m.after ∙ says m.outcome.reply) m.goes_on
+
+full_length : (text x : ℕ) → x < 255 → has_room text (x + 1) ≡ nat_le (text_length text + 1) 7
+full_length text x low = ap (λ n. nat_le (text_length text + n) 7) (one_character x low)
+
+pub append_gives_up : (h : Header) (memory : Memory) (state : Amounts) (c b x : ℕ)
+    → h.subject ≡ Buffers → b < h.size → x < 255 → state_in h memory ≡ Some state
+    → GivesUpWhere (text_length (amount_of state b) ≡ 7) (alone c (append h b x) memory)
+append_gives_up h memory state c b x is low small e =
+    append_meets h op (append h b x) c memory state b (x + 1) (λ reply. refl)
+    (append_alone h op c b x memory state is (stands h memory state e) low small (λ reply. refl))
+    (text_length (amount_of state b) ≡ 7)
+    (λ full. seven (text_length (amount_of state b)) (length_at_most (amount_of state b)) (sym (full_length (amount_of state b) x small) ∙ full))
+    (λ all. full_length (amount_of state b) x small ∙ ap (λ n. nat_le (n + 1) 7) all)
+  where
+    op : Op
+    op = record { method = BuAppend; args = record { a = b; b = x; c = 0 } }
+
+    seven : (n : ℕ) → n ≤ 7 → nat_le (n + 1) 7 ≡ false → n ≡ 7
+    seven n most full = grind (arith, nat_tests)
+
+pub append_from_gives_up : (h : Header) (memory : Memory) (state : Amounts) (c b s : ℕ)
+    → h.subject ≡ Buffers → b < h.size → s < h.size → state_in h memory ≡ Some state
+    → GivesUpWhere (has_room (amount_of state b) (amount_of state s) ≡ false) (alone c (append_from h Correct b s) memory)
+append_from_gives_up h memory state c b s is low low_s e =
+    append_meets h op (append_from h Correct b s) c memory state b (amount_of state s) (λ reply. refl)
+    (append_from_alone h op c b s memory state is (stands h memory state e) low low_s (λ reply. refl))
+    (has_room (amount_of state b) (amount_of state s) ≡ false) (λ full. full) (λ full. full)
+  where
+    op : Op
+    op = record { method = BuAppendFrom; args = record { a = b; b = s; c = 0 } }
+
+pub cut_never_gives_up : (h : Header) (memory : Memory) (state : Amounts) (c b n : ℕ)
+    → h.subject ≡ Buffers → b < h.size → state_in h memory ≡ Some state → GivesUpWhere ⊥ (alone c (cut h b n) memory)
+cut_never_gives_up h memory state c b n is low e = subst (GivesUpWhere ⊥) (sym m.ends) (refuses, λ none. absurd none)
+  where
+    op : Op
+    op = record { method = BuCut; args = record { a = b; b = n; c = 0 } }
+
+    m : MeetsSpecification h op (cut h b n) c memory state
+    m = cut_alone h op c b n memory state is (stands h memory state e) low refl
+
+    refuses : m.outcome.reply ≡ 0 → ⊥
+    refuses none =
+        no_state (state_in h m.outcome.memory) (m.after
+        ∙ ap (λ reply. state_after false op reply state) none) m.goes_on

@@ -1,0 +1,13 @@
+use Rattle.std.proofs.Common.{arith}
+use Rattle.vyrd_spec.specs.Rows.{row_amounts}
+use Rattle.vyrd_spec.proofs.StepLaws.{next_state-texts}
+use Rattle.vyrd_spec.proofs.buffers.BufferSpecSpec.step.Goals as goal
+
+pub invariant_of-self-clause-few : goal.invariant_of-self-clause-few
+invariant_of-self-clause-few c = omega (arith, c.requires.few)
+
+pub invariant_of-self-clause-small : goal.invariant_of-self-clause-small
+invariant_of-self-clause-small c =
+    let numbers = c.next-allowed.ensures.numbers in
+    next_state-texts c.args.method c.args.args c.args.reply (row_amounts c.args.self.now.texts.items) (row_amounts c.next-allowed.new.texts.items)
+    c.requires.subject numbers.0 numbers.1 c.args.self.now.small (c.next-allowed.ensures.allowed c.if-allowed.true)

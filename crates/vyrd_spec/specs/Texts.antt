@@ -1,0 +1,25 @@
+-- The texts of string buffers: those that the words show, and what a call makes of them.
+use Rattle.std.specs.Prelude.{ℕ, ◌+◌, List, Option, Some, None}
+use Rattle.std.specs.Bool.{then_some}
+use Rattle.vyrd_base.specs.declared.subject.Method.{Method}
+use Rattle.vyrd_base.specs.declared.subject.Method.TheVariants.{BuAppend, BuAppendFrom, BuCut}
+use Rattle.vyrd_base.specs.declared.subject.Args.{Args}
+use Rattle.vyrd_base.specs.Amounts.{Amounts, amount_of}
+use Rattle.vyrd_base.specs.Buffers.{Buffer, buffer_at, is_buffer, text_of, has_room, joined, cut_to}
+use Rattle.vyrd_spec.specs.Rows.{sound_row}
+
+-- the text of a buffer
+abbrev pub shown_text : Buffer → ℕ
+shown_text buffer = text_of buffer.character buffer.count
+
+-- the text of each buffer, where the words stand for a state
+abbrev pub sound_texts : ℕ → List ℕ → Option (List ℕ)
+sound_texts size words = sound_row (λ b. is_buffer (buffer_at words b)) (λ b. shown_text (buffer_at words b)) size
+
+-- The text of the call's buffer once the call has done its work, and none where the buffer has no room for that.
+abbrev pub next_text : Method → Args → Amounts → Option ℕ
+next_text BuAppend args state = then_some (has_room (amount_of state args.a) (args.b + 1)) (joined (amount_of state args.a) (args.b + 1))
+next_text BuAppendFrom args state =
+    then_some (has_room (amount_of state args.a) (amount_of state args.b)) (joined (amount_of state args.a) (amount_of state args.b))
+next_text BuCut args state = Some (cut_to args.b (amount_of state args.a))
+next_text _ args state = None

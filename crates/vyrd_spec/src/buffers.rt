@@ -1,0 +1,134 @@
+//! The specification of the string buffers: the text of each buffer.
+
+ghost use Rattle.std.specs.Prelude.{◌≡◌, ◌<◌, ◌≤◌, ◌^◌, true, false, length, Some, None};
+ghost use Rattle.vyrd_base.specs.declared.subject.Subject.TheVariants.{Buffers};
+ghost use Rattle.vyrd_base.specs.Specification.{next_state};
+ghost use Rattle.vyrd_base.specs.Subjects.{subject_of, is_observer};
+ghost use Rattle.vyrd_spec.specs.Bounds.{AreTexts, small_texts};
+ghost use Rattle.vyrd_spec.specs.Rows.{row_amounts, row_formed};
+ghost use Rattle.vyrd_spec.specs.Texts.{next_text};
+
+use crate::buffer_words::texts_of;
+use crate::row::{amount_at, empty_row, row_shown, set_amount};
+use crate::spec::Spec;
+use crate::text::{cut_to, joined, text_length};
+use crate::touched::{Touched, touched_by};
+use std::alloc::{AllocError, Global};
+use vyrd_base::{Args, Header, Method, View};
+
+/// The specification of the string buffers. The amount of a buffer is its text as one number.
+/// The texts stand in a list by buffer, so that a step costs constant time and no memory.
+#[derive(Drop)]
+pub struct BufferSpec {
+    header: Header,
+    made: u64,
+    texts: Vec<u64>,
+    ghost few: { made ≤ 2 ^ 62 },
+    ghost count: { length texts.items ≡ header.size },
+    ghost small: { AreTexts (row_amounts texts.items) },
+}
+
+impl Spec for BufferSpec {
+    ghost subject = { Buffers };
+
+    ghost state = { λ s. row_amounts s.texts.items };
+
+    ghost header_of = { λ s. s.header };
+
+    ghost made = { λ s. s.made };
+
+    ghost is_formed = { λ s. row_formed s.texts.items };
+
+    ghost is_small = { λ s. small_texts (row_amounts s.texts.items) s.small };
+
+    fn start(alloc: Global, header: Header) -> Result<Self, AllocError> {
+        Ok(BufferSpec {
+            header,
+            made: 0,
+            texts: empty_row(alloc, header.size() as usize)?,
+        })
+    }
+
+    fn start_from(
+        alloc: Global,
+        header: Header,
+        words: &[u64],
+    ) -> Result<Option<Self>, AllocError> {
+        match texts_of(alloc, header.size() as usize, words)? {
+            Some(texts) => Ok(Some(BufferSpec {
+                header,
+                made: 0,
+                texts,
+            })),
+            None => Ok(None),
+        }
+    }
+
+    fn step(&mut self, method: Method, args: Args, reply: u64) -> Result<bool, AllocError> {
+        let allowed = next(&mut self.texts, method, args, reply);
+        if allowed {
+            self.made += 1;
+        }
+        Ok(allowed)
+    }
+
+    fn answer(&self, method: Method, args: Args) -> u64 {
+        let text = amount_at(&self.texts, u64::from(args.a));
+        if method == Method::BuLength {
+            u64::from(text_length(text))
+        } else {
+            text
+        }
+    }
+
+    fn amount(&self, key: u64) -> u64 {
+        amount_at(&self.texts, key)
+    }
+
+    fn touched(&self, method: Method, args: Args) -> Touched {
+        touched_by(method, args)
+    }
+
+    fn view(&self, alloc: Global) -> Result<View, AllocError> {
+        row_shown(alloc, &self.texts)
+    }
+}
+
+/// Changes the texts by a mutator's call with its reply, and says whether the reply is allowed: 1 where the call can do its work,
+/// and 0 where it can't.
+fn next(texts: &mut Vec<u64>, method: Method, args: Args, reply: u64) -> bool
+    requires subject { subject_of method ≡ Buffers }
+    requires mutator { is_observer method ≡ false }
+    requires buffer { args.a < length texts.old.items }
+    requires small { AreTexts (row_amounts texts.old.items) }
+    ensures allowed { result ≡ true → next_state method args reply (row_amounts texts.old.items) ≡ Some (row_amounts texts.new.items) }
+    ensures refused { result ≡ false → next_state method args reply (row_amounts texts.old.items) ≡ None }
+    ensures count { length texts.new.items ≡ length texts.old.items }
+    ensures unchanged { result ≡ false → texts.new ≡ texts.old }
+
+    // Arguments have 32 bits.
+    ensures numbers { (args.a < 2 ^ 32) × (args.b < 2 ^ 32) }
+{
+    match (reply, next_text(texts, method, args)) {
+        (0, None) => true,
+        (1, Some(text)) => {
+            set_amount(texts, args.a as usize, text);
+            true
+        }
+        _ => false,
+    }
+}
+
+/// The text of the call's buffer once a mutator's call has done its work, and `None` where the buffer hasn't room for it.
+fn next_text(texts: &[u64], method: Method, args: Args) -> Option<u64>
+    requires { AreTexts (row_amounts texts.now) }
+    ensures { result ≡ next_text method args (row_amounts texts.now) }
+{
+    let text = amount_at(texts, u64::from(args.a));
+    match method {
+        Method::BuAppend => joined(text, u64::from(args.b) + 1),
+        Method::BuAppendFrom => joined(text, amount_at(texts, u64::from(args.b))),
+        Method::BuCut => Some(cut_to(args.b, text)),
+        _ => None,
+    }
+}

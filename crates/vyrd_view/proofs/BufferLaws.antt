@@ -1,0 +1,97 @@
+-- What the loop over the characters of a buffer finds, which words a buffer is read from, and which keys it gives to.
+use Rattle.std.proofs.Common.{◌≡◌, ℕ, ◌+◌, ◌*◌, ◌^◌, ◌%◌, ◌<◌, ◌≤◌, Bool, true, false, cond, ◌&&◌, List, [], ◌∷◌, length, replicate, set, refl, ap, ◌∙◌, sym, arith}
+use Rattle.std.specs.Prelude.{nat_le, slice_index, Option, Some, None}
+use Rattle.std.proofs.Math.Nat.{mul-le-mul_right, pow-le-pow_right, mod-eq_of_lt, add-mod_left}
+use Rattle.vyrd_base.specs.Amounts.{given}
+use Rattle.vyrd_base.specs.Buffers.{Buffer, buffer_at, buffer_parts, is_buffer, are_characters, text_of}
+use Rattle.vyrd_base.proofs.ListLaws.{zeros}
+use Rattle.vyrd_base.proofs.TextLaws.{text_same, characters_same, character_below}
+use Rattle.vyrd_base.proofs.TestLaws.{at_most_of, second_true}
+use Rattle.vyrd_view.specs.Pairs.{text_shown, buffer_pair, HaveBufferKeys}
+use Rattle.vyrd_view.proofs.PairLaws.{one_gives, keys-set}
+
+-- the power of 256 at a character, and what that character counts
+pub power_below : (power i : ℕ) → i < 7 → power ≡ 256 ^ i → power ≤ 2 ^ 48
+power_below power i few is =
+    let most : i ≤ 6 = omega (arith, few) in
+    let small : 256 ^ i ≤ 256 ^ 6 = pow-le-pow_right {n = 256} (omega arith) most in
+    omega (arith, small, is)
+
+pub digit_below : (c power i : ℕ) → c < 255 → i < 7 → power ≡ 256 ^ i → (c + 1) * power ≤ 255 * 2 ^ 48
+digit_below c power i low few is =
+    let most : c + 1 ≤ 255 = omega (arith, low) in
+    let digit : (c + 1) * power ≤ 255 * power = mul-le-mul_right power most in
+    omega (arith, digit, power_below power i few is)
+
+-- what a buffer shows, by whether it is one
+pub bad_text : (b : Buffer) (i : ℕ) → i < b.count → 255 ≤ b.character i → None ≡ text_shown b
+bad_text b i low high = by_buffer (is_buffer b) refl
+  where
+    by_buffer : (s : Bool) → is_buffer b ≡ s → None ≡ cond {A = Option ℕ} s (Some (text_of b.character b.count)) None
+    by_buffer true e =
+        let all : are_characters b.character b.count ≡ true = second_true (nat_le b.count 7) (are_characters b.character b.count) e in
+        absurd (omega (arith, high, character_below b.character b.count all i low))
+    by_buffer false e = refl
+
+-- a buffer gives one pair
+pub parts_of_buffer : (size : ℕ) (words : List ℕ) (b : ℕ) → buffer_parts size b (buffer_at words b) ≡ buffer_pair size words b ∷ []
+parts_of_buffer size words b = by_buffer (is_buffer (buffer_at words b))
+  where
+    text : ℕ
+    text = text_of (buffer_at words b).character (buffer_at words b).count
+
+    by_buffer : (s : Bool) → cond {A = List (ℕ × ℕ)} s ((b, text) ∷ []) ((size + b, 1) ∷ []) ≡ cond {A = ℕ × ℕ} s (b, text) (size + b, 1) ∷ []
+    by_buffer true = refl
+    by_buffer false = refl
+
+-- the key of that pair
+pub key_of_buffer : (size : ℕ) (words : List ℕ) (b : ℕ) → b < size → (buffer_pair size words b).0 % size ≡ b
+key_of_buffer size words b low = by_buffer (is_buffer (buffer_at words b))
+  where
+    by_buffer : (s : Bool) → (cond {A = ℕ × ℕ} s (b, text_of (buffer_at words b).character (buffer_at words b).count) (size + b, 1)).0 % size ≡ b
+    by_buffer true = mod-eq_of_lt low
+    by_buffer false = add-mod_left size b ∙ mod-eq_of_lt low
+
+-- words with the same count and the same characters in the seven places of a buffer
+pub same_buffer : (size b : ℕ) (words before : List ℕ) → slice_index words (8 * b) ≡ slice_index before (8 * b)
+    → ((i : ℕ) → i < 7 → slice_index words (8 * b + (1 + i)) ≡ slice_index before (8 * b + (1 + i)))
+    → buffer_pair size words b ≡ buffer_pair size before b
+same_buffer size b words before count each =
+    ap (λ n. pair_of (nat_le n 7 && are_characters f n) (text_of f n)) count ∙ by_count (nat_le n 7) refl
+  where
+    f : ℕ → ℕ
+    f = (buffer_at words b).character
+
+    g : ℕ → ℕ
+    g = (buffer_at before b).character
+
+    n : ℕ
+    n = (buffer_at before b).count
+
+    pair_of : Bool → ℕ → ℕ × ℕ
+    pair_of s text = cond {A = ℕ × ℕ} s (b, text) (size + b, 1)
+
+    by_count : (few : Bool) → nat_le n 7 ≡ few
+        → pair_of (nat_le n 7 && are_characters f n) (text_of f n) ≡ pair_of (nat_le n 7 && are_characters g n) (text_of g n)
+    by_count true e =
+        let inside : (i : ℕ) → i < n → f i ≡ g i = λ i low. each i (omega (arith, low, at_most_of n 7 e)) in
+        ap (λ s. pair_of (nat_le n 7 && s) (text_of f n)) (characters_same f g n inside)
+        ∙ ap (pair_of (nat_le n 7 && are_characters g n)) (text_same f g n inside)
+    by_count false e =
+        ap (λ s. pair_of (s && are_characters f n) (text_of f n)) e ∙ sym (ap (λ s. pair_of (s && are_characters g n) (text_of g n)) e)
+
+-- a buffer of zeroed words is empty
+pub empty_buffer : (n size b : ℕ) → buffer_pair size (replicate n 0) b ≡ (b, 0)
+empty_buffer n size b =
+    let f : ℕ → ℕ = λ i. slice_index (replicate n 0) (8 * b + (1 + i)) in
+    ap (λ (k : ℕ). cond {A = ℕ × ℕ} (nat_le k 7 && are_characters f k) (b, text_of f k) (size + b, 1)) (zeros n (8 * b))
+
+-- only the place of a buffer gives to its keys
+pub buffer_alone_gives : (size : ℕ) (pairs : List (ℕ × ℕ)) (place : ℕ) (pair : ℕ × ℕ) → place < length pairs
+    → pair.0 % size ≡ place → HaveBufferKeys size pairs → given pair.0 (set pairs place pair) ≡ pair.1
+buffer_alone_gives size pairs place pair low is keys =
+    one_gives pairs place pair low (λ i within other same. other (sym (keys i within) ∙ ap (λ k. k % size) same ∙ is))
+
+pub buffer_keys-set : (size : ℕ) (pairs : List (ℕ × ℕ)) (place : ℕ) (pair : ℕ × ℕ) → pair.0 % size ≡ place → HaveBufferKeys size pairs
+    → HaveBufferKeys size (set pairs place pair)
+buffer_keys-set size = keys-set (λ b k. k % size ≡ b)
