@@ -36,7 +36,7 @@ use Rattle.vyrd_judge.specs.declared.waiting.Event.{Event}
 use Rattle.vyrd_judge.specs.Cuts.{first_with}
 use Rattle.vyrd_judge.specs.Effects.{parts_behind}
 use Rattle.vyrd_judge.specs.Waiting.{replied, event_of, waiting_of, waiting_at}
-use Rattle.vyrd_judge.specs.Reached.{AreObservers, AreCurrent}
+use Rattle.vyrd_judge.specs.Reached.{AreCurrent}
 use Rattle.vyrd_judge.specs.Queued.{HasQueued, HasTakenUp, MayQueue}
 use Rattle.vyrd_judge.specs.Judged.{Judged, MayJudge}
 use Rattle.vyrd_judge.specs.declared.outcome.Advance.TheVariants.{Stops}
@@ -47,10 +47,10 @@ use Rattle.vyrd_judge.proofs.JudgedLaws.{judged_more, judged_head, judged_all}
 
 -- before the first entry
 pub judged_nothing : (h : Header) (starting : List StartWord) (state : Amounts) (watches : List Seen) (first : List ℕ)
-    → state_at_start h starting ≡ Some state → first ≡ words_at_start h starting → AreObservers h watches → AreCurrent state watches
+    → state_at_start h starting ≡ Some state → first ≡ words_at_start h starting → AreCurrent state watches
     → Judged h starting [] state 0 watches [] first []
 unfolding commits first_fault
-judged_nothing h starting state watches first begins words closed current = record {
+judged_nothing h starting state watches first begins words current = record {
   earlier = [];
   later = [];
   whole = refl;
@@ -66,7 +66,6 @@ judged_nothing h starting state watches first begins words closed current = reco
   };
   clean = λ more. refl;
   few = omega arith;
-  observers = closed;
   current = current;
 }
   where
@@ -302,10 +301,10 @@ low_caller_of {k} e somewhere keeps = below_of _ _ (∥∥₁_elim somewhere (Bo
 pub first_taken_in : (k : Kept) (h : Header) (starting : List StartWord) → k.header ≡ h → k.started ≡ length starting
     → state_at_start h starting ≡ Some k.state → ShapeFollows k.shape [] → k.shape.header ≡ h → HasWords k.shadow k.inner starting []
     → k.shadow.header ≡ h → k.views.header ≡ h → HasQueued h k.waiting k.taken k.callers [] → k.made ≡ 0
-    → AreObservers h k.watches → AreCurrent k.state k.watches → k.waiting ≡ [] → k.views.first ≡ words_at_start h starting → k.views.since ≡ []
+    → AreCurrent k.state k.watches → k.waiting ≡ [] → k.views.first ≡ words_at_start h starting → k.views.since ≡ []
     → k.entries ≡ 0 → k.commits ≡ 0 → k.observers ≡ 0
     → (k.views.specified ≡ k.state) × (k.views.refused ≡ false) → HasTakenIn k starting []
-first_taken_in k h starting header started begins shape shape_header words shadow_header views_header queued made closed current waiting first since entries commits_none observers known = record {
+first_taken_in k h starting header started begins shape shape_header words shadow_header views_header queued made current waiting first since entries commits_none observers known = record {
   started = started;
   begun = ap (λ g. start_verdict g starting) header ∙ sound_start h starting k.state begins;
   shape = shape;
@@ -318,7 +317,7 @@ first_taken_in k h starting header started begins shape shape_header words shado
       (subst (λ m. Judged h starting [] k.state m k.watches k.waiting k.views.first k.views.since) (sym made)
       (subst (λ q. Judged h starting [] k.state 0 k.watches q k.views.first k.views.since) (sym waiting)
       (subst (Judged h starting [] k.state 0 k.watches [] k.views.first) (sym since)
-      (judged_nothing h starting k.state k.watches k.views.first begins first closed current))));
+      (judged_nothing h starting k.state k.watches k.views.first begins first current))));
   kept = nothing_broken k.header;
   specified = known.0;
   sound = known.1;

@@ -34,7 +34,7 @@ use Rattle.vyrd_judge.specs.Effects.{effect_parts, AllActAlike}
 use Rattle.vyrd_judge.specs.Executions.{has_method}
 use Rattle.vyrd_judge.specs.Outcomes.{place_of}
 use Rattle.vyrd_judge.specs.Watching.{Seen, has_answer, IsWatched}
-use Rattle.vyrd_judge.specs.Reached.{Reached, AreObservers, AreCurrent, AllSee}
+use Rattle.vyrd_judge.specs.Reached.{Reached, AreCurrent, AllSee}
 use Rattle.vyrd_judge.specs.Judged.{Judged}
 use Rattle.vyrd_judge.proofs.AlikeLaws.{Split, has_parts_next}
 use Rattle.vyrd_judge.proofs.KeptFacts.{call_kept, commit_kept, block_commit_runs}
@@ -64,12 +64,12 @@ pub head_begins : {h : Header} {starting : List StartWord} {log : List Entry} {s
     {xs : List Waiting} {first : List ℕ} {since : List (List (ℕ × ℕ))} {method : Method} {args : Args} (at : AtHead h starting log state made watches x xs first since)
     → IsBegin at.here at.earlier x method args → OthersStay x.caller watches new
     → slice_get new x.caller ≡ Some (record { is_open = true; method = method; args = args; answers = answer_in state method args ∷ [] })
-    → AreObservers h new → AreCurrent state new → Judged h starting log state made new xs first since
+    → AreCurrent state new → Judged h starting log state made new xs first since
 unfolding fault_at
-head_begins {h} {starting} {log} {state} {made} {watches} new {x} {xs} {first} {since} {method} {args} at is others here observers current =
+head_begins {h} {starting} {log} {state} {made} {watches} new {x} {xs} {first} {since} {method} {args} at is others here current =
     judged_next h starting log state state made made watches new x xs first first since since at
     (no_return at.here.caller at.here.kind at.later (ap is_commit is.kind))
-    (parts_on h starting first since at.here at.earlier at.later (ap is_commit is.kind) at.judged.parts) (omega arith) observers current
+    (parts_on h starting first since at.here at.earlier at.later (ap is_commit is.kind) at.judged.parts) (omega arith) current
     (onward_as (named at.here (Call method args) is.kind) (record {
       fault = λ more. refl;
       reached = λ more. reached_begins h (states_along h starting (log ++ more)) at.here.caller method args at.earlier (at.later ++ more) state watches new
@@ -145,11 +145,11 @@ return_fault {h} {starting} {log} {state} {watches = watches} {reply = reply} se
 pub head_answered : {h : Header} {starting : List StartWord} {log : List Entry} {state : Amounts} {made : ℕ} {watches : List Seen} (new : List Seen) {x : Waiting}
     {xs : List Waiting} {first : List ℕ} {since : List (List (ℕ × ℕ))} {reply : ℕ} (seen : Seen) (at : AtHead h starting log state made watches x xs first since)
     → IsReturn at.here at.earlier x reply → slice_get watches x.caller ≡ Some seen → has_answer seen.answers reply ≡ true
-    → OthersStay x.caller watches new → AreObservers h new → AreCurrent state new → Judged h starting log state made new xs first since
-head_answered {h} {starting} {log} {state} {made} {watches} new {x} {xs} {first} {since} {reply} seen at is here answered others observers current =
+    → OthersStay x.caller watches new → AreCurrent state new → Judged h starting log state made new xs first since
+head_answered {h} {starting} {log} {state} {made} {watches} new {x} {xs} {first} {since} {reply} seen at is here answered others current =
     judged_next h starting log state state made made watches new x xs first first since since at
     (no_return at.here.caller at.here.kind at.later (ap is_commit is.kind))
-    (parts_on h starting first since at.here at.earlier at.later (ap is_commit is.kind) at.judged.parts) (omega arith) observers current
+    (parts_on h starting first since at.here at.earlier at.later (ap is_commit is.kind) at.judged.parts) (omega arith) current
     (onward_as (named at.here (Return reply) is.kind) (record {
       fault = λ more. return_fault seen at is here more ∙ ap (λ b. cond b None (Some (Observer reply))) answered;
       reached = λ more. reached_return h (states_along h starting (log ++ more)) at.here.caller reply at.earlier (at.later ++ more) state watches new
@@ -250,12 +250,12 @@ pub head_right : {h : Header} {starting : List StartWord} {log : List Entry} {st
     {first : List ℕ} {since : List (List (ℕ × ℕ))} {method : Method} {args : Args} {reply : ℕ} (next : Amounts) (more : ℕ)
     (at : AtHead h starting log state made watches x xs first since)
     (is : IsCommit at.here at.earlier at.later x method args (Some reply)) → next_state method args reply state ≡ Some next
-    → first_difference (view_of_words h first) next ≡ None → more ≤ made + 1 → AllSee next watches new → AreObservers h new → AreCurrent next new
+    → first_difference (view_of_words h first) next ≡ None → more ≤ made + 1 → AllSee next watches new → AreCurrent next new
     → Judged h starting log next more new xs (with_writes first (split_here at is).part) (split_here at is).rest
-head_right {h} {starting} {log} {state} {made} {watches} new {x} {xs} {first} {since} {method} {args} {reply} next more at is after same count see observers current =
+head_right {h} {starting} {log} {state} {made} {watches} new {x} {xs} {first} {since} {method} {args} {reply} next more at is after same count see current =
     let split = split_here at is in
     judged_next h starting log state next made more watches new x xs first (with_writes first split.part) since split.rest at
-    (λ commits. (reply, is.replies)) split.has count observers current
+    (λ commits. (reply, is.replies)) split.has count current
     (record { fault = λ es. (right es).0; reached = λ es. (right es).1 })
   where
     right : (es : List Entry) → (fault_at h starting (states_along h starting (log ++ es)) (place_of at.here at.earlier (at.later ++ es)) ≡ None)

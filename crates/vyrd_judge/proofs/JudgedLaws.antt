@@ -33,7 +33,7 @@ use Rattle.vyrd_judge.specs.Effects.{effect_parts, with_effects, cut_if, parts_b
 use Rattle.vyrd_judge.specs.Outcomes.{place_of}
 use Rattle.vyrd_judge.specs.Watching.{Seen}
 use Rattle.vyrd_judge.specs.Waiting.{waiting_of, waiting_at, waiting_after, replied, commit_of}
-use Rattle.vyrd_judge.specs.Reached.{Reached, AreObservers, AreCurrent}
+use Rattle.vyrd_judge.specs.Reached.{Reached, AreCurrent}
 use Rattle.vyrd_judge.specs.Judged.{Judged}
 use Rattle.vyrd_judge.proofs.AlikeLaws.{has_parts_more}
 use Rattle.vyrd_judge.proofs.EndingLaws.{AllEnd, end_next, end_more}
@@ -72,7 +72,6 @@ judged_more h starting log e state made watches queue first since writes well_fo
       ∙ ap (λ es. first_answer (violation_at h starting (states_along h starting (log ++ e ∷ more))) (places_after j.earlier es)) (sym (append_assoc j.later (e ∷ []) more))
       ∙ ap (λ es. first_answer (violation_at h starting (states_along h starting es)) (places_after j.earlier ((j.later ++ e ∷ []) ++ more))) (sym (append_assoc log (e ∷ []) more));
   few = j.few;
-  observers = j.observers;
   current = j.current;
 }
   where
@@ -270,22 +269,21 @@ pub record AtHead (h : Header) (starting : List StartWord) (log : List Entry) (s
   pub is : waiting_at (place_of here earlier later) ≡ Some x
   pub rest : xs ≡ waiting_after (here ∷ earlier) later
   pub judged : IsJudged h starting log state made watches first since earlier (here ∷ later)
-  pub observers : AreObservers h watches
   pub current : AreCurrent state watches
 
 -- the first entry that waits from a place on
 head_from : (h : Header) (starting : List StartWord) (log : List Entry) (state : Amounts) (made : ℕ) (watches : List Seen) (x : Waiting)
     (xs : List Waiting) (first : List ℕ) (since : List (List (ℕ × ℕ))) (earlier later : List Entry)
     → newest_first_onto earlier later ≡ newest_first log → break_after h earlier later ≡ None → x ∷ xs ≡ waiting_after earlier later
-    → IsJudged h starting log state made watches first since earlier later → AreObservers h watches → AreCurrent state watches
+    → IsJudged h starting log state made watches first since earlier later → AreCurrent state watches
     → AtHead h starting log state made watches x xs first since
-head_from h starting log state made watches x xs first since earlier [] whole kept queued judged observers current = absurd (some_is_none queued)
+head_from h starting log state made watches x xs first since earlier [] whole kept queued judged current = absurd (some_is_none queued)
   where
     some_is_none : x ∷ xs ≡ [] → ⊥
     some_is_none e = cc
-head_from h starting log state made watches x xs first since earlier (e ∷ later) whole kept queued judged observers current =
+head_from h starting log state made watches x xs first since earlier (e ∷ later) whole kept queued judged current =
     by_waiting (λ queued' judged'.
-    head_from h starting log state made watches x xs first since (e ∷ earlier) later whole kept_both.1 queued' judged' observers current)
+    head_from h starting log state made watches x xs first since (e ∷ earlier) later whole kept_both.1 queued' judged' current)
     (waiting_at (place_of e earlier later)) refl queued
   where
     kept_both : (broken_rule h earlier e ≡ None) × (break_after h (e ∷ earlier) later ≡ None)
@@ -307,7 +305,6 @@ head_from h starting log state made watches x xs first since earlier (e ∷ late
       is = is ∙ ap Some (first_of queued');
       rest = rest_of queued';
       judged = judged;
-      observers = observers;
       current = current;
     }
       where
@@ -327,7 +324,7 @@ pub judged_head : (h : Header) (starting : List StartWord) (log : List Entry) (s
     (xs : List Waiting) (first : List ℕ) (since : List (List (ℕ × ℕ))) → Judged h starting log state made watches (x ∷ xs) first since
     → AtHead h starting log state made watches x xs first since
 judged_head h starting log state made watches x xs first since j =
-    head_from h starting log state made watches x xs first since j.earlier j.later j.whole j.kept j.queued (known_of j) j.observers j.current
+    head_from h starting log state made watches x xs first since j.earlier j.later j.whole j.kept j.queued (known_of j) j.current
 
 -- where nothing waits there is no fault
 none_from : (h : Header) (starting : List StartWord) (log : List Entry) (state : Amounts) (watches : List Seen) (earlier later : List Entry)
@@ -359,9 +356,9 @@ pub judged_next : (h : Header) (starting : List StartWord) (log : List Entry) (s
     (x : Waiting) (xs : List Waiting) (first next_first : List ℕ) (since next_since : List (List (ℕ × ℕ)))
     (at : AtHead h starting log state made watches x xs first since) → IsReturned at.here.caller at.here.kind at.later
     → HasParts h starting next_first next_since (effect_parts (effects (at.here ∷ at.earlier) at.later) (at.here ∷ at.earlier) at.later)
-    → more ≤ made + 1 → AreObservers h new → AreCurrent next new
+    → more ≤ made + 1 → AreCurrent next new
     → Onward h starting log at.here at.earlier at.later next new → Judged h starting log next more new xs next_first next_since
-judged_next h starting log state next made more watches new x xs first next_first since next_since at is parts count observers current onward = record {
+judged_next h starting log state next made more watches new x xs first next_first since next_since at is parts count current onward = record {
   earlier = at.here ∷ at.earlier;
   later = at.later;
   whole = at.whole;
@@ -373,7 +370,6 @@ judged_next h starting log state next made more watches new x xs first next_firs
   reached = onward.reached;
   clean = clean_on h starting log at.here at.earlier at.later onward.fault at.judged.clean;
   few = omega (arith, count, at.judged.few);
-  observers = observers;
   current = current;
 }
 

@@ -23,8 +23,8 @@ use Rattle.vyrd_judge.specs.declared.outcome.Outcome.TheVariants.{Goes, Faults, 
 use Rattle.vyrd_judge.specs.declared.waiting.Event.TheVariants.{Begins, Commits, Returns}
 use Rattle.vyrd_judge.specs.declared.waiting.Waiting.{Waiting}
 use Rattle.vyrd_judge.specs.Executions.{has_method}
-use Rattle.vyrd_judge.specs.Watching.{Seen, has_answer}
-use Rattle.vyrd_judge.specs.Reached.{AreObservers, AreCurrent}
+use Rattle.vyrd_judge.specs.Watching.{Seen, unwatched, has_answer}
+use Rattle.vyrd_judge.specs.Reached.{AreCurrent}
 use Rattle.vyrd_judge.specs.Judged.{Judged, HeadGives, MayJudge, CommitLeads}
 use Rattle.vyrd_judge.proofs.StandingLaws.{slice_get-set_same, slice_get-set_other, not_same}
 use Rattle.vyrd_judge.proofs.Reaching.{OthersStay}
@@ -126,13 +126,6 @@ pub steps_few : {h : Header} {state : Amounts} {made : ℕ} {watches : List Seen
 steps_few {h} {state} {made} {watches} {x} {first} {since} may = below_of _ _ (∥∥₁_elim may (Bool-set _ _) (λ s.
     let few : made < 2 ^ 62 = omega (arith, head_few (judged_head h s.0 s.1 state made watches x s.2 first since s.3), s.4) in is_below made (2 ^ 62) few))
 
-observers-prop : (h : Header) (watches : List Seen) → IsProp (AreObservers h watches)
-observers-prop h watches = hlevel Bool-set
-
-pub judged_observers : {h : Header} {state : Amounts} {made : ℕ} {watches : List Seen} {x : Waiting} {first : List ℕ} {since : List (List (ℕ × ℕ))}
-    → MayJudge h state made watches x first since → AreObservers h watches
-judged_observers {h} {watches = watches} may = ∥∥₁_elim may (observers-prop h watches) (λ s. s.3.observers)
-
 current-prop : (state : Amounts) (watches : List Seen) → IsProp (AreCurrent state watches)
 current-prop state watches = hlevel Bool-set
 
@@ -146,18 +139,6 @@ others_stay c watches seen d other = slice_get-set_other watches c d seen (not_s
 
 some_same : {a b : Seen} → Some a ≡ Some b → a ≡ b
 some_same e = cc
-
-observers_set : (h : Header) (c : ℕ) (watches : List Seen) (seen : Seen) → c < length watches → AreObservers h watches
-    → (seen.is_open ≡ true → (has_method h seen.method seen.args ≡ true) × (is_observer seen.method ≡ true))
-    → AreObservers h (set watches c seen)
-observers_set h c watches seen low all own = λ d other here is_open. by_same c d
-    (λ same. let it : seen ≡ other = some_same (sym (slice_get-set_same watches c seen low)
-    ∙ ap (slice_get (set watches c seen)) same ∙ here) in
-    let mine = own (ap (λ s. s.is_open) it ∙ is_open) in (
-      ap (λ s. has_method h s.method s.args) (sym it) ∙ mine.0,
-      ap (λ s. is_observer s.method) (sym it) ∙ mine.1,
-    ))
-    (λ apart. all d other (sym (slice_get-set_other watches c d seen (not_same c d apart)) ∙ here) is_open)
 
 current_set : (state : Amounts) (c : ℕ) (watches : List Seen) (seen : Seen) → c < length watches → AreCurrent state watches
     → (seen.is_open ≡ true → has_answer seen.answers (answer_in state seen.method seen.args) ≡ true) → AreCurrent state (set watches c seen)
@@ -176,7 +157,6 @@ judged_begins {h} {state = state} {watches = watches} {x} {method = method} {arg
     let found = begins_at event j in
     let low : x.caller < length watches = omega (arith, long, head_caller found.0 found.1.caller) in
     head_begins (set watches x.caller seen) found.0 found.1 (others_stay x.caller watches seen) (slice_get-set_same watches x.caller seen low)
-    (observers_set h x.caller watches seen low j.observers (λ is_open. (begin_fits found.0 found.1, found.1.observes)))
     (current_set state x.caller watches seen low j.current (λ is_open. ap (λ b. b || false) (same_number (answer_in state method args))))
   where
     seen : Seen
@@ -197,13 +177,11 @@ watch_there {watches = watches} {x} event long j =
 pub judged_answered : {h : Header} {starting : List StartWord} {log : List Entry} {state : Amounts} {made : ℕ} {watches : List Seen} {x : Waiting} {xs : List Waiting}
     {first : List ℕ} {since : List (List (ℕ × ℕ))} {reply : ℕ} (seen : Seen) → x.event ≡ Returns reply → slice_get watches x.caller ≡ Some seen
     → has_answer seen.answers reply ≡ true → Judged h starting log state made watches (x ∷ xs) first since
-    → Judged h starting log state made (set watches x.caller (record seen { is_open = false })) xs first since
+    → Judged h starting log state made (set watches x.caller unwatched) xs first since
 judged_answered {h} {state = state} {watches = watches} {x} seen event here answered j =
     let found = returns_at event j in
-    let closed : Seen = record seen { is_open = false } in
-    head_answered (set watches x.caller closed) seen found.0 found.1 here answered (others_stay x.caller watches closed)
-    (observers_set h x.caller watches closed (slice_get_within watches x.caller seen here) j.observers (λ is_open. absurd (apart is_open)))
-    (current_set state x.caller watches closed (slice_get_within watches x.caller seen here) j.current (λ is_open. absurd (apart is_open)))
+    head_answered (set watches x.caller unwatched) seen found.0 found.1 here answered (others_stay x.caller watches unwatched)
+    (current_set state x.caller watches unwatched (slice_get_within watches x.caller seen here) j.current (λ is_open. absurd (apart is_open)))
   where
     apart : false ≡ true → ⊥
     apart e = cc
@@ -243,7 +221,7 @@ judged_commits {E} {h} {starting} {log} {state} {made} {watches} {x} {xs} {first
     by_outcome at is Goes right =
         subst (λ ws. Judged h starting log after more new xs ws next_since) (sym right.words)
         (subst (λ ps. Judged h starting log after more new xs (with_writes first (split_here at is).part) ps) (sym right.since)
-        (head_right new after more at is right.next right.same right.count right.seen right.observers right.current))
+        (head_right new after more at is right.next right.same right.count right.seen right.current))
     by_outcome at is (Faults why) faulty = head_faults why at is faulty
     by_outcome at is Ends never = absurd never
 

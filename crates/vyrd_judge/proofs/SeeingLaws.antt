@@ -1,14 +1,11 @@
 -- Watches that see a state one after the other.
-use Rattle.std.proofs.Common.{◌≡◌, ℕ, zero, suc, ◌+◌, ◌-◌, ◌^◌, ◌<◌, ◌≤◌, Bool, true, false, cond, not, ◌||◌, List, [], ◌∷◌, length, set, get_or, Some, slice_get, refl, ap, subst, ◌∙◌, sym, arith}
+use Rattle.std.proofs.Common.{◌≡◌, ℕ, zero, suc, ◌+◌, ◌-◌, ◌^◌, ◌<◌, ◌≤◌, Bool, true, false, cond, not, ◌||◌, List, [], ◌∷◌, length, set, Some, slice_get, refl, ap, subst, ◌∙◌, sym, arith}
 use Rattle.std.specs.Prelude.{◌==◌}
 use Rattle.std.proofs.lemmas.Option.{slice_get_within}
-use Rattle.vyrd_base.specs.declared.header.Header.{Header}
 use Rattle.vyrd_base.specs.Amounts.{Amounts}
-use Rattle.vyrd_base.specs.Subjects.{is_observer}
 use Rattle.vyrd_base.proofs.BlockLaws.{by_same}
 use Rattle.vyrd_base.specs.declared.subject.Method.TheVariants.{MsInsert, MsInsertPair, MsDelete, MsLookup, CaWrite, CaFlush, CaEvict, CaRead, TrInsert, TrDelete, TrLookup, BuAppend, BuAppendFrom, BuCut, BuLength, BuRead}
 use Rattle.vyrd_base.proofs.TestLaws.{same_number, same_of}
-use Rattle.vyrd_judge.specs.Executions.{has_method}
 use Rattle.vyrd_judge.specs.Watching.{Seen, has_answer, SeesAnswer, SeesState}
 use Rattle.vyrd_spec.specs.Touching.{touched_by, is_touched}
 use Rattle.vyrd_spec.proofs.TouchLaws.{untouched}
@@ -17,7 +14,7 @@ use Rattle.vyrd_base.specs.declared.subject.Args.{Args}
 use Rattle.vyrd_base.specs.Buffers.{text_length}
 use Rattle.vyrd_base.specs.Specification.{next_state, answer_in}
 use Rattle.vyrd_base.specs.Amounts.{amount_of}
-use Rattle.vyrd_judge.specs.Reached.{AreObservers, AreCurrent, AllSee}
+use Rattle.vyrd_judge.specs.Reached.{AreCurrent, AllSee}
 use Rattle.vyrd_judge.proofs.StandingLaws.{slice_get-set_same, slice_get-set_other, not_same}
 
 -- the watches before this place have seen the state, and those from it on are as they were
@@ -27,12 +24,6 @@ pub record SeenBelow (state : Amounts) (i : ℕ) (old new : List Seen) : Type 0 
 
 pub seen_none : (state : Amounts) (old : List Seen) → SeenBelow state 0 old old
 seen_none state old = record { below = λ k seen low here. absurd (omega (arith, low)); above = λ k high. refl }
-
--- the watch at a place, by the element that is read there
-pub here_is : (xs : List Seen) (i : ℕ) (x : Seen) → i < length xs → x ≡ get_or xs i x → slice_get xs i ≡ Some x
-here_is [] i x low is = absurd (omega (arith, low))
-here_is (y ∷ xs) zero x low is = ap Some (sym is)
-here_is (y ∷ xs) (suc i) x low is = here_is xs i x (omega (arith, low)) is
 
 pub seen_one_more : (state : Amounts) (i : ℕ) (old new : List Seen) (x y : Seen) → i < length new → slice_get new i ≡ Some x → SeesState state x y
     → SeenBelow state i old new → SeenBelow state (i + 1) old (set new i y)
@@ -65,27 +56,6 @@ pub seen_all : (state : Amounts) (i : ℕ) (old new : List Seen) → length old 
 seen_all state i old new past so = λ c seen here open_now.
     let more = so.below c seen (omega (arith, past, slice_get_within old c seen here)) here in
     (more.0, more.1, more.2.answers open_now)
-
--- and all are observers still
-pub seen_observers : (h : Header) (state : Amounts) (i : ℕ) (old new : List Seen) → length old ≤ i → length new ≡ length old
-    → AreObservers h old → SeenBelow state i old new → AreObservers h new
-seen_observers h state i old new past long all so = λ c seen here open_now.
-    let was = there old c (omega (arith, long, slice_get_within new c seen here)) in
-    let more = so.below c was.0 (omega (arith, past, slice_get_within old c was.0 was.1)) was.1 in
-    let same : more.0 ≡ seen = some_same (sym more.1 ∙ here) in
-    let before = all c was.0 was.1 (sym more.2.is_open ∙ ap (λ s. s.is_open) same ∙ open_now) in (
-      ap (λ m. has_method h m seen.args) (ap (λ s. s.method) (sym same) ∙ more.2.method)
-          ∙ ap (has_method h was.0.method) (ap (λ s. s.args) (sym same) ∙ more.2.args) ∙ before.0,
-      ap is_observer (ap (λ s. s.method) (sym same) ∙ more.2.method) ∙ before.1,
-    )
-  where
-    some_same : {a b : Seen} → Some a ≡ Some b → a ≡ b
-    some_same e = cc
-
-    there : (xs : List Seen) (c : ℕ) → c < length xs → (seen : Seen) × (slice_get xs c ≡ Some seen)
-    there [] c low = absurd (omega (arith, low))
-    there (x ∷ xs) zero low = (x, refl)
-    there (x ∷ xs) (suc c) low = there xs c (omega (arith, low))
 
 -- and know its answer
 pub seen_current : (state : Amounts) (i : ℕ) (old new : List Seen) → length old ≤ i → length new ≡ length old

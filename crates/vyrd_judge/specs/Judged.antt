@@ -21,7 +21,7 @@ use Rattle.vyrd_judge.specs.Cuts.{Cuts}
 use Rattle.vyrd_judge.specs.Effects.{effect_parts, HasParts, is_ended}
 use Rattle.vyrd_judge.specs.Watching.{Seen}
 use Rattle.vyrd_judge.specs.Waiting.{waiting_after}
-use Rattle.vyrd_judge.specs.Reached.{Reached, AreObservers, AreCurrent, AllSee}
+use Rattle.vyrd_judge.specs.Reached.{Reached, AreCurrent, AllSee}
 
 -- All entries before some place are judged, and none of them is a fault; those from it on that are judged wait, and so do the
 -- words at its commits. This stands however the log goes on: a commit that is judged has returned, and so its block has ended and
@@ -40,7 +40,6 @@ pub record Judged (h : Header) (starting : List StartWord) (log : List Entry) (s
   pub clean : (more : List Entry) → first_fault h starting (log ++ more)
       ≡ first_answer (violation_at h starting (states_along h starting (log ++ more))) (places_after earlier (later ++ more))
   pub few : made ≤ length earlier
-  pub observers : AreObservers h watches
   pub current : AreCurrent state watches
 
 -- What the entry that waits first leads to: it is judged and no fault; or it is this fault, the first of the log; or nothing can
@@ -68,7 +67,6 @@ pub record CommitRight (h : Header) (first : List ℕ) (part : List (ℕ × ℕ)
   pub same : first_difference (view_of_words h first) after ≡ None
   pub count : more ≤ made + 1
   pub seen : AllSee after old new
-  pub observers : AreObservers h new
   pub current : AreCurrent after new
   pub words : next_first ≡ with_writes first part
   pub since : next_since ≡ rest

@@ -4,6 +4,7 @@ pub mod Outcomes
 pub mod OpenBlocks
 pub mod Observing
 pub mod Watching
+pub mod Trails
 pub mod Waiting
 pub mod Reached
 pub mod Judged

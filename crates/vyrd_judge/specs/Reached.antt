@@ -18,11 +18,6 @@ pub record Reached (h : Header) (states : List Amounts) (earlier later : List En
   pub watched : (c : ℕ) (called : Called) → c < h.callers → open_call c earlier ≡ Some called → is_observer called.method ≡ true
       → (seen : Seen) × (slice_get watches c ≡ Some seen) × IsWatched states c earlier called seen
 
--- every open watch is of an observer that the header's specification has
-abbrev pub AreObservers : Header → List Seen → Type 0
-AreObservers h watches = (c : ℕ) (seen : Seen) → slice_get watches c ≡ Some seen → seen.is_open ≡ true
-    → (has_method h seen.method seen.args ≡ true) × (is_observer seen.method ≡ true)
-
 -- every open watch knows the state's answer
 abbrev pub AreCurrent : Amounts → List Seen → Type 0
 AreCurrent state watches = (c : ℕ) (seen : Seen) → slice_get watches c ≡ Some seen → seen.is_open ≡ true

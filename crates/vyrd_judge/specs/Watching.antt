@@ -1,7 +1,9 @@
 -- What is kept of a caller's open observer.
-use Rattle.std.specs.Prelude.{◌≡◌, ℕ, Bool, true, ◌||◌, ◌==◌, List}
+use Rattle.std.specs.Prelude.{◌≡◌, ℕ, Bool, true, false, ◌||◌, ◌==◌, List, []}
 use Rattle.std.specs.List.{list_any}
+use Rattle.vyrd_base.specs.declared.header.Header.{Header}
 use Rattle.vyrd_base.specs.declared.subject.Method.{Method}
+use Rattle.vyrd_base.specs.declared.subject.Method.TheVariants.{MsLookup}
 use Rattle.vyrd_base.specs.declared.subject.Args.{Args}
 use Rattle.vyrd_base.specs.declared.log.Entry.{Entry}
 use Rattle.vyrd_base.specs.Callers.{Called}
@@ -15,6 +17,15 @@ pub record Seen : Type 0 where
   pub method : Method
   pub args : Args
   pub answers : List ℕ
+
+-- what is kept of a caller that has no open observer
+abbrev pub unwatched : Seen
+unwatched = record { is_open = false; method = MsLookup; args = record { a = 0; b = 0; c = 0 }; answers = [] }
+
+-- what is kept of each caller, and the header whose methods its observers call
+pub record Watched : Type 0 where
+  pub header : Header
+  pub by_caller : List Seen
 
 -- whether one of the answers is this
 abbrev pub has_answer : List ℕ → ℕ → Bool

@@ -55,7 +55,7 @@ impl<S: Spec> Model for Follower<S> {
       callers = f.queue.callers.items;
       state = S.state f.replay.spec;
       made = S.made f.replay.spec;
-      watches = f.replay.watches.items;
+      watches = f.replay.watches.by_caller;
       entries = f.entries;
       commits = f.commits;
       observers = f.observers;

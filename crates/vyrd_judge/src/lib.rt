@@ -7,7 +7,8 @@
 //!
 //! How the pieces go: a `follower` takes in each entry, and `starting` gives it the words at the start. In front, the shape,
 //! the `words` with their `views` and the `queue` follow it at once. Behind, the `replay` judges what is `waiting` in the
-//! queue, with a `watch` for each open observer.
+//! queue, with its `watches`: each open observer has a `watch`, which is on the `trail` of its question, one of all `trails`.
+//! An observer that has returned may be `leaving` answers behind that can go.
 //!
 //! [`judge_log`] is the plain judge, which has all entries before it begins: `front`, `scan`, `effects`, `execution`,
 //! `violation`, `counts` and `judge`. It is what the other is compared with.
@@ -21,6 +22,7 @@ mod execution;
 mod follower;
 mod front;
 mod judge;
+mod leaving;
 mod logged;
 mod online;
 mod outcome;
@@ -30,10 +32,13 @@ mod scan;
 mod starting;
 #[cfg(test)]
 mod tests;
+mod trail;
+mod trails;
 mod views;
 mod violation;
 mod waiting;
 mod watch;
+mod watches;
 mod words;
 
 pub use any::{AnyJudge, judge_history};

@@ -28,10 +28,12 @@ use vyrd_spec::Spec;
 /// to be judged; so do observers that return behind it.
 ///
 /// Time: an entry takes constant time on average, beside what the specification, the words and the comparison of the views
-/// take, and a commit time in proportion to the callers. Memory: in proportion to the header's words, the keys of the
+/// take. But a commit and an observer's call take time in proportion to the different questions of open observers, the most that
+/// there were at one time, and an observer's return in proportion to the callers and to the answers that its question has had
+/// since its call or that of another open observer. Memory: in proportion to the header's words, the keys of the
 /// specification's state and the writes of open blocks. Beside it an entry that waits is kept, and a write that takes effect
-/// while a commit waits, so that memory grows with the log only while some execution stays open; and so do the answers of an
-/// open observer.
+/// while a commit waits, so that memory grows with the log only while some execution stays open; and so do the answers to what
+/// open observers ask, which are kept once for all that ask the same.
 ///
 /// Want of memory may be met in [`Judge::feed`] alone. From then on `feed`, `finish` and `stop` answer it.
 pub struct Judge<S: Spec> {

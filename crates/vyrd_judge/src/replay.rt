@@ -1,6 +1,6 @@
 //! The part of a log that is judged.
 
-ghost use Rattle.std.specs.Prelude.{◌≡◌, ◌<◌, ◌^◌, ◌∷◌, ℕ, List, [], true, false, Some, None, Ok, IfOk, OnOk, slice_get, slice_set, vec_len};
+ghost use Rattle.std.specs.Prelude.{◌≡◌, ◌<◌, ◌^◌, ◌∷◌, ℕ, List, [], true, false, Some, None, Ok, IfOk, OnOk, slice_get, slice_set, length};
 ghost use Rattle.vyrd_base.specs.declared.log.Entry.{Entry};
 ghost use Rattle.vyrd_base.specs.declared.log.StartWord.{StartWord};
 ghost use Rattle.vyrd_base.specs.Specification.{answer_in};
@@ -10,17 +10,16 @@ ghost use Rattle.vyrd_judge.specs.declared.waiting.Waiting.{Waiting};
 ghost use Rattle.vyrd_judge.specs.Executions.{has_method};
 ghost use Rattle.vyrd_judge.specs.Judged.{Judged, HeadGives, MayJudge, CommitLeads, KnowsState};
 ghost use Rattle.vyrd_judge.specs.Queued.{CanLeave};
-ghost use Rattle.vyrd_judge.specs.Reached.{AreObservers, AreCurrent, AllSee};
-ghost use Rattle.vyrd_spec.specs.Touching.{is_touched};
-ghost use Rattle.vyrd_judge.specs.Watching.{Seen, SeesState, has_answer};
+ghost use Rattle.vyrd_judge.specs.Reached.{AreCurrent};
+ghost use Rattle.vyrd_judge.specs.Watching.{Seen, unwatched, has_answer};
 
 use crate::outcome::Outcome;
 use crate::views::Views;
 use crate::waiting::{Event, Waiting};
-use crate::watch::Watch;
+use crate::watches::Watches;
 use std::alloc::{AllocError, Global};
 use vyrd_base::{Args, Header, Method, Why};
-use vyrd_spec::{Spec, Touched};
+use vyrd_spec::Spec;
 
 /// What is known where all entries before some place are judged: the state of the specification there, and each caller's open
 /// observer.
@@ -28,11 +27,11 @@ use vyrd_spec::{Spec, Touched};
 pub(crate) struct Replay<S: Spec> {
     pub header: Header,
     pub spec: S,
-    /// By caller.
-    pub watches: Vec<Watch>,
+    pub watches: Watches,
     ghost subject: { header.subject ≡ S.subject },
     ghost spec_header: { S.header_of spec ≡ header },
-    ghost callers: { vec_len watches ≡ header.callers },
+    ghost watching: { watches.header ≡ header },
+    ghost callers: { length watches.by_caller ≡ header.callers },
 }
 
 impl<S: Spec> Replay<S> {
@@ -42,46 +41,42 @@ impl<S: Spec> Replay<S> {
         requires spec_header { S.header_of spec ≡ header }
         ensures header { IfOk result (λ r. r.header ≡ header) }
         ensures spec { IfOk result (λ r. r.spec ≡ spec) }
-        ensures closed { IfOk result (λ r. AreObservers header r.watches.items) }
-        ensures current { IfOk result (λ r. AreCurrent (S.state spec) r.watches.items) }
+        ensures current { IfOk result (λ r. AreCurrent (S.state spec) r.watches.by_caller) }
     {
         Ok(Replay {
             header,
             spec,
-            watches: closed_watches(alloc, header.callers())?,
+            watches: Watches::new(alloc, header)?,
         })
     }
 
     /// An observer begins, in the state here.
-    fn begin(&mut self, caller: u32, method: Method, args: Args)
+    fn begin(&mut self, caller: u32, method: Method, args: Args) -> Result<(), AllocError>
         requires caller { caller < self.old.header.callers }
         requires allowed { has_method self.old.header method args ≡ true }
         requires observer { is_observer method ≡ true }
-        ensures watches { self.new.watches.items ≡ slice_set self.old.watches.items caller (record {
+        ensures watches { OnOk result (self.new.watches.by_caller ≡ slice_set self.old.watches.by_caller caller (record {
           is_open = true;
           method = method;
           args = args;
           answers = answer_in (S.state self.old.spec) method args ∷ [];
-        }) }
+        })) }
         ensures header { self.new.header ≡ self.old.header }
         ensures spec { self.new.spec ≡ self.old.spec }
     {
         let answer = self.spec.answer(method, args);
-        self.watches[caller as usize].begin(method, args, answer);
+        self.watches.begin(caller, method, args, answer)
     }
 
     /// An observer returns. It says whether some state since its call answers the reply.
     fn end(&mut self, caller: u32, reply: u64) -> bool
         requires caller { caller < self.old.header.callers }
-        ensures answered { (seen : Seen) → slice_get self.old.watches.items caller ≡ Some seen → result ≡ has_answer seen.answers reply }
-        ensures watches { (seen : Seen) → slice_get self.old.watches.items caller ≡ Some seen →
-            self.new.watches.items ≡ slice_set self.old.watches.items caller (record seen { is_open = false }) }
+        ensures answered { (seen : Seen) → slice_get self.old.watches.by_caller caller ≡ Some seen → result ≡ has_answer seen.answers reply }
+        ensures watches { self.new.watches.by_caller ≡ slice_set self.old.watches.by_caller caller unwatched }
         ensures header { self.new.header ≡ self.old.header }
         ensures spec { self.new.spec ≡ self.old.spec }
     {
-        let watch = &mut self.watches[caller as usize];
-        watch.end();
-        watch.has_answer(reply)
+        self.watches.end(caller, reply)
     }
 
     /// A commit is judged by its reply and by the words there, which wait first. What is open sees the state after it.
@@ -96,12 +91,11 @@ impl<S: Spec> Replay<S> {
         requires may { has_method self.old.header method args ≡ true }
         requires mutates { is_observer method ≡ false }
         requires few { S.made self.old.spec < 2 ^ 62 }
-        requires observers { AreObservers self.old.header self.old.watches.items }
-        requires current { AreCurrent (S.state self.old.spec) self.old.watches.items }
+        requires current { AreCurrent (S.state self.old.spec) self.old.watches.by_caller }
         requires sound { views.old.refused ≡ false }
         ensures leads { (part : List (ℕ × ℕ)) (rest : List (List (ℕ × ℕ))) → views.old.since ≡ part ∷ rest → views.old.specified ≡ S.state self.old.spec →
             IfOk result (CommitLeads self.old.header views.old.first part rest (record { method = method; args = args }) reply (S.state self.old.spec)
-            (S.made self.old.spec) self.old.watches.items (S.state self.new.spec) (S.made self.new.spec) self.new.watches.items views.new.first views.new.since) }
+            (S.made self.old.spec) self.old.watches.by_caller (S.state self.new.spec) (S.made self.new.spec) self.new.watches.by_caller views.new.first views.new.since) }
         ensures known { views.old.specified ≡ S.state self.old.spec → IfOk result (KnowsState views.new (S.state self.new.spec)) }
         ensures header { self.new.header ≡ self.old.header }
         ensures views_header { views.new.header ≡ views.old.header }
@@ -113,20 +107,21 @@ impl<S: Spec> Replay<S> {
         if let Some(key) = views.difference(&self.spec, touched)? {
             return Ok(Outcome::Faults(Why::View(key)));
         }
-        see_all(&mut self.watches, &self.spec, touched)?;
+        self.watches.see_all(&self.spec, touched)?;
         Ok(Outcome::Goes)
     }
 
     /// Judges the entry that waits first, where it can be judged. After `Goes` it no longer waits, and after `Ends` all is as it
-    /// was. A commit takes time in proportion to the callers, beside that of the specification's step and of the comparison.
+    /// was. A commit takes time in proportion to the different questions of open observers, beside that of the specification's
+    /// step and of the comparison.
     pub fn judge(&mut self, views: &mut Views, x: Waiting) -> Result<Outcome, AllocError>
         requires header { views.old.header ≡ self.old.header }
-        requires may { MayJudge self.old.header (S.state self.old.spec) (S.made self.old.spec) self.old.watches.items x views.old.first views.old.since }
+        requires may { MayJudge self.old.header (S.state self.old.spec) (S.made self.old.spec) self.old.watches.by_caller x views.old.first views.old.since }
         requires sound { views.old.refused ≡ false }
         ensures gives { (starting : List StartWord) (log : List Entry) (xs : List Waiting) →
-            Judged self.old.header starting log (S.state self.old.spec) (S.made self.old.spec) self.old.watches.items (x ∷ xs) views.old.first views.old.since →
+            Judged self.old.header starting log (S.state self.old.spec) (S.made self.old.spec) self.old.watches.by_caller (x ∷ xs) views.old.first views.old.since →
             views.old.specified ≡ S.state self.old.spec →
-            IfOk result (HeadGives self.old.header starting log (S.state self.new.spec) (S.made self.new.spec) self.new.watches.items x xs views.new.first views.new.since) }
+            IfOk result (HeadGives self.old.header starting log (S.state self.new.spec) (S.made self.new.spec) self.new.watches.by_caller x xs views.new.first views.new.since) }
         ensures leaves { result ≡ Ok Goes → CanLeave x }
         ensures known { views.old.specified ≡ S.state self.old.spec → IfOk result (KnowsState views.new (S.state self.new.spec)) }
         ensures header { self.new.header ≡ self.old.header }
@@ -134,7 +129,7 @@ impl<S: Spec> Replay<S> {
     {
         match x.event {
             Event::Begins(method, args) => {
-                self.begin(x.caller, method, args);
+                self.begin(x.caller, method, args)?;
                 Ok(Outcome::Goes)
             }
             Event::Commits(method, args, reply) => match reply {
@@ -150,48 +145,4 @@ impl<S: Spec> Replay<S> {
             }
         }
     }
-}
-
-/// A closed watch for each caller.
-fn closed_watches(alloc: Global, callers: u32) -> Result<Vec<Watch>, AllocError>
-    ensures len { IfOk result (λ watches. vec_len watches ≡ callers) }
-    ensures closed { IfOk result (λ watches. (c : ℕ) (seen : Seen) → slice_get watches.items c ≡ Some seen → seen.is_open ≡ false) }
-{
-    let mut watches = Vec::with_capacity(alloc, callers as usize)?;
-    for _ in 0..callers {
-        watches.push(Watch::new(alloc))?;
-    }
-    Ok(watches)
-}
-
-/// An open observer sees the specification's state too, which differs from the one before in the touched keys alone.
-fn see_one<S: Spec>(watch: &mut Watch, spec: &S, touched: Touched) -> Result<(), AllocError>
-    requires allowed { watch.old.is_open ≡ true → has_method (S.header_of spec.now) watch.old.method watch.old.args ≡ true }
-    requires observer { watch.old.is_open ≡ true → is_observer watch.old.method ≡ true }
-    requires current { watch.old.is_open ≡ true → is_touched touched watch.old.args.a ≡ false →
-        has_answer watch.old.answers (answer_in (S.state spec.now) watch.old.method watch.old.args) ≡ true }
-    requires subject { (S.header_of spec.now).subject ≡ S.subject }
-    ensures { OnOk result (SeesState (S.state spec.now) watch.old watch.new) }
-{
-    if watch.is_open() && touched.has(u64::from(watch.args().a)) {
-        watch.see(spec.answer(watch.method(), watch.args()))?;
-    }
-    Ok(())
-}
-
-/// Every open observer sees the specification's state too.
-fn see_all<S: Spec>(watches: &mut Vec<Watch>, spec: &S, touched: Touched) -> Result<(), AllocError>
-    requires observers { AreObservers (S.header_of spec.now) watches.old.items }
-    requires current { (c : ℕ) (seen : Seen) → slice_get watches.old.items c ≡ Some seen → seen.is_open ≡ true →
-        is_touched touched seen.args.a ≡ false → has_answer seen.answers (answer_in (S.state spec.now) seen.method seen.args) ≡ true }
-    requires subject { (S.header_of spec.now).subject ≡ S.subject }
-    ensures seen { OnOk result (AllSee (S.state spec.now) watches.old.items watches.new.items) }
-    ensures observers { OnOk result (AreObservers (S.header_of spec.now) watches.new.items) }
-    ensures current { OnOk result (AreCurrent (S.state spec.now) watches.new.items) }
-    ensures len { vec_len watches.new ≡ vec_len watches.old }
-{
-    for watch in watches.iter_mut() {
-        see_one(watch, spec, touched)?;
-    }
-    Ok(())
 }

@@ -20,6 +20,8 @@ const LOOKUP: Kind = Call(Method::MsLookup, Args { a: 5, b: 0, c: 0 });
 
 const APPEND: Kind = Call(Method::BuAppend, Args { a: 1, b: 65, c: 0 });
 
+const LENGTH: Kind = Call(Method::BuLength, Args { a: 1, b: 0, c: 0 });
+
 /// The entries of a log: each a caller and what it does.
 macro_rules! logged {
     ($($caller:literal $kind:expr),*) => {
@@ -333,6 +335,51 @@ fn verdicts_on_buffers(rt: HostRuntime) -> Result<(), Fail> {
 }
 
 /// The character 65 alone is the text 66.
+/// Observers that ask the same while others do. Each may reply what the states since its own call answer.
+#[test]
+fn verdicts_on_observers_that_overlap(rt: HostRuntime) -> Result<(), Fail> {
+    let header = Header::new(1, Subject::Buffers, 2, 4).ok_or("no header")?;
+    for replies in [[0, 1, 2], [1, 1, 2], [2, 2, 2]] {
+        let whole = accepted(18, 2, 3);
+        assert!(rt; judges_say::<BufferSpec>(rt.alloc(), header, &three_lengths(replies), whole)?);
+    }
+    let early = violation(18, Why::Observer(0));
+    assert!(rt; judges_say::<BufferSpec>(rt.alloc(), header, &three_lengths([0, 0, 2]), early)?);
+    let earlier = violation(19, Why::Observer(1));
+    assert!(rt; judges_say::<BufferSpec>(rt.alloc(), header, &three_lengths([0, 1, 1]), earlier)?);
+    for reply in [1, 2] {
+        let whole = accepted(16, 2, 2);
+        assert!(rt;
+            judges_say::<BufferSpec>(rt.alloc(), header, &length_behind_another(reply), whole)?
+        );
+    }
+    let dropped = violation(17, Why::Observer(0));
+    assert!(rt; judges_say::<BufferSpec>(rt.alloc(), header, &length_behind_another(0), dropped)?);
+    Ok(())
+}
+
+/// A call before the first append, one between the two, and one after both. Then they return in this order.
+fn three_lengths(replies: [u64; 3]) -> [Entry; 18] {
+    logged![
+        1 LENGTH,
+        0 APPEND, 0 BlockOpen, 0 Write(9, 65), 0 Write(8, 1), 0 BlockCommit, 0 Return(1),
+        2 LENGTH,
+        0 APPEND, 0 BlockOpen, 0 Write(10, 65), 0 Write(8, 2), 0 BlockCommit, 0 Return(1),
+        3 LENGTH, 1 Return(replies[0]), 2 Return(replies[1]), 3 Return(replies[2])
+    ]
+}
+
+/// A call before the first append returns, once another call asks the same. That one returns after the second append.
+fn length_behind_another(reply: u64) -> [Entry; 16] {
+    logged![
+        1 LENGTH,
+        0 APPEND, 0 BlockOpen, 0 Write(9, 65), 0 Write(8, 1), 0 BlockCommit, 0 Return(1),
+        2 LENGTH, 1 Return(0),
+        0 APPEND, 0 BlockOpen, 0 Write(10, 65), 0 Write(8, 2), 0 BlockCommit, 0 Return(1),
+        2 Return(reply)
+    ]
+}
+
 fn append_and_read(text: u64) -> [Entry; 8] {
     let read = Call(Method::BuRead, Args { a: 1, b: 0, c: 0 });
     logged![

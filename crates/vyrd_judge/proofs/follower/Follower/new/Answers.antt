@@ -31,8 +31,8 @@ returns-clause-taken_in g c =
     c.in_ok-new.ensures.followed c.in_ok-new.ensures.header
     (c.in_ok-new-2.ensures.words c.args.start.now c.requires.words) c.in_ok-new-2.ensures.header
     (c.in_ok-new-2.field-0.same_header ∙ c.in_ok-new-2.ensures.header) c.in_ok-new-3.ensures.queued
-    (ap g.S.Spec.made c.in_ok-new-4.ensures.spec ∙ c.requires.made) c.in_ok-new-4.ensures.closed
-    (subst (λ s. AreCurrent (g.S.Spec.state s) c.in_ok-new-4.field-0.watches.items) (sym c.in_ok-new-4.ensures.spec) c.in_ok-new-4.ensures.current)
+    (ap g.S.Spec.made c.in_ok-new-4.ensures.spec ∙ c.requires.made)
+    (subst (λ s. AreCurrent (g.S.Spec.state s) c.in_ok-new-4.field-0.watches.by_caller) (sym c.in_ok-new-4.ensures.spec) c.in_ok-new-4.ensures.current)
     c.in_ok-new-3.ensures.waiting (c.in_ok-new-2.ensures.first ∙ c.requires.words) c.in_ok-new-2.ensures.since refl refl refl
     (c.in_ok-new-2.ensures.specified ∙ c.in_ok-state.ensures ∙ ap g.S.Spec.state (sym c.in_ok-new-4.ensures.spec), c.in_ok-new-2.ensures.sound)
 

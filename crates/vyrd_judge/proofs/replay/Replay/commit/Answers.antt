@@ -1,9 +1,8 @@
-use Rattle.std.proofs.Common.{Ok, ap, sym, subst, ◌∙◌, arith}
+use Rattle.std.proofs.Common.{Ok, ap, sym, ◌∙◌, arith}
 use Rattle.std.specs.Prelude.{option_map}
 use Rattle.vyrd_base.specs.Amounts.{first_difference}
 use Rattle.vyrd_base.specs.Views.{view_of_words}
 use Rattle.vyrd_base.specs.declared.verdict.Why.TheVariants.{View}
-use Rattle.vyrd_judge.specs.Reached.{AreObservers}
 use Rattle.vyrd_judge.proofs.OutcomeLaws.{is_none}
 use Rattle.vyrd_judge.proofs.ReachedFaults.{by_next}
 use Rattle.vyrd_spec.specs.Touching.{is_touched, with_touched}
@@ -24,13 +23,9 @@ returns-in-Some-clause-leads g c = λ part rest is known.
     ∙ ap (λ h. option_map View (first_difference (view_of_words h c.args.views.now.first) (g.S.Spec.state c.step.new.self))) (sym c.requires.header)
     ∙ ap (option_map View) (sym (c.in_ok-key.ensures.difference part rest is makes) ∙ c.in-Some.is)
 
-pub see_all-requires-clause-observers : goal.see_all-requires-clause-observers
-see_all-requires-clause-observers g c =
-    subst (λ h. AreObservers h c.args.self.now.watches.items) (sym (c.step.ensures.header ∙ c.args.self.now.spec_header)) c.requires.observers
-
 pub see_all-requires-clause-current : goal.see_all-requires-clause-current
 see_all-requires-clause-current g c = λ d seen here is_open none.
-    still_current c.args.method c.args.args c.args.reply _ _ c.args.self.now.watches.items (c.in_ok-step.ensures.allowed (ap Ok c.if-not-branch.false))
+    still_current c.args.method c.args.args c.args.reply _ _ c.args.self.now.watches.by_caller (c.in_ok-step.ensures.allowed (ap Ok c.if-not-branch.false))
     c.requires.current d seen here is_open (ap (λ t. is_touched t seen.args.a) (sym c.touched-touched.ensures) ∙ none)
 
 pub returns-clause-leads : goal.returns-clause-leads
@@ -44,7 +39,6 @@ returns-clause-leads g c = λ part rest is known.
           ∙ sym (c.in_ok-key.ensures.difference part rest is makes) ∙ is_none _ c.in_default.not-Some;
       count = omega (arith, c.in_ok-step.ensures.counted (ap Ok c.if-not-branch.false));
       seen = c.in_ok-see_all.ensures.seen;
-      observers = subst (λ h. AreObservers h c.see_all.new.watches.items) (c.step.ensures.header ∙ c.args.self.now.spec_header) c.in_ok-see_all.ensures.observers;
       current = c.in_ok-see_all.ensures.current;
       words = c.in_ok-key.ensures.first part rest is;
       since = c.in_ok-key.ensures.since part rest is;

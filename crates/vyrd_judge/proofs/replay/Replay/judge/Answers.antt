@@ -1,7 +1,7 @@
 use Rattle.std.proofs.Common.{ap, sym, subst, ◌∙◌}
 use Rattle.vyrd_judge.specs.declared.waiting.Event.TheVariants.{Commits}
 use Rattle.vyrd_judge.specs.Judged.{Judged}
-use Rattle.vyrd_judge.proofs.JudgingLaws.{begins_caller, begins_may, begins_observes, commits_may, commits_mutates, returns_caller, steps_few, judged_observers, judged_current, judged_begins, watch_there, judged_answered, judged_unanswered, judged_waits, judged_commits}
+use Rattle.vyrd_judge.proofs.JudgingLaws.{begins_caller, begins_may, begins_observes, commits_may, commits_mutates, returns_caller, steps_few, judged_current, judged_begins, watch_there, judged_answered, judged_unanswered, judged_waits, judged_commits}
 use Rattle.vyrd_judge.proofs.replay.Replay.judge.Goals as goal
 
 pub begin-requires-clause-caller : goal.begin-requires-clause-caller
@@ -22,23 +22,20 @@ commit-requires-clause-mutates g c = commits_mutates c.in-Commits.is c.requires.
 pub commit-requires-clause-few : goal.commit-requires-clause-few
 commit-requires-clause-few g c = steps_few c.requires.may
 
-pub commit-requires-clause-observers : goal.commit-requires-clause-observers
-commit-requires-clause-observers g c = judged_observers c.requires.may
-
 pub commit-requires-clause-current : goal.commit-requires-clause-current
 commit-requires-clause-current g c = judged_current c.requires.may
 
 pub end-requires : goal.end-requires
 end-requires g c = record { caller = returns_caller c.in-Returns.is c.requires.may }
 
-pub returns-in-Begins-clause-gives : goal.returns-in-Begins-clause-gives
-returns-in-Begins-clause-gives g c = λ starting log xs j known.
+pub returns-in_ok-begin-in-Begins-clause-gives : goal.returns-in_ok-begin-in-Begins-clause-gives
+returns-in_ok-begin-in-Begins-clause-gives g c = λ starting log xs j known.
     let h = c.args.self.now.header in
     let old = c.args.self.now in
-    let done = judged_begins c.in-Begins.is (sym old.watches.ok.0 ∙ old.callers) j in
+    let done = judged_begins c.in-Begins.is old.callers j in
     let same_spec = c.begin.ensures.spec in
-    subst (λ s. Judged h starting log (g.S.Spec.state s) (g.S.Spec.made s) c.begin.new.self.watches.items xs c.args.views.now.first c.args.views.now.since) (sym same_spec)
-    (subst (λ ws. Judged h starting log (g.S.Spec.state old.spec) (g.S.Spec.made old.spec) ws xs c.args.views.now.first c.args.views.now.since) (sym c.begin.ensures.watches) done)
+    subst (λ s. Judged h starting log (g.S.Spec.state s) (g.S.Spec.made s) c.begin.new.self.watches.by_caller xs c.args.views.now.first c.args.views.now.since) (sym same_spec)
+    (subst (λ ws. Judged h starting log (g.S.Spec.state old.spec) (g.S.Spec.made old.spec) ws xs c.args.views.now.first c.args.views.now.since) (sym c.in_ok-begin-in-Begins.ensures.watches) done)
 
 pub returns-in-None-clause-gives : goal.returns-in-None-clause-gives
 returns-in-None-clause-gives g c = λ starting log xs j known.
@@ -46,7 +43,7 @@ returns-in-None-clause-gives g c = λ starting log xs j known.
 
 pub returns-in-Some-clause-gives : goal.returns-in-Some-clause-gives
 returns-in-Some-clause-gives g c = λ starting log xs j known.
-    judged_commits (g.S.Spec.state c.commit.new.self.spec) (g.S.Spec.made c.commit.new.self.spec) c.commit.new.self.watches.items c.commit.new.views.first c.commit.new.views.since
+    judged_commits (g.S.Spec.state c.commit.new.self.spec) (g.S.Spec.made c.commit.new.self.spec) c.commit.new.self.watches.by_caller c.commit.new.views.first c.commit.new.views.since
     c.commit.result (c.in-Commits.is ∙ ap (Commits c.in-Commits.method c.in-Commits.args) c.in-Some.is) j
     (λ part rest is. c.commit.ensures.leads part rest is known)
 
@@ -54,13 +51,13 @@ pub returns-then-end-clause-gives : goal.returns-then-end-clause-gives
 returns-then-end-clause-gives g c = λ starting log xs j known.
     let h = c.args.self.now.header in
     let old = c.args.self.now in
-    let seen = watch_there c.in-Returns.is (sym old.watches.ok.0 ∙ old.callers) j in
+    let seen = watch_there c.in-Returns.is old.callers j in
     let done = judged_answered seen.0 c.in-Returns.is seen.1 (sym (c.end.ensures.answered seen.0 seen.1) ∙ c.if-end.true) j in
-    subst (λ s. Judged h starting log (g.S.Spec.state s) (g.S.Spec.made s) c.end.new.self.watches.items xs c.args.views.now.first c.args.views.now.since) (sym c.end.ensures.spec)
-    (subst (λ ws. Judged h starting log (g.S.Spec.state old.spec) (g.S.Spec.made old.spec) ws xs c.args.views.now.first c.args.views.now.since) (sym (c.end.ensures.watches seen.0 seen.1)) done)
+    subst (λ s. Judged h starting log (g.S.Spec.state s) (g.S.Spec.made s) c.end.new.self.watches.by_caller xs c.args.views.now.first c.args.views.now.since) (sym c.end.ensures.spec)
+    (subst (λ ws. Judged h starting log (g.S.Spec.state old.spec) (g.S.Spec.made old.spec) ws xs c.args.views.now.first c.args.views.now.since) (sym c.end.ensures.watches) done)
 
 pub returns-else-end-clause-gives : goal.returns-else-end-clause-gives
 returns-else-end-clause-gives g c = λ starting log xs j known.
     let old = c.args.self.now in
-    let seen = watch_there c.in-Returns.is (sym old.watches.ok.0 ∙ old.callers) j in
+    let seen = watch_there c.in-Returns.is old.callers j in
     judged_unanswered seen.0 c.in-Returns.is seen.1 (sym (c.end.ensures.answered seen.0 seen.1) ∙ c.if-end.false) j
