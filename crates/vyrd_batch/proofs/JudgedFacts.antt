@@ -7,7 +7,8 @@ use Rattle.vyrd_base.specs.declared.verdict.Verdict.{Verdict}
 use Rattle.vyrd_base.specs.TextVerdicts.{text_verdict}
 use Rattle.vyrd_batch.specs.declared.span.Span.{Span}
 use Rattle.vyrd_batch.specs.Batches.{bytes_of}
-use Rattle.vyrd_batch.specs.BatchAnswers.{most_lines, verdicts_of}
+use Rattle.vyrd_batch.specs.BatchAnswers.{verdicts_of}
+use Rattle.vyrd_check.specs.Checking.{most_lines}
 
 -- where each answer shows what it should if it is one, and all are, they all show it
 all_right : {X Y Z : Type 0} (E : Type 0) (show : Y → Z) (f : X → Z) (xs : List X) (ys : List Y)

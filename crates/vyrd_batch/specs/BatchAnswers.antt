@@ -7,10 +7,7 @@ use Rattle.vyrd_base.specs.declared.verdict.Verdict.TheVariants.{Violation, Malf
 use Rattle.vyrd_base.specs.Spelling.{ended_line}
 use Rattle.vyrd_base.specs.TextVerdicts.{text_verdict}
 use Rattle.vyrd_base.specs.VerdictText.{verdict_text}
-
--- how many lines a log may have
-abbrev pub most_lines : ℕ
-most_lines = 268435456
+use Rattle.vyrd_check.specs.Checking.{most_lines}
 
 -- the verdicts about logs, each as a whole input
 abbrev pub verdicts_of : List (List ℕ) → List Verdict

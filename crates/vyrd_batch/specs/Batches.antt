@@ -18,7 +18,7 @@ most_bytes = 16777216
 abbrev pub logs_end_within : ℕ
 logs_end_within = 67108864
 
--- the first line, the line before a log of so many bytes, and the last line
+-- the first line, the line before a log of `size` bytes, and the last line
 abbrev pub first_word : List ℕ
 first_word = codes "batch"
 
@@ -47,7 +47,7 @@ abbrev pub size_in : List ℕ → Option ℕ
 size_in line = let size = number_of (drop 4 line) in
     if nat_le size most_bytes && bytes_eq (log_word size) line then Some size else None
 
--- so many bytes from a place on, where there are so many behind it, and they lie within the limit
+-- a span of `size` bytes from a place on, where that many follow, and they lie within the limit
 abbrev pub span_of : ℕ → List ℕ → Option ℕ → Option Span
 span_of first rest None = None
 span_of first rest (Some size) =
@@ -62,7 +62,7 @@ abbrev pub span_before : Span → Result (List Span) ℕ → Result (List Span) 
 span_before span (Ok spans) = Ok (span ∷ spans)
 span_before span (Err log) = Err log
 
--- The logs from a place of the input on, with these bytes from there on. So many came before, and so many more may come.
+-- The logs from a place of the input on, with these bytes from there on. `log` logs came before, and at most `more` may come.
 unfoldable pub logs_from : (more log place : ℕ) → List ℕ → Result (List Span) ℕ
 logs_from zero log place bytes = if bytes_eq bytes last_line then Ok [] else Err log
 logs_from (suc more) log place bytes = if bytes_eq bytes last_line then Ok [] else elim (log_at place bytes) as (λ _. Result (List Span) ℕ) [
@@ -94,7 +94,7 @@ logs_of input (Err log) = Err log
 abbrev pub batch_logs : List ℕ → Result (List (List ℕ)) ℕ
 batch_logs input = logs_of input (batch_reading input)
 
--- whether a span lies within so many bytes
+-- whether a span lies within `len` bytes
 abbrev pub LiesWithin : ℕ → Span → Type 0
 LiesWithin len span = (span.first ≤ span.past) × (span.past ≤ len)
 

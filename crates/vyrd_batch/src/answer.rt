@@ -82,8 +82,8 @@ pub fn write_refusal(log: u64, out: &mut Vec<u8>) -> Result<(), AllocError>
     out.extend_from_slice(line.as_slice())
 }
 
-/// The status that the verdicts about a batch's logs end with: 1 where some is a violation, else 2 where some is malformed,
-/// else 0.
+/// The status that the verdicts about a batch's logs end with: 1 where some is a violation, otherwise 2 where some is malformed,
+/// and otherwise 0.
 pub fn status_of(verdicts: &[Verdict]) -> u8
     ensures { result ≡ batch_status verdicts.now }
 {

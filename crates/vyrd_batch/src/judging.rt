@@ -4,7 +4,8 @@ ghost use Rattle.std.specs.Prelude.{◌≡◌, length, map, flat_map, IfOk};
 ghost use Rattle.std.specs.List.{AllByRecursion};
 ghost use Rattle.vyrd_base.specs.TextVerdicts.{text_verdict};
 ghost use Rattle.vyrd_batch.specs.Batches.{LiesWithin, bytes_of};
-ghost use Rattle.vyrd_batch.specs.BatchAnswers.{verdicts_of, most_lines};
+ghost use Rattle.vyrd_batch.specs.BatchAnswers.{verdicts_of};
+ghost use Rattle.vyrd_check.specs.Checking.{most_lines};
 
 use crate::parts::{part_weight, parts_of};
 use crate::span::Span;

@@ -4,7 +4,7 @@ ghost use Rattle.std.specs.Prelude.{◌≡◌, ◌≤◌, ◌++◌, ℕ, List, l
 ghost use Rattle.vyrd_batch.specs.Batches.{batch_reading, batch_logs, batch_of, FitBatch};
 ghost use Rattle.vyrd_batch.specs.LongBatches.{longest_batch_input};
 
-/// So many bytes settle what an input says as a batch, whatever follows.
+/// Its first `longest_batch_input` bytes settle what an input says as a batch, whatever follows.
 pub fn long_inputs_are_settled()
     ensures { (bytes more : List ℕ) → longest_batch_input ≤ length bytes → batch_reading (bytes ++ more) ≡ batch_reading bytes }
 {}

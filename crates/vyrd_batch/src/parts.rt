@@ -47,7 +47,7 @@ fn weight_of(span: Span) -> usize {
     span.past.saturating_sub(span.first).saturating_add(WEIGHT)
 }
 
-/// How much a part weighs where the bytes and the logs make so many parts.
+/// How much a part weighs where the bytes and the logs make this many parts.
 pub fn part_weight(bytes: usize, logs: usize, parts: usize) -> usize
     requires { 0 < parts }
 {

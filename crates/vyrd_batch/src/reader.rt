@@ -21,7 +21,7 @@ const LOGS_END_WITHIN: usize = 67_108_864;
 
 /// Where the logs stand in the bytes of a batch, in their order.
 ///
-/// `Refused` comes exactly where the bytes are no batch, with the number of the first log that isn't framed, counted from 0.
+/// `Refused` comes exactly when the bytes are no batch, with the number of the first log that isn't framed, counted from 0.
 /// `Memory` may come at any time. The logs' own bytes aren't looked at. The memory is that of the spans.
 pub fn read_batch(alloc: Global, bytes: &[u8]) -> Result<Vec<Span>, BatchFault>
     ensures spans { IfOk result (λ spans. batch_reading bytes.now ≡ Ok spans.items) }
@@ -98,7 +98,7 @@ fn size_in(line: &[u8]) -> Option<usize>
     in_range(size)
 }
 
-/// The size, where a log may have so many bytes.
+/// The size, where a log may have that many bytes.
 fn in_range(size: u32) -> Option<usize>
     ensures { (line : List ℕ) → line ≡ log_word size → result ≡ size_in line }
 {

@@ -11,10 +11,14 @@ use Rattle.vyrd_text.specs.Readers.{ReaderState, HasRead}
 use Rattle.vyrd_judge.specs.Following.{JudgeView, HasFollowed}
 use Rattle.vyrd_check.specs.LogReadings.{read_so_far}
 
+-- how many lines a log may have
+abbrev pub most_lines : ℕ
+most_lines = 268435456
+
 -- how many lines a log may have at most, given as the reader's limit
 pub record IsLimit (max : ℕ) : Type 0 where
   pub low : 1 ≤ max
-  pub high : max ≤ 268435456
+  pub high : max ≤ most_lines
 
 -- what is wrong with the starting words and entries that were read, and with their end where
 -- `end` was read

@@ -3,7 +3,7 @@
 ghost use Rattle.std.specs.Prelude.{◌≡◌, ◌++◌, ◌≤◌, ℕ, List, [], None, true, false, IfOk, OnOk};
 ghost use Rattle.std.specs.Result.{is_err};
 ghost use Rattle.vyrd_base.specs.TextVerdicts.{text_verdict, text_verdict_so_far};
-ghost use Rattle.vyrd_check.specs.Checking.{HasChecked};
+ghost use Rattle.vyrd_check.specs.Checking.{HasChecked, most_lines};
 
 use crate::text_judge::TextJudge;
 use std::alloc::{AllocError, Global};
@@ -51,7 +51,7 @@ impl Checker {
     /// 268,435,456. It takes no memory.
     pub fn new(alloc: Global, max_lines: u64) -> Checker
         requires low { 1 ≤ max_lines }
-        requires high { max_lines ≤ 268435456 }
+        requires high { max_lines ≤ most_lines }
         ensures checked { HasChecked result [] }
         ensures limit { result.kept.reader.max_lines ≡ max_lines }
         ensures so_far { result.so_far ≡ None }
@@ -132,7 +132,7 @@ impl Checker {
 /// nothing is known of the log.
 pub fn verdict_of(alloc: Global, max_lines: u64, bytes: &[u8]) -> Result<Verdict, AllocError>
     requires low { 1 ≤ max_lines }
-    requires high { max_lines ≤ 268435456 }
+    requires high { max_lines ≤ most_lines }
     ensures { IfOk result (λ v. v ≡ text_verdict max_lines bytes.now) }
 {
     let mut checker = Checker::new(alloc, max_lines);

@@ -34,13 +34,13 @@ abbrev pub since_of : List ℕ → List (ℕ × ℕ) → List (List (ℕ × ℕ)
 since_of [] writes = []
 since_of (n ∷ ns) writes = split_at ns (drop n writes)
 
--- further writes at the end of the list behind which so many stand
+-- further writes at the end of the list behind which that many stand
 abbrev pub with_part : ℕ → List (ℕ × ℕ) → List (List (ℕ × ℕ)) → List (List (ℕ × ℕ))
 with_part behind writes [] = []
 with_part behind writes (part ∷ parts) =
     if length parts == behind then (part ++ writes) ∷ parts else part ∷ with_part behind writes parts
 
--- the first words, where so many lists of writes stand behind the further ones
+-- the first words, where that many lists of writes stand behind the further ones
 abbrev pub first_with : ℕ → List (ℕ × ℕ) → List ℕ → List (List (ℕ × ℕ)) → List ℕ
 first_with behind writes first since = if length since == behind then with_writes first writes else first
 

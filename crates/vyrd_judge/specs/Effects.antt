@@ -20,7 +20,7 @@ effect_parts before earlier (e ∷ later) =
     then (effects_at earlier e.caller e.kind later ++ before) ∷ effect_parts [] (e ∷ earlier) later
     else effect_parts (effects_at earlier e.caller e.kind later ++ before) (e ∷ earlier) later
 
--- further effects, in the part behind which so many stand
+-- further effects, in the part behind which that many stand
 abbrev pub with_effects : ℕ → List (ℕ × ℕ) → List (List (ℕ × ℕ)) → List (List (ℕ × ℕ))
 with_effects behind effects [] = []
 with_effects behind effects (part ∷ parts) =
@@ -63,7 +63,7 @@ inner_number c [] = 0
 inner_number c (e ∷ earlier) =
     if e.caller == c then number_at e.kind (commit_count earlier) (inner_number c earlier) else inner_number c earlier
 
--- how many parts stand behind that of the commit with this number, where so many commits were made
+-- how many parts stand behind that of the commit with this number, where `commits` of them were made
 abbrev pub parts_since : ℕ → ℕ → ℕ
 parts_since commits zero = 0
 parts_since commits (suc number) = commits - number

@@ -20,14 +20,14 @@ pub record HasWords (shadow : Kept) (inner : List ℕ) (starting : List StartWor
 pub record Keeps (h : Header) (earlier : List Entry) (e : Entry) : Type 0 where
   pub rules : broken_rule h earlier e ≡ None
 
--- the entry keeps the rules after some entries for which what is kept stands, and among which so many commits stand
+-- the entry keeps the rules after some entries for which what is kept stands, and among which that many commits stand
 abbrev pub MayFollow : Kept → List ℕ → Entry → ℕ → Type 0
 MayFollow shadow inner e commits = ∥ ((starting : List StartWord) × (earlier : List Entry) × HasWords shadow inner starting earlier
     × Keeps shadow.header earlier e × (commits ≡ commit_count earlier)) ∥₁
 
 -- The entry was taken in: what is kept stands for the entries with it. Its effects are among the writes since the commits that
--- wait: at the end of those between two commits, where a lone commit stands in the block that it ends, and else at the end of
--- all. After a commit no write has taken effect.
+-- wait: at the end of those between two commits, where a lone commit stands in the block that it ends, and otherwise at the end
+-- of all. After a commit no write has taken effect.
 pub record HasTaken (shadow : Kept) (inner : List ℕ) (old new : Cuts) (starting : List StartWord) (e : Entry) (earlier : List Entry) : Type 0 where
   pub words : HasWords shadow inner starting (e ∷ earlier)
   pub writes : List (ℕ × ℕ)

@@ -25,7 +25,7 @@ use Rattle.vyrd_judge.specs.Reached.{Reached, AreCurrent, AllSee}
 
 -- All entries before some place are judged, and none of them is a fault; those from it on that are judged wait, and so do the
 -- words at its commits. This stands however the log goes on: a commit that is judged has returned, and so its block has ended and
--- its effects are known. The state is that at the place, after so many steps.
+-- its effects are known. The state is that at the place, after `made` steps.
 pub record Judged (h : Header) (starting : List StartWord) (log : List Entry) (state : Amounts) (made : ℕ) (watches : List Seen)
     (queue : List Waiting) (first : List ℕ) (since : List (List (ℕ × ℕ))) : Type 0 where
   pub earlier : List Entry

@@ -36,7 +36,7 @@ pub record IsUnreturned (callers : List Caller) (taken : ℕ) (earlier : List En
   pub committed : has_committed commit.caller earlier ≡ true
   pub number : (caller : Caller) → slice_get callers commit.caller ≡ Some caller → caller.commit ≡ taken + i
 
--- What is kept of callers and their commits stands for these entries, given the newest first. So many entries no longer wait.
+-- What is kept of callers and their commits stands for these entries, given the newest first. `taken` of them no longer wait.
 pub record HasQueued (h : Header) (waiting : List Waiting) (taken : ℕ) (callers : List Caller) (earlier : List Entry) : Type 0 where
   pub called : (c : ℕ) (k : Called) → c < h.callers → open_call c earlier ≡ Some k → IsCaller callers c k
   pub pending : (c : ℕ) (k : Called) (caller : Caller) → c < h.callers → open_call c earlier ≡ Some k → has_committed c earlier ≡ true

@@ -18,7 +18,7 @@ use vyrd_base::{Entry, Header, Rule, Stamped, StartWord, Subject, Verdict};
 use vyrd_spec::{BufferSpec, CacheSpec, MultisetSpec, TreeSpec};
 
 /// A judge that follows a log of any structure, by the specification of its header's subject. It is seen as the [`Judge`] of
-/// that specification, with the same calls, the same costs and the same answer to want of memory.
+/// that specification, with the same calls, the same costs and the same answer where there is no memory.
 pub struct AnyJudge {
     judge: JudgeOf,
 }
@@ -67,7 +67,7 @@ impl AnyJudge {
         Ok(AnyJudge { judge })
     }
 
-    /// A judge of a log that begins with these words, which has followed no entry. It is `None` exactly where the words stand for
+    /// A judge of a log that begins with these words, which has followed no entry. It is `None` exactly when the words stand for
     /// no state of the specification.
     pub fn start_from(
         alloc: Global,
@@ -188,7 +188,7 @@ impl AnyJudge {
         }
     }
 
-    /// The verdict where the text breaks a rule on this line: the one that stands, or else that break.
+    /// The verdict where the text breaks a rule on this line: the one that stands, or otherwise that break.
     pub fn stop(&self, line: u64, rule: Rule) -> Result<Verdict, AllocError>
         ensures verdict { (starting : List StartWord) (log : List Entry) → HasFollowed self.now starting log →
             IfOk result (λ v. v ≡ unwrap_or (verdict_so_far self.now.kept.header starting log) (Malformed line rule)) }

@@ -100,7 +100,7 @@ impl<S: Spec> Follower<S> {
     }
 
     /// Takes in one more entry, and judges what can be judged then. The answer is the verdict that stands with it. After a
-    /// verdict nothing is known of what is kept, and after want of memory neither.
+    /// verdict nothing is known of what is kept, and nothing after memory has run out.
     #[inline(always)]
     pub fn take_in(&mut self, entry: Entry) -> Result<Option<Verdict>, AllocError>
         requires few { self.old.entries < 2 ^ 62 }

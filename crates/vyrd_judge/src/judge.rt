@@ -20,7 +20,7 @@ use vyrd_spec::Spec;
 /// commit by the reply that its execution returns later. So a commit whose execution never returns is no fault, and neither is
 /// anything after it.
 ///
-/// The only error is want of memory, and then nothing is known of the log.
+/// The only error is that there is no memory, and then nothing is known of the log.
 ///
 /// Time: each entry is gone over a few times, once more for each call that looks forward over it to its caller's next return, and
 /// once or twice more for each block that it stands in, whose writes are looked up from its open to its end. An entry stands

@@ -1,6 +1,6 @@
 //! What an observer that has returned leaves behind.
 
-ghost use Rattle.std.specs.Prelude.{◌≡◌, ◌≤◌, ◌<◌, ℕ, List, Option, Some, IfSome, map, length, slice_get};
+ghost use Rattle.std.specs.Prelude.{◌≡◌, ◌≤◌, ◌<◌, ℕ, Option, Some, IfSome, map, length, slice_get};
 ghost use Rattle.vyrd_base.specs.declared.header.Header.{Header};
 ghost use Rattle.vyrd_judge.specs.declared.watch.Watch.{Watch};
 ghost use Rattle.vyrd_judge.specs.Trails.{Asked, AreOn, AreAsking, moved, seen_by};

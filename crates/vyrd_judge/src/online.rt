@@ -35,7 +35,7 @@ use vyrd_spec::Spec;
 /// while a commit waits, so that memory grows with the log only while some execution stays open; and so do the answers to what
 /// open observers ask, which are kept once for all that ask the same.
 ///
-/// Want of memory may be met in [`Judge::feed`] alone. From then on `feed`, `finish` and `stop` answer it.
+/// Memory may run out in [`Judge::feed`] alone. From then on `feed`, `finish` and `stop` answer it.
 pub struct Judge<S: Spec> {
     follower: Follower<S>,
     so_far: Option<Verdict>,
@@ -80,7 +80,7 @@ impl<S: Spec> Judge<S> {
         Judge::begin(alloc, header, &[], &words, spec)
     }
 
-    /// A judge of a log that begins with these words, which has followed no entry. It is `None` exactly where the words stand for
+    /// A judge of a log that begins with these words, which has followed no entry. It is `None` exactly when the words stand for
     /// no state of the specification. It takes memory in proportion to the header's words and callers.
     pub fn start_from(
         alloc: Global,
@@ -221,7 +221,7 @@ impl<S: Spec> Judge<S> {
         }
     }
 
-    /// The verdict where the text breaks a rule on this line: the one that stands, or else that break.
+    /// The verdict where the text breaks a rule on this line: the one that stands, or otherwise that break.
     pub fn stop(&self, line: u64, rule: Rule) -> Result<Verdict, AllocError>
         ensures verdict { (starting : List StartWord) (log : List Entry) → HasFollowed self.now starting log →
             IfOk result (λ v. v ≡ unwrap_or (verdict_so_far self.now.kept.header starting log) (Malformed line rule)) }

@@ -1,6 +1,6 @@
 //! The questions that observers ask.
 
-ghost use Rattle.std.specs.Prelude.{◌≡◌, ◌≤◌, ◌<◌, ℕ, true, false, List, Option, Some, map, length, slice_get, vec_len, IfOk, OnOk, OnErr, IfSome};
+ghost use Rattle.std.specs.Prelude.{◌≡◌, ◌<◌, true, false, List, Option, Some, map, slice_get, IfOk, OnOk, OnErr, IfSome};
 ghost use Rattle.vyrd_base.specs.declared.header.Header.{Header};
 ghost use Rattle.vyrd_base.specs.Subjects.{is_observer};
 ghost use Rattle.vyrd_judge.specs.declared.watch.Watch.{Watch};

@@ -150,7 +150,7 @@ impl Views {
         Ok(())
     }
 
-    /// The changed words have these values at a commit already, behind which so many lists of writes stand: their writes take
+    /// The changed words have these values at a commit already, behind which that many lists of writes stand: their writes take
     /// effect there, after all others. Where no such commit waits nothing happens. It costs time in what took effect since then.
     pub fn late(&mut self, behind: usize, changed: &[u32], words: &[u64]) -> Result<(), AllocError>
         requires some { 0 < behind }
@@ -349,7 +349,7 @@ fn catch_up(
     }
 }
 
-/// The place behind the writes of the commit with this index. Those of all commits are so many.
+/// The place behind the writes of the commit with this index. `all` is how many writes all commits have.
 fn place_behind(counts: &VecDeque<usize>, all: usize, index: usize) -> usize
     requires index { index < length counts.now.items }
     requires all { sum counts.now.items ≡ all }

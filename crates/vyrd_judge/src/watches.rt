@@ -81,8 +81,8 @@ impl Watches {
         Ok(())
     }
 
-    /// An observer returns. It says whether some state since its call answers the reply. It takes time in proportion to the callers
-    /// and to the answers of its trail.
+    /// An observer returns. It says whether some state since its call answers the reply. It takes time in proportion to the
+    /// callers and to the answers of its trail.
     pub fn end(&mut self, caller: u32, reply: u64) -> bool
         requires caller { caller < length self.old.by_caller }
         ensures answered { (seen : Seen) → slice_get self.old.by_caller caller ≡ Some seen → result ≡ has_answer seen.answers reply }
@@ -101,8 +101,8 @@ impl Watches {
         }
     }
 
-    /// Every open observer sees the specification's state too, which differs from the one before in the touched keys alone. It takes
-    /// time in proportion to the different questions that are asked.
+    /// Every open observer sees the specification's state too, which differs from the one before in the touched keys alone. It
+    /// takes time in proportion to the different questions that are asked.
     pub fn see_all<S: Spec>(&mut self, spec: &S, touched: Touched) -> Result<(), AllocError>
         requires header { S.header_of spec.now ≡ self.old.header }
         requires subject { self.old.header.subject ≡ S.subject }
@@ -118,7 +118,7 @@ impl Watches {
     }
 }
 
-/// So many callers, none of which has an open observer.
+/// This many callers, none of which has an open observer.
 fn no_watches(alloc: Global, callers: usize) -> Result<Vec<Option<Watch>>, AllocError>
     ensures { IfOk result (λ watches. watches.items ≡ replicate callers None) }
 {

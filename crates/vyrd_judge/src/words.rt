@@ -57,7 +57,7 @@ impl Words {
         })
     }
 
-    /// Takes in an entry that keeps the rules, behind so many commits. A commit waits from then on.
+    /// Takes in an entry that keeps the rules, behind this many commits. A commit waits from then on.
     #[inline(always)]
     pub fn follow(&mut self, entry: Entry, commits: u64) -> Result<(), AllocError>
         requires may { MayFollow self.old.shadow self.old.inner.items entry commits }
@@ -123,7 +123,7 @@ impl Words {
         Ok(())
     }
 
-    /// What effects have changed was so at a commit already, behind which so many lists of writes stand.
+    /// What effects have changed was so at a commit already, behind which that many lists of writes stand.
     fn pass_back(&mut self, behind: usize) -> Result<(), AllocError>
         requires some { 0 < behind }
         requires sound { self.old.views.refused ≡ false }

@@ -3,6 +3,7 @@
 ghost use Rattle.std.specs.Prelude.{◌≡◌, ◌≤◌, ◌<◌, ◌⊎◌, true, [], None, IfOk};
 ghost use Rattle.vyrd_base.specs.Devices.{HasRisen, IsAtEnd};
 ghost use Rattle.vyrd_base.specs.VerdictText.{verdict_text};
+ghost use Rattle.vyrd_check.specs.Checking.{most_lines};
 ghost use Rattle.vyrd_program.specs.Outputs.{status_of};
 ghost use Rattle.vyrd_program.specs.Checks.{IsJudged, IsSettled, IsUnsettled, IsReadNoFurther};
 
@@ -16,7 +17,7 @@ use vyrd_text::write_verdict;
 /// takes no more of the source once the verdict stands.
 pub fn check<S: Source>(alloc: Global, max_lines: u64, source: &mut S) -> Answer
     requires low { 1 ≤ max_lines }
-    requires high { max_lines ≤ 268435456 }
+    requires high { max_lines ≤ most_lines }
     ensures statuses { (result.status ≤ 2) ⊎ (result.status ≡ 4) ⊎ (result.status ≡ 6) }
     ensures verdict { result.status ≤ 2 → IsJudged max_lines (S.rest source.old) result.status result.text.items }
     ensures consumed { result.status ≤ 2 → IsSettled max_lines (S.rest source.old) (S.rest source.new) }

@@ -2,6 +2,7 @@
 
 ghost use Rattle.std.specs.Prelude.{◌≡◌, ◌≢◌, ◌≤◌, ◌⊎◌, true, None};
 ghost use Rattle.vyrd_base.specs.Devices.{HasRisen, IsAtEnd};
+ghost use Rattle.vyrd_check.specs.Checking.{most_lines};
 ghost use Rattle.vyrd_program.specs.Checks.{IsAnswered, IsAnsweredInPart, IsSettled, IsUnsettled, IsReadNoFurther, HasRoomForAnswer};
 
 use crate::check::check;
@@ -21,7 +22,7 @@ pub fn check_limited<S: Source, K: Sink>(
     sink: &mut K,
 ) -> Ended
     requires low { 1 ≤ max_lines }
-    requires high { max_lines ≤ 268435456 }
+    requires high { max_lines ≤ most_lines }
     ensures statuses { (result.status ≤ 6) × (result.status ≢ 3) }
 
     // 0, 1 and 2: it has written the line of the verdict of all that the source held, and the status is that verdict's.

@@ -2,6 +2,7 @@
 
 ghost use Rattle.std.specs.Prelude.{◌≡◌, ◌≢◌, ◌≤◌, ◌⊎◌, true, ℕ, [], Some, None, IfSome, length};
 ghost use Rattle.vyrd_base.specs.Devices.{HasRisen, IsAtEnd};
+ghost use Rattle.vyrd_check.specs.Checking.{most_lines};
 ghost use Rattle.vyrd_program.specs.declared.show.Show.{Show};
 ghost use Rattle.vyrd_program.specs.declared.form.Form.TheVariants.{Check, Step, Run, Gen, Movers, Batch};
 ghost use Rattle.vyrd_work.specs.LongInputs.{longest_input};
@@ -78,15 +79,15 @@ pub fn vyrd<R: Threads + Wait + Sync, S: Source, K: Sink, G: Gate>(
 
     // `check`, 0, 1 and 2: it has written the line of the verdict of all that the source held, and the status is that verdict's.
     ensures verdict { form_said words.now ≡ Some Check → result.status ≤ 2 →
-        IsAnswered 268435456 (S.rest source.old) result.status (K.taken sink.old) (K.taken sink.new) }
+        IsAnswered most_lines (S.rest source.old) result.status (K.taken sink.old) (K.taken sink.new) }
     ensures check_statuses { form_said words.now ≡ Some Check → (result.status ≤ 6) × (result.status ≢ 3) }
 
     // `check`: what it takes of the source. It accepts at the source's end alone, and a read that fails behind a verdict is
     // never made.
-    ensures consumed { form_said words.now ≡ Some Check → result.status ≤ 2 → IsSettled 268435456 (S.rest source.old) (S.rest source.new) }
+    ensures consumed { form_said words.now ≡ Some Check → result.status ≤ 2 → IsSettled most_lines (S.rest source.old) (S.rest source.new) }
     ensures accepted_at_end { form_said words.now ≡ Some Check → result.status ≡ 0 → IsAtEnd (S.rest source.new) }
-    ensures no_further { form_said words.now ≡ Some Check → IsReadNoFurther 268435456 (S.rest source.old) (S.rest source.new) }
-    ensures unsettled { form_said words.now ≡ Some Check → result.status ≡ 4 → IsUnsettled 268435456 (S.rest source.old) (S.rest source.new) }
+    ensures no_further { form_said words.now ≡ Some Check → IsReadNoFurther most_lines (S.rest source.old) (S.rest source.new) }
+    ensures unsettled { form_said words.now ≡ Some Check → result.status ≡ 4 → IsUnsettled most_lines (S.rest source.old) (S.rest source.new) }
 
     // `step`, 0, 1, 2, 7 and 8: it has written the answer to all that the source held, which has the status and the run.
     ensures stepped { (show : Show) → form_said words.now ≡ Some (Step show) → IsStepStatus result.status →
@@ -157,7 +158,7 @@ pub fn vyrd<R: Threads + Wait + Sync, S: Source, K: Sink, G: Gate>(
     ensures write_failures_alone { (K.faults sink.new ≡ K.faults sink.old) ⊎ (result.status ≡ 5) }
     ensures write_fault_stops { result.status ≡ 5 → K.taken sink.new ≡ K.left_off sink.new }
     ensures write_fault_check { result.status ≡ 5 → form_said words.now ≡ Some Check →
-        IsAnsweredInPart 268435456 (S.rest source.old) (K.taken sink.old) (K.taken sink.new) }
+        IsAnsweredInPart most_lines (S.rest source.old) (K.taken sink.old) (K.taken sink.new) }
     ensures write_fault_step { result.status ≡ 5 → (show : Show) → form_said words.now ≡ Some (Step show) →
         IsSteppedInPart show (S.rest source.old) result.run (K.taken sink.old) (K.taken sink.new) }
     ensures write_fault_run { result.status ≡ 5 → (show : Show) → form_said words.now ≡ Some (Run show) →
@@ -194,7 +195,7 @@ pub fn vyrd<R: Threads + Wait + Sync, S: Source, K: Sink, G: Gate>(
     ensures source_counted { S.faults source.old ≤ S.faults source.new }
     ensures sink_counted { K.faults sink.old ≤ K.faults sink.new }
     ensures source_sure { S.is_sure source.old ≡ true → S.faults source.new ≡ S.faults source.old }
-    ensures sink_sure { HasRoomForAnswer 268435456 (S.rest source.old) (K.sure_room sink.old) → form_said words.now ≡ Some Check → K.faults sink.new ≡ K.faults sink.old }
+    ensures sink_sure { HasRoomForAnswer most_lines (S.rest source.old) (K.sure_room sink.old) → form_said words.now ≡ Some Check → K.faults sink.new ≡ K.faults sink.old }
     ensures sink_sure_step { (show : Show) → HasRoomForStep show (S.rest source.old) (K.sure_room sink.old) → form_said words.now ≡ Some (Step show) → K.faults sink.new ≡ K.faults sink.old }
     ensures sink_sure_run { (show : Show) → HasRoomForRun show (S.rest source.old) (K.sure_room sink.old) → form_said words.now ≡ Some (Run show) → K.faults sink.new ≡ K.faults sink.old }
     ensures sink_sure_gen { (n : ℕ) → HasRoomForGen n (K.sure_room sink.old) → form_said words.now ≡ Some (Gen n) → K.faults sink.new ≡ K.faults sink.old }

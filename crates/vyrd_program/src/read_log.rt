@@ -2,7 +2,7 @@
 
 ghost use Rattle.std.specs.Prelude.{◌≡◌, ◌≤◌, ◌<◌, ◌+◌, ℕ, true, List, [], length, vec_len, Option, IfOk, IfSome, IfNone, Err};
 ghost use Rattle.vyrd_base.specs.Devices.{HasRisen};
-ghost use Rattle.vyrd_check.specs.Checking.{HasChecked};
+ghost use Rattle.vyrd_check.specs.Checking.{HasChecked, most_lines};
 ghost use Rattle.vyrd_program.specs.Inputs.{longest_read, UnlessFailed};
 ghost use Rattle.vyrd_program.specs.Checks.{IsReadNoFurther, IsUnsettled};
 ghost use Rattle.vyrd_program.specs.Progress.{IsChecking, IsReached};
@@ -41,7 +41,7 @@ pub fn read_verdict<S: Source>(
     source: &mut S,
 ) -> Result<Verdict, ReadFault>
     requires low { 1 ≤ max_lines }
-    requires high { max_lines ≤ 268435456 }
+    requires high { max_lines ≤ most_lines }
     ensures reached { IfOk result (IsReached max_lines (S.rest source.old) (S.rest source.new)) }
     ensures no_further { IsReadNoFurther max_lines (S.rest source.old) (S.rest source.new) }
     ensures unsettled { result ≡ Err Failed → IsUnsettled max_lines (S.rest source.old) (S.rest source.new) }
@@ -64,7 +64,7 @@ fn read_on<S: Source>(
 ) -> Result<Verdict, ReadFault>
     requires room { length buffer.old ≡ longest_read }
     requires low { 1 ≤ checker.old.kept.reader.max_lines }
-    requires high { checker.old.kept.reader.max_lines ≤ 268435456 }
+    requires high { checker.old.kept.reader.max_lines ≤ most_lines }
     requires fresh { HasChecked checker.old [] }
     ensures reached { IfOk result (IsReached checker.old.kept.reader.max_lines (S.rest source.old) (S.rest source.new)) }
     ensures no_further { IsReadNoFurther checker.old.kept.reader.max_lines (S.rest source.old) (S.rest source.new) }
