@@ -31,6 +31,7 @@ pub mod DifferenceLaws
 pub mod StopLaws
 pub mod SumLaws
 pub mod TextLaws
+pub mod BufferLaws
 pub mod ListLaws
 pub mod TestLaws
 pub mod SubjectLaws

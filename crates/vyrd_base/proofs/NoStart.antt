@@ -12,7 +12,7 @@ use Rattle.vyrd_base.specs.Places.{numbers_from, newest_first}
 use Rattle.vyrd_base.specs.Front.{front}
 use Rattle.vyrd_base.specs.Layout.{plain_words, lock_words}
 use Rattle.vyrd_base.specs.Specification.{start}
-use Rattle.vyrd_base.specs.Standing.{state_of_words}
+use Rattle.vyrd_base.specs.Represented.{state_of_words}
 use Rattle.vyrd_base.specs.Starts.{words_at_start, state_at_start}
 use Rattle.vyrd_base.specs.Words.{value_after}
 use Rattle.vyrd_base.specs.Commits.{states_of}

@@ -18,7 +18,7 @@ use Rattle.vyrd_base.specs.TreeView.{entries_of, entry_parts, node_parts, right_
 use Rattle.vyrd_base.specs.Buffers.{buffer_at, is_buffer, buffer_parts}
 use Rattle.vyrd_base.specs.Views.{slot_parts, chunk_at, chunk_parts, parts_of, view_of_words}
 use Rattle.vyrd_base.specs.Trees.{nodes, left_of, low_of, is_linked, is_bounded, rises, keys_at, has_sound_keys, is_leaf_entry, begins_with, has_sound_entries, is_only_first, is_sound_node, is_tree}
-use Rattle.vyrd_base.specs.Standing.{is_sound_slot, is_sound_chunk, is_sound, state_of_words}
+use Rattle.vyrd_base.specs.Represented.{is_sound_slot, is_sound_chunk, is_sound, state_of_words}
 use Rattle.vyrd_base.proofs.ListLaws.{zeros}
 use Rattle.vyrd_base.proofs.TestLaws.{first_true, second_true, at_most_of, is_same, is_below}
 

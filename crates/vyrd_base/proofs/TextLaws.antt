@@ -1,9 +1,9 @@
 -- Texts of string buffers as numbers: how long they are, how they are joined, and how they are cut.
-use Rattle.std.proofs.Common.{◌≡◌, ℕ, zero, suc, ◌+◌, ◌-◌, ◌*◌, ◌^◌, ◌%◌, ◌<◌, ◌≤◌, min, Bool, true, false, cond, ◌&&◌, refl, ap, ◌∙◌, sym, subst, arith}
+use Rattle.std.proofs.Common.{◌≡◌, ℕ, zero, suc, ◌+◌, ◌-◌, ◌*◌, ◌/◌, ◌^◌, ◌%◌, ◌<◌, ◌≤◌, min, Bool, true, false, cond, ◌&&◌, refl, ap, ◌∙◌, sym, subst, arith}
 use Rattle.std.specs.Prelude.{◌==◌, nat_lt, nat_le}
 use Rattle.std.proofs.Math.Bool.{and-true}
 use Rattle.std.proofs.Math.Nat.{pow-suc, pow-le-pow_right, mul-le-mul_right, add-mul-mod_self_right, mod-eq_of_lt, mod-le}
-use Rattle.std.proofs.lemmas.Nat.{pow-add, mul-add-lt}
+use Rattle.std.proofs.lemmas.Nat.{pow-add, mul-add-lt, div-mul-add}
 use Rattle.vyrd_base.specs.Buffers.{text_of, powers_within, text_length, has_room, joined, cut_to, are_characters}
 use Rattle.vyrd_base.proofs.TestLaws.{same_of, apart_of, both_true, first_true, second_true, below_of, is_below, not_below_of, isnt_below, at_most_of, is_at_most, above_of, isnt_at_most}
 
@@ -113,6 +113,11 @@ pub joined_texts : (f g : ℕ → ℕ) (n m : ℕ) → n ≤ 7 → are_character
     → joined (text_of f n) (text_of g m) ≡ text_of f n + text_of g m * 256 ^ n
 joined_texts f g n m few e = ap (λ l. text_of f n + text_of g m * 256 ^ l) (length_of_text f n few e)
 
+-- the characters after the first n are joined after them
+pub joined_characters : (f : ℕ → ℕ) (n m : ℕ) → n ≤ 7 → are_characters f n ≡ true
+    → joined (text_of f n) (text_of (λ i. f (n + i)) m) ≡ text_of f (n + m)
+joined_characters f n m few e = joined_texts f (λ i. f (n + i)) n m few e ∙ sym (text_split f n m)
+
 pub cut_text : (f : ℕ → ℕ) (n k : ℕ) → n ≤ 7 → are_characters f n ≡ true → k < n → cut_to k (text_of f n) ≡ text_of f k
 cut_text f n k few e low =
     ap (λ l. cond (nat_lt k l) (text_of f n % 256 ^ k) (text_of f n)) (length_of_text f n few e)
@@ -128,6 +133,56 @@ pub uncut_text : (f : ℕ → ℕ) (n k : ℕ) → n ≤ 7 → are_characters f 
 uncut_text f n k few e high =
     ap (λ l. cond (nat_lt k l) (text_of f n % 256 ^ k) (text_of f n)) (length_of_text f n few e)
     ∙ ap (λ b. cond b (text_of f n % 256 ^ k) (text_of f n)) (isnt_below k n high)
+
+-- a cut keeps the first k characters, or all where there are no more
+pub cut_characters : (f : ℕ → ℕ) (n k : ℕ) → n ≤ 7 → are_characters f n ≡ true
+    → cut_to k (text_of f n) ≡ text_of f (min k n)
+cut_characters f n k few e = by_length (nat_lt k n) refl
+  where
+    by_length : (b : Bool) → nat_lt k n ≡ b → cut_to k (text_of f n) ≡ text_of f (min k n)
+    by_length true low =
+        let few_kept : k ≡ min k n = omega (arith, below_of k n low) in
+        cut_text f n k few e (below_of k n low) ∙ ap (text_of f) few_kept
+    by_length false high =
+        let all_kept : n ≡ min k n = omega (arith, not_below_of k n high) in
+        uncut_text f n k few e (not_below_of k n high) ∙ ap (text_of f) all_kept
+
+-- the last character of a text, plus 1
+last_digit : (f : ℕ → ℕ) (n : ℕ) → are_characters f n ≡ true → text_of f (suc n) / 256 ^ n ≡ f n + 1
+last_digit f n e =
+    let places : text_of f n + (f n + 1) * 256 ^ n ≡ (f n + 1) * 256 ^ n + text_of f n = omega arith in
+    ap (λ t. t / 256 ^ n) places ∙ div-mul-add (f n + 1) (256 ^ n) (text_of f n) (text_below f n e)
+
+-- the characters before the last
+digits_before : (f : ℕ → ℕ) (n : ℕ) → are_characters f n ≡ true → text_of f (suc n) % 256 ^ n ≡ text_of f n
+digits_before f n e =
+    add-mul-mod_self_right (text_of f n) (f n + 1) (256 ^ n) ∙ mod-eq_of_lt (text_below f n e)
+
+-- a text tells its characters
+pub same_characters : (f g : ℕ → ℕ) (n : ℕ) → are_characters f n ≡ true → are_characters g n ≡ true
+    → text_of f n ≡ text_of g n → (i : ℕ) → i < n → f i ≡ g i
+same_characters f g zero fs gs same i low = absurd (omega (arith, low))
+same_characters f g (suc n) fs gs same i low =
+    by_place (same_characters f g n before_f before_g before) (i == n) refl
+  where
+    before_f : are_characters f n ≡ true
+    before_f = first_true (are_characters f n) _ fs
+
+    before_g : are_characters g n ≡ true
+    before_g = first_true (are_characters g n) _ gs
+
+    last : f n ≡ g n
+    last =
+        let plus_one : f n + 1 ≡ g n + 1 =
+        sym (last_digit f n before_f) ∙ ap (λ t. t / 256 ^ n) same ∙ last_digit g n before_g in
+        omega (arith, plus_one)
+
+    before : text_of f n ≡ text_of g n
+    before = sym (digits_before f n before_f) ∙ ap (λ t. t % 256 ^ n) same ∙ digits_before g n before_g
+
+    by_place : ((j : ℕ) → j < n → f j ≡ g j) → (b : Bool) → (i == n) ≡ b → f i ≡ g i
+    by_place each true here = subst (λ j. f j ≡ g j) (sym (same_of i n here)) last
+    by_place each false apart = each i (let isnt = apart_of i n apart in omega (arith, low, isnt))
 
 -- Of any number, a text or not.
 powers_at_most : (k text : ℕ) → powers_within k text ≤ k

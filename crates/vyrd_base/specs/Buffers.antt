@@ -1,7 +1,8 @@
 -- String buffers: what the words of one hold, and its text as one number. Character i of a text, from 0 on, counts
 -- (character + 1) * 256^i. So to the base 256 the digits of a text are its characters, each plus 1; none of them is 0, and the
 -- empty text is 0.
-use Rattle.std.specs.Prelude.{ℕ, zero, suc, ◌+◌, ◌*◌, ◌^◌, ◌%◌, Bool, true, ◌&&◌, nat_le, nat_lt, List, [], ◌∷◌, slice_index, if◌then◌else◌}
+use Rattle.std.specs.Prelude.{ℕ, zero, suc, ◌+◌, ◌*◌, ◌^◌, ◌%◌, Bool, true, ◌&&◌, nat_le, nat_lt, List, [], ◌∷◌, slice_index, Option, if◌then◌else◌}
+use Rattle.std.specs.Bool.{then_some}
 
 -- the text of the first n characters
 abbrev pub text_of : (ℕ → ℕ) → ℕ → ℕ
@@ -49,6 +50,10 @@ are_characters character (suc n) = are_characters character n && nat_lt (charact
 -- whether the count is at most 7, and the characters below it are below 255
 abbrev pub is_buffer : Buffer → Bool
 is_buffer buffer = nat_le buffer.count 7 && are_characters buffer.character buffer.count
+
+-- the text that a buffer shows, and none where its words are no buffer
+abbrev pub shown_text : Buffer → Option ℕ
+shown_text buffer = then_some (is_buffer buffer) (text_of buffer.character buffer.count)
 
 -- Buffer b of this many gives the key b its text. Words that are no buffer give the key size + b, which stands for damage, 1 and
 -- nothing else.

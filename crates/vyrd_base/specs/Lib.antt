@@ -27,7 +27,7 @@ pub mod TextVerdicts
 pub mod Histories
 pub mod Parts
 pub mod Trees
-pub mod Standing
+pub mod Represented
 pub mod Starts
 pub mod FirstVersion
 pub mod Added

@@ -10,7 +10,7 @@ use Rattle.vyrd_base.specs.Layout.{plain_words, lock_words}
 use Rattle.vyrd_base.specs.Shape.{◌breaks◌, first_broken}
 use Rattle.vyrd_base.specs.Amounts.{Amounts}
 use Rattle.vyrd_base.specs.Words.{words_with}
-use Rattle.vyrd_base.specs.Standing.{state_of_words}
+use Rattle.vyrd_base.specs.Represented.{state_of_words}
 
 -- whether the word isn't below the number of plain words, or the value isn't from 1 to below 2^63
 abbrev pub is_out_of_range : Header → StartWord → Bool

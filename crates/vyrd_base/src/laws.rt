@@ -1,6 +1,6 @@
 //! Laws of the definitions. Each function does nothing: its contract is the law.
 
-ghost use Rattle.std.specs.Prelude.{◌≢◌, ◌≡◌, ◌+◌, ◌≤◌, ◌<◌, ℕ, true, length, ◌==◌, if◌then◌else◌, List, [], ◌∷◌, ◌++◌, Some, None, false, slice_set};
+ghost use Rattle.std.specs.Prelude.{◌≢◌, ◌≡◌, ◌+◌, ◌≤◌, ◌<◌, ℕ, true, length, ◌==◌, min, if◌then◌else◌, List, [], ◌∷◌, ◌++◌, Some, None, false, slice_set};
 ghost use Rattle.std.specs.Option.{option_or};
 ghost use Rattle.vyrd_base.specs.declared.header.Header.{Header};
 ghost use Rattle.vyrd_base.specs.declared.log.Entry.{Entry};
@@ -22,6 +22,7 @@ ghost use Rattle.vyrd_base.specs.Amounts.{Amounts, IsAmounts, amount_of, with_am
 ghost use Rattle.vyrd_base.specs.declared.history.Stamped.{Stamped};
 ghost use Rattle.vyrd_base.specs.TextVerdicts.{text_verdict, text_verdict_so_far, stop_of};
 ghost use Rattle.vyrd_base.specs.Verdicts.{verdict_so_far, verdict, verdict_at, is_call_open};
+ghost use Rattle.vyrd_base.specs.Buffers.{text_of, text_length, joined, cut_to, are_characters};
 ghost use Rattle.vyrd_base.specs.Starts.{may_start, state_at_start};
 ghost use Rattle.vyrd_base.specs.Specification.{start};
 ghost use Rattle.vyrd_base.specs.FirstVersion.{old_verdict_so_far, old_verdict};
@@ -100,8 +101,8 @@ pub fn text_verdict_lasts()
         text_verdict_so_far max bytes ≡ Some v → text_verdict max (bytes ++ more) ≡ v }
 {}
 
-/// The verdict about a whole input is that of its entries and of how its text stops, where it has a header; and else it
-/// is the fault of its text.
+/// The verdict about a whole input with a header is that of its entries and of how its text stops. Without a header it is
+/// the fault of the text.
 #[tactic(auto, using(crate::proofs::Answers::stop_laws))]
 pub fn verdict_by_its_stop()
     ensures headed { (max : ℕ) (bytes : List ℕ) (h : Header) →
@@ -128,4 +129,16 @@ pub fn least_difference()
     ensures none { (a b : Amounts) → first_difference a b ≡ None → (q : ℕ) → amount_of a q ≡ amount_of b q }
     ensures some { (a b : Amounts) (k : ℕ) → first_difference a b ≡ Some k →
         (amount_of a k ≢ amount_of b k) × ((q : ℕ) → q < k → amount_of a q ≡ amount_of b q) }
+{}
+
+/// A text stands for its characters, at most 7 and each below 255: its length counts them, those after the first n are joined
+/// after them, a cut keeps the first of them, and other characters make another text.
+pub fn text_stands_for_its_characters()
+    ensures length { (f : ℕ → ℕ) (n : ℕ) → n ≤ 7 → are_characters f n ≡ true → text_length (text_of f n) ≡ n }
+    ensures joined { (f : ℕ → ℕ) (n m : ℕ) → n ≤ 7 → are_characters f n ≡ true →
+        joined (text_of f n) (text_of (λ i. f (n + i)) m) ≡ text_of f (n + m) }
+    ensures cut { (f : ℕ → ℕ) (n k : ℕ) → n ≤ 7 → are_characters f n ≡ true →
+        cut_to k (text_of f n) ≡ text_of f (min k n) }
+    ensures told { (f g : ℕ → ℕ) (n m : ℕ) → n ≤ 7 → m ≤ 7 → are_characters f n ≡ true → are_characters g m ≡ true →
+        text_of f n ≡ text_of g m → (n ≡ m) × ((i : ℕ) → i < n → f i ≡ g i) }
 {}

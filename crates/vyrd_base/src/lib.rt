@@ -22,7 +22,7 @@
 //! specification (`Specification`), the words and the state at the start (`Starts`), commit order and its states
 //! (`Commits`), the faults (`Faults`), the verdict (`Verdicts`), the verdict as it was while version 1 was the only one
 //! (`FirstVersion`), the text of a log and what its bytes say (`Spelling`, `Lines`, `Reading`), the verdict about bytes
-//! and its line (`TextVerdicts`, `VerdictText`), histories (`Histories`), words that represent a state (`Standing`,
+//! and its line (`TextVerdicts`, `VerdictText`), histories (`Histories`), words that represent a state (`Represented`,
 //! `Trees`), and devices (`Devices`).
 //!
 //! A definition alone claims nothing. So each law of the definitions is a clause of an empty function in `laws`, and
@@ -32,6 +32,7 @@
 
 mod amount_map;
 mod amount_table;
+mod buffers;
 mod calls;
 mod device;
 mod header;
@@ -52,6 +53,7 @@ pub mod worked_text;
 
 pub use amount_map::AmountMap;
 pub use amount_table::AmountTable;
+pub use buffers::{BUFFER_WORDS, MOST_CHARACTERS, TEXT_BASE, buffer_text};
 pub use device::{Failed, Gate, OpenGate, Sink, Source};
 pub use header::Header;
 pub use history::{Did, Stamped};

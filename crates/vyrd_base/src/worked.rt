@@ -3,7 +3,7 @@
 
 ghost use Rattle.std.specs.Prelude.{◌≡◌, ◌^◌, [], ◌∷◌, replicate, true, false};
 ghost use Rattle.vyrd_base.specs.Verdicts.{verdict};
-ghost use Rattle.vyrd_base.specs.Standing.{state_of_words};
+ghost use Rattle.vyrd_base.specs.Represented.{state_of_words};
 ghost use Rattle.vyrd_base.specs.Specification.{next_state, answer_in};
 ghost use Rattle.vyrd_base.specs.Histories.{is_legal, log_of, cells_of};
 ghost use Rattle.vyrd_base.specs.declared.history.Did.TheVariants.{Took, Gave, Read, Wrote, Marked};

@@ -8,7 +8,7 @@ use Rattle.vyrd_base.specs.Layout.{plain_words, lock_words}
 use Rattle.vyrd_base.specs.Subjects.{is_observer}
 use Rattle.vyrd_base.specs.Amounts.{Amounts}
 use Rattle.vyrd_base.specs.Specification.{next_state, answer_in}
-use Rattle.vyrd_base.specs.Standing.{state_of_words}
+use Rattle.vyrd_base.specs.Represented.{state_of_words}
 use Rattle.vyrd_memory.specs.declared.act.Act.TheVariants.{Load, Store, Take, Give, Mark, Done}
 use Rattle.vyrd_memory.specs.declared.op.Op.{Op}
 use Rattle.vyrd_memory.specs.Scripts.{Script, stop, step}

@@ -5,14 +5,14 @@ use Rattle.std.proofs.Math.Nat.{pow-le-pow_right}
 use Rattle.vyrd_base.specs.Buffers.{Buffer, buffer_at, buffer_parts, is_buffer, are_characters}
 use Rattle.vyrd_base.proofs.TestLaws.{at_most_of, first_true, second_true}
 use Rattle.vyrd_base.proofs.TextLaws.{text_below}
-use Rattle.vyrd_spec.specs.Texts.{shown_text}
+use Rattle.vyrd_spec.specs.Texts.{text_of_buffer}
 
 -- whether a buffer of the words is sound, and the text that it shows
 abbrev pub is_buffer_at : List ℕ → ℕ → Bool
 is_buffer_at words b = is_buffer (buffer_at words b)
 
 abbrev pub text_shown : List ℕ → ℕ → ℕ
-text_shown words b = shown_text (buffer_at words b)
+text_shown words b = text_of_buffer (buffer_at words b)
 
 -- sound buffers give their texts, and nothing else
 pub given_text : (size : ℕ) (words : List ℕ) (b : ℕ) → is_buffer_at words b ≡ true

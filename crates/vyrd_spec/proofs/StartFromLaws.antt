@@ -7,7 +7,7 @@ use Rattle.vyrd_base.specs.declared.subject.Subject.{Subject}
 use Rattle.vyrd_base.specs.Layout.{plain_words, plain_words_of, lock_words}
 use Rattle.vyrd_base.specs.Amounts.{Amounts, collected}
 use Rattle.vyrd_base.specs.Views.{parts_of, view_of_words}
-use Rattle.vyrd_base.specs.Standing.{is_sound, state_of_words}
+use Rattle.vyrd_base.specs.Represented.{is_sound, state_of_words}
 use Rattle.vyrd_base.specs.Limits.{is_known_version}
 use Rattle.vyrd_base.proofs.TestLaws.{at_most_of, first_true, second_true}
 use Rattle.vyrd_base.proofs.StartLaws.{with_free_locks}

@@ -9,12 +9,12 @@ use Rattle.vyrd_base.specs.Buffers.{Buffer, buffer_at, is_buffer, text_of, has_r
 use Rattle.vyrd_spec.specs.Rows.{sound_row}
 
 -- the text of a buffer
-abbrev pub shown_text : Buffer → ℕ
-shown_text buffer = text_of buffer.character buffer.count
+abbrev pub text_of_buffer : Buffer → ℕ
+text_of_buffer buffer = text_of buffer.character buffer.count
 
 -- the text of each buffer, where the words stand for a state
 abbrev pub sound_texts : ℕ → List ℕ → Option (List ℕ)
-sound_texts size words = sound_row (λ b. is_buffer (buffer_at words b)) (λ b. shown_text (buffer_at words b)) size
+sound_texts size words = sound_row (λ b. is_buffer (buffer_at words b)) (λ b. text_of_buffer (buffer_at words b)) size
 
 -- The text of the call's buffer once the call has done its work, and none where the buffer has no room for that.
 abbrev pub next_text : Method → Args → Amounts → Option ℕ

@@ -4,8 +4,8 @@
 ghost use Rattle.std.specs.Prelude.{◌≡◌, ◌*◌, length, IfOk, MatchOption, Some, None};
 ghost use Rattle.vyrd_spec.specs.Texts.{sound_texts};
 
-use crate::text::text_at;
 use std::alloc::{AllocError, Global};
+use vyrd_base::buffer_text;
 
 /// The text of each buffer, and `None` where the words stand for no state.
 pub(crate) fn texts_of(
@@ -18,7 +18,7 @@ pub(crate) fn texts_of(
 {
     let mut texts = Vec::with_capacity(alloc, size)?;
     for buffer in 0..size {
-        match text_at(words, buffer) {
+        match buffer_text(words, buffer) {
             Some(text) => texts.push(text)?,
             None => return Ok(None),
         }

@@ -6,7 +6,7 @@ ghost use Rattle.vyrd_base.specs.declared.subject.Method.{Method};
 ghost use Rattle.vyrd_base.specs.declared.subject.Args.{Args};
 ghost use Rattle.vyrd_base.specs.Amounts.{Amounts, IsAmounts, amount_of};
 ghost use Rattle.vyrd_base.specs.Layout.{plain_words, lock_words};
-ghost use Rattle.vyrd_base.specs.Standing.{state_of_words};
+ghost use Rattle.vyrd_base.specs.Represented.{state_of_words};
 ghost use Rattle.vyrd_base.specs.Specification.{start, next_state};
 ghost use Rattle.vyrd_spec.specs.Touching.{touched_by, is_touched, with_touched, CanChange};
 

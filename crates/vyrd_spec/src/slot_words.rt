@@ -5,7 +5,7 @@ ghost use Rattle.std.specs.Prelude.{◌≡◌, ◌*◌, ◌+◌, ◌<◌, ◌≤
 ghost use Rattle.vyrd_base.specs.declared.subject.Subject.TheVariants.{Multiset};
 ghost use Rattle.vyrd_base.specs.Added.{added};
 ghost use Rattle.vyrd_base.specs.Amounts.{amount_of, collected};
-ghost use Rattle.vyrd_base.specs.Standing.{is_sound, is_sound_slot};
+ghost use Rattle.vyrd_base.specs.Represented.{is_sound, is_sound_slot};
 ghost use Rattle.vyrd_base.specs.Views.{parts_of};
 
 use std::alloc::{AllocError, Global};

@@ -6,7 +6,7 @@ ghost use Rattle.vyrd_base.specs.declared.header.Header.{Header};
 ghost use Rattle.vyrd_base.specs.declared.subject.Subject.{Subject};
 ghost use Rattle.vyrd_base.specs.Amounts.{Amounts, IsAmounts, amount_of};
 ghost use Rattle.vyrd_base.specs.Layout.{plain_words, lock_words};
-ghost use Rattle.vyrd_base.specs.Standing.{state_of_words};
+ghost use Rattle.vyrd_base.specs.Represented.{state_of_words};
 ghost use Rattle.vyrd_base.specs.Specification.{next_state, answer_in};
 ghost use Rattle.vyrd_base.specs.Subjects.{subject_of, is_observer, are_args};
 ghost use Rattle.vyrd_spec.specs.Bounds.{AllAmounts};

@@ -2,24 +2,19 @@
 
 ghost use Rattle.std.specs.Prelude.{◌≡◌, ◌*◌, ◌+◌, ◌<◌, ◌≤◌, ◌^◌, length};
 ghost use Rattle.std.specs.Bool.{then_some};
-ghost use Rattle.vyrd_base.specs.Buffers.{buffer_at, is_buffer, text_length, has_room, joined, cut_to};
-ghost use Rattle.vyrd_spec.specs.Texts.{shown_text};
+ghost use Rattle.vyrd_base.specs.Buffers.{text_length, has_room, joined, cut_to};
+
+use vyrd_base::TEXT_BASE;
 
 /// How many characters a buffer has at most.
 const MOST: u32 = 7;
-
-/// What characters are below.
-const CHARACTER_END: u64 = 255;
-
-/// The base whose digits are the characters plus 1.
-const BASE: u64 = 256;
 
 /// What a character counts that has n characters before it.
 fn power(n: u32) -> u64
     requires { n ≤ 7 }
     ensures { result ≡ 256 ^ n }
 {
-    BASE.pow(n)
+    TEXT_BASE.pow(n)
 }
 
 /// How many characters a text has.
@@ -59,26 +54,4 @@ pub(crate) fn cut_to(n: u32, text: u64) -> u64
     } else {
         text
     }
-}
-
-/// The text of a buffer of these words, and `None` where they stand for no state: its count is above 7, or one of its
-/// characters isn't below 255.
-pub(crate) fn text_at(words: &[u64], buffer: usize) -> Option<u64>
-    requires { 8 * buffer + 7 < length words.now }
-    ensures { result ≡ then_some (is_buffer (buffer_at words.now buffer)) (shown_text (buffer_at words.now buffer)) }
-{
-    let first = 8 * buffer;
-    let count = words[first];
-    if count > u64::from(MOST) {
-        return None;
-    }
-    let mut text = 0;
-    for n in 0..count as u32 {
-        let character = words[first + (1 + n as usize)];
-        if character >= CHARACTER_END {
-            return None;
-        }
-        text += (character + 1) * power(n);
-    }
-    Some(text)
 }

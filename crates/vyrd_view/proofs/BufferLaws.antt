@@ -1,4 +1,4 @@
--- What the loop over the characters of a buffer finds, which words a buffer is read from, and which keys it gives to.
+-- Which words a buffer is read from, and which keys it gives to.
 use Rattle.std.proofs.Common.{◌≡◌, ℕ, ◌+◌, ◌*◌, ◌^◌, ◌%◌, ◌<◌, ◌≤◌, Bool, true, false, cond, ◌&&◌, List, [], ◌∷◌, length, replicate, set, refl, ap, ◌∙◌, sym, arith}
 use Rattle.std.specs.Prelude.{nat_le, slice_index, Option, Some, None}
 use Rattle.std.proofs.Math.Nat.{mul-le-mul_right, pow-le-pow_right, mod-eq_of_lt, add-mod_left}
@@ -7,31 +7,8 @@ use Rattle.vyrd_base.specs.Buffers.{Buffer, buffer_at, buffer_parts, is_buffer, 
 use Rattle.vyrd_base.proofs.ListLaws.{zeros}
 use Rattle.vyrd_base.proofs.TextLaws.{text_same, characters_same, character_below}
 use Rattle.vyrd_base.proofs.TestLaws.{at_most_of, second_true}
-use Rattle.vyrd_view.specs.Pairs.{text_shown, buffer_pair, HaveBufferKeys}
+use Rattle.vyrd_view.specs.Pairs.{buffer_pair, HaveBufferKeys}
 use Rattle.vyrd_view.proofs.PairLaws.{one_gives, keys-set}
-
--- the power of 256 at a character, and what that character counts
-pub power_below : (power i : ℕ) → i < 7 → power ≡ 256 ^ i → power ≤ 2 ^ 48
-power_below power i few is =
-    let most : i ≤ 6 = omega (arith, few) in
-    let small : 256 ^ i ≤ 256 ^ 6 = pow-le-pow_right {n = 256} (omega arith) most in
-    omega (arith, small, is)
-
-pub digit_below : (c power i : ℕ) → c < 255 → i < 7 → power ≡ 256 ^ i → (c + 1) * power ≤ 255 * 2 ^ 48
-digit_below c power i low few is =
-    let most : c + 1 ≤ 255 = omega (arith, low) in
-    let digit : (c + 1) * power ≤ 255 * power = mul-le-mul_right power most in
-    omega (arith, digit, power_below power i few is)
-
--- what a buffer shows, by whether it is one
-pub bad_text : (b : Buffer) (i : ℕ) → i < b.count → 255 ≤ b.character i → None ≡ text_shown b
-bad_text b i low high = by_buffer (is_buffer b) refl
-  where
-    by_buffer : (s : Bool) → is_buffer b ≡ s → None ≡ cond {A = Option ℕ} s (Some (text_of b.character b.count)) None
-    by_buffer true e =
-        let all : are_characters b.character b.count ≡ true = second_true (nat_le b.count 7) (are_characters b.character b.count) e in
-        absurd (omega (arith, high, character_below b.character b.count all i low))
-    by_buffer false e = refl
 
 -- a buffer gives one pair
 pub parts_of_buffer : (size : ℕ) (words : List ℕ) (b : ℕ) → buffer_parts size b (buffer_at words b) ≡ buffer_pair size words b ∷ []

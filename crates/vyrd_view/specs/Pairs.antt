@@ -36,10 +36,6 @@ chunk_key size m = if m % 2 == 0 then m / 2 else size + m / 2
 abbrev pub HaveChunkKeys : ℕ → List (ℕ × ℕ) → Type 0
 HaveChunkKeys size pairs = (m : ℕ) → m < length pairs → (slice_index_or pairs m (0, 0)).0 ≡ chunk_key size m
 
--- the text of a buffer, or none where its words are no buffer
-abbrev pub text_shown : Buffer → Option ℕ
-text_shown b = if is_buffer b then Some (text_of b.character b.count) else None
-
 -- a buffer gives its text under its key, and 1 under the key past the buffers where its words are no buffer
 abbrev pub buffer_pair : ℕ → List ℕ → ℕ → ℕ × ℕ
 buffer_pair size words b =

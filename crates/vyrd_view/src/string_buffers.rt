@@ -4,11 +4,12 @@ ghost use Rattle.std.specs.Prelude.{◌≡◌, ℕ, ◌+◌, ◌*◌, ◌<◌, �
 ghost use Rattle.vyrd_base.specs.Places.{numbers_below};
 ghost use Rattle.vyrd_view.specs.Pairs.{is_touched, buffer_pair, HaveBufferKeys};
 
-use crate::buffer::{BUFFER_WORDS, pair_at};
+use crate::buffer::pair_at;
 use crate::parts::Parts;
 use crate::steps::Steps;
 use std::alloc::AllocError;
 use std::sync::ledger::Ledger;
+use vyrd_base::BUFFER_WORDS;
 
 /// Each buffer that a changed word is in gives what its words show now. Once memory was refused the parts may only be dropped.
 pub(crate) fn buffers_changed<L: Ledger>(

@@ -15,7 +15,7 @@ use Rattle.vyrd_base.specs.Subjects.{subject_of, is_observer, are_args}
 use Rattle.vyrd_base.specs.Layout.{plain_words, lock_words, plain_words_of, lock_words_of}
 use Rattle.vyrd_base.specs.Amounts.{Amounts, amount_of, with_amount}
 use Rattle.vyrd_base.specs.Views.{Chunk, cached_pair}
-use Rattle.vyrd_base.specs.Standing.{is_sound_chunk}
+use Rattle.vyrd_base.specs.Represented.{is_sound_chunk}
 use Rattle.vyrd_base.proofs.TestLaws.{first_true, second_true, same_number}
 use Rattle.vyrd_memory.specs.declared.act.Act.TheVariants.{Load}
 use Rattle.vyrd_memory.specs.declared.op.Op.{Op}

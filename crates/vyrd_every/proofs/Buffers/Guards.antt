@@ -11,7 +11,7 @@ use Rattle.vyrd_base.specs.Buffers.{Buffer, buffer_at, is_buffer, buffer_parts}
 use Rattle.vyrd_base.specs.Specification.{start}
 use Rattle.vyrd_base.specs.FirstVersion.{old_effects, old_value_after, old_words_after}
 use Rattle.vyrd_base.specs.Views.{parts_of, view_of_words}
-use Rattle.vyrd_base.specs.Standing.{is_sound}
+use Rattle.vyrd_base.specs.Represented.{is_sound}
 use Rattle.vyrd_base.specs.Histories.{cells_of, is_lock}
 use Rattle.vyrd_base.proofs.SumLaws.{given_nothing}
 use Rattle.vyrd_base.proofs.TestLaws.{both_true, is_below, is_at_most}

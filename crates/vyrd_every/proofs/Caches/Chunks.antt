@@ -5,7 +5,7 @@ use Rattle.vyrd_base.specs.declared.subject.Subject.TheVariants.{Cache}
 use Rattle.vyrd_base.specs.Layout.{plain_words, lock_words, plain_words_of, lock_words_of}
 use Rattle.vyrd_base.specs.Amounts.{Amounts, with_amount}
 use Rattle.vyrd_base.specs.Views.{Chunk}
-use Rattle.vyrd_base.specs.Standing.{is_sound_chunk}
+use Rattle.vyrd_base.specs.Represented.{is_sound_chunk}
 use Rattle.vyrd_memory.specs.Alone.{Memory, with_cell}
 use Rattle.vyrd_memory.specs.Soundness.{Standing, holds}
 use Rattle.vyrd_memory.proofs.Memories.{Stands, changed_cell, other_cell}

@@ -10,7 +10,7 @@ use Rattle.vyrd_base.specs.Amounts.{Amounts, collected, given}
 use Rattle.vyrd_base.specs.Specification.{start}
 use Rattle.vyrd_base.specs.FirstVersion.{old_effects, old_value_after, old_words_after}
 use Rattle.vyrd_base.specs.Views.{chunk_at, chunk_parts, parts_of, view_of_words}
-use Rattle.vyrd_base.specs.Standing.{is_sound, is_sound_chunk}
+use Rattle.vyrd_base.specs.Represented.{is_sound, is_sound_chunk}
 use Rattle.vyrd_base.specs.Histories.{cells_of, is_lock}
 use Rattle.vyrd_base.proofs.SumLaws.{given_nothing}
 use Rattle.vyrd_base.proofs.TestLaws.{both_true, is_below, is_at_most}

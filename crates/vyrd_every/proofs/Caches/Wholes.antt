@@ -12,7 +12,7 @@ use Rattle.vyrd_base.specs.Subjects.{is_observer, subject_of, are_args, same_sub
 use Rattle.vyrd_base.specs.Amounts.{Amounts, with_amount}
 use Rattle.vyrd_base.specs.Specification.{next_state}
 use Rattle.vyrd_base.specs.Views.{Chunk, cached_pair}
-use Rattle.vyrd_base.specs.Standing.{is_sound_chunk}
+use Rattle.vyrd_base.specs.Represented.{is_sound_chunk}
 use Rattle.vyrd_base.proofs.TestLaws.{first_true, second_true}
 use Rattle.vyrd_memory.specs.declared.act.Act.TheVariants.{Load, Store, Give, Mark}
 use Rattle.vyrd_memory.specs.declared.op.Op.{Op}

@@ -8,7 +8,7 @@ use Rattle.vyrd_base.specs.Places.{numbers_from, numbers_below}
 use Rattle.vyrd_base.specs.Layout.{plain_words, lock_words, plain_words_of, lock_words_of}
 use Rattle.vyrd_base.specs.Amounts.{Amounts, IsAmounts, amount_of, with_amount, collected, given}
 use Rattle.vyrd_base.specs.Views.{parts_of, view_of_words}
-use Rattle.vyrd_base.specs.Standing.{is_sound}
+use Rattle.vyrd_base.specs.Represented.{is_sound}
 use Rattle.vyrd_base.specs.Buffers.{Buffer, text_of, buffer_at, are_characters, is_buffer, buffer_parts}
 use Rattle.vyrd_base.proofs.AmountLaws.{amount_of-with_amount, IsAmounts-with_amount, same_amounts}
 use Rattle.vyrd_base.proofs.SumLaws.{given_nothing, amount_of-collected, IsAmounts-collected}

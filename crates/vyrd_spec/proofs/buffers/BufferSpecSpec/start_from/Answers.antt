@@ -2,7 +2,7 @@ use Rattle.std.proofs.Common.{◌≡◌, Some, None, rules, ap, ◌∙◌, ◌^�
 use Rattle.vyrd_base.specs.declared.subject.Subject.TheVariants.{Buffers}
 use Rattle.vyrd_base.specs.Amounts.{collected}
 use Rattle.vyrd_base.specs.Buffers.{buffer_at, buffer_parts}
-use Rattle.vyrd_base.specs.Standing.{is_sound}
+use Rattle.vyrd_base.specs.Represented.{is_sound}
 use Rattle.vyrd_base.specs.Views.{parts_of}
 use Rattle.vyrd_spec.specs.Rows.{row_amounts}
 use Rattle.vyrd_spec.specs.Texts.{sound_texts}

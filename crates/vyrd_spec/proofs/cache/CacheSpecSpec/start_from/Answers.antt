@@ -1,7 +1,7 @@
 use Rattle.std.proofs.Common.{◌≡◌, Some, None, rules, ap, ◌∙◌, ◌^◌, sym}
 use Rattle.vyrd_base.specs.declared.subject.Subject.TheVariants.{Cache}
 use Rattle.vyrd_base.specs.Amounts.{collected}
-use Rattle.vyrd_base.specs.Standing.{is_sound}
+use Rattle.vyrd_base.specs.Represented.{is_sound}
 use Rattle.vyrd_base.specs.Views.{chunk_at, chunk_parts, parts_of}
 use Rattle.vyrd_spec.specs.Rows.{row_amounts}
 use Rattle.vyrd_spec.specs.Chunks.{sound_pairs}

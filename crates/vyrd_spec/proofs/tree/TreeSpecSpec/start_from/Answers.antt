@@ -1,7 +1,7 @@
 use Rattle.std.proofs.Common.{ap, ◌∙◌, sym, subst}
 use Rattle.vyrd_base.specs.declared.subject.Subject.TheVariants.{Tree}
 use Rattle.vyrd_base.specs.Amounts.{IsAmounts, collected}
-use Rattle.vyrd_base.specs.Standing.{is_sound}
+use Rattle.vyrd_base.specs.Represented.{is_sound}
 use Rattle.vyrd_base.specs.Views.{parts_of}
 use Rattle.vyrd_base.proofs.SumLaws.{IsAmounts-collected}
 use Rattle.vyrd_spec.proofs.StartFromLaws.{no_state, a_state}

@@ -1,6 +1,6 @@
 use Rattle.std.proofs.Common.{◌≡◌, ◌^◌, true}
 use Rattle.vyrd_base.specs.Buffers.{buffer_at, are_characters, text_of}
-use Rattle.vyrd_view.proofs.buffer.text_at.Given as goal
+use Rattle.vyrd_base.proofs.buffers.buffer_text.Given as goal
 
 abbrev pub invariant-loop-i : goal.invariant-loop-i
 invariant-loop-i l = record {

@@ -1,8 +1,8 @@
 use Rattle.std.proofs.Common.{◌<◌, arith}
 use Rattle.vyrd_base.specs.Buffers.{buffer_at}
 use Rattle.vyrd_base.proofs.TextLaws.{text_below}
-use Rattle.vyrd_view.proofs.BufferLaws.{digit_below, power_below, bad_text}
-use Rattle.vyrd_view.proofs.buffer.text_at.Goals as goal
+use Rattle.vyrd_base.proofs.BufferLaws.{digit_below, power_below, bad_text}
+use Rattle.vyrd_base.proofs.buffers.buffer_text.Goals as goal
 
 pub returns-then-character-ge-CHARACTER_END : goal.returns-then-character-ge-CHARACTER_END
 returns-then-character-ge-CHARACTER_END c =
