@@ -1,11 +1,9 @@
 -- The loops over a text and over a buffer's characters, one step at a time.
-use Rattle.std.proofs.Common.{◌≡◌, ℕ, zero, suc, ◌+◌, ◌*◌, ◌^◌, ◌<◌, ◌≤◌, Bool, true, false, cond, None, refl, ap, sym, arith}
-use Rattle.std.specs.Prelude.{nat_le, nat_lt}
-use Rattle.std.specs.Bool.{then_some}
-use Rattle.std.proofs.Math.Nat.{pow-le-pow_right}
-use Rattle.vyrd_base.specs.Buffers.{Buffer, text_of, powers_within, are_characters, is_buffer, text_length}
-use Rattle.vyrd_base.proofs.TestLaws.{is_at_most, is_below, both_true, second_true}
-use Rattle.vyrd_base.proofs.TextLaws.{joined_below, character_below, text_below}
+use Rattle.std.proofs.Common.{ℕ, zero, suc, ◌+◌, ◌*◌, ◌^◌, ◌<◌, ◌≤◌, Bool, true, false, cond, arith}
+use Rattle.std.specs.Prelude.{nat_le}
+use Rattle.vyrd_base.specs.Buffers.{powers_within, text_length}
+use Rattle.vyrd_base.proofs.TestLaws.{is_at_most}
+use Rattle.vyrd_base.proofs.TextLaws.{joined_below}
 
 -- not more powers than there are
 pub within_at_most : (n text : ℕ) → powers_within n text ≤ n

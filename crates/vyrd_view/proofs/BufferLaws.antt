@@ -1,12 +1,12 @@
 -- Which words a buffer is read from, and which keys it gives to.
-use Rattle.std.proofs.Common.{◌≡◌, ℕ, ◌+◌, ◌*◌, ◌^◌, ◌%◌, ◌<◌, ◌≤◌, Bool, true, false, cond, ◌&&◌, List, [], ◌∷◌, length, replicate, set, refl, ap, ◌∙◌, sym, arith}
-use Rattle.std.specs.Prelude.{nat_le, slice_index, Option, Some, None}
-use Rattle.std.proofs.Math.Nat.{mul-le-mul_right, pow-le-pow_right, mod-eq_of_lt, add-mod_left}
+use Rattle.std.proofs.Common.{◌≡◌, ℕ, ◌+◌, ◌*◌, ◌%◌, ◌<◌, Bool, true, false, cond, ◌&&◌, List, [], ◌∷◌, length, replicate, set, refl, ap, ◌∙◌, sym, arith}
+use Rattle.std.specs.Prelude.{nat_le, slice_index}
+use Rattle.std.proofs.Math.Nat.{mod-eq_of_lt, add-mod_left}
 use Rattle.vyrd_base.specs.Amounts.{given}
-use Rattle.vyrd_base.specs.Buffers.{Buffer, buffer_at, buffer_parts, is_buffer, are_characters, text_of}
+use Rattle.vyrd_base.specs.Buffers.{buffer_at, buffer_parts, is_buffer, are_characters, text_of}
 use Rattle.vyrd_base.proofs.ListLaws.{zeros}
-use Rattle.vyrd_base.proofs.TextLaws.{text_same, characters_same, character_below}
-use Rattle.vyrd_base.proofs.TestLaws.{at_most_of, second_true}
+use Rattle.vyrd_base.proofs.TextLaws.{text_same, characters_same}
+use Rattle.vyrd_base.proofs.TestLaws.{at_most_of}
 use Rattle.vyrd_view.specs.Pairs.{buffer_pair, HaveBufferKeys}
 use Rattle.vyrd_view.proofs.PairLaws.{one_gives, keys-set}
 

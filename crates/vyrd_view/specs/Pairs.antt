@@ -1,8 +1,8 @@
 -- The pairs of a key and an amount that the parts of each subject give, each in a place of its own. A pair (0, 0) gives nothing.
-use Rattle.std.specs.Prelude.{◌≡◌, ℕ, Bool, ◌+◌, ◌*◌, ◌/◌, ◌%◌, ◌<◌, ◌≤◌, ◌==◌, ◌&&◌, not, List, length, slice_index, slice_index_or, Option, Some, None, if◌then◌else◌}
+use Rattle.std.specs.Prelude.{◌≡◌, ℕ, Bool, ◌+◌, ◌*◌, ◌/◌, ◌%◌, ◌<◌, ◌≤◌, ◌==◌, ◌&&◌, not, List, length, slice_index, slice_index_or, if◌then◌else◌}
 use Rattle.std.specs.List.{list_any}
 use Rattle.vyrd_base.specs.Views.{Chunk, chunk_at, is_chunk, cached_pair, stored_pair}
-use Rattle.vyrd_base.specs.Buffers.{Buffer, buffer_at, is_buffer, text_of}
+use Rattle.vyrd_base.specs.Buffers.{buffer_at, is_buffer, text_of}
 
 -- whether a changed word is in this part, where each part has `size` words
 abbrev pub is_touched : ℕ → ℕ → List ℕ → Bool
