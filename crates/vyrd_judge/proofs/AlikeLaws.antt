@@ -1,54 +1,20 @@
 -- The words at the commits that wait, by the writes that act as the effects there.
-use Rattle.std.proofs.Common.{◌≡◌, ℕ, suc, zero, ◌+◌, ◌<◌, ◌≤◌, Bool, true, false, cond, List, [], ◌∷◌, ◌++◌, length, map, set, Option, Some, None, refl, ap, subst, ◌∙◌, sym, arith, append_assoc}
+use Rattle.std.proofs.Common.{◌≡◌, ℕ, suc, ◌<◌, ◌≤◌, Bool, true, false, cond, List, [], ◌∷◌, ◌++◌, length, map, Option, Some, None, refl, ap, subst, ◌∙◌, sym, arith, append_assoc}
 use Rattle.std.specs.Prelude.{◌==◌, unwrap_or}
 use Rattle.std.specs.Option.{option_or}
 use Rattle.vyrd_base.specs.declared.header.Header.{Header}
 use Rattle.vyrd_base.specs.declared.log.Entry.{Entry}
 use Rattle.vyrd_base.specs.declared.log.StartWord.{StartWord}
-use Rattle.vyrd_base.specs.Places.{first_answer, newest_first_onto, numbers_from, numbers_below}
+use Rattle.vyrd_base.specs.Places.{first_answer, newest_first_onto, numbers_below}
 use Rattle.vyrd_base.specs.Layout.{plain_words}
 use Rattle.vyrd_base.specs.Words.{effects_at, given_to, value_at_start, value_after, words_with}
 use Rattle.vyrd_base.specs.Commits.{is_commit}
 use Rattle.vyrd_base.proofs.PlaceLaws.{first_answer-append}
-use Rattle.vyrd_base.proofs.TestLaws.{same_of, is_same, lower_isnt, flipped}
+use Rattle.vyrd_base.proofs.TestLaws.{same_of, lower_isnt}
 use Rattle.vyrd_shadow.specs.Blocks.{with_writes}
+use Rattle.vyrd_plain.proofs.WordFacts.{one_write}
 use Rattle.vyrd_judge.specs.Cuts.{with_part, first_with}
 use Rattle.vyrd_judge.specs.Effects.{effect_parts, with_effects, cut_if, given_last, ActAlike, AllActAlike, HasParts}
-
--- a map over numbers that changes at one of them alone
-map_same : (g new : ℕ → ℕ) (k n j : ℕ) → j < k → ((q : ℕ) → (j == q) ≡ false → new q ≡ g q) → map new (numbers_from k n) ≡ map g (numbers_from k n)
-map_same g new k zero j low others = refl
-map_same g new k (suc n) j low others =
-    let here = others k (lower_isnt j k low) in
-    let rest = map_same g new (k + 1) n j (omega (arith, low)) others in
-    λ i. here i ∷ rest i
-
-pub map_set : (g new : ℕ → ℕ) (k n i v : ℕ) → new (k + i) ≡ v → ((q : ℕ) → ((k + i) == q) ≡ false → new q ≡ g q)
-    → map new (numbers_from k n) ≡ set (map g (numbers_from k n)) i v
-map_set g new k zero i v at others = refl
-map_set g new k (suc n) zero v at others =
-    let here : k + 0 ≡ k = omega arith in
-    let first : new k ≡ v = ap new (sym here) ∙ at in
-    let rest = map_same g new (k + 1) n (k + 0) (omega arith) others in
-    λ j. first j ∷ rest j
-map_set g new k (suc n) (suc i) v at others =
-    let there : k + suc i ≡ k + 1 + i = omega arith in
-    let first = others k (flipped k (k + suc i) (lower_isnt k (k + suc i) (omega arith))) in
-    let rest = map_set g new (k + 1) n i v (ap new (sym there) ∙ at) (λ q apart. others q (ap (λ m. m == q) there ∙ apart)) in
-    λ j. first j ∷ rest j
-
--- one write more
-pub one_write : (h : Header) (starting : List StartWord) (effects : List (ℕ × ℕ)) (w v : ℕ)
-    → set (words_with h starting effects) w v ≡ words_with h starting ((w, v) ∷ effects)
-one_write h starting effects w v =
-    sym (map_set (value_after starting effects) (value_after starting ((w, v) ∷ effects)) 0 (plain_words h) w v
-    (ap (λ b. unwrap_or (option_or (cond b (Some v) None) (first_answer (given_to (0 + w)) effects)) (value_at_start starting (0 + w)))
-    (is_same w (0 + w) (omega arith)))
-    (λ q apart. ap (λ b. unwrap_or (option_or (cond b (Some v) None) (first_answer (given_to q) effects)) (value_at_start starting q))
-    (other_word q apart)))
-  where
-    other_word : (q : ℕ) → ((0 + w) == q) ≡ false → (w == q) ≡ false
-    other_word q apart = let e : 0 + w ≡ w = omega arith in ap (λ m. m == q) (sym e) ∙ apart
 
 writes_onto : (h : Header) (starting : List StartWord) (effects writes : List (ℕ × ℕ))
     → with_writes (words_with h starting effects) writes ≡ words_with h starting (newest_first_onto effects writes)

@@ -16,17 +16,17 @@ use Rattle.vyrd_base.specs.Amounts.{Amounts}
 use Rattle.vyrd_base.specs.Specification.{answer_in}
 use Rattle.vyrd_base.specs.Verdicts.{line_of, first_fault}
 use Rattle.vyrd_base.proofs.BlockLaws.{by_same}
-use Rattle.vyrd_base.proofs.TestLaws.{below_of, is_below, same_number}
+use Rattle.vyrd_base.proofs.TestLaws.{below_of, is_below, same_number, apart_of}
 use Rattle.vyrd_shadow.specs.Blocks.{with_writes}
 use Rattle.vyrd_judge.specs.declared.outcome.Outcome.{Outcome}
 use Rattle.vyrd_judge.specs.declared.outcome.Outcome.TheVariants.{Goes, Faults, Ends}
 use Rattle.vyrd_judge.specs.declared.waiting.Event.TheVariants.{Begins, Commits, Returns}
 use Rattle.vyrd_judge.specs.declared.waiting.Waiting.{Waiting}
-use Rattle.vyrd_judge.specs.Executions.{has_method}
+use Rattle.vyrd_plain.specs.Entries.{has_method}
 use Rattle.vyrd_judge.specs.Watching.{Seen, unwatched, has_answer}
 use Rattle.vyrd_judge.specs.Reached.{AreCurrent}
 use Rattle.vyrd_judge.specs.Judged.{Judged, HeadGives, MayJudge, CommitLeads}
-use Rattle.vyrd_judge.proofs.StandingLaws.{slice_get-set_same, slice_get-set_other, not_same}
+use Rattle.vyrd_plain.proofs.ListFacts.{slice_get-set_same, slice_get-set_other}
 use Rattle.vyrd_judge.proofs.Reaching.{OthersStay}
 use Rattle.vyrd_judge.proofs.WaitingLaws.{Waits, begins, commits, returns, waits, IsBegin, IsCommit, IsReturn}
 use Rattle.vyrd_judge.proofs.JudgedLaws.{AtHead, judged_head}
@@ -135,7 +135,7 @@ judged_current {state = state} {watches = watches} may = ∥∥₁_elim may (cur
 
 -- one watch is changed
 others_stay : (c : ℕ) (watches : List Seen) (seen : Seen) → OthersStay c watches (set watches c seen)
-others_stay c watches seen d other = slice_get-set_other watches c d seen (not_same c d other)
+others_stay c watches seen d other = slice_get-set_other watches c d seen (apart_of c d other)
 
 some_same : {a b : Seen} → Some a ≡ Some b → a ≡ b
 some_same e = cc
@@ -146,7 +146,7 @@ current_set state c watches seen low all own = λ d other here is_open. by_same 
     (λ same. let it : seen ≡ other = some_same (sym (slice_get-set_same watches c seen low)
     ∙ ap (slice_get (set watches c seen)) same ∙ here) in
     ap (λ s. has_answer s.answers (answer_in state s.method s.args)) (sym it) ∙ own (ap (λ s. s.is_open) it ∙ is_open))
-    (λ apart. all d other (sym (slice_get-set_other watches c d seen (not_same c d apart)) ∙ here) is_open)
+    (λ apart. all d other (sym (slice_get-set_other watches c d seen (apart_of c d apart)) ∙ here) is_open)
 
 -- an observer begins
 pub judged_begins : {h : Header} {starting : List StartWord} {log : List Entry} {state : Amounts} {made : ℕ} {watches : List Seen} {x : Waiting} {xs : List Waiting}

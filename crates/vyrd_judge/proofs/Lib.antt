@@ -1,7 +1,6 @@
 pub mod StartedLaws
 pub mod EndingLaws
 pub mod AlikeLaws
-pub mod CommitLaws
 pub mod PartLaws
 pub mod AnyLaws
 pub mod HistoryLaws
@@ -21,16 +20,4 @@ pub mod JudgedLaws
 pub mod WaitingLaws
 pub mod ReachedFaults
 pub mod Reaching
-pub mod FrontLaws
-pub mod ExecutionLaws
-pub mod StandingLaws
-pub mod FaultLaws
-pub mod KeptFacts
-pub mod SeenLaws
-pub mod OutcomeLaws
-pub mod EffectFacts
-pub mod StepLaws
-pub mod BlockFacts
-pub mod CountLaws
-pub mod VerdictFacts
 pub mod StartWords

@@ -21,19 +21,19 @@ use Rattle.vyrd_base.specs.Verdicts.{is_return}
 use Rattle.vyrd_base.specs.Commits.{returned}
 use Rattle.vyrd_base.proofs.BlockLaws.{entry, by_same, own_answer, other_answer, no_answer}
 use Rattle.vyrd_base.proofs.ShadowLaws.{all_kept, caller_kept}
-use Rattle.vyrd_base.proofs.TestLaws.{below_of, is_below, at_most_of, is_at_most, same_of, is_same}
+use Rattle.vyrd_base.proofs.TestLaws.{below_of, is_below, at_most_of, is_at_most, same_of, is_same, apart_of}
 use Rattle.vyrd_judge.specs.declared.caller.Caller.{Caller}
 use Rattle.vyrd_judge.specs.declared.waiting.Event.{Event}
 use Rattle.vyrd_judge.specs.declared.waiting.Event.TheVariants.{Begins, Commits, Returns}
 use Rattle.vyrd_judge.specs.declared.waiting.Waiting.{Waiting}
 use Rattle.vyrd_judge.specs.HasWords.{Keeps}
-use Rattle.vyrd_judge.specs.Outcomes.{place_of}
+use Rattle.vyrd_plain.specs.Entries.{place_of}
 use Rattle.vyrd_judge.specs.Queued.{IsCaller, IsPending, IsUnreturned, HasQueued, HasTakenUp, MayQueue, CanLeave}
 use Rattle.vyrd_judge.specs.Waiting.{commit_of, waiting_of, waiting_at, replied_event, replied}
-use Rattle.vyrd_judge.proofs.ExecutionLaws.{open_call-other, open_call-quiet}
-use Rattle.vyrd_judge.proofs.CommitLaws.{Commits as Committing, alone, with_block, commits_inside, commits_unreturned}
-use Rattle.vyrd_judge.proofs.KeptFacts.{commit_kept, block_commit_runs, return_kept}
-use Rattle.vyrd_judge.proofs.StandingLaws.{slice_get-set_same, slice_get-set_other, not_same}
+use Rattle.vyrd_plain.proofs.StateLaws.{open_call-other, open_call-quiet}
+use Rattle.vyrd_plain.proofs.CommitLaws.{Commits as Committing, alone, with_block, commits_inside, commits_unreturned}
+use Rattle.vyrd_plain.proofs.KeptFacts.{commit_kept, block_commit_runs, return_kept}
+use Rattle.vyrd_plain.proofs.ListFacts.{slice_get-set_same, slice_get-set_other}
 
 some_same : {A : Type 0} {a b : A} → Some a ≡ Some b → a ≡ b
 some_same e = cc
@@ -229,7 +229,7 @@ call_queued {h} {waiting} {taken} {callers} {earlier} {c} {method} {args} caller
       })
       (λ other. let old = q.called d k low_d (sym (open_call-other d c (Call method args) earlier other) ∙ is) in record {
         caller = old.caller;
-        here = slice_get-set_other callers c d caller (not_same c d other) ∙ old.here;
+        here = slice_get-set_other callers c d caller (apart_of c d other) ∙ old.here;
         method = old.method;
         args = old.args;
       });
@@ -238,14 +238,14 @@ call_queued {h} {waiting} {taken} {callers} {earlier} {c} {method} {args} caller
       ∙ ap (λ y. has_committed y (entry c (Call method args) ∷ earlier)) same ∙ committed)))
       (λ other. q.pending d k x low_d (sym (open_call-other d c (Call method args) earlier other) ∙ is)
       (sym (committed-other d c (Call method args) earlier other) ∙ committed)
-      (sym (slice_get-set_other callers c d caller (not_same c d other)) ∙ at));
+      (sym (slice_get-set_other callers c d caller (apart_of c d other)) ∙ at));
   unreturned = λ i commit k at event. let u = q.unreturned i commit k at event in by_same c commit.caller
       (λ same. absurd (no_some (sym (call_is_free keeps) ∙ ap (λ x. open_call x earlier) same ∙ u.opened)))
       (λ other. record {
         opened = open_call-other commit.caller c (Call method args) earlier other ∙ u.opened;
         mutates = u.mutates;
         committed = committed-other commit.caller c (Call method args) earlier other ∙ u.committed;
-        number = λ x is. u.number x (sym (slice_get-set_other callers c commit.caller caller (not_same c commit.caller other)) ∙ is);
+        number = λ x is. u.number x (sym (slice_get-set_other callers c commit.caller caller (apart_of c commit.caller other)) ∙ is);
       });
   count = omega (arith, q.count);
 }
@@ -447,7 +447,7 @@ mutator_up {h} {old} {new} {taken} {taken'} {callers} {callers'} {earlier} c rep
     by_index : {P : Type 0} (j : ℕ) (w : Waiting) → slice_get (set old i x) j ≡ Some w → (slice_get old j ≡ Some w → j ≢ i → P) → (x ≡ w → P) → P
     by_index j w at other own = by_same i j
         (λ same_index. own (some_same (sym (slice_get-set_same old i x low) ∙ ap (slice_get (set old i x)) same_index ∙ at)))
-        (λ apart_index. other (sym (slice_get-set_other old i j x (not_same i j apart_index)) ∙ at) (λ same_index. not_same i j apart_index (sym same_index)))
+        (λ apart_index. other (sym (slice_get-set_other old i j x (apart_of i j apart_index)) ∙ at) (λ same_index. apart_of i j apart_index (sym same_index)))
 
     replied_isnt : {m : Method} {a : Args} (w : Waiting) → x ≡ w → w.event ≡ Commits m a None → ⊥
     replied_isnt w is event = isnt (ap (λ y. y.event) is ∙ event)
@@ -465,7 +465,7 @@ mutator_up {h} {old} {new} {taken} {taken'} {callers} {callers'} {earlier} c rep
           commit = r.commit;
           since = r.since;
           here = slice_get-set_other old i (x'.commit - taken) x
-              (λ same_index. not_same c d other (sym p.caller_is ∙ ap (λ w. w.caller) (some_same (sym p.here ∙ ap (slice_get old) same_index ∙ r.here)) ∙ r.caller_is))
+              (λ same_index. apart_of c d other (sym p.caller_is ∙ ap (λ w. w.caller) (some_same (sym p.here ∙ ap (slice_get old) same_index ∙ r.here)) ∙ r.caller_is))
               ∙ r.here;
           caller_is = r.caller_is;
           event = r.event;
@@ -528,7 +528,7 @@ commit_up {h} {old} {new} {taken} {taken'} {callers} {callers'} {earlier} c posi
           })
           (λ other. record {
             caller = was.caller;
-            here = slice_get-set_other callers c d y (not_same c d other) ∙ was.here;
+            here = slice_get-set_other callers c d y (apart_of c d other) ∙ was.here;
             method = was.method;
             args = was.args;
           });
@@ -546,7 +546,7 @@ commit_up {h} {old} {new} {taken} {taken'} {callers} {callers'} {earlier} c posi
             event = ap (λ m. Commits m caller.args None) (of_method ∙ ap (λ w. w.method) mine) ∙ ap (λ a. Commits k.method a None) (of_args ∙ ap (λ w. w.args) mine);
           })
           (λ other. let r = q.pending d k z low_d (sym (inside d) ∙ is) (sym (committed-other d c kind earlier other) ∙ committed)
-          (sym (slice_get-set_other callers c d y (not_same c d other)) ∙ z_at) in record {
+          (sym (slice_get-set_other callers c d y (apart_of c d other)) ∙ z_at) in record {
             commit = r.commit;
             since = r.since;
             here = slice_get-front old x (z.commit - taken) (slice_get_within old (z.commit - taken) r.commit r.here) ∙ r.here;
@@ -560,7 +560,7 @@ commit_up {h} {old} {new} {taken} {taken'} {callers} {callers'} {earlier} c posi
             opened = inside w.caller ∙ u.opened;
             mutates = u.mutates;
             committed = committed-other w.caller c kind earlier other ∙ u.committed;
-            number = λ z z_at. u.number z (sym (slice_get-set_other callers c w.caller y (not_same c w.caller other)) ∙ z_at);
+            number = λ z z_at. u.number z (sym (slice_get-set_other callers c w.caller y (apart_of c w.caller other)) ∙ z_at);
           }))
           (λ last is. let own : c ≡ w.caller = ap (λ v. v.caller) is in record {
             opened = ap (λ d. open_call d (e ∷ earlier)) (sym own) ∙ inside c ∙ opened ∙ ap Some (same_call (sym of_method) (sym of_args) (ap (λ v. v.event) is ∙ event));

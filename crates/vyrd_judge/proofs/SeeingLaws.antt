@@ -2,10 +2,10 @@
 use Rattle.std.proofs.Common.{◌≡◌, ℕ, zero, suc, ◌+◌, ◌-◌, ◌^◌, ◌<◌, ◌≤◌, Bool, true, false, cond, not, ◌||◌, List, [], ◌∷◌, length, set, Some, slice_get, refl, ap, subst, ◌∙◌, sym, arith}
 use Rattle.std.specs.Prelude.{◌==◌}
 use Rattle.std.proofs.lemmas.Option.{slice_get_within}
-use Rattle.vyrd_base.specs.Amounts.{Amounts}
+use Rattle.vyrd_base.specs.Amounts.{Amounts, amount_of}
 use Rattle.vyrd_base.proofs.BlockLaws.{by_same}
 use Rattle.vyrd_base.specs.declared.subject.Method.TheVariants.{MsInsert, MsInsertPair, MsDelete, MsLookup, CaWrite, CaFlush, CaEvict, CaRead, TrInsert, TrDelete, TrLookup, BuAppend, BuAppendFrom, BuCut, BuLength, BuRead}
-use Rattle.vyrd_base.proofs.TestLaws.{same_number, same_of}
+use Rattle.vyrd_base.proofs.TestLaws.{same_number, same_of, apart_of}
 use Rattle.vyrd_judge.specs.Watching.{Seen, has_answer, SeesAnswer, SeesState}
 use Rattle.vyrd_spec.specs.Touching.{touched_by, is_touched}
 use Rattle.vyrd_spec.proofs.TouchLaws.{untouched}
@@ -13,9 +13,8 @@ use Rattle.vyrd_base.specs.declared.subject.Method.{Method}
 use Rattle.vyrd_base.specs.declared.subject.Args.{Args}
 use Rattle.vyrd_base.specs.Buffers.{text_length}
 use Rattle.vyrd_base.specs.Specification.{next_state, answer_in}
-use Rattle.vyrd_base.specs.Amounts.{amount_of}
 use Rattle.vyrd_judge.specs.Reached.{AreCurrent, AllSee}
-use Rattle.vyrd_judge.proofs.StandingLaws.{slice_get-set_same, slice_get-set_other, not_same}
+use Rattle.vyrd_plain.proofs.ListFacts.{slice_get-set_same, slice_get-set_other}
 
 -- the watches before this place have seen the state, and those from it on are as they were
 pub record SeenBelow (state : Amounts) (i : ℕ) (old new : List Seen) : Type 0 where
@@ -36,7 +35,7 @@ seen_one_more state i old new x y low here sees so = record {
       ))
       (λ other. let before = so.below k seen (lower k low_k other) was in (
         before.0,
-        slice_get-set_other new i k y (not_same i k other) ∙ before.1,
+        slice_get-set_other new i k y (apart_of i k other) ∙ before.1,
         before.2,
       ));
   above = λ k high. slice_get-set_other new i k y (λ same. apart (omega (arith, high, same))) ∙ so.above k (omega (arith, high));
@@ -49,7 +48,7 @@ seen_one_more state i old new x y low here sees so = record {
     apart e = e
 
     lower : (k : ℕ) → k < i + 1 → (i == k) ≡ false → k < i
-    lower k low_k other = omega (arith, low_k, not_same i k other)
+    lower k low_k other = omega (arith, low_k, apart_of i k other)
 
 -- all have seen it
 pub seen_all : (state : Amounts) (i : ℕ) (old new : List Seen) → length old ≤ i → SeenBelow state i old new → AllSee state old new

@@ -12,16 +12,16 @@ use Rattle.vyrd_base.specs.Amounts.{Amounts}
 use Rattle.vyrd_base.specs.Subjects.{is_observer}
 use Rattle.vyrd_base.specs.Specification.{answer_in}
 use Rattle.vyrd_base.proofs.BlockLaws.{by_same}
-use Rattle.vyrd_base.proofs.TestLaws.{same_number, same_of}
+use Rattle.vyrd_base.proofs.TestLaws.{same_number, same_of, apart_of}
 use Rattle.vyrd_spec.specs.declared.touched.Touched.{Touched}
 use Rattle.vyrd_spec.specs.Touching.{is_touched}
 use Rattle.vyrd_judge.specs.declared.watch.Watch.{Watch}
-use Rattle.vyrd_judge.specs.Executions.{has_method}
+use Rattle.vyrd_plain.specs.Entries.{has_method}
 use Rattle.vyrd_judge.specs.Trails.{Asked, with_answer, after_state, seen_from, seen_by, IsOn, AreOn, AreAsking, KeepsAsked, moved}
 use Rattle.vyrd_judge.specs.Watching.{Seen, unwatched, has_answer, SeesAnswer, SeesState}
-use Rattle.vyrd_judge.proofs.SeenLaws.{changed_below}
+use Rattle.vyrd_plain.proofs.SeenLaws.{changed_below}
 use Rattle.vyrd_judge.proofs.SeeingLaws.{SeenBelow, knows_already}
-use Rattle.vyrd_judge.proofs.StandingLaws.{slice_get-set_same, slice_get-set_other, not_same}
+use Rattle.vyrd_plain.proofs.ListFacts.{slice_get-set_same, slice_get-set_other}
 
 some_same : {A : Type 0} {a b : A} → Some a ≡ Some b → a ≡ b
 some_same e = cc
@@ -83,13 +83,13 @@ pub asking_set : (h : Header) (trails : List Asked) (i : ℕ) (t : Asked) → i 
 asking_set h trails i t within own all = λ j u there. by_same i j
     (λ same. let it : t ≡ u = some_same (sym (slice_get-set_same trails i t within) ∙ ap (slice_get (set trails i t)) same ∙ there) in
     subst (λ v. v.is_asked ≡ true → (has_method h v.method v.args ≡ true) × (is_observer v.method ≡ true)) it own)
-    (λ other. all j u (sym (slice_get-set_other trails i j t (not_same i j other)) ∙ there))
+    (λ other. all j u (sym (slice_get-set_other trails i j t (apart_of i j other)) ∙ there))
 
 pub keeps_set : (trails : List Asked) (i : ℕ) (t new : Asked) → slice_get trails i ≡ Some t → t.is_asked ≡ false → KeepsAsked trails (set trails i new)
 keeps_set trails i t new here free = λ j u there is_asked. by_same i j
     (λ same. let it : t ≡ u = some_same (sym here ∙ ap (slice_get trails) same ∙ there) in
     absurd (false_true free (ap (λ v. v.is_asked) it ∙ is_asked)))
-    (λ other. slice_get-set_other trails i j new (not_same i j other) ∙ there)
+    (λ other. slice_get-set_other trails i j new (apart_of i j other) ∙ there)
 
 -- what is asked stays, and so do the observers and what they have seen
 pub on_kept : (old new : List Asked) (watches : List (Option Watch)) → KeepsAsked old new → AreOn old watches → AreOn new watches
@@ -114,7 +114,7 @@ pub on_set : (trails : List Asked) (watches : List (Option Watch)) (c : ℕ) (o 
     → ((w : Watch) → o ≡ Some w → IsOn trails w) → AreOn trails watches → AreOn trails (set watches c o)
 on_set trails watches c o within own on = λ d w here. by_same c d
     (λ same. own w (some_same (sym (slice_get-set_same watches c o within) ∙ ap (slice_get (set watches c o)) same ∙ here)))
-    (λ other. on d w (sym (slice_get-set_other watches c d o (not_same c d other)) ∙ here))
+    (λ other. on d w (sym (slice_get-set_other watches c d o (apart_of c d other)) ∙ here))
 
 drop_whole : {A : Type 0} (xs : List A) → drop (length xs) xs ≡ []
 drop_whole [] = refl
@@ -235,7 +235,7 @@ seen_moved trails watches i n t here low =
         ∙ ap (seen_from w.since) (sym here)
         ∙ ap (λ k. seen_from w.since (slice_get trails k)) (sym same)
     by_test w false e counts =
-        ap (seen_from w.since) (slice_get-set_other trails i w.trail new (λ same. not_same w.trail i e (sym same)))
+        ap (seen_from w.since) (slice_get-set_other trails i w.trail new (λ same. apart_of w.trail i e (sym same)))
 
     by_watch : (c : ℕ) (o : Option Watch) → slice_get watches c ≡ Some o → seen_by (set trails i new) (moved i n o) ≡ seen_by trails o
     by_watch c None there = refl
@@ -262,7 +262,7 @@ on_moved trails watches i n t here low on = λ c w there.
         }
     by_test w false e counts was = record {
       asked = was.asked;
-      there = slice_get-set_other trails i w.trail new (λ same. not_same w.trail i e (sym same)) ∙ was.there;
+      there = slice_get-set_other trails i w.trail new (λ same. apart_of w.trail i e (sym same)) ∙ was.there;
       is_asked = was.is_asked;
       within = was.within;
     }

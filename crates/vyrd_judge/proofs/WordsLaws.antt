@@ -20,16 +20,16 @@ use Rattle.vyrd_base.specs.FirstVersion.{old_effects_at, old_effects}
 use Rattle.vyrd_base.specs.Commits.{is_commit, commit_count}
 use Rattle.vyrd_base.proofs.BlockLaws.{entry, by_same}
 use Rattle.vyrd_base.proofs.ShadowLaws.{caller_kept, open_kept, close_kept, block_commit_kept}
-use Rattle.vyrd_base.proofs.TestLaws.{below_of, is_below, at_most_of, is_at_most, neither_true, same_number, same_of}
+use Rattle.vyrd_base.proofs.TestLaws.{below_of, is_below, at_most_of, is_at_most, neither_true, same_number, same_of, apart_of}
 use Rattle.vyrd_shadow.specs.Following.{Kept, HasFollowed, is_open, kept_writes, words_of}
 use Rattle.vyrd_judge.specs.Cuts.{Cuts, first_with, with_part, written}
 use Rattle.vyrd_judge.specs.Effects.{ActAlike, cut_if, number_at, inner_number, parts_behind, parts_since}
 use Rattle.vyrd_judge.specs.HasWords.{HasWords, HasTaken, Keeps, MayFollow}
 use Rattle.vyrd_judge.proofs.ActLaws.{written_alike, word_is}
 use Rattle.vyrd_judge.proofs.CutLaws.{with_part_nothing, first_with_nothing}
-use Rattle.vyrd_judge.proofs.KeptFacts.{write_kept}
+use Rattle.vyrd_plain.proofs.KeptFacts.{write_kept}
 use Rattle.vyrd_judge.proofs.ShadowFacts.{words_old}
-use Rattle.vyrd_judge.proofs.StandingLaws.{slice_get-set_same, slice_get-set_other, not_same}
+use Rattle.vyrd_plain.proofs.ListFacts.{slice_get-set_same, slice_get-set_other}
 
 -- what the rules say of an entry that may follow
 pub may_caller : {k : Kept} {inner : List ℕ} {e : Entry} {commits : ℕ} → MayFollow k inner e commits → e.caller < k.header.callers
@@ -118,7 +118,7 @@ numbers_set n inner c kind earlier number low is has = λ d low_d. by_same c d
     (λ same. subst (λ x. slice_get (set inner c number) x ≡ Some (inner_number x (entry c kind ∷ earlier))) same
     (slice_get-set_same inner c number low ∙ ap Some is
     ∙ ap (λ b. Some (cond b (number_at kind (commit_count earlier) (inner_number c earlier)) (inner_number c earlier))) (sym (same_number c))))
-    (λ other. slice_get-set_other inner c d number (not_same c d other) ∙ has d low_d
+    (λ other. slice_get-set_other inner c d number (apart_of c d other) ∙ has d low_d
     ∙ ap (λ b. Some (cond b (number_at kind (commit_count earlier) (inner_number d earlier)) (inner_number d earlier))) (sym other))
 
 -- the same shadow, once no word has changed

@@ -1,8 +1,3 @@
-pub mod Executions
-pub mod Standing
-pub mod Outcomes
-pub mod OpenBlocks
-pub mod Observing
 pub mod Watching
 pub mod Trails
 pub mod Waiting

@@ -5,11 +5,11 @@ ghost use Rattle.vyrd_base.specs.declared.header.Header.{Header};
 ghost use Rattle.vyrd_base.specs.declared.log.Entry.{Entry};
 ghost use Rattle.vyrd_base.specs.declared.log.StartWord.{StartWord};
 ghost use Rattle.vyrd_base.specs.Starts.{may_start, words_at_start, state_at_start};
+ghost use Rattle.vyrd_base.specs.Commits.{is_commit};
 ghost use Rattle.vyrd_base.specs.Verdicts.{first_fault, verdict, verdict_so_far};
 ghost use Rattle.vyrd_judge.specs.Following.{Kept, HasTakenIn, IsFaultless, IsSomewhere, MayCatchUp, AdvanceGives};
 ghost use Rattle.vyrd_judge.specs.declared.outcome.Advance.TheVariants.{Goes};
 
-use crate::counts::is_commit;
 use crate::outcome::{Advance, Outcome};
 use crate::queue::Queue;
 use crate::replay::Replay;
@@ -235,4 +235,11 @@ fn counted(count: u64, more: bool) -> u64
     ensures { result ≡ count + (if more then 1 else 0) }
 {
     if more { count + 1 } else { count }
+}
+
+/// Whether an entry of this kind commits.
+fn is_commit(kind: Kind) -> bool
+    ensures { result ≡ is_commit kind }
+{
+    matches!(kind, Kind::Commit | Kind::BlockCommit)
 }

@@ -10,38 +10,31 @@
 //! queue, with its `watches`: each open observer has a `watch`, which is on the `trail` of its question, one of all `trails`.
 //! An observer that has returned may be `leaving` answers behind that can go.
 //!
-//! [`judge_log`] is the plain judge, which has all entries before it begins: `front`, `scan`, `effects`, `execution`,
-//! `violation`, `counts` and `judge`. It is what the other is compared with.
+//! [`judge_log`] is the plain judge of `vyrd_plain`, which has all entries before it begins. It is what this one is compared
+//! with, and shares no code with it.
 #![tactic(auto)]
 
 mod any;
 mod caller;
-mod counts;
-mod effects;
-mod execution;
 mod follower;
-mod front;
-mod judge;
 mod leaving;
 mod logged;
 mod online;
 mod outcome;
 mod queue;
 mod replay;
-mod scan;
 mod starting;
 #[cfg(test)]
 mod tests;
 mod trail;
 mod trails;
 mod views;
-mod violation;
 mod waiting;
 mod watch;
 mod watches;
 mod words;
 
 pub use any::{AnyJudge, judge_history};
-pub use judge::judge_log;
 pub use logged::{entry_of, log_of};
 pub use online::Judge;
+pub use vyrd_plain::judge_log;

@@ -1,8 +1,8 @@
-//! What an entry of a front leads to.
+//! What an entry that waits leads to.
 
 use vyrd_base::{Verdict, Why};
 
-/// What an entry of a front leads to.
+/// What an entry that waits leads to.
 #[derive(Clone, Copy)]
 pub(crate) enum Outcome {
     /// It is no fault, and the next entry is to be looked at.

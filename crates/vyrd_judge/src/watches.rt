@@ -3,7 +3,7 @@
 ghost use Rattle.std.specs.Prelude.{◌≡◌, ◌<◌, ◌∷◌, ℕ, [], true, false, Some, None, IfOk, OnOk, length, replicate, slice_get, slice_set};
 ghost use Rattle.vyrd_base.specs.Specification.{answer_in};
 ghost use Rattle.vyrd_base.specs.Subjects.{is_observer};
-ghost use Rattle.vyrd_judge.specs.Executions.{has_method};
+ghost use Rattle.vyrd_plain.specs.Entries.{has_method};
 ghost use Rattle.vyrd_judge.specs.Reached.{AreCurrent, AllSee};
 ghost use Rattle.vyrd_judge.specs.Watching.{Seen, unwatched, has_answer};
 ghost use Rattle.vyrd_spec.specs.Touching.{is_touched};

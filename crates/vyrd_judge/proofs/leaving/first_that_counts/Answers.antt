@@ -2,7 +2,7 @@ use Rattle.std.proofs.Common.{◌≡◌, ◌+◌, ◌<◌, ℕ, false, None, sli
 use Rattle.std.specs.Prelude.{◌==◌, unwrap_or}
 use Rattle.std.proofs.lemmas.Option.{slice_get_within, unwrap_or-slice_get}
 use Rattle.vyrd_base.proofs.BlockLaws.{by_same}
-use Rattle.vyrd_judge.proofs.StandingLaws.{not_same}
+use Rattle.vyrd_base.proofs.TestLaws.{apart_of}
 use Rattle.vyrd_judge.proofs.leaving.first_that_counts.Goals as goal
 
 pub loop-watch-init : goal.loop-watch-init
@@ -23,7 +23,7 @@ loop-watch-preserved c = record {
 }
   where
     lower : (i d : ℕ) → d < i + 1 → (i == d) ≡ false → d < i
-    lower i d low other = omega (arith, low, not_same i d other)
+    lower i d low other = omega (arith, low, apart_of i d other)
 
 pub returns-clause-within : goal.returns-clause-within
 returns-clause-within c = c.loop-watch.invariant.within

@@ -3,7 +3,7 @@ use Rattle.std.specs.Result.{IfOk}
 use Rattle.vyrd_base.specs.Verdicts.{first_fault, verdict_so_far}
 use Rattle.vyrd_judge.specs.Queued.{MayQueue}
 use Rattle.vyrd_judge.specs.Following.{Kept, IsFaultless, IsSomewhere}
-use Rattle.vyrd_judge.proofs.StepLaws.{if_ok}
+use Rattle.std.proofs.lemmas.Result.{IfOk-weaker}
 use Rattle.vyrd_judge.proofs.FollowerLaws.{broken_so_far, may_take, may_queue, low_commits, few_commits, few_observers, low_caller_of, taken_all, may_catch_up, keeps_by, answer_with, sound_of}
 use Rattle.vyrd_judge.proofs.follower.Follower.take.Goals as goal
 
@@ -62,7 +62,7 @@ returns-clause-answer g c = λ starting log f.
     let was = subst (λ k. IsFaultless k starting log) (sym c.self.view_is) f in
     let more = log ++ c.args.entry ∷ [] in
     let same = ap (λ (k : Kept). verdict_so_far k.header starting more) c.self.view_is in
-    if_ok (λ v. v ≡ first_fault h starting more) (λ v. v ≡ verdict_so_far c.args.self.now.header starting more) c.catch_up.result
+    IfOk-weaker c.catch_up.result (λ v. v ≡ first_fault h starting more) (λ v. v ≡ verdict_so_far c.args.self.now.header starting more)
     (λ v is. answer_with v (taken_all _ _ c.args.entry c.self.inside.queue.header c.is_commit.result c.observer_returns-observes.result
     c.self.invariant.0 c.self.invariant.1 c.self.invariant.2 c.in_default.ensures.ok c.step.ensures.header c.in_ok-follow.ensures.taken c.follow.ensures.header c.follow.new.self.same_header
     c.in_ok-follow-2.ensures.taken_up refl refl refl refl refl c.is_commit.ensures c.counted-self-inside.ensures c.observer_returns-observes.ensures

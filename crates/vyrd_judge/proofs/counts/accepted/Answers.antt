@@ -1,8 +1,0 @@
-use Rattle.std.proofs.Common.{length}
-use Rattle.vyrd_base.specs.Verdicts.{accepted}
-use Rattle.vyrd_base.specs.declared.verdict.Verdict.TheVariants.{Accepted}
-use Rattle.vyrd_judge.proofs.counts.accepted.Goals as goal
-
-pub returns : goal.returns
-unfolding accepted
-returns c = (λ i. Accepted (length c.args.entries.now) (c.commit_count.ensures i) (c.in_ok-observer_count.ensures i))

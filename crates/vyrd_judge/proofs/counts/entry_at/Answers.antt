@@ -1,9 +1,0 @@
-use Rattle.std.proofs.Common.{take}
-use Rattle.vyrd_base.specs.Places.{newest_first}
-use Rattle.vyrd_base.proofs.ShadowLaws.{caller_kept}
-use Rattle.vyrd_judge.proofs.KeptFacts.{kept_at}
-use Rattle.vyrd_judge.proofs.counts.entry_at.Goals as goal
-
-pub returns-clause-caller : goal.returns-clause-caller
-returns-clause-caller c = λ h kept.
-    caller_kept h (newest_first (take c.args.at c.args.entries.now)) _ (kept_at h c.args.entries.now c.args.at _ c.requires kept)

@@ -1,6 +1,0 @@
-use Rattle.std.proofs.Common.{◌≡◌, drop}
-use Rattle.vyrd_base.specs.Commits.{next_reply}
-use Rattle.vyrd_judge.proofs.execution.next_reply.Given as goal
-
-abbrev pub invariant-loop-entry : goal.invariant-loop-entry
-invariant-loop-entry l = next_reply l.caller l.later ≡ next_reply l.caller (drop l.entry-index l.later)

@@ -1,7 +1,0 @@
-use Rattle.std.proofs.Common.{◌≡◌}
-use Rattle.vyrd_judge.specs.Executions.{seeing}
-use Rattle.vyrd_judge.proofs.SeenLaws.{changed_below}
-use Rattle.vyrd_judge.proofs.execution.see.Given as goal
-
-abbrev pub invariant-loop-execution : goal.invariant-loop-execution
-invariant-loop-execution g l = l.execution-items ≡ changed_below (seeing (g.S.Spec.state l.spec)) l.execution-index l.initial.execution-items

@@ -1,0 +1,206 @@
+-- How the open blocks, and the effects before a place, change with one more entry.
+use Rattle.std.proofs.Common.{◌≡◌, ℕ, ◌+◌, ◌<◌, true, false, ◌&&◌, List, [], ◌∷◌, ◌++◌, length, take, drop, replicate, set, Option, Some, None, slice_get, refl, ap, subst, ◌∙◌, sym, arith, length-append}
+use Rattle.std.specs.Prelude.{◌==◌, unwrap_or}
+use Rattle.std.specs.Option.{option_or}
+use Rattle.std.proofs.Math.Seq.{drop-append_seam}
+use Rattle.std.proofs.lemmas.List.{drop-append-le, length-take}
+use Rattle.std.proofs.lemmas.Option.{slice_get_within}
+use Rattle.vyrd_base.specs.declared.header.Header.{Header}
+use Rattle.vyrd_base.specs.declared.log.Kind.{Kind}
+use Rattle.vyrd_base.specs.declared.log.Kind.TheVariants.{Call, Return, Write, Commit, BlockOpen, BlockClose, BlockCommit}
+use Rattle.vyrd_base.specs.declared.log.Entry.{Entry}
+use Rattle.vyrd_base.specs.Places.{newest_first, first_answer}
+use Rattle.vyrd_base.specs.Callers.{by_caller, open_or_close, has_block, commit_or_open, has_inner_commit}
+use Rattle.vyrd_base.specs.Layout.{plain_words}
+use Rattle.vyrd_base.specs.Words.{with_write, block_writes, effects_at, effects, words_with, words_at}
+use Rattle.vyrd_base.proofs.PlaceLaws.{newest_first-push}
+use Rattle.vyrd_base.proofs.BlockLaws.{entry, by_same, own_answer, other_answer, no_answer, own_writes, other_writes, own_block}
+use Rattle.vyrd_base.proofs.TestLaws.{same_number, apart_of}
+use Rattle.vyrd_plain.specs.declared.effects.Block.{Block}
+use Rattle.vyrd_plain.specs.OpenBlocks.{written_by, writes_in, IsOpenBlock, IsBlockOf, committed, block_after, HasEffects}
+use Rattle.vyrd_plain.specs.Entries.{place_of}
+use Rattle.vyrd_plain.proofs.ListFacts.{take_one_more, slice_get-set_same, slice_get-set_other}
+use Rattle.vyrd_plain.proofs.StepLaws.{next_is}
+use Rattle.vyrd_plain.proofs.EffectFacts.{writes_in-append, drop_here, words_without, none_there}
+
+-- a block that stays open
+block_stays : (seen : List Entry) (d : ℕ) (e : Entry) (b b' : Block) → b'.opened ≡ b.opened
+    → has_block d (e ∷ newest_first seen) ≡ true
+    → has_inner_commit d (e ∷ newest_first seen) ≡ b'.has_commit
+    → block_writes d (e ∷ newest_first seen) ≡ written_by (e.caller == d) e.kind
+    ++ block_writes d (newest_first seen)
+    → IsOpenBlock seen d b → IsOpenBlock (seen ++ e ∷ []) d b'
+block_stays seen d e b b' same inside has_commit writes is =
+    let next = newest_first-push seen e in
+    record {
+      before = omega (arith, length-append seen (e ∷ []), is.before, same);
+      inside = ap (has_block d) next ∙ inside;
+      has_commit = ap (has_inner_commit d) next ∙ has_commit;
+      writes = ap (block_writes d) next ∙ writes
+          ∙ ap (λ ws. written_by (e.caller == d) e.kind ++ ws) is.writes
+          ∙ sym (ap (λ n. writes_in d (drop n (seen ++ e ∷ []))) same
+          ∙ ap (writes_in d) (drop-append-le b.opened seen (e ∷ []) (omega (arith, is.before)))
+          ∙ writes_in-append d (drop b.opened seen) (e ∷ []));
+    }
+
+-- another caller's entry
+other_next : (seen : List Entry) (c d : ℕ) (kind : Kind) (o : Option Block) → (c == d) ≡ false
+    → IsBlockOf seen d o
+    → IsBlockOf (seen ++ entry c kind ∷ []) d o
+other_next seen c d kind None other is = ap (has_block d) (newest_first-push seen (entry c kind))
+    ∙ ap (λ o. unwrap_or o false) (other_answer d c open_or_close kind (newest_first seen) other)
+    ∙ is
+other_next seen c d kind (Some b) other is =
+    let block = other_answer d c open_or_close kind (newest_first seen) other in
+    let commit = other_answer d c commit_or_open kind (newest_first seen) other in
+    block_stays seen d (entry c kind) b b refl (ap (λ o. unwrap_or o false) block ∙ is.inside)
+    ((λ i. unwrap_or (block i) false && unwrap_or (commit i) false) ∙ is.has_commit)
+    (other_writes d c kind (newest_first seen) other
+    ∙ ap (λ own. written_by own kind ++ block_writes d (newest_first seen)) (sym other)) is
+
+-- the caller's own entry that doesn't touch its block
+own_quiet : (seen : List Entry) (c : ℕ) (kind : Kind) (o : Option Block) → open_or_close kind ≡ None
+    → commit_or_open kind ≡ None
+    → ((writes : List (ℕ × ℕ)) → with_write true kind writes ≡ written_by true kind ++ writes)
+    → IsBlockOf seen c o
+    → IsBlockOf (seen ++ entry c kind ∷ []) c o
+own_quiet seen c kind None edge inner writes is =
+    ap (has_block c) (newest_first-push seen (entry c kind))
+    ∙ ap (λ o. unwrap_or o false) (no_answer c c open_or_close kind (newest_first seen) edge) ∙ is
+own_quiet seen c kind (Some b) edge inner writes is =
+    let block = no_answer c c open_or_close kind (newest_first seen) edge in
+    let commit = no_answer c c commit_or_open kind (newest_first seen) inner in
+    block_stays seen c (entry c kind) b b refl (ap (λ o. unwrap_or o false) block ∙ is.inside)
+    ((λ i. unwrap_or (block i) false && unwrap_or (commit i) false) ∙ is.has_commit)
+    (own_writes c kind (newest_first seen) ∙ writes (block_writes c (newest_first seen))
+    ∙ ap (λ own. written_by own kind ++ block_writes c (newest_first seen)) (sym (same_number c)))
+    is
+
+own_commit : (seen : List Entry) (c : ℕ) (b : Block) → IsOpenBlock seen c b
+    → IsOpenBlock (seen ++ entry c Commit ∷ []) c (committed b)
+own_commit seen c b is =
+    let block = ap (λ o. unwrap_or o false)
+    (no_answer c c open_or_close Commit (newest_first seen) refl) ∙ is.inside in
+    let commit = ap (λ o. unwrap_or o false)
+    (own_answer c commit_or_open Commit (newest_first seen)) in
+    block_stays seen c (entry c Commit) b (committed b) refl block (λ i. block i && commit i)
+    (own_writes c Commit (newest_first seen)
+    ∙ ap (λ own. written_by own Commit ++ block_writes c (newest_first seen)) (sym (same_number c)))
+    is
+
+own_open : (seen : List Entry) (c : ℕ)
+    → IsOpenBlock (seen ++ entry c BlockOpen ∷ []) c
+    (record { opened = length seen; has_commit = false })
+own_open seen c =
+    let e = entry c BlockOpen in
+    let next = newest_first-push seen e in
+    let block = own_block c BlockOpen (newest_first seen) in
+    let commit = ap (λ o. unwrap_or o false)
+    (own_answer c commit_or_open BlockOpen (newest_first seen)) in
+    record {
+      before = omega (arith, length-append seen (e ∷ []));
+      inside = ap (has_block c) next ∙ block;
+      has_commit = ap (has_inner_commit c) next ∙ (λ i. block i && commit i);
+      writes = ap (block_writes c) next ∙ own_writes c BlockOpen (newest_first seen)
+          ∙ sym (ap (writes_in c) (drop-append_seam seen (e ∷ []))
+          ∙ ap (λ own. written_by own BlockOpen) (same_number c));
+    }
+
+own_end : (seen : List Entry) (c : ℕ) (kind : Kind) → open_or_close kind ≡ Some false
+    → has_block c (newest_first (seen ++ entry c kind ∷ [])) ≡ false
+own_end seen c kind ends = ap (has_block c) (newest_first-push seen (entry c kind))
+    ∙ own_block c kind (newest_first seen)
+    ∙ ap (λ o. unwrap_or
+    (option_or o (first_answer (by_caller c open_or_close) (newest_first seen))) false) ends
+
+own_next : (seen : List Entry) (c : ℕ) (kind : Kind) (o : Option Block) → IsBlockOf seen c o
+    → IsBlockOf (seen ++ entry c kind ∷ []) c (block_after (length seen) kind o)
+own_next seen c (Call method args) o is =
+    own_quiet seen c (Call method args) o refl refl (λ ws. refl) is
+own_next seen c (Return reply) o is = own_quiet seen c (Return reply) o refl refl (λ ws. refl) is
+own_next seen c (Write word value) o is =
+    own_quiet seen c (Write word value) o refl refl (λ ws. refl) is
+own_next seen c Commit None is = ap (has_block c) (newest_first-push seen (entry c Commit))
+    ∙ ap (λ o. unwrap_or o false) (no_answer c c open_or_close Commit (newest_first seen) refl) ∙ is
+own_next seen c Commit (Some b) is = own_commit seen c b is
+own_next seen c BlockOpen o is = own_open seen c
+own_next seen c BlockClose o is = own_end seen c BlockClose refl
+own_next seen c BlockCommit o is = own_end seen c BlockCommit refl
+
+-- each caller's block is kept
+abbrev pub AreBlocks : Header → List Entry → List (Option Block) → Type 0
+AreBlocks h seen blocks = (c : ℕ) → c < h.callers
+    → (o : Option Block) × (slice_get blocks c ≡ Some o) × IsBlockOf seen c o
+
+pub block_there : (h : Header) (seen : List Entry) (blocks : List (Option Block)) (c : ℕ)
+    (o : Option Block) → AreBlocks h seen blocks
+    → c < h.callers → slice_get blocks c ≡ Some o → IsBlockOf seen c o
+block_there h seen blocks c o are within there =
+    let kept = are c within in let same : kept.0 ≡ o = cc in subst (IsBlockOf seen c) same kept.2
+
+-- one more entry changes its caller's block alone
+pub blocks_next : (h : Header) (seen : List Entry) (e : Entry) (blocks : List (Option Block))
+    (o : Option Block) → AreBlocks h seen blocks
+    → e.caller < h.callers → slice_get blocks e.caller ≡ Some o
+    → AreBlocks h (seen ++ e ∷ []) (set blocks e.caller (block_after (length seen) e.kind o))
+blocks_next h seen e blocks o are low there d within = by_same e.caller d
+    (λ same. subst (λ k. (n : Option Block) × (slice_get new k ≡ Some n)
+    × IsBlockOf (seen ++ e ∷ []) k n) same (
+      block_after (length seen) e.kind o,
+      slice_get-set_same blocks e.caller _ (slice_get_within blocks e.caller o there),
+      own_next seen e.caller e.kind o (block_there h seen blocks e.caller o are low there),
+    ))
+    (λ other. let kept = are d within in (
+      kept.0,
+      slice_get-set_other blocks e.caller d _ (apart_of e.caller d other) ∙ kept.1,
+      other_next seen e.caller d e.kind kept.0 other kept.2,
+    ))
+  where
+    new : List (Option Block)
+    new = set blocks e.caller (block_after (length seen) e.kind o)
+
+-- the same from one place of a front to the next
+pub blocks_at : (h : Header) (front : List Entry) (at : ℕ) (e : Entry)
+    (blocks : List (Option Block)) (o n : Option Block)
+    → slice_get front at ≡ Some e → AreBlocks h (take at front) blocks → e.caller < h.callers
+    → slice_get blocks e.caller ≡ Some o
+    → n ≡ block_after at e.kind o → AreBlocks h (take (at + 1) front) (set blocks e.caller n)
+blocks_at h front at e blocks o n here are low there is =
+    let within = slice_get_within front at e here in
+    let long : length (take at front) ≡ at = omega (arith, length-take at front) in
+    subst (λ es. AreBlocks h es (set blocks e.caller n)) (sym (take_one_more front at e here))
+    (subst (λ m. AreBlocks h (take at front ++ e ∷ []) (set blocks e.caller m))
+    (ap (λ k. block_after k e.kind o) long ∙ sym is)
+    (blocks_next h (take at front) e blocks o are low there))
+
+-- the effects before the next place
+pub effects_next : (front : List Entry) (at : ℕ) (e : Entry) → slice_get front at ≡ Some e
+    → effects_at (newest_first (take at front)) e.caller e.kind (drop (at + 1) front)
+    ++ effects (newest_first (take at front)) (drop at front)
+    ≡ effects (newest_first (take (at + 1) front)) (drop (at + 1) front)
+effects_next front at e here =
+    ap (λ es. effects_at (newest_first (take at front)) e.caller e.kind (drop (at + 1) front)
+    ++ effects (newest_first (take at front)) es)
+    (drop_here front at e here)
+    ∙ ap (λ es. effects es (drop (at + 1) front)) (next_is front at e here)
+
+-- before the first entry all words are 0, and no block is open
+pub effects_first : (h : Header) (front : List Entry) (words : List ℕ)
+    (blocks : List (Option Block)) → words ≡ replicate (plain_words h) 0
+    → blocks ≡ replicate h.callers None → HasEffects h words blocks [] front
+effects_first h front words blocks zeroed closed = record {
+  values = zeroed ∙ sym (words_without h);
+  open_blocks = λ c within.
+      (None, ap (λ bs. slice_get bs c) closed ∙ none_there h.callers c within, refl);
+}
+
+-- once the effects of an entry have taken place, the words are those at its place
+pub words_here : (h : Header) (front : List Entry) (at : ℕ) (e : Entry) (words : List ℕ)
+    (blocks : List (Option Block))
+    → slice_get front at ≡ Some e
+    → HasEffects h words blocks (take (at + 1) front) (drop (at + 1) front)
+    → words ≡ words_at h [] (place_of e (newest_first (take at front)) (drop (at + 1) front))
+unfolding words_at
+words_here h front at e words blocks here are =
+    are.values ∙ ap (λ es. words_with h [] (effects es (drop (at + 1) front)))
+    (sym (next_is front at e here))

@@ -1,0 +1,46 @@
+-- Entries that commit.
+use Rattle.std.proofs.Common.{◌≡◌, inl, inr, ℕ, true, false, List, None, refl, subst, sym}
+use Rattle.std.specs.Prelude.{◌⊎◌}
+use Rattle.vyrd_base.specs.declared.header.Header.{Header}
+use Rattle.vyrd_base.specs.declared.log.Kind.{Kind}
+use Rattle.vyrd_base.specs.declared.log.Kind.TheVariants.{Commit, BlockCommit}
+use Rattle.vyrd_base.specs.declared.log.Entry.{Entry}
+use Rattle.vyrd_base.specs.declared.log.StartWord.{StartWord}
+use Rattle.vyrd_base.specs.Callers.{call_or_return, is_call}
+use Rattle.vyrd_base.specs.Amounts.{Amounts}
+use Rattle.vyrd_base.specs.Commits.{is_commit, returned}
+use Rattle.vyrd_base.specs.Faults.{fault_of_commit, fault_at}
+use Rattle.vyrd_base.proofs.BlockLaws.{entry}
+use Rattle.vyrd_plain.specs.Entries.{place_of}
+
+-- a kind of entry that commits
+pub data Commits : Kind → Type 0 where
+  alone : Commits Commit
+  with_block : Commits BlockCommit
+
+pub commits_by : {kind : Kind} → (kind ≡ Commit) ⊎ (kind ≡ BlockCommit) → Commits kind
+commits_by (inl is) = subst Commits (sym is) alone
+commits_by (inr is) = subst Commits (sym is) with_block
+
+pub commits_is : (kind : Kind) → Commits kind → is_commit kind ≡ true
+commits_is _ alone = refl
+commits_is _ with_block = refl
+
+pub commits_inside : (kind : Kind) → Commits kind → call_or_return kind ≡ None
+commits_inside _ alone = refl
+commits_inside _ with_block = refl
+
+pub commits_unreturned : (kind : Kind) → Commits kind → returned kind ≡ None
+commits_unreturned _ alone = refl
+commits_unreturned _ with_block = refl
+
+pub commits_uncalled : (kind : Kind) → Commits kind → is_call kind ≡ false
+commits_uncalled _ alone = refl
+commits_uncalled _ with_block = refl
+
+pub fault_of_commit_kind : (h : Header) (starting : List StartWord) (states : List Amounts) (c : ℕ) (kind : Kind) (earlier later : List Entry)
+    → Commits kind → fault_at h starting states (place_of (entry c kind) earlier later)
+    ≡ fault_of_commit h starting states (place_of (entry c kind) earlier later)
+unfolding fault_at
+fault_of_commit_kind h starting states c _ earlier later alone = refl
+fault_of_commit_kind h starting states c _ earlier later with_block = refl

@@ -1,0 +1,16 @@
+pub mod ListFacts
+pub mod SeenLaws
+pub mod WordFacts
+pub mod FrontLaws
+pub mod KeptFacts
+pub mod CommitLaws
+pub mod StateLaws
+pub mod VerdictFacts
+pub mod ExecutionLaws
+pub mod StandingLaws
+pub mod EffectFacts
+pub mod StepLaws
+pub mod BlockFacts
+pub mod CountLaws
+pub mod OutcomeLaws
+pub mod FaultLaws

@@ -1,0 +1,51 @@
+-- What a commit and an entry lead to.
+use Rattle.std.specs.Prelude.{◌≡◌, ◌≤◌, ℕ, List, ◌∷◌, ◌&&◌, not, map, length, Option, Some, None, if◌then◌else◌}
+use Rattle.vyrd_base.specs.declared.header.Header.{Header}
+use Rattle.vyrd_base.specs.declared.log.Entry.{Entry}
+use Rattle.vyrd_base.specs.declared.log.StartWord.{StartWord}
+use Rattle.vyrd_base.specs.declared.verdict.Why.{Why}
+use Rattle.vyrd_base.specs.declared.verdict.Why.TheVariants.{Observer}
+use Rattle.vyrd_base.specs.Places.{Place}
+use Rattle.vyrd_base.specs.Subjects.{is_observer}
+use Rattle.vyrd_base.specs.Amounts.{Amounts, first_difference}
+use Rattle.vyrd_base.specs.Specification.{next_state}
+use Rattle.vyrd_base.specs.Commits.{commit_count}
+use Rattle.vyrd_base.specs.Faults.{step_fault, fault_at}
+use Rattle.vyrd_plain.specs.declared.execution.Execution.{Execution}
+use Rattle.vyrd_plain.specs.declared.outcome.Outcome.{Outcome}
+use Rattle.vyrd_plain.specs.declared.outcome.Outcome.TheVariants.{Goes, Faults, Ends}
+use Rattle.vyrd_plain.specs.Executions.{seeing}
+use Rattle.vyrd_plain.specs.Standing.{Stands}
+
+-- the commit's execution has returned, its reply is allowed, and the state after it is what the words show
+pub record CommitGoes (shown : Amounts) (x : Execution) (before after : Amounts) (old new : List (Option Execution)) : Type 0 where
+  pub reply : ℕ
+  pub returned : x.reply ≡ Some reply
+  pub next : next_state x.method x.args reply before ≡ Some after
+  pub same : first_difference shown after ≡ None
+  pub seen : new ≡ map (seeing after) old
+
+-- the commit's execution has returned, and this is wrong with it
+pub record CommitFaults (shown : Amounts) (x : Execution) (before : Amounts) (why : Why) : Type 0 where
+  pub reply : ℕ
+  pub returned : x.reply ≡ Some reply
+  pub fault : step_fault shown (record { method = x.method; args = x.args }) reply before ≡ Some why
+
+-- what a commit of the execution leads to, where the words show this
+abbrev pub CommitGives : Amounts → Execution → Amounts → Amounts → List (Option Execution) → List (Option Execution) → Outcome → Type 0
+CommitGives shown x before after old new Goes = CommitGoes shown x before after old new
+CommitGives shown x before after old new (Faults why) = CommitFaults shown x before why
+CommitGives shown x before after old new Ends = x.reply ≡ None
+
+-- What the entry at a place leads to: it is no fault, and what is kept stands for the next place; or this is its fault; or no
+-- later state is known, so that nothing later is a fault either.
+abbrev pub PlaceGives : Header → List StartWord → List Amounts → Place Entry → Amounts → List (Option Execution) → Outcome → Type 0
+PlaceGives h starting states place state executions Goes =
+    (fault_at h starting states place ≡ None) × Stands h states (place.here ∷ place.earlier) place.later state executions
+PlaceGives h starting states place state executions (Faults why) = fault_at h starting states place ≡ Some why
+PlaceGives h starting states place state executions Ends =
+    (fault_at h starting states place ≡ None) × (length states ≤ commit_count (place.here ∷ place.earlier))
+
+-- what a return leads to: it is a fault where no state since the call answers an observer's reply
+abbrev pub return_outcome : Execution → ℕ → Outcome
+return_outcome x reply = if is_observer x.method && not x.is_answered then Faults (Observer reply) else Goes

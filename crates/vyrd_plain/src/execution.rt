@@ -1,0 +1,80 @@
+//! The open execution of a caller, and how it sees the states of the specification.
+
+ghost use Rattle.std.specs.Prelude.{◌≡◌, true, Option, Some, None, map, vec_len};
+ghost use Rattle.vyrd_base.specs.Commits.{next_reply};
+ghost use Rattle.vyrd_plain.specs.declared.execution.Execution.{Execution};
+ghost use Rattle.vyrd_plain.specs.Entries.{has_method};
+ghost use Rattle.vyrd_plain.specs.Executions.{AreAllowed, seeing};
+
+use vyrd_base::{Args, Entry, Header, Kind, Method};
+use vyrd_spec::Spec;
+
+/// An execution that has begun, with the reply that it will return.
+///
+/// The reply is known from the call on, so that an observer's can be held against each state as it comes, and no state need
+/// be kept.
+#[derive(Clone, Copy)]
+pub(crate) struct Execution {
+    pub method: Method,
+    pub args: Args,
+    /// `None` where it doesn't return in the front.
+    pub reply: Option<u64>,
+    /// Whether it is an observer's, and some state since its call gives the reply.
+    pub is_answered: bool,
+}
+
+/// The reply of the caller's next return, `None` where there is none. It looks no further than that return.
+pub(crate) fn next_reply(caller: u32, later: &[Entry]) -> Option<u64>
+    ensures { result ≡ next_reply caller later.now }
+{
+    for entry in later {
+        if entry.caller == caller {
+            if let Kind::Return(reply) = entry.kind {
+                return Some(reply);
+            }
+        }
+    }
+    None
+}
+
+impl Execution {
+    ghost use Rattle.vyrd_plain.specs.Executions.{answers};
+
+    /// Whether it is an observer's, whose reply this state answers.
+    pub fn is_answered_by<S: Spec>(&self, spec: &S) -> bool
+        requires allowed { has_method (S.header_of spec.now) self.now.method self.now.args ≡ true }
+        requires subject { (S.header_of spec.now).subject ≡ S.subject }
+        ensures { result ≡ answers self.now (S.state spec.now) }
+    {
+        match self.reply {
+            Some(reply) if self.method.is_observer() => {
+                reply == spec.answer(self.method, self.args)
+            }
+            _ => false,
+        }
+    }
+}
+
+/// An execution that sees the specification's state too.
+fn seeing<S: Spec>(execution: Option<Execution>, spec: &S) -> Option<Execution>
+    requires allowed { (x : Execution) → execution ≡ Some x → has_method (S.header_of spec.now) x.method x.args ≡ true }
+    requires subject { (S.header_of spec.now).subject ≡ S.subject }
+    ensures { result ≡ seeing (S.state spec.now) execution }
+{
+    let mut x = execution?;
+    x.is_answered = x.is_answered || x.is_answered_by(spec);
+    Some(x)
+}
+
+/// Lets every caller's execution see the specification's state.
+pub(crate) fn see<S: Spec>(executions: &mut Vec<Option<Execution>>, spec: &S)
+    requires allowed { AreAllowed (S.header_of spec.now) executions.old.items }
+    requires all { vec_len executions.old ≡ (S.header_of spec.now).callers }
+    requires subject { (S.header_of spec.now).subject ≡ S.subject }
+    ensures seen { executions.new.items ≡ map (seeing (S.state spec.now)) executions.old.items }
+    ensures len { vec_len executions.new ≡ vec_len executions.old }
+{
+    for execution in executions.iter_mut() {
+        *execution = seeing(*execution, spec);
+    }
+}
