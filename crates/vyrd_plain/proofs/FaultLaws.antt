@@ -28,7 +28,7 @@ use Rattle.vyrd_plain.specs.declared.execution.Execution.{Execution}
 use Rattle.vyrd_plain.specs.declared.outcome.Outcome.{Outcome}
 use Rattle.vyrd_plain.specs.declared.outcome.Outcome.TheVariants.{Goes, Faults, Ends}
 use Rattle.vyrd_plain.specs.Executions.{is_reply, answers, begun, IsExecution}
-use Rattle.vyrd_plain.specs.Standing.{Stands}
+use Rattle.vyrd_plain.specs.Tracking.{Tracks}
 use Rattle.vyrd_plain.specs.Entries.{place_of}
 use Rattle.vyrd_plain.specs.Outcomes.{CommitGives, PlaceGives, return_outcome}
 use Rattle.vyrd_plain.proofs.CommitLaws.{Commits, alone, with_block, commits_is, commits_inside, commits_unreturned, commits_uncalled, fault_of_commit_kind}
@@ -36,7 +36,7 @@ use Rattle.vyrd_plain.proofs.StateLaws.{next_reply-quiet, state_here, ending-com
 use Rattle.vyrd_plain.proofs.KeptFacts.{commit_kept, block_commit_runs}
 use Rattle.vyrd_plain.proofs.StepLaws.{IsAt, Leads, call_allowed, called_is, leads_for}
 use Rattle.std.proofs.lemmas.Result.{IfOk-weaker}
-use Rattle.vyrd_plain.proofs.StandingLaws.{stands_inside, stands_call, stands_return, stands_commit}
+use Rattle.vyrd_plain.proofs.TrackingLaws.{tracks_inside, tracks_call, tracks_return, tracks_commit}
 
 -- what is called in the execution
 abbrev pub called_in : Execution → Called
@@ -54,7 +54,7 @@ once_kept f h states c kind earlier later x unreturned is =
 -- the fault of a commit where the state before it is known
 commit_fault_here : (h : Header) (starting : List StartWord) (states : List Amounts) (c : ℕ) (kind : Kind) (earlier later : List Entry) (state : Amounts)
     (executions : List (Option Execution)) (x : Execution) → returned kind ≡ None
-    → Stands h states earlier (entry c kind ∷ later) state executions → IsExecution h states c earlier (entry c kind ∷ later) x
+    → Tracks h states earlier (entry c kind ∷ later) state executions → IsExecution h states c earlier (entry c kind ∷ later) x
     → fault_of_commit h starting states (place_of (entry c kind) earlier later)
     ≡ option_and_then (λ reply. step_fault (view_of_words h (words_at h starting (place_of (entry c kind) earlier later))) (called_in x) reply state) x.reply
 commit_fault_here h starting states c kind earlier later state executions x unreturned s is =
@@ -66,7 +66,7 @@ commit_fault_here h starting states c kind earlier later state executions x unre
 -- what a commit leads to, by what its execution and the words show
 commit_gives : (h : Header) (starting : List StartWord) (states : List Amounts) (c : ℕ) (kind : Kind) (earlier later : List Entry) (state next : Amounts)
     (executions new : List (Option Execution)) (x : Execution) (shown : Amounts) (o : Outcome)
-    → Commits kind → Stands h states earlier (entry c kind ∷ later) state executions → IsExecution h states c earlier (entry c kind ∷ later) x
+    → Commits kind → Tracks h states earlier (entry c kind ∷ later) state executions → IsExecution h states c earlier (entry c kind ∷ later) x
     → shown ≡ view_of_words h (words_at h starting (place_of (entry c kind) earlier later)) → CommitGives shown x state next executions new o
     → PlaceGives h starting states (place_of (entry c kind) earlier later) next new o
 commit_gives h starting states c kind earlier later state next executions new x shown o commits s is shows gives = by_outcome o gives
@@ -95,8 +95,8 @@ commit_gives h starting states c kind earlier later state next executions new x 
       fault ∙ ap (option_and_then fault_by) g.returned
           ∙ ap (λ n. elim n as (λ _. Option Why) [ None ↦ Some (Reply g.reply) | Some a ↦ option_map View (first_difference shown a) ]) g.next
           ∙ ap (option_map View) g.same,
-      subst (Stands h states (entry c kind ∷ earlier) later next) (sym g.seen)
-          (stands_commit h states c kind earlier later state next executions (commits_inside kind commits) (commits_unreturned kind commits)
+      subst (Tracks h states (entry c kind ∷ earlier) later next) (sym g.seen)
+          (tracks_commit h states c kind earlier later state next executions (commits_inside kind commits) (commits_unreturned kind commits)
           (commits_uncalled kind commits) (commits_is kind commits) (after ∙ ap (option_and_then next_by) g.returned ∙ g.next) s),
     )
     by_outcome (Faults why) f = fault ∙ ap (option_and_then fault_by) f.returned ∙ f.fault
@@ -113,7 +113,7 @@ same_any p q (x ∷ xs) same = ap (λ b. b || list_any p xs) (same x) ∙ ap (λ
 -- what a return leads to
 return_gives : (h : Header) (starting : List StartWord) (states : List Amounts) (c reply : ℕ) (earlier later : List Entry) (state : Amounts)
     (executions : List (Option Execution)) (x : Execution)
-    → Stands h states earlier (entry c (Return reply) ∷ later) state executions
+    → Tracks h states earlier (entry c (Return reply) ∷ later) state executions
     → IsExecution h states c earlier (entry c (Return reply) ∷ later) x
     → PlaceGives h starting states (place_of (entry c (Return reply)) earlier later) state (set executions c None) (return_outcome x reply)
 unfolding fault_at
@@ -155,7 +155,7 @@ return_gives h starting states c reply earlier later state executions x s is = b
     by_test : (b : Bool) → fault_at h starting states place ≡ cond b (Some (Observer reply)) None
         → PlaceGives h starting states place state (set executions c None) (cond b (Faults (Observer reply)) Goes)
     by_test true faulty = faulty
-    by_test false faultless = (faultless, stands_return h states c reply earlier later state executions s)
+    by_test false faultless = (faultless, tracks_return h states c reply earlier later state executions s)
 
 -- What the entry at a place leads to, kind by kind.
 pub return_leads : {h : Header} {front : List Entry} {at c reply : ℕ} {state : Amounts} {executions : List (Option Execution)} {x : Execution}
@@ -163,7 +163,7 @@ pub return_leads : {h : Header} {front : List Entry} {at c reply : ℕ} {state :
     → IsExecution h (states_along h [] front) c (newest_first (take at front)) (entry c (Return reply) ∷ drop (at + 1) front) x
     → Leads h front at (entry c (Return reply)) state (set executions c None) (return_outcome x reply)
 return_leads {h} {front} {at} {c} {reply} {state} {executions} {x} here is = record {
-  to = return_gives h [] (states_along h [] front) c reply (newest_first (take at front)) (drop (at + 1) front) state executions x here.stands is;
+  to = return_gives h [] (states_along h [] front) c reply (newest_first (take at front)) (drop (at + 1) front) state executions x here.tracks is;
 }
 
 pub call_leads : {h : Header} {front : List Entry} {at c : ℕ} {method : Method} {args : Args} {reply : Option ℕ} {state : Amounts}
@@ -174,8 +174,8 @@ unfolding fault_at
 call_leads {h} {front} {at} {c} {method} {args} {reply} {state} {executions} here replies = record {
   to = (
     refl,
-    stands_call h (states_along h [] front) c method args (newest_first (take at front)) (drop (at + 1) front) state executions
-        (begun method args reply state) refl refl replies refl (call_allowed here) here.stands,
+    tracks_call h (states_along h [] front) c method args (newest_first (take at front)) (drop (at + 1) front) state executions
+        (begun method args reply state) refl refl replies refl (call_allowed here) here.tracks,
   );
 }
 
@@ -191,20 +191,20 @@ quiet_by (inr (inl is)) = subst Quiet (sym is) opens
 quiet_by (inr (inr is)) = subst Quiet (sym is) closes
 
 quiet_gives : (h : Header) (starting : List StartWord) (states : List Amounts) (c : ℕ) (kind : Kind) (earlier later : List Entry) (state : Amounts)
-    (executions : List (Option Execution)) → Quiet kind → Stands h states earlier (entry c kind ∷ later) state executions
+    (executions : List (Option Execution)) → Quiet kind → Tracks h states earlier (entry c kind ∷ later) state executions
     → PlaceGives h starting states (place_of (entry c kind) earlier later) state executions Goes
 unfolding fault_at
 quiet_gives h starting states c _ earlier later state executions (writes word value) s =
-    (refl, stands_inside h states c (Write word value) earlier later state executions refl refl refl refl s)
+    (refl, tracks_inside h states c (Write word value) earlier later state executions refl refl refl refl s)
 quiet_gives h starting states c _ earlier later state executions opens s =
-    (refl, stands_inside h states c BlockOpen earlier later state executions refl refl refl refl s)
+    (refl, tracks_inside h states c BlockOpen earlier later state executions refl refl refl refl s)
 quiet_gives h starting states c _ earlier later state executions closes s =
-    (refl, stands_inside h states c BlockClose earlier later state executions refl refl refl refl s)
+    (refl, tracks_inside h states c BlockClose earlier later state executions refl refl refl refl s)
 
 pub quiet_leads : {h : Header} {front : List Entry} {at c : ℕ} {kind : Kind} {state : Amounts} {executions : List (Option Execution)}
     → Quiet kind → IsAt h front at (entry c kind) state executions → Leads h front at (entry c kind) state executions Goes
 quiet_leads {h} {front} {at} {c} {kind} {state} {executions} quiet here = record {
-  to = quiet_gives h [] (states_along h [] front) c kind (newest_first (take at front)) (drop (at + 1) front) state executions quiet here.stands;
+  to = quiet_gives h [] (states_along h [] front) c kind (newest_first (take at front)) (drop (at + 1) front) state executions quiet here.tracks;
 }
 
 -- a commit stands in a mutator's execution
@@ -238,5 +238,5 @@ commit_leads {E} {h} {front} {at} {c} {kind} {e} {state} {executions} {x} r next
     leads : (o : Outcome) → CommitGives shown x state next executions new o → Leads h front at e next new o
     leads o given = leads_for {d = entry c kind} same (record {
       to = commit_gives h [] (states_along h [] front) c kind (newest_first (take at front)) (drop (at + 1) front) state next executions new x shown o
-          commits here.stands is refl given;
+          commits here.tracks is refl given;
     })

@@ -7,7 +7,7 @@ pub mod CommitLaws
 pub mod StateLaws
 pub mod VerdictFacts
 pub mod ExecutionLaws
-pub mod StandingLaws
+pub mod TrackingLaws
 pub mod EffectFacts
 pub mod StepLaws
 pub mod BlockFacts

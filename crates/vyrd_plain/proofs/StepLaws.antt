@@ -1,4 +1,4 @@
--- What a judge that stands at a place of a front may do with the entry there.
+-- What a judge that tracks a front up to a place may do with the entry there.
 use Rattle.std.proofs.Common.{◌≡◌, ℕ, zero, suc, ◌+◌, ◌<◌, ◌≤◌, true, List, [], ◌∷◌, length, take, drop, get_or, replicate, Option, Some, None, slice_get, refl, ap, subst, ◌∙◌, sym, arith, drop-cons}
 use Rattle.std.proofs.lemmas.List.{length-take}
 use Rattle.std.proofs.Math.ListN.{drop_of_length-le}
@@ -30,7 +30,7 @@ use Rattle.vyrd_base.proofs.NoStart.{state_at_start-none}
 use Rattle.vyrd_plain.specs.declared.execution.Execution.{Execution}
 use Rattle.vyrd_plain.specs.Entries.{has_method, place_of}
 use Rattle.vyrd_plain.specs.Executions.{IsExecution, IsOpen, AreAllowed}
-use Rattle.vyrd_plain.specs.Standing.{Stands}
+use Rattle.vyrd_plain.specs.Tracking.{Tracks}
 use Rattle.vyrd_plain.specs.declared.outcome.Outcome.{Outcome}
 use Rattle.vyrd_plain.specs.Outcomes.{PlaceGives}
 use Rattle.vyrd_plain.proofs.FrontLaws.{newest_next}
@@ -41,7 +41,7 @@ use Rattle.vyrd_plain.proofs.KeptFacts.{rules_at, call_kept, return_kept}
 -- a caller that is in an execution
 pub running_at : (h : Header) (states : List Amounts) (earlier later : List Entry) (state : Amounts)
     (executions : List (Option Execution)) (c : ℕ) (called : Called)
-    → Stands h states earlier later state executions → c < h.callers → open_call c earlier ≡ Some called
+    → Tracks h states earlier later state executions → c < h.callers → open_call c earlier ≡ Some called
     → (x : Execution) × (slice_get executions c ≡ Some (Some x)) × IsExecution h states c earlier later x
 running_at h states earlier later state executions c called s within runs = let kept = s.open_calls c within in by_option kept.0 kept.1 kept.2
   where
@@ -52,7 +52,7 @@ running_at h states earlier later state executions c called s within runs = let 
 
 -- every kept execution's method is the header's
 pub allowed_all : (h : Header) (states : List Amounts) (earlier later : List Entry) (state : Amounts) (executions : List (Option Execution))
-    → Stands h states earlier later state executions → AreAllowed h executions
+    → Tracks h states earlier later state executions → AreAllowed h executions
 allowed_all h states earlier later state executions s c x within is = let kept = s.open_calls c within in by_option kept.0 kept.1 kept.2
   where
     by_option : (o : Option Execution) → slice_get executions c ≡ Some o → IsOpen h states c earlier later o → has_method h x.method x.args ≡ true
@@ -61,21 +61,21 @@ allowed_all h states earlier later state executions s c x within is = let kept =
 
 -- what the judge knows of the entry at a place of a front that keeps all rules
 pub record IsAt (h : Header) (front : List Entry) (at : ℕ) (e : Entry) (state : Amounts) (executions : List (Option Execution)) : Type 0 where
-  pub stands : Stands h (states_along h [] front) (newest_first (take at front)) (e ∷ drop (at + 1) front) state executions
+  pub tracks : Tracks h (states_along h [] front) (newest_first (take at front)) (e ∷ drop (at + 1) front) state executions
   pub kept : broken_rule h (newest_first (take at front)) e ≡ None
   pub within : e.caller < h.callers
   pub next : newest_first (take (at + 1) front) ≡ e ∷ newest_first (take at front)
 
 is_at : (h : Header) (front : List Entry) (at : ℕ) (e : Entry) (state : Amounts) (executions : List (Option Execution))
     → slice_get front at ≡ Some e → first_break h front ≡ None
-    → Stands h (states_along h [] front) (newest_first (take at front)) (drop at front) state executions → IsAt h front at e state executions
+    → Tracks h (states_along h [] front) (newest_first (take at front)) (drop at front) state executions → IsAt h front at e state executions
 is_at h front at e state executions here kept s =
     let within = slice_get_within front at e here in
     let same : get_or front at e ≡ e = get_or_from_slice_get front at e e here in
     let more : suc at ≡ at + 1 = omega arith in
     let rules : broken_rule h (newest_first (take at front)) e ≡ None = rules_at h front at e here kept in
     record {
-      stands = subst (λ later. Stands h (states_along h [] front) (newest_first (take at front)) later state executions)
+      tracks = subst (λ later. Tracks h (states_along h [] front) (newest_first (take at front)) later state executions)
           (drop-cons front at e within ∙ ap (λ x. x ∷ drop (suc at) front) same ∙ ap (λ n. e ∷ drop n front) more) s;
       kept = rules;
       within = caller_kept h (newest_first (take at front)) e rules;
@@ -85,7 +85,7 @@ is_at h front at e state executions here kept s =
 -- the same for an entry that was read and whose kind is known
 pub known_at : {h : Header} {front : List Entry} {at : ℕ} {r : Entry} {kind : Kind} {state : Amounts} {executions : List (Option Execution)}
     → slice_get front at ≡ Some r → r.kind ≡ kind → first_break h front ≡ None
-    → Stands h (states_along h [] front) (newest_first (take at front)) (drop at front) state executions
+    → Tracks h (states_along h [] front) (newest_first (take at front)) (drop at front) state executions
     → IsAt h front at (entry r.caller kind) state executions
 known_at {h} {front} {at} {r} {kind} {state} {executions} here named kept s =
     is_at h front at (entry r.caller kind) state executions (here ∙ ap (λ k. Some (entry r.caller k)) named) kept s
@@ -104,7 +104,7 @@ pub running : {h : Header} {front : List Entry} {at : ℕ} {e : Entry} {state : 
     × IsExecution h (states_along h [] front) e.caller (newest_first (take at front)) (e ∷ drop (at + 1) front) x
 running {h} {front} {at} {e} {state} {executions} {called} here is =
     running_at h (states_along h [] front) (newest_first (take at front))
-    (e ∷ drop (at + 1) front) state executions e.caller called here.stands here.within is
+    (e ∷ drop (at + 1) front) state executions e.caller called here.tracks here.within is
 
 -- an execution of the caller is what was called
 pub called_is : {h : Header} {front : List Entry} {at : ℕ} {e : Entry} {state : Amounts} {executions : List (Option Execution)} {called : Called}
@@ -215,16 +215,16 @@ fault_past h front at past = ap (λ later. first_answer (violation_at h [] (stat
     (places_after (newest_first (take at front)) later)) (drop_of_length-le front past)
 
 -- before the first place nothing has begun
-pub stands_first : (h : Header) (front : List Entry) (state : Amounts) (executions : List (Option Execution)) → state ≡ start
-    → executions ≡ replicate h.callers None → Stands h (states_along h [] front) [] front state executions
+pub tracks_first : (h : Header) (front : List Entry) (state : Amounts) (executions : List (Option Execution)) → state ≡ start
+    → executions ≡ replicate h.callers None → Tracks h (states_along h [] front) [] front state executions
 unfolding commits
-stands_first h front state executions is_start empty =
-    let at_start : Stands h (states_along h [] front) [] front start (replicate h.callers None) = record {
+tracks_first h front state executions is_start empty =
+    let at_start : Tracks h (states_along h [] front) [] front start (replicate h.callers None) = record {
       going = ap (λ o. states_of o front) (state_at_start-none h);
       open_calls = λ c within. (None, none_there h.callers c within, refl);
     } in
-    let with_none : Stands h (states_along h [] front) [] front start executions = subst (Stands h (states_along h [] front) [] front start) (sym empty) at_start in
-    subst (λ s. Stands h (states_along h [] front) [] front s executions) (sym is_start) with_none
+    let with_none : Tracks h (states_along h [] front) [] front start executions = subst (Tracks h (states_along h [] front) [] front start) (sym empty) at_start in
+    subst (λ s. Tracks h (states_along h [] front) [] front s executions) (sym is_start) with_none
 
 -- an entry at each place
 pub some_at : (front : List Entry) (at : ℕ) → at < length front → (e : Entry) × (slice_get front at ≡ Some e)

@@ -28,7 +28,7 @@ abbrev pub seeing : Amounts → Option Execution → Option Execution
 seeing state None = None
 seeing state (Some x) = Some (record x { is_answered = x.is_answered || answers x state })
 
--- What is kept of the caller's execution stands for the entries before a place, given the newest first, and for those from it on:
+-- What is kept of the caller's execution, by the entries before a place, given the newest first, and those from it on:
 -- what was called, its next reply, and whether some state since the call answers that reply.
 pub record IsExecution (h : Header) (states : List Amounts) (c : ℕ) (earlier later : List Entry) (x : Execution) : Type 0 where
   pub called : open_call c earlier ≡ Some (record { method = x.method; args = x.args })

@@ -1,6 +1,6 @@
 pub mod Entries
 pub mod Executions
-pub mod Standing
+pub mod Tracking
 pub mod Outcomes
 pub mod OpenBlocks
 pub mod Observing

@@ -15,7 +15,7 @@ use Rattle.vyrd_plain.specs.declared.execution.Execution.{Execution}
 use Rattle.vyrd_plain.specs.declared.outcome.Outcome.{Outcome}
 use Rattle.vyrd_plain.specs.declared.outcome.Outcome.TheVariants.{Goes, Faults, Ends}
 use Rattle.vyrd_plain.specs.Executions.{seeing}
-use Rattle.vyrd_plain.specs.Standing.{Stands}
+use Rattle.vyrd_plain.specs.Tracking.{Tracks}
 
 -- the commit's execution has returned, its reply is allowed, and the state after it is what the words show
 pub record CommitGoes (shown : Amounts) (x : Execution) (before after : Amounts) (old new : List (Option Execution)) : Type 0 where
@@ -37,11 +37,11 @@ CommitGives shown x before after old new Goes = CommitGoes shown x before after 
 CommitGives shown x before after old new (Faults why) = CommitFaults shown x before why
 CommitGives shown x before after old new Ends = x.reply ≡ None
 
--- What the entry at a place leads to: it is no fault, and what is kept stands for the next place; or this is its fault; or no
--- later state is known, so that nothing later is a fault either.
+-- What the entry at a place leads to: it is no fault, and what is kept tracks the front up to the next place; or this is its
+-- fault; or no later state is known, so that nothing later is a fault either.
 abbrev pub PlaceGives : Header → List StartWord → List Amounts → Place Entry → Amounts → List (Option Execution) → Outcome → Type 0
 PlaceGives h starting states place state executions Goes =
-    (fault_at h starting states place ≡ None) × Stands h states (place.here ∷ place.earlier) place.later state executions
+    (fault_at h starting states place ≡ None) × Tracks h states (place.here ∷ place.earlier) place.later state executions
 PlaceGives h starting states place state executions (Faults why) = fault_at h starting states place ≡ Some why
 PlaceGives h starting states place state executions Ends =
     (fault_at h starting states place ≡ None) × (length states ≤ commit_count (place.here ∷ place.earlier))

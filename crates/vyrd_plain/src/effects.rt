@@ -53,9 +53,9 @@ impl Effects {
         })
     }
 
-    /// Goes over the entry at a place of a front that keeps all rules, where it stands for that
-    /// place. Then it stands for the next one. The writes of each block are looked up once, from
-    /// its open to its end.
+    /// Goes over the entry at a place of a front that keeps all rules, where these are the words and
+    /// the blocks there. Then they are those at the next place. The writes of each block are looked up
+    /// once, from its open to its end.
     pub fn step(&mut self, front: &[Entry], at: usize)
         requires within { at < length front.now }
         requires kept { first_break self.old.header front.now ≡ None }

@@ -12,7 +12,7 @@ ghost use Rattle.vyrd_base.specs.Verdicts.{states_along};
 ghost use Rattle.vyrd_plain.specs.declared.execution.Execution.{Execution};
 ghost use Rattle.vyrd_plain.specs.Entries.{has_method};
 ghost use Rattle.vyrd_plain.specs.Executions.{begun, AreAllowed};
-ghost use Rattle.vyrd_plain.specs.Standing.{Stands};
+ghost use Rattle.vyrd_plain.specs.Tracking.{Tracks};
 ghost use Rattle.vyrd_plain.specs.OpenBlocks.{HasEffects};
 ghost use Rattle.vyrd_plain.specs.Entries.{place_of};
 ghost use Rattle.vyrd_plain.specs.Outcomes.{CommitGives, PlaceGives, return_outcome};
@@ -146,12 +146,12 @@ impl<S: Spec> Scan<S> {
         Ok(Outcome::Goes)
     }
 
-    /// Goes over the entry at a place of a front that keeps all rules, where it stands for that place. After `Goes` it stands
-    /// for the next one; after any other answer it is to be dropped.
+    /// Goes over the entry at a place of a front that keeps all rules, which it tracks up to that place. After `Goes` it tracks
+    /// the front up to the next one; after any other answer it is to be dropped.
     pub fn step(&mut self, front: &[Entry], at: usize) -> Result<Outcome, AllocError>
         requires within { at < length front.now }
         requires kept { first_break self.old.header front.now ≡ None }
-        requires stands { Stands self.old.header (states_along self.old.header [] front.now) (newest_first (take at front.now)) (drop at front.now)
+        requires tracks { Tracks self.old.header (states_along self.old.header [] front.now) (newest_first (take at front.now)) (drop at front.now)
             (S.state self.old.spec) self.old.executions.items }
         requires words { HasEffects self.old.header self.old.effects.words.items self.old.effects.open_blocks.items (take at front.now) (drop at front.now) }
         requires few { S.made self.old.spec < 2 ^ 62 }

@@ -1,15 +1,15 @@
 use Rattle.std.proofs.Common.{◌+◌, [], Ok, take, drop, sym, ap, ◌∙◌, subst, arith}
 use Rattle.vyrd_base.specs.Verdicts.{states_along}
-use Rattle.vyrd_plain.specs.Standing.{Stands}
+use Rattle.vyrd_plain.specs.Tracking.{Tracks}
 use Rattle.vyrd_plain.specs.OpenBlocks.{HasEffects}
-use Rattle.vyrd_plain.proofs.StepLaws.{fault_from_start, fault_goes, fault_found, fault_ends, fault_past, stands_first, some_at, next_is, leads_at}
+use Rattle.vyrd_plain.proofs.StepLaws.{fault_from_start, fault_goes, fault_found, fault_ends, fault_past, tracks_first, some_at, next_is, leads_at}
 use Rattle.vyrd_plain.proofs.BlockFacts.{effects_first}
 use Rattle.vyrd_plain.proofs.violation.first_violation.Goals as goal
 
 pub loop-at-init : goal.loop-at-init
 loop-at-init g c = record {
   header = c.in_ok-scan.ensures.header;
-  stands = stands_first c.args.header c.args.front.now _ _ c.in_ok-scan.ensures.state c.in_ok-scan.ensures.executions;
+  tracks = tracks_first c.args.header c.args.front.now _ _ c.in_ok-scan.ensures.state c.in_ok-scan.ensures.executions;
   words = effects_first c.args.header c.args.front.now _ _ c.in_ok-scan.ensures.words c.in_ok-scan.ensures.open_blocks;
   made = omega (arith, c.in_ok-scan.ensures.made);
   ahead = fault_from_start c.args.header c.args.front.now;
@@ -23,7 +23,7 @@ loop-at-preserved g c =
     let after = g.S.Spec.state c.step.new.self.spec in
     record {
       header = c.in_ok-step.ensures.header ∙ c.loop-at.invariant.header;
-      stands = subst (λ es. Stands c.args.header (states_along c.args.header [] c.args.front.now) es later after c.step.new.self.executions.items)
+      tracks = subst (λ es. Tracks c.args.header (states_along c.args.header [] c.args.front.now) es later after c.step.new.self.executions.items)
           (next_is c.args.front.now c.loop-at.at here.0 here.1) leads.to.1;
       words = subst (λ h. HasEffects h c.step.new.self.effects.words.items c.step.new.self.effects.open_blocks.items
           (take (c.loop-at.at + 1) c.args.front.now) later) c.loop-at.invariant.header (c.in_ok-step.ensures.words (ap Ok c.in-Goes.is));

@@ -1,7 +1,7 @@
 use Rattle.std.proofs.Common.{◌≡◌, ◌≤◌, [], take, drop}
 use Rattle.vyrd_base.specs.Places.{newest_first}
 use Rattle.vyrd_base.specs.Verdicts.{states_along, first_fault}
-use Rattle.vyrd_plain.specs.Standing.{Stands}
+use Rattle.vyrd_plain.specs.Tracking.{Tracks}
 use Rattle.vyrd_plain.specs.OpenBlocks.{HasEffects}
 use Rattle.vyrd_plain.proofs.StepLaws.{fault_from}
 use Rattle.vyrd_plain.proofs.violation.first_violation.Given as goal
@@ -9,7 +9,7 @@ use Rattle.vyrd_plain.proofs.violation.first_violation.Given as goal
 abbrev pub invariant-loop-at : goal.invariant-loop-at
 invariant-loop-at g l = record {
   header : l.scan.header ≡ l.fn.header;
-  stands : Stands l.fn.header (states_along l.fn.header [] l.front) (newest_first (take l.at l.front)) (drop l.at l.front)
+  tracks : Tracks l.fn.header (states_along l.fn.header [] l.front) (newest_first (take l.at l.front)) (drop l.at l.front)
       (g.S.Spec.state l.scan.spec) l.scan.executions.items;
   words : HasEffects l.fn.header l.scan.effects.words.items l.scan.effects.open_blocks.items (take l.at l.front) (drop l.at l.front);
   made : g.S.Spec.made l.scan.spec ≤ l.at;

@@ -1,4 +1,4 @@
--- What stands for a place of a front stands for the next one, entry by entry.
+-- What tracks a front up to a place tracks it up to the next one, entry by entry.
 use Rattle.std.proofs.Common.{◌≡◌, ℕ, ◌+◌, Bool, true, false, cond, ◌&&◌, ◌||◌, List, [], ◌∷◌, map, drop, set, Option, Some, None, slice_get, refl, ap, subst, ◌∙◌, sym}
 use Rattle.std.specs.Prelude.{◌==◌, option_map}
 use Rattle.std.specs.Option.{option_flatten}
@@ -19,17 +19,17 @@ use Rattle.vyrd_base.proofs.TestLaws.{same_number, apart_of}
 use Rattle.vyrd_plain.specs.declared.execution.Execution.{Execution}
 use Rattle.vyrd_plain.specs.Entries.{has_method}
 use Rattle.vyrd_plain.specs.Executions.{answers, seeing, IsExecution, IsOpen}
-use Rattle.vyrd_plain.specs.Standing.{Stands}
+use Rattle.vyrd_plain.specs.Tracking.{Tracks}
 use Rattle.vyrd_plain.proofs.ListFacts.{slice_get-set_same, slice_get-set_other}
 use Rattle.vyrd_plain.proofs.StateLaws.{state_here, going-quiet, going-commit, open_call-other, next_reply-other, before_call-other, open_call-quiet, next_reply-quiet, before_call-quiet, count-commit, window-quiet, window-commit, window-call}
 use Rattle.vyrd_plain.proofs.ExecutionLaws.{execution_stays, execution_sees}
 
 -- an entry inside its caller's execution that isn't its commit
-pub stands_inside : (h : Header) (states : List Amounts) (c : ℕ) (kind : Kind) (earlier later : List Entry) (state : Amounts)
+pub tracks_inside : (h : Header) (states : List Amounts) (c : ℕ) (kind : Kind) (earlier later : List Entry) (state : Amounts)
     (executions : List (Option Execution))
     → call_or_return kind ≡ None → returned kind ≡ None → is_call kind ≡ false → is_commit kind ≡ false
-    → Stands h states earlier (entry c kind ∷ later) state executions → Stands h states (entry c kind ∷ earlier) later state executions
-stands_inside h states c kind earlier later state executions inside unreturned uncalled quiet s = record {
+    → Tracks h states earlier (entry c kind ∷ later) state executions → Tracks h states (entry c kind ∷ earlier) later state executions
+tracks_inside h states c kind earlier later state executions inside unreturned uncalled quiet s = record {
   going = going-quiet states (entry c kind) earlier later state quiet s.going;
   open_calls = λ d within. let o = s.open_calls d within in (
     o.0,
@@ -48,11 +48,11 @@ beside h states c d kind earlier later o other quiet is =
     (window-quiet states d (entry c kind) earlier quiet (before_call-other d c kind earlier other)) is
 
 -- the caller's execution alone is another one after its call or return
-stands_changed : (h : Header) (states : List Amounts) (c : ℕ) (kind : Kind) (earlier later : List Entry) (state : Amounts)
+tracks_changed : (h : Header) (states : List Amounts) (c : ℕ) (kind : Kind) (earlier later : List Entry) (state : Amounts)
     (executions : List (Option Execution)) (o : Option Execution)
     → is_commit kind ≡ false → IsOpen h states c (entry c kind ∷ earlier) later o
-    → Stands h states earlier (entry c kind ∷ later) state executions → Stands h states (entry c kind ∷ earlier) later state (set executions c o)
-stands_changed h states c kind earlier later state executions o quiet own s = record {
+    → Tracks h states earlier (entry c kind ∷ later) state executions → Tracks h states (entry c kind ∷ earlier) later state (set executions c o)
+tracks_changed h states c kind earlier later state executions o quiet own s = record {
   going = going-quiet states (entry c kind) earlier later state quiet s.going;
   open_calls = λ d within. let old = s.open_calls d within in by_same c d
       (λ same. subst (λ k. (n : Option Execution) × (slice_get (set executions c o) k ≡ Some n)
@@ -66,13 +66,13 @@ stands_changed h states c kind earlier later state executions o quiet own s = re
 }
 
 -- a call begins an execution, which sees the state there
-pub stands_call : (h : Header) (states : List Amounts) (c : ℕ) (method : Method) (args : Args) (earlier later : List Entry) (state : Amounts)
+pub tracks_call : (h : Header) (states : List Amounts) (c : ℕ) (method : Method) (args : Args) (earlier later : List Entry) (state : Amounts)
     (executions : List (Option Execution)) (x : Execution)
     → x.method ≡ method → x.args ≡ args → x.reply ≡ next_reply c later → x.is_answered ≡ answers x state → has_method h method args ≡ true
-    → Stands h states earlier (entry c (Call method args) ∷ later) state executions
-    → Stands h states (entry c (Call method args) ∷ earlier) later state (set executions c (Some x))
-stands_call h states c method args earlier later state executions x has_its_method has_its_args reply answered allowed s =
-    stands_changed h states c (Call method args) earlier later state executions (Some x) refl own s
+    → Tracks h states earlier (entry c (Call method args) ∷ later) state executions
+    → Tracks h states (entry c (Call method args) ∷ earlier) later state (set executions c (Some x))
+tracks_call h states c method args earlier later state executions x has_its_method has_its_args reply answered allowed s =
+    tracks_changed h states c (Call method args) earlier later state executions (Some x) refl own s
   where
     e : Entry
     e = entry c (Call method args)
@@ -104,25 +104,25 @@ stands_call h states c method args earlier later state executions x has_its_meth
         option_flatten_of o = option_flatten o
 
 -- a return ends one
-pub stands_return : (h : Header) (states : List Amounts) (c reply : ℕ) (earlier later : List Entry) (state : Amounts)
+pub tracks_return : (h : Header) (states : List Amounts) (c reply : ℕ) (earlier later : List Entry) (state : Amounts)
     (executions : List (Option Execution))
-    → Stands h states earlier (entry c (Return reply) ∷ later) state executions
-    → Stands h states (entry c (Return reply) ∷ earlier) later state (set executions c None)
-stands_return h states c reply earlier later state executions s =
-    stands_changed h states c (Return reply) earlier later state executions None refl
+    → Tracks h states earlier (entry c (Return reply) ∷ later) state executions
+    → Tracks h states (entry c (Return reply) ∷ earlier) later state (set executions c None)
+tracks_return h states c reply earlier later state executions s =
+    tracks_changed h states c (Return reply) earlier later state executions None refl
     (ap option_flatten_of (own_answer c call_or_return (Return reply) earlier)) s
   where
     option_flatten_of : Option (Option Called) → Option Called
     option_flatten_of o = option_flatten o
 
 -- a commit leads to the next state, which all executions see
-pub stands_commit : (h : Header) (states : List Amounts) (c : ℕ) (kind : Kind) (earlier later : List Entry) (state next : Amounts)
+pub tracks_commit : (h : Header) (states : List Amounts) (c : ℕ) (kind : Kind) (earlier later : List Entry) (state next : Amounts)
     (executions : List (Option Execution))
     → call_or_return kind ≡ None → returned kind ≡ None → is_call kind ≡ false → is_commit kind ≡ true
     → state_after state (committed_at (record { earlier = earlier; here = entry c kind; later = later })) ≡ Some next
-    → Stands h states earlier (entry c kind ∷ later) state executions
-    → Stands h states (entry c kind ∷ earlier) later next (map (seeing next) executions)
-stands_commit h states c kind earlier later state next executions inside unreturned uncalled commits after s =
+    → Tracks h states earlier (entry c kind ∷ later) state executions
+    → Tracks h states (entry c kind ∷ earlier) later next (map (seeing next) executions)
+tracks_commit h states c kind earlier later state next executions inside unreturned uncalled commits after s =
     let going = going-commit states (entry c kind) earlier later state next commits after s.going in
     let here : slice_get states (commit_count earlier + 1) ≡ Some next =
     ap (slice_get states) (sym (count-commit (entry c kind) earlier commits))
