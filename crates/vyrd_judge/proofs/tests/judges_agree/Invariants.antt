@@ -1,5 +1,5 @@
 use Rattle.std.proofs.Common.{◌≤◌}
-use Rattle.vyrd_judge.proofs.tests.answers_agree.Given as goal
+use Rattle.vyrd_judge.proofs.tests.judges_agree.Given as goal
 
 -- each entry counts once
 abbrev pub invariant-loop-i : goal.invariant-loop-i
