@@ -1,4 +1,5 @@
-pub mod KeptWrites
+mod WriteLaws
 pub mod FollowLaws
-pub mod SoundLaws
+pub mod KeptWrites
 pub mod QuietLaws
+pub mod SoundLaws

@@ -1,11 +1,11 @@
 //! What a caller's block keeps back.
 
-ghost use Rattle.std.specs.Prelude.{◌≡◌, ℕ, ◌+◌, ◌≤◌, true, List, [], ◌++◌, length, None, Some, IfOk, OnOk, OnErr, is_some, is_none, unwrap_or, nat_eq, vec_len, vec_capacity, if◌then◌else◌};
+ghost use Rattle.std.specs.Prelude.{◌≡◌, ℕ, ◌+◌, ◌≤◌, true, List, [], ◌++◌, length, None, Some, IfOk, OnOk, OnErr, is_some, unwrap_or, nat_eq, vec_len, vec_capacity, if◌then◌else◌};
 ghost use Rattle.std.specs.Map.{keys_of};
 ghost use Rattle.indexmap.specs.IndexMap.{insert_entry};
 ghost use Rattle.vyrd_shadow.specs.Blocks.{with_writes, AreInRange};
 
-use indexmap::IndexMap;
+use crate::writes::Writes;
 use std::alloc::{AllocError, Global};
 use std::marker::Model;
 
@@ -14,7 +14,7 @@ use std::marker::Model;
 #[derive(Drop)]
 pub(crate) struct Block {
     is_open: bool,
-    writes: IndexMap<u32, u64>,
+    writes: Writes,
 }
 
 impl Model for Block {
@@ -22,9 +22,9 @@ impl Model for Block {
 
     ghost Value = { Option (List (ℕ × ℕ)) };
 
-    ghost view = { λ s. if s.is_open then Some s.writes.entries else None };
+    ghost view = { λ s. if s.is_open then Some s.writes else None };
 
-    ghost invariant = { λ s. s.is_open ≡ false → s.writes.entries ≡ [] };
+    ghost invariant = { λ s. s.is_open ≡ false → s.writes ≡ [] };
 }
 
 impl Block {
@@ -34,7 +34,7 @@ impl Block {
     {
         Block {
             is_open: false,
-            writes: IndexMap::new(alloc),
+            writes: Writes::new(alloc),
         }
     }
 
@@ -67,8 +67,7 @@ impl Block {
         ensures err { OnErr result (self.new ≡ self.old) }
         ensures more { IfOk result (λ more. length (unwrap_or self.new []) ≡ length (unwrap_or self.old []) + (if more then 1 else 0)) }
     {
-        let before = self.writes.insert(word, value)?;
-        Ok(before.is_none())
+        self.writes.insert(word, value)
     }
 
     /// The writes take effect in their order, and the block is closed.
@@ -81,30 +80,9 @@ impl Block {
         ensures changed { changed.new.items ≡ changed.old.items ++ keys_of (unwrap_or self.old []) }
         ensures capacity { vec_capacity changed.old ≤ vec_capacity changed.new }
     {
-        take_effect(words, &self.writes);
-        note(changed, &self.writes);
+        self.writes.take_effect(words);
+        self.writes.note(changed);
         self.writes.clear();
         self.is_open = false;
-    }
-}
-
-/// The writes take effect in their order.
-fn take_effect(words: &mut [u64], writes: &IndexMap<u32, u64>)
-    requires { AreInRange (length words.old) writes.now.entries }
-    ensures { words.new ≡ with_writes words.old writes.now.entries }
-{
-    for (word, value) in writes.iter() {
-        words[*word as usize] = *value;
-    }
-}
-
-/// Notes the words that the writes change.
-fn note(changed: &mut Vec<u32>, writes: &IndexMap<u32, u64>)
-    requires { vec_len changed.old + length writes.now.entries ≤ vec_capacity changed.old }
-    ensures items { changed.new.items ≡ changed.old.items ++ keys_of writes.now.entries }
-    ensures capacity { vec_capacity changed.old ≤ vec_capacity changed.new }
-{
-    for word in writes.keys() {
-        let _ = changed.push(*word);
     }
 }

@@ -12,5 +12,6 @@ pub mod laws;
 mod shadow;
 #[cfg(test)]
 mod tests;
+mod writes;
 
 pub use shadow::Shadow;

@@ -1,6 +1,6 @@
 use Rattle.std.proofs.Common.{◌≡◌, length}
 use Rattle.vyrd_shadow.specs.Blocks.{with_writes, AreInRange}
-use Rattle.vyrd_shadow.proofs.block.take_effect.Given as goal
+use Rattle.vyrd_shadow.proofs.writes.write_more.Given as goal
 
 abbrev pub invariant-loop-word : goal.invariant-loop-word
 invariant-loop-word l = record {
