@@ -152,9 +152,10 @@ impl<S: Spec> Judge<S> {
             return Ok(Some(verdict));
         }
         match self.follower.take_in(entry) {
-            Ok(verdict) => {
-                self.so_far = verdict;
-                Ok(verdict)
+            Ok(None) => Ok(None),
+            Ok(Some(verdict)) => {
+                self.so_far = Some(verdict);
+                Ok(Some(verdict))
             }
             Err(error) => {
                 self.has_failed = true;

@@ -325,8 +325,30 @@ fn tell_amount<L: Ledger>(
     compared.spec_changed(key, amount, &mut steps)
 }
 
-/// The first writes take effect, and no longer wait.
+/// The first writes take effect, and no longer wait. Mostly there are none.
+#[inline(always)]
 fn catch_up(
+    words: &mut Vec<u64>,
+    changed: &mut Vec<u32>,
+    writes: &mut VecDeque<(u32, u64)>,
+    count: usize,
+)
+    requires count { count ≤ length writes.old.items }
+    requires in_range { AreInRange (vec_len words.old) writes.old.items }
+    requires room { vec_len changed.old + count ≤ vec_capacity changed.old }
+    ensures words { words.new.items ≡ with_writes words.old.items (take count writes.old.items) }
+    ensures changed { changed.new.items ≡ changed.old.items ++ map (λ write. write.0) (take count writes.old.items) }
+    ensures writes { writes.new.items ≡ drop count writes.old.items }
+    ensures all { vec_len words.new ≡ vec_len words.old }
+    ensures capacity { vec_capacity changed.old ≤ vec_capacity changed.new }
+{
+    if count != 0 {
+        write_first(words, changed, writes, count);
+    }
+}
+
+/// The first writes take effect, however many they are.
+fn write_first(
     words: &mut Vec<u64>,
     changed: &mut Vec<u32>,
     writes: &mut VecDeque<(u32, u64)>,
@@ -393,5 +415,5 @@ fn note(changed: &mut Vec<u32>, word: u32)
     ensures len { vec_len changed.new ≡ vec_len changed.old + 1 }
     ensures capacity { vec_capacity changed.old ≤ vec_capacity changed.new }
 {
-    let _ = changed.push(word);
+    changed.push_reserved(word);
 }

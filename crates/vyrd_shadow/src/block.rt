@@ -61,6 +61,7 @@ impl Block {
     }
 
     /// Keeps a write, and says whether its word is new.
+    #[inline(always)]
     pub fn keep(&mut self, word: u32, value: u64) -> Result<bool, AllocError>
         requires { is_some self.old ≡ true }
         ensures ok { OnOk result (self.new ≡ Some (insert_entry nat_eq (unwrap_or self.old []) word value)) }

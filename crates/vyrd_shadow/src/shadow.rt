@@ -178,11 +178,12 @@ impl Shadow {
     {
         self.changed.reserve(self.count + 1)?;
         self.words[word as usize] = value;
-        self.changed.push(word)?;
+        self.changed.push_reserved(word);
         Ok(())
     }
 
     /// A write in the caller's block is kept back.
+    #[inline(always)]
     fn keep(&mut self, caller: u32, word: u32, value: u64) -> Result<(), AllocError>
         requires caller { caller < self.old.header.callers }
         requires opened { is_open self.old caller ≡ true }

@@ -65,8 +65,8 @@ impl Writes {
             self.few.push((word, value))?;
             return Ok(true);
         }
-        let before = self.more.insert(word, value)?;
-        Ok(before.is_none())
+        let is_new = insert_more(&mut self.more, word, value)?;
+        Ok(is_new)
     }
 
     /// The writes take effect in their order.
@@ -97,6 +97,17 @@ impl Writes {
             self.more.clear();
         }
     }
+}
+
+/// Takes in a write after the first ones, and says whether its word is new.
+#[inline(never)]
+fn insert_more(writes: &mut IndexMap<u32, u64>, word: u32, value: u64) -> Result<bool, AllocError>
+    ensures ok { OnOk result (writes.new.entries ≡ insert_entry nat_eq writes.old.entries word value) }
+    ensures err { OnErr result (writes.new.entries ≡ writes.old.entries) }
+    ensures more { IfOk result (λ more. length writes.new.entries ≡ length writes.old.entries + (if more then 1 else 0)) }
+{
+    let before = writes.insert(word, value)?;
+    Ok(before.is_none())
 }
 
 /// Where the word stands, if it does.

@@ -12,4 +12,5 @@ returns-in-Some-clause-followed g c = λ starting log f. followed_on (c.args.ent
 
 pub invariant_of-self : goal.invariant_of-self
 invariant_of-self g c = λ works none.
-    ∥∥₁_map (c.self.invariant c.if-self.false c.in_default.is) (λ s. (s.0, s.1 ++ c.args.entry ∷ [], c.in-Ok.ensures.follows s.0 s.1 s.2 (ap Ok none)))
+    ∥∥₁_map (c.self.invariant c.if-self.false c.in_default.is)
+    (λ s. (s.0, s.1 ++ c.args.entry ∷ [], c.in-Ok-None.ensures.follows s.0 s.1 s.2 (ap Ok c.in-Ok-None.field-0-is)))

@@ -36,4 +36,4 @@ returns-clause-ok c =
     let more = c.self.inside.more.entries in
     let nowhere : position (λ (write : ℕ × ℕ). k == write.0) few ≡ None =
     ap (position (λ (write : ℕ × ℕ). k == write.0)) (sym c.deref.ensures.value) ∙ sym c.place_of.ensures ∙ c.in_default.is in
-    ap (λ m. few ++ m) c.in_ok-before.ensures.entries ∙ kept_after k v few more nowhere ∙ ap (λ es. insert_entry nat_eq es k v) c.self.view_is
+    ap (λ m. few ++ m) c.in_ok-is_new.ensures.ok ∙ kept_after k v few more nowhere ∙ ap (λ es. insert_entry nat_eq es k v) c.self.view_is

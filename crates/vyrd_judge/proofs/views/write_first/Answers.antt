@@ -1,7 +1,7 @@
 use Rattle.std.proofs.Common.{◌≡◌, ◌+◌, ◌-◌, ◌++◌, suc, vec_len, map, take, sym, ap, ◌∙◌, arith}
 use Rattle.vyrd_judge.proofs.CutLaws.{caught_up, dropped, range_left, one_taken, changed_more}
-use Rattle.vyrd_judge.proofs.views.catch_up.Goals as goal
-use Rattle.vyrd_judge.proofs.views.catch_up.Goals.{in-Some, in_default}
+use Rattle.vyrd_judge.proofs.views.write_first.Goals as goal
+use Rattle.vyrd_judge.proofs.views.write_first.Goals.{in-Some, in_default}
 
 pub loop-preserved : goal.loop-preserved
 loop-preserved c =

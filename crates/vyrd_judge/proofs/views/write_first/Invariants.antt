@@ -1,7 +1,7 @@
 use Rattle.std.proofs.Common.{◌≡◌, ◌+◌, ◌-◌, ◌≤◌, ◌++◌, length, map, take, drop, vec_len}
 use Rattle.std.specs.Prelude.{vec_capacity}
 use Rattle.vyrd_shadow.specs.Blocks.{with_writes, AreInRange}
-use Rattle.vyrd_judge.proofs.views.catch_up.Given as goal
+use Rattle.vyrd_judge.proofs.views.write_first.Given as goal
 
 abbrev pub invariant-loop : goal.invariant-loop
 invariant-loop l = record {
