@@ -51,6 +51,7 @@ impl<S: Spec> Replay<S> {
     }
 
     /// An observer begins, in the state here.
+    #[inline(never)]
     fn begin(&mut self, caller: u32, method: Method, args: Args) -> Result<(), AllocError>
         requires caller { caller < self.old.header.callers }
         requires allowed { has_method self.old.header method args ≡ true }
@@ -69,6 +70,7 @@ impl<S: Spec> Replay<S> {
     }
 
     /// An observer returns. It says whether some state since its call answers the reply.
+    #[inline(never)]
     fn end(&mut self, caller: u32, reply: u64) -> bool
         requires caller { caller < self.old.header.callers }
         ensures answered { (seen : Seen) → slice_get self.old.watches.by_caller caller ≡ Some seen → result ≡ has_answer seen.answers reply }
@@ -80,6 +82,7 @@ impl<S: Spec> Replay<S> {
     }
 
     /// A commit is judged by its reply and by the words there, which wait first. What is open sees the state after it.
+    #[inline(never)]
     fn commit(
         &mut self,
         views: &mut Views,
@@ -114,6 +117,7 @@ impl<S: Spec> Replay<S> {
     /// Judges the entry that waits first, where it can be judged. After `Goes` it no longer waits, and after `Ends` all is as it
     /// was. A commit takes time in proportion to the different questions of open observers, beside that of the specification's
     /// step and of the comparison.
+    #[inline(always)]
     pub fn judge(&mut self, views: &mut Views, x: Waiting) -> Result<Outcome, AllocError>
         requires header { views.old.header ≡ self.old.header }
         requires may { MayJudge self.old.header (S.state self.old.spec) (S.made self.old.spec) self.old.watches.by_caller x views.old.first views.old.since }

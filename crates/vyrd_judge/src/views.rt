@@ -189,6 +189,7 @@ impl Views {
     }
 
     /// The first commit no longer waits: its words are those to be compared.
+    #[inline(always)]
     fn advance(&mut self) -> Result<(), AllocError>
         ensures base { (part : List (ℕ × ℕ)) (rest : List (List (ℕ × ℕ))) → self.old.since ≡ part ∷ rest → OnOk result (self.new.base ≡ self.old.first) }
         ensures first { (part : List (ℕ × ℕ)) (rest : List (List (ℕ × ℕ))) → self.old.since ≡ part ∷ rest → OnOk result (self.new.first ≡ with_writes self.old.first part) }
@@ -230,6 +231,7 @@ impl Views {
     /// Compares what the words at the first commit that waits show with the specification's state after it: the least key where
     /// they differ. That commit no longer waits then. The state differs from that of the last comparison in the touched keys
     /// alone.
+    #[inline(always)]
     pub fn difference<S: Spec>(
         &mut self,
         spec: &S,
@@ -253,6 +255,7 @@ impl Views {
     }
 
     /// The specification has its amount of the key now.
+    #[inline(always)]
     fn specify<S: Spec>(&mut self, spec: &S, key: Option<u64>) -> Result<(), AllocError>
         requires sound { self.old.refused ≡ false }
         ensures specified { OnOk result (self.new.specified ≡ with_key key (S.state spec.now) self.old.specified) }

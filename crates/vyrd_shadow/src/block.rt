@@ -72,6 +72,7 @@ impl Block {
     }
 
     /// The writes take effect in their order, and the block is closed.
+    #[inline(always)]
     pub fn end(&mut self, words: &mut [u64], changed: &mut Vec<u32>)
         requires opened { is_some self.old ≡ true }
         requires in_range { AreInRange (length words.old) (unwrap_or self.old []) }

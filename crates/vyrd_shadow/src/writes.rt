@@ -70,6 +70,7 @@ impl Writes {
     }
 
     /// The writes take effect in their order.
+    #[inline(always)]
     pub fn take_effect(&self, words: &mut [u64])
         requires { AreInRange (length words.old) self.now }
         ensures { words.new ≡ with_writes words.old self.now }
@@ -79,6 +80,7 @@ impl Writes {
     }
 
     /// Notes the words.
+    #[inline(always)]
     pub fn note(&self, changed: &mut Vec<u32>)
         requires { vec_len changed.old + length self.now ≤ vec_capacity changed.old }
         ensures items { changed.new.items ≡ changed.old.items ++ keys_of self.now }
@@ -89,6 +91,7 @@ impl Writes {
     }
 
     /// Drops all writes.
+    #[inline(always)]
     pub fn clear(&mut self)
         ensures { self.new ≡ [] }
     {

@@ -106,6 +106,7 @@ impl Compared {
 
     /// The least key at which the words and the specification differ, or none where they are equal. Where they are equal it
     /// costs constant time. Otherwise it goes through all keys, and takes no memory.
+    #[inline(always)]
     pub fn first_difference(&self) -> Option<u64>
         requires { self.now.refused ≡ false }
         ensures { result ≡ first_difference (view_of_words self.now.header self.now.words) self.now.specified }
