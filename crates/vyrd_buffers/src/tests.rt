@@ -6,6 +6,7 @@
 ghost use Rattle.std.specs.Prelude.{◌≡◌, ◌<◌, ◌^◌, true};
 ghost use Rattle.vyrd_base.specs.Subjects.{subject_of, are_args};
 ghost use Rattle.vyrd_base.specs.declared.subject.Subject.TheVariants.{Buffers};
+ghost use Rattle.vyrd_memory.specs.Scripts.{IsAnswer};
 
 use crate::BufferMachine;
 use std::alloc::Global;
@@ -32,6 +33,22 @@ fn op(method: Method, a: u32, b: u32) -> Op
     }
 }
 
+/// Does an act in these words: what a load finds is the answer, and a store changes a word.
+fn answer(words: &mut [u64], act: Act) -> u64
+    ensures { IsAnswer act result }
+{
+    match act {
+        Act::Load(cell) => word(words, cell),
+        Act::Store(cell, value) => {
+            if let Some(word) = words.get_mut(cell as usize) {
+                *word = value;
+            }
+            0
+        }
+        _ => 0,
+    }
+}
+
 /// What the operation does from these words: its acts after the mark of the call.
 fn acts(alloc: Global, variant: Variant, op: Op, words: &mut [u64]) -> Result<Vec<Act>, Fail>
     requires method { subject_of op.method ≡ Buffers }
@@ -43,18 +60,10 @@ fn acts(alloc: Global, variant: Variant, op: Op, words: &mut [u64]) -> Result<Ve
     let mut acts = Vec::new(alloc);
     for _ in 0..32 {
         let act = machine.wants();
-        let answer = match act {
-            Act::Done => break,
-            Act::Load(cell) => word(words, cell),
-            Act::Store(cell, value) => {
-                if let Some(word) = words.get_mut(cell as usize) {
-                    *word = value;
-                }
-                0
-            }
-            _ => 0,
-        };
-        machine.took(answer);
+        if act == Act::Done {
+            break;
+        }
+        machine.took(answer(words, act));
         acts.push(act)?;
     }
     Ok(acts)

@@ -4,6 +4,7 @@ ghost use Rattle.std.specs.Prelude.{◌≡◌, ◌<◌, ◌^◌, true};
 ghost use Rattle.vyrd_base.specs.declared.header.Header.{Header};
 ghost use Rattle.vyrd_base.specs.declared.subject.Subject.TheVariants.{Multiset};
 ghost use Rattle.vyrd_memory.specs.Players.{is_callable};
+ghost use Rattle.vyrd_memory.specs.Scripts.{IsAnswer};
 
 use crate::MultisetMachine;
 use std::alloc::Global;
@@ -30,6 +31,22 @@ fn word(words: &[u64], cell: u32) -> u64
     }
 }
 
+/// Does an act in these words: what a load finds is the answer, and a store changes a word.
+fn answer(words: &mut [u64], act: Act) -> u64
+    ensures { IsAnswer act result }
+{
+    match act {
+        Act::Load(cell) => word(words, cell),
+        Act::Store(cell, value) => {
+            if let Some(word) = words.get_mut(cell as usize) {
+                *word = value;
+            }
+            0
+        }
+        _ => 0,
+    }
+}
+
 /// What the operation does from these words: its acts after the mark of the call.
 fn acts(
     alloc: Global,
@@ -45,18 +62,10 @@ fn acts(
     let mut acts = Vec::new(alloc);
     for _ in 0..40 {
         let act = machine.wants();
-        let answer = match act {
-            Act::Done => break,
-            Act::Load(cell) => word(words, cell),
-            Act::Store(cell, value) => {
-                if let Some(word) = words.get_mut(cell as usize) {
-                    *word = value;
-                }
-                0
-            }
-            _ => 0,
-        };
-        machine.took(answer);
+        if act == Act::Done {
+            break;
+        }
+        machine.took(answer(words, act));
         acts.push(act)?;
     }
     Ok(acts)
