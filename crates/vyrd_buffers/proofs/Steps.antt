@@ -13,7 +13,7 @@ use Rattle.vyrd_base.proofs.TestLaws.{first_true, second_true, is_below, below_o
 use Rattle.vyrd_memory.specs.declared.act.Act.{Act}
 use Rattle.vyrd_memory.specs.declared.act.Act.TheVariants.{Load, Store, Take, Give, Mark, Done}
 use Rattle.vyrd_memory.specs.Scripts.{Script, stop, step, returns, next_act, after_answer}
-use Rattle.vyrd_memory.specs.Soundness.{Standing, IsSound, IsSoundSomewhere, may_act}
+use Rattle.vyrd_memory.specs.Soundness.{Situation, IsSound, IsSoundSomewhere, may_act}
 use Rattle.vyrd_buffers.specs.declared.held.Held.{Held}
 use Rattle.vyrd_buffers.specs.declared.text.Text.{Text}
 use Rattle.vyrd_buffers.specs.declared.place.Place.{Place}
@@ -57,7 +57,7 @@ lock_low h lock is within =
     let low : lock < 8 * h.size + h.size = below_of lock (8 * h.size + h.size) test in
     is_below lock (2 ^ 32) (omega (arith, low, few_buffers h))
 
-cell_there : (h : Header) (s : Standing) (act : Act) → h.subject ≡ Buffers → may_act h s act ≡ true → nat_lt (cell_in act) (2 ^ 32) ≡ true
+cell_there : (h : Header) (s : Situation) (act : Act) → h.subject ≡ Buffers → may_act h s act ≡ true → nat_lt (cell_in act) (2 ^ 32) ≡ true
 cell_there h s (Load cell) is may = plain_low h cell is may
 cell_there h s (Store cell value) is may = plain_low h cell is (first_true _ _ (first_true _ _ may))
 cell_there h s (Take lock) is may = lock_low h lock is (first_true _ _ may)
@@ -65,7 +65,7 @@ cell_there h s (Give lock) is may = lock_low h lock is (first_true _ _ may)
 cell_there h s (Mark kind) is may = refl
 cell_there h s Done is may = refl
 
-next_there : (h : Header) (script : Script) → h.subject ≡ Buffers → (s : Standing) × IsSound h s script
+next_there : (h : Header) (script : Script) → h.subject ≡ Buffers → (s : Situation) × IsSound h s script
     → nat_lt (cell_in (next_act script)) (2 ^ 32) ≡ true
 next_there h stop is sound = refl
 next_there h (step act rest) is sound = cell_there h sound.0 act is sound.1.0

@@ -5,11 +5,11 @@ use Rattle.std.proofs.Math.Logic.{∥∥₁_map}
 use Rattle.vyrd_base.specs.declared.header.Header.{Header}
 use Rattle.vyrd_memory.specs.declared.act.Act.TheVariants.{Done}
 use Rattle.vyrd_memory.specs.Scripts.{Script, stop, step, next_act, after_answer, IsAnswer}
-use Rattle.vyrd_memory.specs.Soundness.{Standing, IsSound, IsSoundSomewhere, after_act}
+use Rattle.vyrd_memory.specs.Soundness.{Situation, IsSound, IsSoundSomewhere, after_act}
 
 next_sound : (h : Header) (script : Script) (answer : ℕ) → next_act script ≢ Done → IsAnswer (next_act script) answer
-    → (s : Standing) × IsSound h s script
-    → (s : Standing) × IsSound h s (after_answer script answer)
+    → (s : Situation) × IsSound h s script
+    → (s : Situation) × IsSound h s (after_answer script answer)
 next_sound h stop answer goes is w = absurd (goes refl)
 next_sound h (step act rest) answer goes is w = (after_act w.0 act, w.1.1 answer is)
 

@@ -12,7 +12,7 @@ use Rattle.vyrd_memory.specs.declared.act.Act.{Act}
 use Rattle.vyrd_memory.specs.declared.act.Act.TheVariants.{Load, Store, Take, Give, Mark}
 use Rattle.vyrd_memory.specs.Alone.{Memory}
 use Rattle.vyrd_memory.specs.Scripts.{Script, stop, step, perform, returns}
-use Rattle.vyrd_memory.specs.Soundness.{Standing, holds, after_act}
+use Rattle.vyrd_memory.specs.Soundness.{Situation, holds, after_act}
 use Rattle.vyrd_multiset.specs.Laws.Sound.{gone}
 use Rattle.vyrd_every.specs.Structures.{Structure}
 use Rattle.vyrd_every.specs.Hands.{Hand, Access, written, shown_after, pending_after, called_after}
@@ -24,7 +24,7 @@ pub never : {b : Bool} → b ≡ false → b ≡ true → ⊥
 never e f = cc
 
 -- an act that changes nothing that the log shows, nor what is reserved
-pub quiet : (S : Structure) (s : Standing) (k : Hand) (shown : Memory) (act : Act) (rest : Script) (next : Hand) → shown_after s k shown act ≡ shown
+pub quiet : (S : Structure) (s : Situation) (k : Hand) (shown : Memory) (act : Act) (rest : Script) (next : Hand) → shown_after s k shown act ≡ shown
     → next.owned ≡ k.owned → Reaches S s act
     → ((state : Amounts) → S.Stands shown state → Leads S k act rest (shown_after s k shown act) state)
     → next.pending ≡ pending_after act k.pending → next.called ≡ called_after act k.called → Answers S k shown act next
@@ -43,27 +43,27 @@ quiet S s k shown act rest next same own reaches leads pending called answers = 
   answers = answers;
 }
 
-pub load_right : (S : Structure) (s : Standing) (k : Hand) (shown : Memory) (cell : ℕ) (rest : ℕ → Script) → Access S s cell → s.in_block ≡ false
+pub load_right : (S : Structure) (s : Situation) (k : Hand) (shown : Memory) (cell : ℕ) (rest : ℕ → Script) → Access S s cell → s.in_block ≡ false
     → ((now : Memory) → Rely S s k shown now → DoesRight S s k now (rest (shown cell)))
     → DoesRight S s k shown (step (Load cell) rest)
 load_right S s k shown cell rest access out later =
     (k, quiet S s k shown (Load cell) (rest 0) k refl refl (access, out) (λ state m. m) refl refl refl, later)
 
-pub take_right : (S : Structure) (s : Standing) (k : Hand) (shown : Memory) (lock : ℕ) (later : Script)
+pub take_right : (S : Structure) (s : Situation) (k : Hand) (shown : Memory) (lock : ℕ) (later : Script)
     → ((held : ℕ) → holds s held ≡ true → held < lock)
     → ((now : Memory) → Rely S (after_act s (Take lock)) k shown now → DoesRight S (after_act s (Take lock)) k now later)
     → DoesRight S s k shown (perform (Take lock) later)
 take_right S s k shown lock later above rest =
     (k, quiet S s k shown (Take lock) later k refl refl above (λ state m. m) refl refl refl, rest)
 
-pub give_right : (S : Structure) (s : Standing) (k : Hand) (shown : Memory) (lock : ℕ) (later : Script) → s.in_block ≡ false
+pub give_right : (S : Structure) (s : Situation) (k : Hand) (shown : Memory) (lock : ℕ) (later : Script) → s.in_block ≡ false
     → ((now : Memory) → Rely S (after_act s (Give lock)) k shown now → DoesRight S (after_act s (Give lock)) k now later)
     → DoesRight S s k shown (perform (Give lock) later)
 give_right S s k shown lock later out rest =
     (k, quiet S s k shown (Give lock) later k refl refl out (λ state m. m) refl refl (inl refl), rest)
 
 -- what a caller is in the middle of
-abbrev pub at : List ℕ → Bool → Bool → Called → Standing
+abbrev pub at : List ℕ → Bool → Bool → Called → Situation
 at locks committed in_block called = record { locks = locks; called = Some called.method; committed = committed; in_block = in_block }
 
 pub holds_first : (lock : ℕ) (locks : List ℕ) (committed in_block : Bool) (called : Called) → holds (at (lock ∷ locks) committed in_block called) lock ≡ true

@@ -16,7 +16,7 @@ use Rattle.vyrd_base.proofs.BlockLaws.{own_answer, other_answer}
 use Rattle.vyrd_base.proofs.TestLaws.{same_of}
 use Rattle.vyrd_memory.specs.Scripts.{Script, stop, step, next_act, after_answer, event_of, answer_of, left_after, IsAnswer, Plays}
 use Rattle.vyrd_memory.specs.Turns.{part_of}
-use Rattle.vyrd_memory.proofs.Standings.{act_of_event, AreAnswers, event_act}
+use Rattle.vyrd_memory.proofs.Situations.{act_of_event, AreAnswers, event_act}
 use Rattle.vyrd_every.specs.RightScripts.{WillReturn}
 
 -- the reply that an event of the caller logs, if it is a return

@@ -9,7 +9,7 @@ use Rattle.vyrd_memory.specs.declared.op.Op.{Op}
 use Rattle.vyrd_memory.specs.Players.{is_callable, are_callable}
 use Rattle.vyrd_memory.specs.Alone.{Memory}
 use Rattle.vyrd_memory.specs.Scripts.{Script, stop, step, followed_by, operations}
-use Rattle.vyrd_memory.specs.Soundness.{Standing, at_rest, just_called, after_act}
+use Rattle.vyrd_memory.specs.Soundness.{Situation, at_rest, just_called, after_act}
 use Rattle.vyrd_every.specs.Structures.{Structure}
 use Rattle.vyrd_every.specs.Hands.{Hand, shown_after, answer_at, Rests}
 use Rattle.vyrd_every.specs.RightScripts.{WillReturn, Commits, Leads, ActsRight, DoesRight, IsRight}
@@ -58,7 +58,7 @@ follows_leads S k (Mark BlockOpen) rest later now state leads = leads
 follows_leads S k (Mark BlockClose) rest later now state leads = leads
 follows_leads S k (Mark BlockCommit) rest later now state leads = follows_commit S k rest later now state leads
 
-follows_does : (S : Structure) (s : Standing) (k : Hand) (shown : Memory) (act : Act) (rest later : Script) (next : Hand)
+follows_does : (S : Structure) (s : Situation) (k : Hand) (shown : Memory) (act : Act) (rest later : Script) (next : Hand)
     → ActsRight S s k shown act rest next → ActsRight S s k shown act (followed_by rest later) next
 follows_does S s k shown act rest later next does = record {
   reaches = does.reaches;
@@ -72,7 +72,7 @@ follows_does S s k shown act rest later next does = record {
 }
 
 -- one script after the other
-followed_right : (S : Structure) (s : Standing) (k : Hand) (shown : Memory) (script later : Script)
+followed_right : (S : Structure) (s : Situation) (k : Hand) (shown : Memory) (script later : Script)
     → ((k' : Hand) (now : Memory) → Rests at_rest k' → DoesRight S at_rest k' now later)
     → DoesRight S s k shown script → DoesRight S s k shown (followed_by script later)
 followed_right S s k shown stop later then_ right =

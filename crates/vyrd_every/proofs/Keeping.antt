@@ -15,7 +15,7 @@ use Rattle.vyrd_memory.specs.Scripts.{Script, after_answer, left_after}
 use Rattle.vyrd_memory.specs.Soundness.{holds}
 use Rattle.vyrd_memory.specs.Runs.{AreSoundScripts}
 use Rattle.vyrd_memory.specs.Turns.{part_of, script_of, act_of, is_done}
-use Rattle.vyrd_memory.proofs.Standings.{standing_in}
+use Rattle.vyrd_memory.proofs.Situations.{situation_after}
 use Rattle.vyrd_memory.proofs.LegalRuns.{IsRun}
 use Rattle.vyrd_every.specs.Between.{log_in}
 use Rattle.vyrd_every.proofs.Answered.{passed_after}
@@ -43,6 +43,6 @@ pub record Keeping (h : Header) (scripts : List Script) : Type 1 where
   -- who takes a lock holds only lower ones, and who is done holds none
   pub upward : (earlier : List Stamped) (passed : List Amounts) (state : Amounts) → IsRun h scripts earlier → Holds earlier passed state
       → (c : ℕ) → c < h.callers → (lock : ℕ) → act_of scripts c earlier ≡ Take lock
-      → (held : ℕ) → holds (standing_in (part_of c earlier)) held ≡ true → held < lock
+      → (held : ℕ) → holds (situation_after (part_of c earlier)) held ≡ true → held < lock
   pub idle : (earlier : List Stamped) (passed : List Amounts) (state : Amounts) → IsRun h scripts earlier → Holds earlier passed state
-      → (c : ℕ) → c < h.callers → is_done (act_of scripts c earlier) ≡ true → (lock : ℕ) → holds (standing_in (part_of c earlier)) lock ≡ false
+      → (c : ℕ) → c < h.callers → is_done (act_of scripts c earlier) ≡ true → (lock : ℕ) → holds (situation_after (part_of c earlier)) lock ≡ false

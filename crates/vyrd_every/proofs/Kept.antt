@@ -7,9 +7,9 @@ use Rattle.vyrd_memory.specs.declared.act.Act.{Act}
 use Rattle.vyrd_memory.specs.declared.act.Act.TheVariants.{Load, Store, Take, Give, Mark, Done}
 use Rattle.vyrd_memory.specs.Alone.{Memory}
 use Rattle.vyrd_memory.specs.Scripts.{Script, stop, step, next_act, left_after}
-use Rattle.vyrd_memory.specs.Soundness.{Standing, holds}
+use Rattle.vyrd_memory.specs.Soundness.{Situation, holds}
 use Rattle.vyrd_memory.specs.Turns.{part_of, script_of, is_done}
-use Rattle.vyrd_memory.proofs.Standings.{standing_in}
+use Rattle.vyrd_memory.proofs.Situations.{situation_after}
 use Rattle.vyrd_every.specs.Structures.{Structure, shown_by}
 use Rattle.vyrd_every.specs.Hands.{Hand, empty_hand}
 use Rattle.vyrd_every.specs.RightScripts.{Reaches, DoesRight, AreRight}
@@ -35,13 +35,13 @@ begins S scripts are = record {
   seen = λ c low called is reply answer. cc;
 }
 
-takes_higher : (S : Structure) (s : Standing) (k : Hand) (shown : Memory) (script : Script) (lock : ℕ) → DoesRight S s k shown script → next_act script ≡ Take lock
+takes_higher : (S : Structure) (s : Situation) (k : Hand) (shown : Memory) (script : Script) (lock : ℕ) → DoesRight S s k shown script → next_act script ≡ Take lock
     → (held : ℕ) → holds s held ≡ true → held < lock
 takes_higher S s k shown stop lock right e = cc
 takes_higher S s k shown (step act rest) lock right e = subst (Reaches S s) e right.1.reaches
 
 -- a caller that is done holds no lock
-done_holds : (S : Structure) (s : Standing) (k : Hand) (shown : Memory) (script : Script) (lock : ℕ) → DoesRight S s k shown script
+done_holds : (S : Structure) (s : Situation) (k : Hand) (shown : Memory) (script : Script) (lock : ℕ) → DoesRight S s k shown script
     → is_done (next_act script) ≡ true → holds s lock ≡ false
 done_holds S s k shown stop lock right e = ap (λ s. holds s lock) right.rests
 done_holds S s k shown (step act rest) lock right e = absurd (undone act right.1.reaches e)
@@ -66,15 +66,15 @@ keeping_of S scripts are = record {
   count = λ earlier passed state inv. inv.1.count;
   view = λ earlier passed state run inv. are.fits.view (log_in earlier) state inv.1.means;
   upward = λ earlier passed state run inv c low lock takes.
-      takes_higher S (standing_in (part_of c earlier)) (inv.0 c) (shown_by (log_in earlier)) (left_after (script_of scripts c) (part_of c earlier)) lock
+      takes_higher S (situation_after (part_of c earlier)) (inv.0 c) (shown_by (log_in earlier)) (left_after (script_of scripts c) (part_of c earlier)) lock
       (right earlier passed state inv.0 inv.1 c low) takes;
   idle = λ earlier passed state run inv c low done lock.
-      done_holds S (standing_in (part_of c earlier)) (inv.0 c) (shown_by (log_in earlier)) (left_after (script_of scripts c) (part_of c earlier)) lock
+      done_holds S (situation_after (part_of c earlier)) (inv.0 c) (shown_by (log_in earlier)) (left_after (script_of scripts c) (part_of c earlier)) lock
       (right earlier passed state inv.0 inv.1 c low) done;
 }
   where
     right : (earlier : List Stamped) (passed : List Amounts) (state : Amounts) (hands : ℕ → Hand) → Invariant S scripts earlier hands passed state
         → (c : ℕ) → c < S.header.callers
-        → DoesRight S (standing_in (part_of c earlier)) (hands c) (shown_by (log_in earlier)) (left_after (script_of scripts c) (part_of c earlier))
+        → DoesRight S (situation_after (part_of c earlier)) (hands c) (shown_by (log_in earlier)) (left_after (script_of scripts c) (part_of c earlier))
     right earlier passed state hands inv c low =
-        (inv.each c low).right (shown_by (log_in earlier)) (rely_same S (standing_in (part_of c earlier)) (hands c) (shown_by (log_in earlier)))
+        (inv.each c low).right (shown_by (log_in earlier)) (rely_same S (situation_after (part_of c earlier)) (hands c) (shown_by (log_in earlier)))

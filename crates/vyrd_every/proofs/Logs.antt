@@ -22,8 +22,8 @@ use Rattle.vyrd_base.proofs.BlockLaws.{entry, own_answer, other_answer, own_writ
 use Rattle.vyrd_base.proofs.ShadowLaws.{holds_other}
 use Rattle.vyrd_base.proofs.VersionWords.{no_inner_commit}
 use Rattle.vyrd_memory.specs.Alone.{with_cell}
-use Rattle.vyrd_memory.specs.Soundness.{Standing}
-use Rattle.vyrd_memory.proofs.Standings.{act_of_event}
+use Rattle.vyrd_memory.specs.Soundness.{Situation}
+use Rattle.vyrd_memory.proofs.Situations.{act_of_event}
 use Rattle.vyrd_memory.proofs.KeptRules.{OnlyRaced}
 use Rattle.vyrd_memory.proofs.RaceLaws.{none_any}
 use Rattle.vyrd_every.specs.Structures.{Structure, shown_by}
@@ -50,7 +50,7 @@ more ((word, value) ∷ writes) others =
     (λ i w. one_more word value (writes ++ others) w i) ∙ ap (λ m. with_cell m word value) (more writes others)
 
 -- what the log shows after one more event of the caller
-pub shown_step : (S : Structure) (c : ℕ) (did : Did) (s : Standing) (k : Hand) (log : List Entry) → has_block c log ≡ s.in_block
+pub shown_step : (S : Structure) (c : ℕ) (did : Did) (s : Situation) (k : Hand) (log : List Entry) → has_block c log ≡ s.in_block
     → k.pending ≡ block_writes c log → Reaches S s (act_of_event did)
     → shown_by (cons_option (logged c did) log) ≡ shown_after s k (shown_by log) (act_of_event did)
 shown_step S c (Read cell value) s k log block pending reaches = refl

@@ -23,10 +23,10 @@ use Rattle.vyrd_base.proofs.TestLaws.{second_true, same_of, same_number}
 use Rattle.vyrd_memory.specs.declared.act.Act.TheVariants.{Mark}
 use Rattle.vyrd_memory.specs.Alone.{Memory}
 use Rattle.vyrd_memory.specs.Scripts.{Script, after_answer, answer_of, left_after, Plays}
-use Rattle.vyrd_memory.specs.Soundness.{Standing, holds, may_act, after_act}
+use Rattle.vyrd_memory.specs.Soundness.{Situation, holds, may_act, after_act}
 use Rattle.vyrd_memory.specs.Turns.{part_of, script_of}
 use Rattle.vyrd_memory.specs.Runs.{AreSoundScripts}
-use Rattle.vyrd_memory.proofs.Standings.{act_of_event, standing_in, KeepsTo, sound_keeps}
+use Rattle.vyrd_memory.proofs.Situations.{act_of_event, situation_after, KeepsTo, sound_keeps}
 use Rattle.vyrd_memory.proofs.LegalEvents.{caller_low, does, are_answers}
 use Rattle.vyrd_memory.proofs.Agreements.{Agrees, agrees}
 use Rattle.vyrd_memory.proofs.KeptRules.{write_kept, mark_kept}
@@ -94,7 +94,7 @@ keeps_in h scripts earlier d sound run low =
 -- a word whose guard the caller holds isn't held by another caller's block
 free_word : (S : Structure) (scripts : List Script) (earlier : List Stamped) (hands : ℕ → Hand) (passed : List Amounts) (state : Amounts) (c d cell : ℕ)
     → Fits S → AreSoundScripts S.header scripts → IsRun S.header scripts earlier → Invariant S scripts earlier hands passed state
-    → c < S.header.callers → d < S.header.callers → (d == c) ≡ false → Access S (standing_in (part_of c earlier)) cell → holds_word d cell (log_in earlier) ≡ false
+    → c < S.header.callers → d < S.header.callers → (d == c) ≡ false → Access S (situation_after (part_of c earlier)) cell → holds_word d cell (log_in earlier) ≡ false
 free_word S scripts earlier hands passed state c d cell is sound run holds low_c low_d apart access = by_test (holds_word d cell (log_in earlier)) refl
   where
     by_test : (b : Bool) → holds_word d cell (log_in earlier) ≡ b → b ≡ false
@@ -108,8 +108,8 @@ free_word S scripts earlier hands passed state c d cell is sound run holds low_c
 -- what a load finds is what the log shows
 found_in : (S : Structure) (scripts : List Script) (earlier : List Stamped) (hands : ℕ → Hand) (passed : List Amounts) (state : Amounts) (c : ℕ) (did : Did)
     → Fits S → AreSoundScripts S.header scripts → IsRun S.header scripts earlier → Invariant S scripts earlier hands passed state → c < S.header.callers
-    → may_do (cells_of S.header) earlier c did ≡ true → Agrees c (standing_in (part_of c earlier)) (log_in earlier)
-    → Reaches S (standing_in (part_of c earlier)) (act_of_event did) → answer_of did ≡ answer_at (shown_by (log_in earlier)) (act_of_event did)
+    → may_do (cells_of S.header) earlier c did ≡ true → Agrees c (situation_after (part_of c earlier)) (log_in earlier)
+    → Reaches S (situation_after (part_of c earlier)) (act_of_event did) → answer_of did ≡ answer_at (shown_by (log_in earlier)) (act_of_event did)
 found_in S scripts earlier hands passed state c (Read cell value) is sound run holds low may agree reaches =
     same_of value (value_in earlier cell) (second_true (is_plain (cells_of S.header) cell) (value == value_in earlier cell) may)
     ∙ raw_is_shown S earlier cell is run.legal holds.kept reaches.0.low
@@ -122,7 +122,7 @@ found_in S scripts earlier hands passed state c (Took lock) is sound run holds l
 found_in S scripts earlier hands passed state c (Gave lock) is sound run holds low may agree reaches = refl
 found_in S scripts earlier hands passed state c (Marked kind) is sound run holds low may agree reaches = refl
 
-no_write : (S : Structure) (s : Standing) (kind : Kind) → Reaches S s (Mark kind) → IsNoWrite kind
+no_write : (S : Structure) (s : Situation) (kind : Kind) → Reaches S s (Mark kind) → IsNoWrite kind
 no_write S s (Call method args) reaches = tt
 no_write S s (Return reply) reaches = tt
 no_write S s (Write word value) reaches = reaches
@@ -134,8 +134,8 @@ no_write S s BlockCommit reaches = tt
 -- the log stays well formed
 kept_step : (S : Structure) (scripts : List Script) (earlier : List Stamped) (hands : ℕ → Hand) (passed : List Amounts) (state : Amounts) (c : ℕ) (did : Did)
     → Fits S → AreSoundScripts S.header scripts → IsRun S.header scripts earlier → Invariant S scripts earlier hands passed state → c < S.header.callers
-    → may_act S.header (standing_in (part_of c earlier)) (act_of_event did) ≡ true → Agrees c (standing_in (part_of c earlier)) (log_in earlier)
-    → Reaches S (standing_in (part_of c earlier)) (act_of_event did) → WellFormed S.header (cons_option (logged c did) (log_in earlier))
+    → may_act S.header (situation_after (part_of c earlier)) (act_of_event did) ≡ true → Agrees c (situation_after (part_of c earlier)) (log_in earlier)
+    → Reaches S (situation_after (part_of c earlier)) (act_of_event did) → WellFormed S.header (cons_option (logged c did) (log_in earlier))
 kept_step S scripts earlier hands passed state c (Read cell value) is sound run holds low may agree reaches = holds.kept
 kept_step S scripts earlier hands passed state c (Took lock) is sound run holds low may agree reaches = holds.kept
 kept_step S scripts earlier hands passed state c (Gave lock) is sound run holds low may agree reaches = holds.kept
@@ -143,12 +143,12 @@ kept_step S scripts earlier hands passed state c (Wrote cell value) is sound run
   write_unraced S.header c cell value (log_in earlier) is.version holds.kept
       (held_by_none S.header c cell (log_in earlier) (λ d low_d apart.
       free_word S scripts earlier hands passed state c d cell is sound run holds low low_d apart reaches))
-      (write_kept S.header c cell value (standing_in (part_of c earlier)) (log_in earlier) low may agree),
+      (write_kept S.header c cell value (situation_after (part_of c earlier)) (log_in earlier) low may agree),
   holds.kept,
 )
 kept_step S scripts earlier hands passed state c (Marked kind) is sound run holds low may agree reaches = (
-  mark_unraced S.header c kind (log_in earlier) (no_write S (standing_in (part_of c earlier)) kind reaches)
-      (mark_kept S.header c kind (standing_in (part_of c earlier)) (log_in earlier) low may agree),
+  mark_unraced S.header c kind (log_in earlier) (no_write S (situation_after (part_of c earlier)) kind reaches)
+      (mark_kept S.header c kind (situation_after (part_of c earlier)) (log_in earlier) low may agree),
   holds.kept,
 )
 
@@ -161,7 +161,7 @@ commit_leads S k c log rest now state called commits = (
   record { called = commits.called; is_called = sym called ∙ commits.is_called; reply = commits.reply; returns = commits.returns; allowed = commits.allowed },
 )
 
-event_leads : (S : Structure) (s : Standing) (k next : Hand) (c : ℕ) (did : Did) (log : List Entry) (shown : Memory) (rest : Script) (state : Amounts)
+event_leads : (S : Structure) (s : Situation) (k next : Hand) (c : ℕ) (did : Did) (log : List Entry) (shown : Memory) (rest : Script) (state : Amounts)
     → k.called ≡ open_call c log → ActsRight S s k shown (act_of_event did) rest next → S.Stands shown state
     → (after : Amounts) × S.Stands (shown_after s k shown (act_of_event did)) after × Leading c did log rest state after
 event_leads S s k next c (Read cell value) log shown rest state called does m = (state, does.leads state m, refl)
@@ -313,8 +313,8 @@ next_event S scripts earlier number c did hands passed state is sound run holds 
     log : List Entry
     log = cons_option (logged c did) (log_in earlier)
 
-    s : Standing
-    s = standing_in (part_of c earlier)
+    s : Situation
+    s = situation_after (part_of c earlier)
 
     left : Script
     left = after_answer (left_after (script_of scripts c) (part_of c earlier)) 0
@@ -338,7 +338,7 @@ next_event S scripts earlier number c did hands passed state is sound run holds 
     agree = agrees S.header c earlier keeps.1
 
     agree_now : Agrees c (after_act s (act_of_event did)) log
-    agree_now = subst (λ p. Agrees c (standing_in p) log) (part_own number c did earlier) (agrees S.header c (e ∷ earlier) (keeps_in S.header scripts (e ∷ earlier) c sound run low))
+    agree_now = subst (λ p. Agrees c (situation_after p) log) (part_own number c did earlier) (agrees S.header c (e ∷ earlier) (keeps_in S.header scripts (e ∷ earlier) c sound run low))
 
     plays : Plays (script_of scripts c) (did ∷ part_of c earlier)
     plays = subst (Plays (script_of scripts c)) (part_own number c did earlier) (run.plays c)

@@ -16,8 +16,8 @@ use Rattle.vyrd_base.proofs.TestLaws.{first_true, second_true, same_of}
 use Rattle.vyrd_memory.specs.declared.act.Act.{Act}
 use Rattle.vyrd_memory.specs.Alone.{Memory}
 use Rattle.vyrd_memory.specs.Scripts.{Script, stop, step, next_act, after_answer, event_of, answer_of, left_after}
-use Rattle.vyrd_memory.specs.Soundness.{Standing, holds, observes, may_act, after_act}
-use Rattle.vyrd_memory.proofs.Standings.{act_of_event, standing_in, event_act}
+use Rattle.vyrd_memory.specs.Soundness.{Situation, holds, observes, may_act, after_act}
+use Rattle.vyrd_memory.proofs.Situations.{act_of_event, situation_after, event_act}
 use Rattle.vyrd_memory.proofs.Agreements.{Agrees, four_true}
 use Rattle.vyrd_every.specs.Structures.{Structure, shown_by}
 use Rattle.vyrd_every.specs.Hands.{Hand, Access, shown_after, pending_after, called_after, answer_at}
@@ -29,13 +29,13 @@ use Rattle.vyrd_every.proofs.Acts.{never}
 use Rattle.vyrd_every.proofs.Logs.{shown_step, pending_step, pending_other, called_step, called_other, word_other}
 
 -- what an event of a script that does right does
-pub record Stepped (S : Structure) (s : Standing) (k : Hand) (shown : Memory) (did : Did) (script : Script) : Type 0 where
+pub record Stepped (S : Structure) (s : Situation) (k : Hand) (shown : Memory) (did : Did) (script : Script) : Type 0 where
   pub next : Hand
   pub does : ActsRight S s k shown (act_of_event did) (after_answer script 0) next
   pub later : (now : Memory) → Rely S (after_act s (act_of_event did)) next (shown_after s k shown (act_of_event did)) now
       → DoesRight S (after_act s (act_of_event did)) next now (after_answer script (answer_at shown (act_of_event did)))
 
-pub stepped : (S : Structure) (s : Standing) (k : Hand) (shown : Memory) (did : Did) (script : Script) → DoesRight S s k shown script
+pub stepped : (S : Structure) (s : Situation) (k : Hand) (shown : Memory) (did : Did) (script : Script) → DoesRight S s k shown script
     → event_of (next_act script) (answer_of did) ≡ Some did → Stepped S s k shown did script
 stepped S s k shown did stop right e = cc
 stepped S s k shown did (step act rest) right e =
@@ -50,7 +50,7 @@ stepped S s k shown did (step act rest) right e =
 holds_parts : (a b : Bool) → (a && b) ≡ true → (a ≡ true) × (b ≡ true)
 holds_parts a b e = (first_true a b e, second_true a b e)
 
-covers_step : (S : Structure) (c : ℕ) (did : Did) (s : Standing) (log : List Entry) → Agrees c s log
+covers_step : (S : Structure) (c : ℕ) (did : Did) (s : Situation) (log : List Entry) → Agrees c s log
     → Agrees c (after_act s (act_of_event did)) (cons_option (logged c did) log) → may_act S.header s (act_of_event did) ≡ true → Reaches S s (act_of_event did)
     → ((w : ℕ) → holds_word c w log ≡ true → Access S s w)
     → (w : ℕ) → holds_word c w (cons_option (logged c did) log) ≡ true → Access S (after_act s (act_of_event did)) w
@@ -90,15 +90,15 @@ covers_step S c (Marked BlockCommit) s log a b may reaches covers w e =
 -- the caller's own event
 pub record OwnStep (S : Structure) (script : Script) (part : List Did) (log : List Entry) (c : ℕ) (did : Did) (k : Hand) : Type 0 where
   pub next : Hand
-  pub does : ActsRight S (standing_in part) k (shown_by log) (act_of_event did) (after_answer (left_after script part) 0) next
-  pub shows : shown_by (cons_option (logged c did) log) ≡ shown_after (standing_in part) k (shown_by log) (act_of_event did)
+  pub does : ActsRight S (situation_after part) k (shown_by log) (act_of_event did) (after_answer (left_after script part) 0) next
+  pub shows : shown_by (cons_option (logged c did) log) ≡ shown_after (situation_after part) k (shown_by log) (act_of_event did)
   pub one : OfCaller S script (did ∷ part) (cons_option (logged c did) log) c next
 
 pub own_step : (S : Structure) (script : Script) (part : List Did) (log : List Entry) (c : ℕ) (did : Did) (k : Hand) → OfCaller S script part log c k
-    → Agrees c (standing_in part) log → Agrees c (after_act (standing_in part) (act_of_event did)) (cons_option (logged c did) log)
-    → may_act S.header (standing_in part) (act_of_event did) ≡ true
+    → Agrees c (situation_after part) log → Agrees c (after_act (situation_after part) (act_of_event did)) (cons_option (logged c did) log)
+    → may_act S.header (situation_after part) (act_of_event did) ≡ true
     → event_of (next_act (left_after script part)) (answer_of did) ≡ Some did
-    → (Reaches S (standing_in part) (act_of_event did) → answer_of did ≡ answer_at (shown_by log) (act_of_event did))
+    → (Reaches S (situation_after part) (act_of_event did) → answer_of did ≡ answer_at (shown_by log) (act_of_event did))
     → OwnStep S script part log c did k
 own_step S script part log c did k one agrees agrees' may plays found = record {
   next = end.next;
@@ -115,8 +115,8 @@ own_step S script part log c did k one agrees agrees' may plays found = record {
   };
 }
   where
-    s : Standing
-    s = standing_in part
+    s : Situation
+    s = situation_after part
 
     end : Stepped S s k (shown_by log) did (left_after script part)
     end = stepped S s k (shown_by log) did (left_after script part) (one.right (shown_by log) (rely_same S s k (shown_by log))) plays
@@ -129,14 +129,14 @@ own_step S script part log c did k one agrees agrees' may plays found = record {
     by_owned slot mine false e = (end.does.fresh slot mine e).1
 
 -- another caller's event
-pub other_step : (S : Structure) (script : Script) (part : List Did) (log : List Entry) (c d : ℕ) (did : Did) (s : Standing) (k kd : Hand) → OfCaller S script part log d kd
+pub other_step : (S : Structure) (script : Script) (part : List Did) (log : List Entry) (c d : ℕ) (did : Did) (s : Situation) (k kd : Hand) → OfCaller S script part log d kd
     → (c == d) ≡ false → shown_by (cons_option (logged c did) log) ≡ shown_after s k (shown_by log) (act_of_event did)
     → Guarantee S s k (shown_by log) (shown_after s k (shown_by log) (act_of_event did))
-    → ((cell : ℕ) → Access S s cell → Access S (standing_in part) cell → ⊥)
+    → ((cell : ℕ) → Access S s cell → Access S (situation_after part) cell → ⊥)
     → ((slot : ℕ) → k.owned slot ≡ true → kd.owned slot ≡ true → ⊥)
     → OfCaller S script part (cons_option (logged c did) log) d kd
 other_step S script part log c d did s k kd one apart shows guarantee alone separate = record {
-  right = λ now rely. one.right now (rely_more S (standing_in part) kd (shown_by log) (shown_by (cons_option (logged c did) log)) now kept rely);
+  right = λ now rely. one.right now (rely_more S (situation_after part) kd (shown_by log) (shown_by (cons_option (logged c did) log)) now kept rely);
   pending = one.pending ∙ sym (pending_other d c did log apart);
   called = one.called ∙ sym (called_other d c did log apart);
   covers = λ w e. one.covers w (sym (word_other d c w did log apart) ∙ e);
@@ -146,7 +146,7 @@ other_step S script part log c d did s k kd one apart shows guarantee alone sepa
     after : Memory
     after = shown_after s k (shown_by log) (act_of_event did)
 
-    by_held : (cell : ℕ) → Access S (standing_in part) cell → (b : Bool) → holds s (S.guard cell) ≡ b → after cell ≡ shown_by log cell
+    by_held : (cell : ℕ) → Access S (situation_after part) cell → (b : Bool) → holds s (S.guard cell) ≡ b → after cell ≡ shown_by log cell
     by_held cell access true e = absurd (alone cell (record { low = access.low; held = e }) access)
     by_held cell access false e = guarantee.others cell access.low e
 
@@ -154,14 +154,14 @@ other_step S script part log c d did s k kd one apart shows guarantee alone sepa
     by_owned slot mine true e = absurd (separate slot e mine)
     by_owned slot mine false e = guarantee.reserved slot (one.reserved slot mine) e
 
-    kept : Rely S (standing_in part) kd (shown_by log) (shown_by (cons_option (logged c did) log))
+    kept : Rely S (situation_after part) kd (shown_by log) (shown_by (cons_option (logged c did) log))
     kept = record {
       held = λ cell access. ap (λ m. m cell) shows ∙ by_held cell access (holds s (S.guard cell)) refl;
       owned = λ slot mine. subst (λ m. S.Same (shown_by log) m slot) (sym shows) (by_owned slot mine (k.owned slot) refl);
     }
 
 -- no slot is reserved by two
-pub still_apart : (S : Structure) (s : Standing) (k next kd : Hand) (shown : Memory) (act : Act) (rest : Script) → ActsRight S s k shown act rest next
+pub still_apart : (S : Structure) (s : Situation) (k next kd : Hand) (shown : Memory) (act : Act) (rest : Script) → ActsRight S s k shown act rest next
     → ((slot : ℕ) → k.owned slot ≡ true → kd.owned slot ≡ true → ⊥)
     → ((slot : ℕ) → kd.owned slot ≡ true → S.Reserved shown slot)
     → (slot : ℕ) → next.owned slot ≡ true → kd.owned slot ≡ true → ⊥

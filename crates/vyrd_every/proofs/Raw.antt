@@ -9,7 +9,7 @@ use Rattle.vyrd_base.specs.Front.{WellFormed}
 use Rattle.vyrd_base.proofs.HistoryLaws.{Legal, last_is_value}
 use Rattle.vyrd_base.proofs.ShadowLaws.{well_formed_sound}
 use Rattle.vyrd_memory.specs.Turns.{part_of}
-use Rattle.vyrd_memory.proofs.Standings.{standing_in, KeepsTo}
+use Rattle.vyrd_memory.proofs.Situations.{situation_after, KeepsTo}
 use Rattle.vyrd_memory.proofs.LegalEvents.{AreLegal, does}
 use Rattle.vyrd_memory.proofs.HeldLocks.{held_is}
 use Rattle.vyrd_every.specs.Structures.{Structure, Fits, shown_by}
@@ -33,7 +33,7 @@ its_lock S cell is low = is.locks cell low
 -- two callers don't both hold it
 pub one_holder : (S : Structure) (c d : ℕ) (earlier : List Stamped) (cell : ℕ) → Fits S → AreLegal (cells_of S.header) earlier
     → KeepsTo S.header (part_of c earlier) → KeepsTo S.header (part_of d earlier)
-    → Access S (standing_in (part_of c earlier)) cell → Access S (standing_in (part_of d earlier)) cell → c ≡ d
+    → Access S (situation_after (part_of c earlier)) cell → Access S (situation_after (part_of d earlier)) cell → c ≡ d
 one_holder S c d earlier cell is legal keeps_c keeps_d access_c access_d =
     let lock : ℕ = S.guard cell in
     let is_its : is_lock (cells_of S.header) (S.guard cell) ≡ true = its_lock S cell is access_c.low in

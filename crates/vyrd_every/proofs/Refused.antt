@@ -11,7 +11,7 @@ use Rattle.vyrd_memory.specs.declared.act.Act.TheVariants.{Load, Store, Take, Gi
 use Rattle.vyrd_memory.specs.declared.op.Variant.TheVariants.{Broken}
 use Rattle.vyrd_memory.specs.Alone.{Memory}
 use Rattle.vyrd_memory.specs.Scripts.{Script, step, perform}
-use Rattle.vyrd_memory.specs.Soundness.{Standing, holds, just_called, after_act}
+use Rattle.vyrd_memory.specs.Soundness.{Situation, holds, just_called, after_act}
 use Rattle.vyrd_multiset.specs.Procedures.{multiset_procedure}
 use Rattle.vyrd_multiset.specs.Laws.Sound.{gone}
 use Rattle.vyrd_cache.specs.Cells.{lock_of}
@@ -50,7 +50,7 @@ lock_too_early h args right =
     let given = loaded.2 all_dirty (rely_same (cache h) (after_act locked (Give (lock_of h args.a))) loaded.0 all_dirty) in
     never (ap (λ locks. list_any (λ held. held == lock_of h ((5 * args.a + 1) / 5)) locks) (gone (lock_of h args.a) [])) given.1.reaches.held
   where
-    locked : Standing
+    locked : Situation
     locked = after_act (just_called CaWrite) (Take (lock_of h args.a))
 
 -- the memory in which all buffers have one character
@@ -75,23 +75,23 @@ no_source_lock h args apart right =
     source : ℕ
     source = texts.lock_of h ((8 * args.b + (1 + 0)) / 8)
 
-    first : Standing
+    first : Situation
     first = after_act (just_called BuAppendFrom) (Take (texts.lock_of h args.b))
 
-    between : Standing
+    between : Situation
     between = after_act first (Give (texts.lock_of h args.b))
 
-    second : Standing
+    second : Situation
     second = after_act between (Take (texts.lock_of h args.a))
 
 -- a lock that isn't above one that is held
-pub not_above : (h : Header) (s : Standing) (k : Hand) (shown : Memory) (lock held : ℕ) (later : Script) → holds s held ≡ true → lock ≤ held
+pub not_above : (h : Header) (s : Situation) (k : Hand) (shown : Memory) (lock held : ℕ) (later : Script) → holds s held ≡ true → lock ≤ held
     → DoesRight (multiset h) s k shown (perform (Take lock) later) → ⊥
 not_above h s k shown lock held later is low right = let above : held < lock = right.1.reaches held is in omega (arith, above, low)
 
 -- Words of different nodes, and of nodes and others, have different numbers. So the node is the one whose word is loaded, and
 -- its lock isn't held.
-pub no_node_lock : (h : Header) (s : Standing) (k : TreeHand) (g : Shape) (m : Memory) (node place : ℕ) (rest : ℕ → Script) → node < h.size
+pub no_node_lock : (h : Header) (s : Situation) (k : TreeHand) (g : Shape) (m : Memory) (node place : ℕ) (rest : ℕ → Script) → node < h.size
     → place < 12 → place ≢ 0 → holds s (cells.lock_of h node) ≡ false → TreeRight h s k g m (step (Load (node_cell node place)) rest) → ⊥
 no_node_lock h s k g m node place rest fits low some free right = by_word right.2.reaches.0
   where
@@ -108,7 +108,7 @@ no_node_lock h s k g m node place rest fits low some free right = by_word right.
     by_word (inr (inr is)) = let at = is.0 in omega (arith, at, low, fits)
 
 -- the root's word is no node's, and not the count of nodes in use
-pub no_root_lock : (h : Header) (s : Standing) (k : TreeHand) (g : Shape) (m : Memory) (root : ℕ) (later : Script) → k.fresh ≡ None
+pub no_root_lock : (h : Header) (s : Situation) (k : TreeHand) (g : Shape) (m : Memory) (root : ℕ) (later : Script) → k.fresh ≡ None
     → holds s (root_lock h) ≡ false → TreeRight h s k g m (perform (Store (root_cell h) root) later) → ⊥
 no_root_lock h s k g m root later none free right = by_block right.2.reaches
   where

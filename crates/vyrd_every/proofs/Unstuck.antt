@@ -16,10 +16,10 @@ use Rattle.vyrd_memory.specs.declared.act.Act.{Act}
 use Rattle.vyrd_memory.specs.declared.act.Act.TheVariants.{Load, Store, Take, Give, Mark, Done}
 use Rattle.vyrd_memory.specs.declared.op.Turn.{Turn}
 use Rattle.vyrd_memory.specs.Scripts.{Script, stop, step, next_act, left_after}
-use Rattle.vyrd_memory.specs.Soundness.{Standing, IsSound, holds, may_act}
+use Rattle.vyrd_memory.specs.Soundness.{Situation, IsSound, holds, may_act}
 use Rattle.vyrd_memory.specs.Turns.{part_of, script_of, act_of, is_done, are_done, is_held_up, are_stuck, after_turns, turns_of, run_for, GetsStuck}
 use Rattle.vyrd_memory.proofs.NumberLists.{all_pass}
-use Rattle.vyrd_memory.proofs.Standings.{standing_in, sound_keeps}
+use Rattle.vyrd_memory.proofs.Situations.{situation_after, sound_keeps}
 use Rattle.vyrd_memory.proofs.LegalEvents.{AreLegal, does, caller_low, plain_isnt, value_with, are_answers}
 use Rattle.vyrd_memory.proofs.HeldLocks.{held_is}
 use Rattle.vyrd_memory.proofs.LegalRuns.{IsRun, run_sound, turns_run, rounds_run}
@@ -55,7 +55,7 @@ lock_held cells (e ∷ earlier) lock legal is =
     event_held cells earlier lock e.caller e.did (caller_low cells earlier e legal.0) (does cells earlier e legal.0) is (lock_held cells earlier lock legal.1 is)
 
 -- what is left of a script that takes a lock next
-takes_lock : (h : Header) (s : Standing) (script : Script) (lock : ℕ) → IsSound h s script → next_act script ≡ Take lock → is_lock (cells_of h) lock ≡ true
+takes_lock : (h : Header) (s : Situation) (script : Script) (lock : ℕ) → IsSound h s script → next_act script ≡ Take lock → is_lock (cells_of h) lock ≡ true
 takes_lock h s stop lock sound e = cc
 takes_lock h s (step act rest) lock sound e =
     first_true (is_lock (cells_of h) lock) (not (holds s lock)) (subst (λ a. may_act h s a ≡ true) e sound.0)
@@ -84,7 +84,7 @@ none_waits : (h : Header) (scripts : List Script) (keeping : Keeping h scripts) 
     → (cells_of h).plain + (cells_of h).locks ≤ lock + n → ⊥
 none_waits h scripts keeping earlier zero c lock run wait low takes taken near =
     let is : is_lock (cells_of h) lock ≡ true =
-    takes_lock h (standing_in (part_of c earlier)) (left_after (script_of scripts c) (part_of c earlier)) lock
+    takes_lock h (situation_after (part_of c earlier)) (left_after (script_of scripts c) (part_of c earlier)) lock
     (run_sound h scripts earlier c keeping.sound run low) takes in
     let below : lock < (cells_of h).plain + (cells_of h).locks =
     below_of lock ((cells_of h).plain + (cells_of h).locks)
@@ -99,19 +99,19 @@ none_waits h scripts keeping earlier (suc n) c lock run wait low takes taken nea
         → (cells_of h).plain + (cells_of h).locks ≤ higher + n → ⊥
 
     is : is_lock (cells_of h) lock ≡ true
-    is = takes_lock h (standing_in (part_of c earlier)) (left_after (script_of scripts c) (part_of c earlier)) lock
+    is = takes_lock h (situation_after (part_of c earlier)) (left_after (script_of scripts c) (part_of c earlier)) lock
         (run_sound h scripts earlier c keeping.sound run low) takes
 
     here : Reached h scripts keeping earlier
     here = reached h scripts keeping earlier run
 
-    its : (d : ℕ) → d < h.callers → value_in earlier lock ≡ d + 1 → holds (standing_in (part_of d earlier)) lock ≡ true
+    its : (d : ℕ) → d < h.callers → value_in earlier lock ≡ d + 1 → holds (situation_after (part_of d earlier)) lock ≡ true
     its d low_d e =
         held_is h d earlier lock run.legal
         (sound_keeps h (script_of scripts d) (part_of d earlier) (keeping.sound.sound d low_d) (run.plays d) (are_answers (cells_of h) earlier d run.legal)) is
         ∙ ap (λ v. v == d + 1) e ∙ same_number (d + 1)
 
-    by_wait : Again → (d : ℕ) → d < h.callers → holds (standing_in (part_of d earlier)) lock ≡ true → (done waits : Bool)
+    by_wait : Again → (d : ℕ) → d < h.callers → holds (situation_after (part_of d earlier)) lock ≡ true → (done waits : Bool)
         → is_done (act_of scripts d earlier) ≡ done → is_held_up earlier (act_of scripts d earlier) ≡ waits → (done || waits) ≡ true → ⊥
     by_wait again d low_d holds_it true waits e f g =
         never (keeping.idle earlier here.passed here.state run here.holds_now d low_d e lock) holds_it

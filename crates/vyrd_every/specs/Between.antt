@@ -14,7 +14,7 @@ use Rattle.vyrd_base.proofs.HistoryLaws.{log_entry}
 use Rattle.vyrd_memory.specs.Alone.{Memory}
 use Rattle.vyrd_memory.specs.Scripts.{Script, left_after}
 use Rattle.vyrd_memory.specs.Turns.{part_of, script_of}
-use Rattle.vyrd_memory.proofs.Standings.{standing_in}
+use Rattle.vyrd_memory.proofs.Situations.{situation_after}
 use Rattle.vyrd_every.specs.Structures.{Structure, shown_by}
 use Rattle.vyrd_every.specs.Hands.{Hand, Access}
 use Rattle.vyrd_every.specs.Others.{Rely}
@@ -32,11 +32,11 @@ has_answer states n called reply = list_any (λ state. answer_in state called.me
 -- whatever the others do next; its hand is what the log says of it; its open block has written only words
 -- whose lock it holds; and the slots that it has reserved are so in the memory.
 pub record OfCaller (S : Structure) (script : Script) (part : List Did) (log : List Entry) (c : ℕ) (k : Hand) : Type 0 where
-  pub right : (now : Memory) → Rely S (standing_in part) k (shown_by log) now
-      → DoesRight S (standing_in part) k now (left_after script part)
+  pub right : (now : Memory) → Rely S (situation_after part) k (shown_by log) now
+      → DoesRight S (situation_after part) k now (left_after script part)
   pub pending : k.pending ≡ block_writes c log
   pub called : k.called ≡ open_call c log
-  pub covers : (w : ℕ) → holds_word c w log ≡ true → Access S (standing_in part) w
+  pub covers : (w : ℕ) → holds_word c w log ≡ true → Access S (situation_after part) w
   pub reserved : (slot : ℕ) → k.owned slot ≡ true → S.Reserved (shown_by log) slot
 
 -- The log so far is well formed; the above holds of each caller, with the hand that it has; no slot is

@@ -1,6 +1,6 @@
 -- What a caller has in hand, and what one of its acts makes of that and of the memory that the log shows.
 --
--- The locks that it holds, and whether a block of its own is open, are its `Standing` already
+-- The locks that it holds, and whether a block of its own is open, are its `Situation` already
 -- (vyrd_memory/specs/Soundness). A hand is what the proof keeps beside it.
 use Rattle.std.specs.Prelude.{◌≡◌, ℕ, ◌<◌, Bool, true, false, List, [], ◌∷◌, Option, Some, None, if◌then◌else◌}
 use Rattle.vyrd_base.specs.declared.log.Kind.TheVariants.{Call, Return, BlockClose, BlockCommit}
@@ -9,7 +9,7 @@ use Rattle.vyrd_base.specs.Words.{with_write}
 use Rattle.vyrd_memory.specs.declared.act.Act.{Act}
 use Rattle.vyrd_memory.specs.declared.act.Act.TheVariants.{Load, Store, Mark}
 use Rattle.vyrd_memory.specs.Alone.{Memory, with_cell}
-use Rattle.vyrd_memory.specs.Soundness.{Standing, holds, at_rest}
+use Rattle.vyrd_memory.specs.Soundness.{Situation, holds, at_rest}
 use Rattle.vyrd_every.specs.Structures.{Structure}
 
 -- the slots that the caller has reserved, what it wrote since its last open, the call of its open
@@ -25,13 +25,13 @@ abbrev pub empty_hand : Hand
 empty_hand = record { owned = λ slot. false; pending = []; called = None; answered = None }
 
 -- the caller is between two operations: it holds no lock, has reserved nothing, and has no call open
-pub record Rests (s : Standing) (k : Hand) : Type 0 where
+pub record Rests (s : Situation) (k : Hand) : Type 0 where
   pub rests : s ≡ at_rest
   pub owned : (slot : ℕ) → k.owned slot ≡ false
   pub called : k.called ≡ None
 
 -- the cell is a guarded word, and the caller holds its lock
-pub record Access (S : Structure) (s : Standing) (cell : ℕ) : Type 0 where
+pub record Access (S : Structure) (s : Situation) (cell : ℕ) : Type 0 where
   pub low : cell < S.words
   pub held : holds s (S.guard cell) ≡ true
 
@@ -42,7 +42,7 @@ written (w ∷ ws) shown = with_cell (written ws shown) w.0 w.1
 
 -- What an act makes of the memory that the log shows. A store shows at once, but not in a block: its
 -- writes show when it ends.
-abbrev pub shown_after : Standing → Hand → Memory → Act → Memory
+abbrev pub shown_after : Situation → Hand → Memory → Act → Memory
 shown_after s k shown (Store cell value) = if s.in_block then shown else with_cell shown cell value
 shown_after s k shown (Mark BlockClose) = written k.pending shown
 shown_after s k shown (Mark BlockCommit) = written k.pending shown

@@ -11,7 +11,7 @@ use Rattle.vyrd_memory.specs.declared.act.Act.TheVariants.{Load, Store, Take, Gi
 use Rattle.vyrd_memory.specs.declared.op.Op.{Op}
 use Rattle.vyrd_memory.specs.Alone.{Memory}
 use Rattle.vyrd_memory.specs.Scripts.{Script, stop, step, IsAnswer}
-use Rattle.vyrd_memory.specs.Soundness.{Standing, holds, at_rest, just_called, after_act}
+use Rattle.vyrd_memory.specs.Soundness.{Situation, holds, at_rest, just_called, after_act}
 use Rattle.vyrd_memory.specs.Turns.{script_of}
 use Rattle.vyrd_memory.specs.Runs.{AreSoundScripts}
 use Rattle.vyrd_every.specs.Structures.{Structure, Fits}
@@ -21,7 +21,7 @@ use Rattle.vyrd_every.specs.Others.{Rely, Guarantee}
 -- What an act may reach. A load or a store reaches words whose lock is held; a load not within a block,
 -- where own writes are hidden. A lock is taken only above all that are held, so that no callers wait for
 -- one another in a circle. None is given back in a block.
-abbrev pub Reaches : Structure → Standing → Act → Type 0
+abbrev pub Reaches : Structure → Situation → Act → Type 0
 Reaches S s (Load cell) = Access S s cell × (s.in_block ≡ false)
 Reaches S s (Store cell value) = Access S s cell
 Reaches S s (Take lock) = (held : ℕ) → holds s held ≡ true → held < lock
@@ -73,7 +73,7 @@ Answers S k shown _ next = next.answered ≡ k.answered
 -- An act does right: it reaches what it may, gives the others what it guarantees, keeps the slots that it
 -- has reserved or reserves free ones, and leads to the right state. The next hand is what the caller has
 -- in hand then.
-pub record ActsRight (S : Structure) (s : Standing) (k : Hand) (shown : Memory) (act : Act) (rest : Script) (next : Hand) : Type 0 where
+pub record ActsRight (S : Structure) (s : Situation) (k : Hand) (shown : Memory) (act : Act) (rest : Script) (next : Hand) : Type 0 where
   pub reaches : Reaches S s act
   pub guarantee : Guarantee S s k shown (shown_after s k shown act)
   pub kept : (slot : ℕ) → next.owned slot ≡ true → k.owned slot ≡ true
@@ -87,7 +87,7 @@ pub record ActsRight (S : Structure) (s : Standing) (k : Hand) (shown : Memory) 
 
 -- A script does right from here on: its next act does, and whatever the others make of the memory then,
 -- so does the rest. At its end the caller is at rest.
-abbrev pub DoesRight : Structure → Standing → Hand → Memory → Script → Type 0
+abbrev pub DoesRight : Structure → Situation → Hand → Memory → Script → Type 0
 DoesRight S s k shown stop = Rests s k
 DoesRight S s k shown (step act rest) = (next : Hand) × ActsRight S s k shown act (rest 0) next
     × ((now : Memory) → Rely S (after_act s act) next (shown_after s k shown act) now

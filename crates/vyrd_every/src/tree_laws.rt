@@ -15,7 +15,7 @@ ghost use Rattle.vyrd_base.specs.Views.{view_of_words};
 ghost use Rattle.vyrd_memory.specs.declared.act.Act.{Act};
 ghost use Rattle.vyrd_memory.specs.Alone.{Memory};
 ghost use Rattle.vyrd_memory.specs.Scripts.{Script};
-ghost use Rattle.vyrd_memory.specs.Soundness.{Standing, holds, at_rest};
+ghost use Rattle.vyrd_memory.specs.Soundness.{Situation, holds, at_rest};
 ghost use Rattle.vyrd_memory.specs.Turns.{script_of};
 ghost use Rattle.vyrd_tree.specs.Cells.{root_lock};
 ghost use Rattle.vyrd_tree.specs.Contents.{level_at, root_in};
@@ -59,13 +59,13 @@ pub fn tree_operations_do_right()
 /// shows where it holds the root's lock and its own block isn't seen. One such act after another is
 /// within it too.
 pub fn tree_acts_are_relied_on()
-    ensures relied { (h : Header) (s its : Standing) (k other : TreeHand) (g : Shape) (m : Memory) (act : Act)
+    ensures relied { (h : Header) (s its : Situation) (k other : TreeHand) (g : Shape) (m : Memory) (act : Act)
         (rest : Script) (next : TreeHand) (grown : Shape) → IsLinked h.size g m →
         TreeDoes h s k g m act rest next grown →
         Owns h other g m → AreApart k other → ((lock : ℕ) → holds its lock ≡ true → holds s lock ≡ false) →
         (holds its (root_lock h) ≡ true → other.out ≡ false → g.top ≡ level_at m (root_in h.size m)) →
         TreeRely h its other g m grown (seen_after h s k m act) }
-    ensures one_after_another { (h : Header) (s : Standing) (k : TreeHand) (first second third : Shape)
+    ensures one_after_another { (h : Header) (s : Situation) (k : TreeHand) (first second third : Shape)
         (a b c : Memory) → TreeRely h s k first a second b → TreeRely h s k second b third c →
         TreeRely h s k first a third c }
 {}
@@ -73,13 +73,13 @@ pub fn tree_acts_are_relied_on()
 /// After an act that does right the hands of its caller and of any other one share no node still. Its
 /// own hand is right, and any other one stays right.
 pub fn tree_hands_stay_right()
-    ensures apart { (h : Header) (s : Standing) (k other : TreeHand) (g : Shape) (m : Memory) (act : Act)
+    ensures apart { (h : Header) (s : Situation) (k other : TreeHand) (g : Shape) (m : Memory) (act : Act)
         (rest : Script) (next : TreeHand) (grown : Shape) → TreeDoes h s k g m act rest next grown →
         Owns h other g m → AreApart k other → AreApart next other }
-    ensures own { (h : Header) (s : Standing) (k : TreeHand) (g : Shape) (m : Memory) (act : Act)
+    ensures own { (h : Header) (s : Situation) (k : TreeHand) (g : Shape) (m : Memory) (act : Act)
         (rest : Script) (next : TreeHand) (grown : Shape) → TreeDoes h s k g m act rest next grown →
         Owns h next grown (seen_after h s k m act) }
-    ensures other { (h : Header) (its : Standing) (other : TreeHand) (g : Shape) (m : Memory)
+    ensures other { (h : Header) (its : Situation) (other : TreeHand) (g : Shape) (m : Memory)
         (later : Shape) (now : Memory) →
         Owns h other g m → TreeRely h its other g m later now → Owns h other later now }
 {}

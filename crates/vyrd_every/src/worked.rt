@@ -8,7 +8,7 @@ ghost use Rattle.vyrd_memory.specs.declared.act.Act.TheVariants.{Load, Store, Ta
 ghost use Rattle.vyrd_memory.specs.declared.op.Variant.TheVariants.{Broken};
 ghost use Rattle.vyrd_memory.specs.Alone.{Memory};
 ghost use Rattle.vyrd_memory.specs.Scripts.{Script, step, perform};
-ghost use Rattle.vyrd_memory.specs.Soundness.{Standing, holds};
+ghost use Rattle.vyrd_memory.specs.Soundness.{Situation, holds};
 ghost use Rattle.vyrd_multiset.specs.Procedures.{multiset_procedure};
 ghost use Rattle.vyrd_cache.specs.Procedures.{cache_procedure};
 ghost use Rattle.vyrd_buffers.specs.Procedures.{buffers_procedure};
@@ -41,21 +41,21 @@ pub fn characters_loaded_without_the_lock()
 
 /// A lock that is taken below one that is held, whatever else the caller does.
 pub fn lock_taken_below_another()
-    ensures { (h : Header) (s : Standing) (k : Hand) (shown : Memory) (lock held : ℕ) (later : Script) →
+    ensures { (h : Header) (s : Situation) (k : Hand) (shown : Memory) (lock held : ℕ) (later : Script) →
         holds s held ≡ true → lock ≤ held → DoesRight (multiset h) s k shown (perform (Take lock) later) → ⊥ }
 {}
 
 /// A word of a tree's node, other than its level, that is loaded without the node's lock, whatever the
 /// caller does then.
 pub fn node_loaded_without_its_lock()
-    ensures { (h : Header) (s : Standing) (k : TreeHand) (g : Shape) (m : Memory) (node place : ℕ)
+    ensures { (h : Header) (s : Situation) (k : TreeHand) (g : Shape) (m : Memory) (node place : ℕ)
         (rest : ℕ → Script) → node < h.size → place < 12 → place ≢ 0 → holds s (lock_of h node) ≡ false →
         TreeRight h s k g m (step (Load (node_cell node place)) rest) → ⊥ }
 {}
 
 /// A root's word that is stored without its lock.
 pub fn root_stored_without_its_lock()
-    ensures { (h : Header) (s : Standing) (k : TreeHand) (g : Shape) (m : Memory) (root : ℕ) (later : Script) →
+    ensures { (h : Header) (s : Situation) (k : TreeHand) (g : Shape) (m : Memory) (root : ℕ) (later : Script) →
         k.fresh ≡ None → holds s (root_lock h) ≡ false →
         TreeRight h s k g m (perform (Store (root_cell h) root) later) → ⊥ }
 {}

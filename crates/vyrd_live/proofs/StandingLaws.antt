@@ -19,7 +19,7 @@ use Rattle.vyrd_base.proofs.TestLaws.{both_true, first_true, second_true, below_
 use Rattle.vyrd_memory.specs.declared.act.Act.{Act}
 use Rattle.vyrd_memory.specs.declared.act.Act.TheVariants.{Load, Store, Take, Give, Mark, Done}
 use Rattle.vyrd_memory.specs.Scripts.{Script, stop, step, next_act, after_answer, event_of, is_stop, is_between}
-use Rattle.vyrd_memory.specs.Soundness.{Standing, IsSound, IsSoundSomewhere, at_rest, holds, is_nil, is_at_rest, may_act, after_act}
+use Rattle.vyrd_memory.specs.Soundness.{Situation, IsSound, IsSoundSomewhere, at_rest, holds, is_nil, is_at_rest, may_act, after_act}
 use Rattle.vyrd_memory.specs.Laws.Hand.{stop_of}
 use Rattle.vyrd_trace.specs.declared.plan.Plan.{Plan}
 use Rattle.vyrd_trace.specs.declared.look.Look.{Look}
@@ -78,7 +78,7 @@ lock_of : (h : Header) (plan : Plan) (lock : ℕ) → IsMemoryOf h plan → is_l
 lock_of h plan lock is e = ap (λ n. nat_le n lock && nat_lt lock (n + plan.locks)) is.plain ∙ ap
     (λ n. nat_le (plain_words h) lock && nat_lt lock (plain_words h + n)) is.locks ∙ e
 
-no_write : (h : Header) (s : Standing) (kind : Kind) → may_act h s (Mark kind) ≡ true → not (is_write kind) ≡ true
+no_write : (h : Header) (s : Situation) (kind : Kind) → may_act h s (Mark kind) ≡ true → not (is_write kind) ≡ true
 no_write h s (Call method args) may = refl
 no_write h s (Return reply) may = refl
 no_write h s (Write word value) may = cc
@@ -87,7 +87,7 @@ no_write h s BlockOpen may = refl
 no_write h s BlockClose may = refl
 no_write h s BlockCommit may = refl
 
-may_of : (h : Header) (plan : Plan) (hand : HandView) (s : Standing) (act : Act) → IsMemoryOf h plan
+may_of : (h : Header) (plan : Plan) (hand : HandView) (s : Situation) (act : Act) → IsMemoryOf h plan
     → ((lock : ℕ) → holds s lock ≡ true → (plain_words h ≤ lock) × Holds hand lock)
     → may_act h s act ≡ true → may_test plan hand act ≡ true
 unfolding may_test
@@ -109,7 +109,7 @@ may_of h plan hand s Done is held may = may
 next_test : (h : Header) (plan : Plan) (left : Script) (hand : HandView) → IsMemoryOf h plan → next_act left ≢ Done → Stands h left hand
     → may_test plan hand (next_act left) ≡ true
 next_test h plan stop hand is goes stands = absurd (goes refl)
-next_test h plan (step act rest) hand is goes stands = may_of h plan hand stands.standing act is stands.held stands.sound.0
+next_test h plan (step act rest) hand is goes stands = may_of h plan hand stands.situation act is stands.held stands.sound.0
 
 -- what comes next may be done
 pub next_may : (h : Header) (plan : Plan) (left : Script) (hand : HandView) → IsMemoryOf h plan → next_act left ≢ Done → ∥ Stands h left hand ∥₁
@@ -153,10 +153,10 @@ other_held lock given (x ∷ xs) e = by_given (x == given) refl (x == lock) refl
         (ap (λ b. b || list_any (λ held. held == lock) xs) here ∙ l.0, l.1)
 
 -- the hand holds these locks
-abbrev AreHeld : Header → Standing → HandView → Type 0
+abbrev AreHeld : Header → Situation → HandView → Type 0
 AreHeld h s hand = (lock : ℕ) → holds s lock ≡ true → (plain_words h ≤ lock) × Holds hand lock
 
-still_held : (h : Header) (s : Standing) (hand : HandView) (number : ℕ) (did : Did) (look : Look)
+still_held : (h : Header) (s : Situation) (hand : HandView) (number : ℕ) (did : Did) (look : Look)
     → ((lock : ℕ) → plain_words h ≤ lock → made_of lock hand.caller did ≡ None) → AreHeld h s hand → AreHeld h s (with_one_more hand number did look)
 still_held h s hand number did look apart held lock e = let l = held lock e in (l.0, holds-still hand lock number did look (apart lock l.0) l.1)
 
@@ -173,7 +173,7 @@ stored_apart h cell value lock caller plain le =
     let apart : cell ≢ lock = λ e. omega arith in ap (λ b. cond b (Some value) None) (ne_eqb cell lock apart)
 
 -- each act leaves the hand with the locks that it should hold
-held_after : (h : Header) (s : Standing) (act : Act) (answer : ℕ) (did : Did) (number : ℕ) (look : Look) (hand : HandView) → may_act h s act ≡ true
+held_after : (h : Header) (s : Situation) (act : Act) (answer : ℕ) (did : Did) (number : ℕ) (look : Look) (hand : HandView) → may_act h s act ≡ true
     → event_of act answer ≡ Some did
     → AreHeld h s hand → AreHeld h (after_act s act) (with_one_more hand number did look)
 held_after h s (Load cell) answer did number look hand may e held =
@@ -226,10 +226,10 @@ stands_after h stop hand now answer acted stands = none acted.event
     none : None ≡ Some acted.did → Stands h stop now
     none e = cc
 stands_after h (step act rest) hand now answer acted stands = record {
-  standing = after_act stands.standing act;
+  situation = after_act stands.situation act;
   sound = stands.sound.1 answer acted.answered;
-  held = subst (AreHeld h (after_act stands.standing act)) (sym acted.hand)
-      (held_after h stands.standing act answer acted.did acted.number now.look hand stands.sound.0 acted.event stands.held);
+  held = subst (AreHeld h (after_act stands.situation act)) (sym acted.hand)
+      (held_after h stands.situation act answer acted.did acted.number now.look hand stands.sound.0 acted.event stands.held);
 }
 
 -- what is left after the act can be played on
@@ -241,11 +241,11 @@ stands_on h left hand now answer acted stands = ∥∥₁_map stands (stands_aft
 pub stands_with_room : (h : Header) (left : Script) (hand now : HandView) → now ≡ with_spare hand now.spare
     → ∥ Stands h left hand ∥₁ → ∥ Stands h left now ∥₁
 stands_with_room h left hand now is stands =
-    ∥∥₁_map stands (λ s. subst (Stands h left) (sym is) (record { standing = s.standing; sound = s.sound; held = s.held }))
+    ∥∥₁_map stands (λ s. subst (Stands h left) (sym is) (record { situation = s.situation; sound = s.sound; held = s.held }))
 
 -- between operations no lock is held
-none_held : (h : Header) (s : Standing) (left : Script) → is_between left ≡ true → IsSound h s left → is_nil s.locks ≡ true
-none_held h s stop between sound = ap (λ (s : Standing). is_nil s.locks) sound
+none_held : (h : Header) (s : Situation) (left : Script) → is_between left ≡ true → IsSound h s left → is_nil s.locks ≡ true
+none_held h s stop between sound = ap (λ (s : Situation). is_nil s.locks) sound
 none_held h s (step (Load cell) rest) between sound = cc
 none_held h s (step (Store cell value) rest) between sound = cc
 none_held h s (step (Take lock) rest) between sound = cc
@@ -266,9 +266,9 @@ none_held h s (step (Mark BlockOpen) rest) between sound = cc
 none_held h s (step (Mark BlockClose) rest) between sound = cc
 none_held h s (step (Mark BlockCommit) rest) between sound = cc
 
-stands_first : (h : Header) (left : Script) (hand : HandView) → is_between left ≡ true → (s : Standing) × IsSound h s left → Stands h left hand
+stands_first : (h : Header) (left : Script) (hand : HandView) → is_between left ≡ true → (s : Situation) × IsSound h s left → Stands h left hand
 stands_first h left hand between sound = record {
-  standing = sound.0;
+  situation = sound.0;
   sound = sound.1;
   held = λ lock e. absurd (no_locks sound.0.locks lock (none_held h sound.0 left between sound.1) e);
 }
@@ -284,7 +284,7 @@ stands_fresh h left hand between sound = ∥∥₁_map sound (stands_first h lef
 -- where nothing comes next, nothing is left
 nothing : (h : Header) (left : Script) (hand : HandView) → next_act left ≡ Done → Stands h left hand → is_stop left ≡ true
 nothing h stop hand done stands = refl
-nothing h (step act rest) hand done stands = let no : false ≡ true = sym (ap (may_act h stands.standing) done) ∙ stands.sound.0 in cc
+nothing h (step act rest) hand done stands = let no : false ≡ true = sym (ap (may_act h stands.situation) done) ∙ stands.sound.0 in cc
 
 pub nothing_left : (h : Header) (left : Script) (hand : HandView) → next_act left ≡ Done → ∥ Stands h left hand ∥₁ → left ≡ stop
 nothing_left h left hand done stands = stop_of left (∥∥₁_elim stands (Bool-set _ _) (nothing h left hand done))

@@ -9,7 +9,7 @@ use Rattle.vyrd_base.specs.Layout.{plain_words, lock_words}
 use Rattle.vyrd_memory.specs.declared.act.Act.{Act}
 use Rattle.vyrd_memory.specs.declared.act.Act.TheVariants.{Mark}
 use Rattle.vyrd_memory.specs.Scripts.{Script, next_act, left_after, is_between, Plays}
-use Rattle.vyrd_memory.specs.Soundness.{Standing, IsSound, holds}
+use Rattle.vyrd_memory.specs.Soundness.{Situation, IsSound, holds}
 use Rattle.vyrd_memory.specs.Bounds.{bound_of, EndsWithin}
 use Rattle.vyrd_trace.specs.declared.plan.Plan.{Plan}
 use Rattle.vyrd_trace.specs.Hands.{HandView, Holds}
@@ -26,9 +26,9 @@ pub record IsMemoryOf (h : Header) (plan : Plan) : Type 0 where
 
 -- what is left of a script is sound for a caller that holds these locks, and the hand holds them
 pub record Stands (h : Header) (left : Script) (hand : HandView) : Type 0 where
-  pub standing : Standing
-  pub sound : IsSound h standing left
-  pub held : (lock : ℕ) → holds standing lock ≡ true → (plain_words h ≤ lock) × Holds hand lock
+  pub situation : Situation
+  pub sound : IsSound h situation left
+  pub held : (lock : ℕ) → holds situation lock ≡ true → (plain_words h ≤ lock) × Holds hand lock
 
 -- The hand's lane is what the script wants up to now, each operation in it began with room, and what is left can be played on.
 pub record IsWorking (h : Header) (script left : Script) (hand : HandView) : Type 0 where

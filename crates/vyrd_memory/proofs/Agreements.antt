@@ -1,4 +1,4 @@
--- Where a caller stands is what the log says of it: its open call, whether it has committed, and whether it has an open block.
+-- A caller's situation is what the log says of it: its open call, whether it has committed, and whether it has an open block.
 use Rattle.std.proofs.Common.{◌≡◌, ℕ, Bool, true, false, cond, not, ◌&&◌, ◌||◌, List, [], ◌∷◌, Option, Some, None, option_map, refl, ap, ◌∙◌, subst, arith}
 use Rattle.std.specs.Prelude.{◌==◌, is_some, is_none, unwrap_or, filter_map}
 use Rattle.std.specs.Option.{option_or, option_flatten}
@@ -21,16 +21,16 @@ use Rattle.vyrd_base.specs.Histories.{logged}
 use Rattle.vyrd_base.proofs.HistoryLaws.{log_entry}
 use Rattle.vyrd_base.proofs.BlockLaws.{entry, own_answer, other_answer, own_block}
 use Rattle.vyrd_base.proofs.TestLaws.{first_true, second_true}
-use Rattle.vyrd_memory.specs.Soundness.{Standing, holds_none, observes, is_at_rest, may_act, may_mark, after_act, after_mark}
+use Rattle.vyrd_memory.specs.Soundness.{Situation, holds_none, observes, is_at_rest, may_act, may_mark, after_act, after_mark}
 use Rattle.vyrd_memory.specs.Turns.{part_of}
-use Rattle.vyrd_memory.proofs.Standings.{act_of_event, standing_in, KeepsTo}
+use Rattle.vyrd_memory.proofs.Situations.{act_of_event, situation_after, KeepsTo}
 
 -- the method of the caller's open execution
 abbrev pub open_method : ℕ → List Entry → Option Method
 open_method c log = option_map (λ (called : Called). called.method) (open_call c log)
 
--- the log, the newest entry first, says of the caller what the standing says
-pub record Agrees (c : ℕ) (s : Standing) (log : List Entry) : Type 0 where
+-- the log, the newest entry first, says of the caller what the situation says
+pub record Agrees (c : ℕ) (s : Situation) (log : List Entry) : Type 0 where
   pub called : open_method c log ≡ s.called
   pub committed : has_committed c log ≡ s.committed
   pub in_block : has_block c log ≡ s.in_block
@@ -48,26 +48,26 @@ four_true a b c d e =
       second_true (a && b && c) d e,
     )
 
--- what is said of a standing with nothing in hand
-pub record Rests (s : Standing) : Type 0 where
+-- what is said of a caller at rest
+pub record Rests (s : Situation) : Type 0 where
   pub locks : holds_none s ≡ true
   pub called : is_none s.called ≡ true
   pub committed : s.committed ≡ false
   pub in_block : s.in_block ≡ false
 
-rests : (s : Standing) → is_at_rest s ≡ true → Rests s
+rests : (s : Situation) → is_at_rest s ≡ true → Rests s
 rests s e =
     let parts = four_true (holds_none s) (is_none s.called) (not s.committed) (not s.in_block) e in
     record { locks = parts.0; called = parts.1; committed = not-true s.committed parts.2; in_block = not-true s.in_block parts.3 }
 
 -- what is said where an act may come
-pub may_call : (h : Header) (s : Standing) (method : Method) (args : Args) → may_mark h s (Call method args) ≡ true
+pub may_call : (h : Header) (s : Situation) (method : Method) (args : Args) → may_mark h s (Call method args) ≡ true
     → (same_subject (subject_of method) h.subject ≡ true) × (are_args h.size method args ≡ true) × Rests s
 may_call h s method args may =
     let parts = three_true (same_subject (subject_of method) h.subject) (are_args h.size method args) (is_at_rest s) may in
     (parts.0, parts.1, rests s parts.2)
 
-pub may_return : (h : Header) (s : Standing) (reply : ℕ) → may_mark h s (Return reply) ≡ true
+pub may_return : (h : Header) (s : Situation) (reply : ℕ) → may_mark h s (Return reply) ≡ true
     → (is_some s.called ≡ true) × (s.in_block ≡ false) × ((observes s || s.committed) ≡ true) × (holds_none s ≡ true)
 may_return h s reply may =
     let parts = four_true (is_some s.called) (not s.in_block) (observes s || s.committed) (holds_none s) may in
@@ -83,7 +83,7 @@ own_commit : (c : ℕ) (kind : Kind) (log : List Entry)
     → has_committed c (entry c kind ∷ log) ≡ unwrap_or (option_or (commit_or_call kind) (first_answer (by_caller c commit_or_call) log)) false
 own_commit c kind log = ap (λ o. unwrap_or o false) (own_answer c commit_or_call kind log)
 
-own_mark : (h : Header) (c : ℕ) (kind : Kind) (s : Standing) (log : List Entry) → may_mark h s kind ≡ true → Agrees c s log
+own_mark : (h : Header) (c : ℕ) (kind : Kind) (s : Situation) (log : List Entry) → may_mark h s kind ≡ true → Agrees c s log
     → Agrees c (after_mark s kind) (entry c kind ∷ log)
 own_mark h c (Call method args) s log may a = record {
   called = own_method c (Call method args) log;
@@ -117,7 +117,7 @@ own_mark h c BlockCommit s log may a = record {
   in_block = own_block c BlockCommit log;
 }
 
-own_event : (h : Header) (c : ℕ) (did : Did) (s : Standing) (log : List Entry) → may_act h s (act_of_event did) ≡ true → Agrees c s log
+own_event : (h : Header) (c : ℕ) (did : Did) (s : Situation) (log : List Entry) → may_act h s (act_of_event did) ≡ true → Agrees c s log
     → Agrees c (after_act s (act_of_event did)) (cons_option (logged c did) log)
 own_event h c (Read cell value) s log may a = a
 own_event h c (Wrote cell value) s log may a = record {
@@ -130,14 +130,14 @@ own_event h c (Gave lock) s log may a = record { called = a.called; committed = 
 own_event h c (Marked kind) s log may a = own_mark h c kind s log may a
 
 -- another caller's entry says nothing of the caller
-other_entry : (c d : ℕ) (kind : Kind) (s : Standing) (log : List Entry) → (d == c) ≡ false → Agrees c s log → Agrees c s (entry d kind ∷ log)
+other_entry : (c d : ℕ) (kind : Kind) (s : Situation) (log : List Entry) → (d == c) ≡ false → Agrees c s log → Agrees c s (entry d kind ∷ log)
 other_entry c d kind s log apart a = record {
   called = ap (λ o. option_map (λ (called : Called). called.method) (option_flatten o)) (other_answer c d call_or_return kind log apart) ∙ a.called;
   committed = ap (λ o. unwrap_or o false) (other_answer c d commit_or_call kind log apart) ∙ a.committed;
   in_block = ap (λ o. unwrap_or o false) (other_answer c d open_or_close kind log apart) ∙ a.in_block;
 }
 
-other_event : (c d : ℕ) (did : Did) (s : Standing) (log : List Entry) → (d == c) ≡ false → Agrees c s log
+other_event : (c d : ℕ) (did : Did) (s : Situation) (log : List Entry) → (d == c) ≡ false → Agrees c s log
     → Agrees c s (cons_option (logged d did) log)
 other_event c d (Read cell value) s log apart a = a
 other_event c d (Wrote cell value) s log apart a = other_entry c d (Write cell value) s log apart a
@@ -154,20 +154,20 @@ keeps_before h c e earlier keeps = by_test (e.caller == c) keeps
     by_test false keeps = keeps
 
 next_agrees : (h : Header) (c d : ℕ) (did : Did) (earlier : List Did) (log : List Entry) (b : Bool) → (d == c) ≡ b
-    → KeepsTo h (cons_option (cond b (Some did) None) earlier) → Agrees c (standing_in earlier) log
-    → Agrees c (standing_in (cons_option (cond b (Some did) None) earlier)) (cons_option (logged d did) log)
+    → KeepsTo h (cons_option (cond b (Some did) None) earlier) → Agrees c (situation_after earlier) log
+    → Agrees c (situation_after (cons_option (cond b (Some did) None) earlier)) (cons_option (logged d did) log)
 next_agrees h c d did earlier log true e keeps a =
     let same : c ≡ d = same_number c d e in
-    subst (λ d. Agrees c (after_act (standing_in earlier) (act_of_event did)) (cons_option (logged d did) log)) same
-    (own_event h c did (standing_in earlier) log keeps.0 a)
+    subst (λ d. Agrees c (after_act (situation_after earlier) (act_of_event did)) (cons_option (logged d did) log)) same
+    (own_event h c did (situation_after earlier) log keeps.0 a)
   where
     same_number : (c d : ℕ) → (d == c) ≡ true → c ≡ d
     same_number c d e = grind (arith, nat_tests)
-next_agrees h c d did earlier log false e keeps a = other_event c d did (standing_in earlier) log e a
+next_agrees h c d did earlier log false e keeps a = other_event c d did (situation_after earlier) log e a
 
--- so where a caller stands is what the log of the history says of it
+-- so a caller's situation is what the log of the history says of it
 pub agrees : (h : Header) (c : ℕ) (earlier : List Stamped) → KeepsTo h (part_of c earlier)
-    → Agrees c (standing_in (part_of c earlier)) (filter_map log_entry earlier)
+    → Agrees c (situation_after (part_of c earlier)) (filter_map log_entry earlier)
 agrees h c [] keeps = record { called = refl; committed = refl; in_block = refl }
 agrees h c (e ∷ earlier) keeps =
     next_agrees h c e.caller e.did (part_of c earlier) (filter_map log_entry earlier) (e.caller == c) refl keeps

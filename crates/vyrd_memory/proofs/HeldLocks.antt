@@ -13,9 +13,9 @@ use Rattle.vyrd_base.specs.declared.history.Stamped.{Stamped}
 use Rattle.vyrd_base.specs.Places.{first_answer}
 use Rattle.vyrd_base.specs.Histories.{Cells, cells_of, is_plain, is_lock, made_of, value_in, may_do}
 use Rattle.vyrd_base.proofs.TestLaws.{first_true, second_true, same_number, same_of}
-use Rattle.vyrd_memory.specs.Soundness.{Standing, is_nil, holds, may_act, may_mark, after_act, after_mark}
+use Rattle.vyrd_memory.specs.Soundness.{Situation, is_nil, holds, may_act, may_mark, after_act, after_mark}
 use Rattle.vyrd_memory.specs.Turns.{part_of}
-use Rattle.vyrd_memory.proofs.Standings.{act_of_event, standing_in, KeepsTo}
+use Rattle.vyrd_memory.proofs.Situations.{act_of_event, situation_after, KeepsTo}
 use Rattle.vyrd_memory.proofs.LegalEvents.{AreLegal, does, plain_isnt, value_with}
 use Rattle.vyrd_memory.proofs.Agreements.{three_true, may_call, may_return, keeps_before}
 
@@ -70,7 +70,7 @@ none_held [] lock e = refl
 none_held (x ∷ locks) lock e = cc
 
 -- a mark that may be left changes nothing of what is held
-mark_held : (h : Header) (s : Standing) (kind : Kind) (lock : ℕ) → may_mark h s kind ≡ true → holds (after_mark s kind) lock ≡ holds s lock
+mark_held : (h : Header) (s : Situation) (kind : Kind) (lock : ℕ) → may_mark h s kind ≡ true → holds (after_mark s kind) lock ≡ holds s lock
 mark_held h s (Call method args) lock may = sym (none_held s.locks lock (may_call h s method args may).2.locks)
 mark_held h s (Return reply) lock may = sym (none_held s.locks lock (may_return h s reply may).3)
 mark_held h s (Write word value) lock may = refl
@@ -80,7 +80,7 @@ mark_held h s BlockClose lock may = refl
 mark_held h s BlockCommit lock may = refl
 
 -- the caller's own event
-own_held : (h : Header) (c : ℕ) (did : Did) (s : Standing) (earlier : List Stamped) (lock : ℕ) → may_act h s (act_of_event did) ≡ true
+own_held : (h : Header) (c : ℕ) (did : Did) (s : Situation) (earlier : List Stamped) (lock : ℕ) → may_act h s (act_of_event did) ≡ true
     → is_lock (cells_of h) lock ≡ true → holds s lock ≡ (value_in earlier lock == c + 1)
     → holds (after_act s (act_of_event did)) lock ≡ (value_with earlier lock c did == c + 1)
 own_held h c (Read cell value) s earlier lock may is before = before
@@ -132,16 +132,16 @@ other_held cells c d (Marked kind) earlier lock may is apart = refl
 
 next_held : (h : Header) (c d : ℕ) (did : Did) (dids : List Did) (earlier : List Stamped) (lock : ℕ) (b : Bool) → (d == c) ≡ b
     → may_do (cells_of h) earlier d did ≡ true → KeepsTo h (cons_option (cond b (Some did) None) dids) → is_lock (cells_of h) lock ≡ true
-    → holds (standing_in dids) lock ≡ (value_in earlier lock == c + 1)
-    → holds (standing_in (cons_option (cond b (Some did) None) dids)) lock ≡ (value_with earlier lock d did == c + 1)
+    → holds (situation_after dids) lock ≡ (value_in earlier lock == c + 1)
+    → holds (situation_after (cons_option (cond b (Some did) None) dids)) lock ≡ (value_with earlier lock d did == c + 1)
 next_held h c d did dids earlier lock true e may keeps is before =
-    subst (λ d. holds (after_act (standing_in dids) (act_of_event did)) lock ≡ (value_with earlier lock d did == c + 1)) (sym (same_of d c e))
-    (own_held h c did (standing_in dids) earlier lock keeps.0 is before)
+    subst (λ d. holds (after_act (situation_after dids) (act_of_event did)) lock ≡ (value_with earlier lock d did == c + 1)) (sym (same_of d c e))
+    (own_held h c did (situation_after dids) earlier lock keeps.0 is before)
 next_held h c d did dids earlier lock false e may keeps is before = before ∙ other_held (cells_of h) c d did earlier lock may is e
 
 -- in a legal history a caller that keeps to what may be done holds the locks that have its number plus 1
 pub held_is : (h : Header) (c : ℕ) (earlier : List Stamped) (lock : ℕ) → AreLegal (cells_of h) earlier → KeepsTo h (part_of c earlier)
-    → is_lock (cells_of h) lock ≡ true → holds (standing_in (part_of c earlier)) lock ≡ (value_in earlier lock == c + 1)
+    → is_lock (cells_of h) lock ≡ true → holds (situation_after (part_of c earlier)) lock ≡ (value_in earlier lock == c + 1)
 held_is h c [] lock legal keeps is = sym (zero_isnt c)
 held_is h c (e ∷ earlier) lock legal keeps is =
     next_held h c e.caller e.did (part_of c earlier) earlier lock (e.caller == c) refl (does (cells_of h) earlier e legal.0) keeps is

@@ -1,4 +1,4 @@
--- What a caller may do where it stands breaks no rule of shape, but that its write may race for a word of a block.
+-- What a caller may do in its situation breaks no rule of shape, but that its write may race for a word of a block.
 use Rattle.std.proofs.Common.{◌≡◌, ℕ, ◌<◌, ◌^◌, Bool, true, false, cond, not, ◌&&◌, ◌||◌, List, Option, Some, None, option_map, refl, ap, ◌∙◌, sym}
 use Rattle.std.specs.Prelude.{◌==◌, nat_lt, nat_le, is_some, is_none}
 use Rattle.std.specs.Option.{option_map_or}
@@ -19,7 +19,7 @@ use Rattle.vyrd_base.specs.Histories.{cells_of, is_plain}
 use Rattle.vyrd_base.proofs.BlockLaws.{entry}
 use Rattle.vyrd_base.proofs.TestLaws.{first_true, second_true, isnt_at_most, above_then}
 use Rattle.vyrd_memory.specs.declared.act.Act.TheVariants.{Store}
-use Rattle.vyrd_memory.specs.Soundness.{Standing, observes, may_act, may_mark}
+use Rattle.vyrd_memory.specs.Soundness.{Situation, observes, may_act, may_mark}
 use Rattle.vyrd_memory.proofs.Agreements.{Agrees, three_true, four_true, may_call, may_return}
 
 -- where a rule is broken, it is that of raced blocks
@@ -54,13 +54,13 @@ closed : (o : Option Called) (p : Option Method) → option_map (λ called. call
 closed None p e none = refl
 closed (Some called) p e none = let no : false ≡ true = ap is_none e ∙ none in cc
 
-is_open : (c : ℕ) (s : Standing) (log : List Entry) → Agrees c s log → is_some s.called ≡ true → is_none (open_call c log) ≡ false
+is_open : (c : ℕ) (s : Situation) (log : List Entry) → Agrees c s log → is_some s.called ≡ true → is_none (open_call c log) ≡ false
 is_open c s log a some = opened (open_call c log) s.called a.called some
 
-pub isnt_open : (c : ℕ) (s : Standing) (log : List Entry) → Agrees c s log → is_none s.called ≡ true → is_some (open_call c log) ≡ false
+pub isnt_open : (c : ℕ) (s : Situation) (log : List Entry) → Agrees c s log → is_none s.called ≡ true → is_some (open_call c log) ≡ false
 isnt_open c s log a none = closed (open_call c log) s.called a.called none
 
-watches : (c : ℕ) (s : Standing) (log : List Entry) → Agrees c s log → is_observing c log ≡ observes s
+watches : (c : ℕ) (s : Situation) (log : List Entry) → Agrees c s log → is_observing c log ≡ observes s
 watches c s log a = by_call (open_call c log) ∙ ap (λ o. option_map_or is_observer o false) a.called
   where
     by_call : (o : Option Called) → option_map_or (λ called. is_observer called.method) o false
@@ -69,7 +69,7 @@ watches c s log a = by_call (open_call c log) ∙ ap (λ o. option_map_or is_obs
     by_call (Some called) = refl
 
 -- a write
-pub write_kept : (h : Header) (c word value : ℕ) (s : Standing) (log : List Entry) → c < h.callers
+pub write_kept : (h : Header) (c word value : ℕ) (s : Situation) (log : List Entry) → c < h.callers
     → may_act h s (Store word value) ≡ true → Agrees c s log
     → OnlyRaced (broken_rule h log (entry c (Write word value)))
 write_kept h c word value s log low may a =
@@ -81,7 +81,7 @@ write_kept h c word value s log low may a =
     (race_last (is_raced h c word log)))))
 
 -- the rules of a mark, after that of its caller
-checks_kept : (h : Header) (c : ℕ) (kind : Kind) (s : Standing) (log : List Entry) → may_mark h s kind ≡ true → Agrees c s log
+checks_kept : (h : Header) (c : ℕ) (kind : Kind) (s : Situation) (log : List Entry) → may_mark h s kind ≡ true → Agrees c s log
     → OnlyRaced (first_broken (checks_of h log c kind))
 checks_kept h c (Call method args) s log may a =
     let parts = may_call h s method args may in
@@ -116,7 +116,7 @@ checks_kept h c BlockCommit s log may a =
     (passed (is_observing c log) ObserverCommit _ (watches c s log a ∙ not-true (observes s) parts.2)
     (passed (has_committed c log) SecondCommit None (a.committed ∙ not-true s.committed parts.3) none_broken)))
 
-pub mark_kept : (h : Header) (c : ℕ) (kind : Kind) (s : Standing) (log : List Entry) → c < h.callers → may_mark h s kind ≡ true → Agrees c s log
+pub mark_kept : (h : Header) (c : ℕ) (kind : Kind) (s : Situation) (log : List Entry) → c < h.callers → may_mark h s kind ≡ true → Agrees c s log
     → OnlyRaced (broken_rule h log (entry c kind))
 mark_kept h c kind s log low may a =
     passed (nat_le h.callers c) CallerRange (first_broken (checks_of h log c kind)) (isnt_at_most h.callers c low) (checks_kept h c kind s log may a)

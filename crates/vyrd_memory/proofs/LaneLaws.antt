@@ -13,10 +13,10 @@ use Rattle.vyrd_base.specs.Callers.{open_call}
 use Rattle.vyrd_base.specs.Histories.{logged, log_of}
 use Rattle.vyrd_base.proofs.HistoryLaws.{log_entry}
 use Rattle.vyrd_memory.specs.Scripts.{Script, left_after, Plays, PlaysToTheEnd}
-use Rattle.vyrd_memory.specs.Soundness.{Standing, at_rest, may_act, IsSound}
+use Rattle.vyrd_memory.specs.Soundness.{Situation, at_rest, may_act, IsSound}
 use Rattle.vyrd_memory.specs.Turns.{part_of}
 use Rattle.vyrd_memory.specs.LaneRules.{AreSmallReads, KeepsTheRules}
-use Rattle.vyrd_memory.proofs.Standings.{act_of_event, standing_in, KeepsTo, AreAnswers, sound_keeps, sound_left, rests_at_stop}
+use Rattle.vyrd_memory.proofs.Situations.{act_of_event, situation_after, KeepsTo, AreAnswers, sound_keeps, sound_left, rests_at_stop}
 use Rattle.vyrd_memory.proofs.Agreements.{Agrees, agrees, keeps_before}
 use Rattle.vyrd_memory.proofs.KeptRules.{isnt_open, write_kept, mark_kept}
 use Rattle.vyrd_memory.proofs.RaceLaws.{newest_log}
@@ -31,7 +31,7 @@ are_answers (Gave lock ∷ earlier) small = (refl, are_answers earlier small)
 are_answers (Marked kind ∷ earlier) small = (refl, are_answers earlier small)
 
 -- one event more of the caller, and of another
-own_keeps : (h : Header) (c : ℕ) (did : Did) (s : Standing) (log : List Entry) → c < h.callers → may_act h s (act_of_event did) ≡ true
+own_keeps : (h : Header) (c : ℕ) (did : Did) (s : Situation) (log : List Entry) → c < h.callers → may_act h s (act_of_event did) ≡ true
     → Agrees c s log → KeepsTheRules h c log → KeepsTheRules h c (cons_option (logged c did) log)
 own_keeps h c (Read cell value) s log low may a keeps = keeps
 own_keeps h c (Wrote cell value) s log low may a keeps = (λ same. (write_kept h c cell value s log low may a).raced, keeps)
@@ -56,7 +56,7 @@ event_keeps : (h : Header) (c : ℕ) (e : Stamped) (earlier : List Stamped) → 
 event_keeps h c e earlier low true is keeps rest =
     let same : c ≡ e.caller = grind (arith, nat_tests) in
     subst (λ d. KeepsTheRules h c (cons_option (logged d e.did) (filter_map log_entry earlier))) same
-    (own_keeps h c e.did (standing_in (part_of c earlier)) (filter_map log_entry earlier) low keeps.0 (agrees h c earlier keeps.1) rest)
+    (own_keeps h c e.did (situation_after (part_of c earlier)) (filter_map log_entry earlier) low keeps.0 (agrees h c earlier keeps.1) rest)
 event_keeps h c e earlier low false is keeps rest = other_keeps h c e.caller e.did (filter_map log_entry earlier) is rest
 
 -- so the log of events in which the caller keeps to what it may do
@@ -84,7 +84,7 @@ pub lane_is_closed : (h : Header) (c : ℕ) (script : Script) (history : List St
 lane_is_closed h c script history low sound plays small =
     ap (open_call c) (newest_log history)
     ∙ none_there (open_call c (filter_map log_entry (newest_first history)))
-    (isnt_open c (standing_in part) (filter_map log_entry (newest_first history)) (agrees h c (newest_first history) keeps)
+    (isnt_open c (situation_after part) (filter_map log_entry (newest_first history)) (agrees h c (newest_first history) keeps)
     (ap (λ s. is_none s.called) at_end))
   where
     part : List Did
@@ -96,5 +96,5 @@ lane_is_closed h c script history low sound plays small =
     keeps : KeepsTo h part
     keeps = sound_keeps h script part sound plays.plays answers
 
-    at_end : standing_in part ≡ at_rest
-    at_end = rests_at_stop h (standing_in part) (left_after script part) (sound_left h script part sound plays.plays answers) plays.done
+    at_end : situation_after part ≡ at_rest
+    at_end = rests_at_stop h (situation_after part) (left_after script part) (sound_left h script part sound plays.plays answers) plays.done

@@ -12,7 +12,7 @@ use Rattle.vyrd_base.specs.Histories.{Cells, is_plain, is_lock, made_of, value_i
 use Rattle.vyrd_base.proofs.TestLaws.{both_true, first_true, second_true}
 use Rattle.vyrd_memory.specs.Scripts.{IsAnswer, answer_of}
 use Rattle.vyrd_memory.specs.Turns.{part_of}
-use Rattle.vyrd_memory.proofs.Standings.{act_of_event, AreAnswers}
+use Rattle.vyrd_memory.proofs.Situations.{act_of_event, AreAnswers}
 
 -- whether the event may come after these events
 abbrev pub may_come : Cells → List Stamped → Stamped → Bool

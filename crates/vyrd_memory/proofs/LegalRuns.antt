@@ -17,11 +17,11 @@ use Rattle.vyrd_memory.specs.declared.act.Act.{Act}
 use Rattle.vyrd_memory.specs.declared.act.Act.TheVariants.{Load, Store, Take, Give, Mark, Done}
 use Rattle.vyrd_memory.specs.declared.op.Turn.{Turn}
 use Rattle.vyrd_memory.specs.Scripts.{Script, stop, step, next_act, event_of, answer_of, left_after, Plays}
-use Rattle.vyrd_memory.specs.Soundness.{Standing, IsSound, holds, may_act, may_mark}
+use Rattle.vyrd_memory.specs.Soundness.{Situation, IsSound, holds, may_act, may_mark}
 use Rattle.vyrd_memory.specs.Turns.{part_of, script_of, act_of, event_now, with_event, after_turn, after_turns, after_rounds, turns_of, is_done, RunsTo}
 use Rattle.vyrd_memory.specs.Runs.{AreSoundScripts, PlayToTheEnd}
 use Rattle.vyrd_memory.proofs.NumberLists.{all_pass}
-use Rattle.vyrd_memory.proofs.Standings.{some_same, standing_in, KeepsTo, sound_left, sound_keeps, done_is_stop, left_of_stop}
+use Rattle.vyrd_memory.proofs.Situations.{some_same, situation_after, KeepsTo, sound_left, sound_keeps, done_is_stop, left_of_stop}
 use Rattle.vyrd_memory.proofs.LegalEvents.{AreLegal, legal_history, are_answers}
 use Rattle.vyrd_memory.proofs.HeldLocks.{held_is}
 
@@ -31,7 +31,7 @@ pub record IsRun (h : Header) (scripts : List Script) (earlier : List Stamped) :
   pub plays : (c : ℕ) → Plays (script_of scripts c) (part_of c earlier)
 
 -- a mark that may be left is no write
-is_mark : (h : Header) (s : Standing) (kind : Kind) → may_mark h s kind ≡ true → not (is_write kind) ≡ true
+is_mark : (h : Header) (s : Situation) (kind : Kind) → may_mark h s kind ≡ true → not (is_write kind) ≡ true
 is_mark h s (Call method args) may = refl
 is_mark h s (Return reply) may = refl
 is_mark h s (Write word value) may = may
@@ -41,7 +41,7 @@ is_mark h s BlockClose may = refl
 is_mark h s BlockCommit may = refl
 
 -- the event of an act that may come may happen
-event_may : (h : Header) (c : ℕ) (earlier : List Stamped) (s : Standing) (act : Act) (did : Did) → may_act h s act ≡ true
+event_may : (h : Header) (c : ℕ) (earlier : List Stamped) (s : Situation) (act : Act) (did : Did) → may_act h s act ≡ true
     → ((lock : ℕ) → is_lock (cells_of h) lock ≡ true → holds s lock ≡ (value_in earlier lock == c + 1))
     → event_now earlier act ≡ Some did → may_do (cells_of h) earlier c did ≡ true
 event_may h c earlier s (Load cell) did may held e =
@@ -80,7 +80,7 @@ event_plays earlier (Give lock) did e = e
 event_plays earlier (Mark kind) did e = e
 event_plays earlier Done did e = cc
 
-next_may : (h : Header) (s : Standing) (script : Script) (earlier : List Stamped) (did : Did) → IsSound h s script
+next_may : (h : Header) (s : Situation) (script : Script) (earlier : List Stamped) (did : Did) → IsSound h s script
     → event_now earlier (next_act script) ≡ Some did
     → may_act h s (next_act script) ≡ true
 next_may h s stop earlier did sound e = cc
@@ -105,10 +105,10 @@ in_range_or_not {P} c n low high = by_test (nat_lt c n) refl
     by_test true e = low (grind (arith, nat_tests))
     by_test false e = high (grind (arith, nat_tests))
 
--- what is left of a caller's script is sound where the caller stands, and its part keeps to what may be done
+-- what is left of a caller's script is sound in the caller's situation, and its part keeps to what may be done
 pub run_sound : (h : Header) (scripts : List Script) (earlier : List Stamped) (c : ℕ) → AreSoundScripts h scripts
     → IsRun h scripts earlier → c < h.callers
-    → IsSound h (standing_in (part_of c earlier)) (left_after (script_of scripts c) (part_of c earlier))
+    → IsSound h (situation_after (part_of c earlier)) (left_after (script_of scripts c) (part_of c earlier))
 run_sound h scripts earlier c sound run low =
     sound_left h (script_of scripts c) (part_of c earlier) (sound.sound c low) (run.plays c) (are_answers (cells_of h) earlier c run.legal)
 
@@ -126,8 +126,8 @@ event_runs h scripts earlier c did sound run low e = record {
   legal = (
     both_true (length earlier == length earlier && nat_lt c h.callers) (may_do (cells_of h) earlier c did)
         (both_true (length earlier == length earlier) (nat_lt c h.callers) (same_number (length earlier)) (is_below c h.callers low))
-        (event_may h c earlier (standing_in (part_of c earlier)) (act_of scripts c earlier) did
-        (next_may h (standing_in (part_of c earlier)) (left_after (script_of scripts c) (part_of c earlier)) earlier did
+        (event_may h c earlier (situation_after (part_of c earlier)) (act_of scripts c earlier) did
+        (next_may h (situation_after (part_of c earlier)) (left_after (script_of scripts c) (part_of c earlier)) earlier did
         (run_sound h scripts earlier c sound run low) e)
         (λ lock is. held_is h c earlier lock run.legal (run_keeps h scripts earlier c sound run low) is)
         e),
@@ -193,7 +193,7 @@ pub run_plays : (h : Header) (scripts : List Script) (turns : List Turn) (histor
 run_plays h scripts turns history sound to c = record {
   plays = (whole_run h scripts turns history sound to).plays c;
   done = in_range_or_not c (length scripts)
-      (λ low. done_is_stop h (standing_in (part_of c (newest_first history))) (left_after (script_of scripts c) (part_of c (newest_first history)))
+      (λ low. done_is_stop h (situation_after (part_of c (newest_first history))) (left_after (script_of scripts c) (part_of c (newest_first history)))
       (run_sound h scripts (newest_first history) c sound (whole_run h scripts turns history sound to) (omega (arith, low, sound.count)))
       (all_pass (λ c. is_done (act_of scripts c (newest_first history))) 0 (length scripts) to.done c (omega arith) (omega arith)))
       (nothing_left scripts c (newest_first history));

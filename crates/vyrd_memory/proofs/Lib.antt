@@ -7,7 +7,7 @@ mod BoundSums
 mod PlayLaws
 mod PlayedLaws
 mod RunLaws
-pub mod Standings
+pub mod Situations
 pub mod LegalEvents
 pub mod Agreements
 pub mod KeptRules

@@ -15,10 +15,10 @@ use Rattle.vyrd_base.specs.Histories.{cells_of, is_legal, logged, log_of}
 use Rattle.vyrd_base.proofs.HistoryLaws.{log_entry}
 use Rattle.vyrd_base.proofs.TestLaws.{first_true, same_number}
 use Rattle.vyrd_memory.specs.Scripts.{Script}
-use Rattle.vyrd_memory.specs.Soundness.{Standing, may_act, may_mark, is_at_rest}
+use Rattle.vyrd_memory.specs.Soundness.{Situation, may_act, may_mark, is_at_rest}
 use Rattle.vyrd_memory.specs.Turns.{part_of}
 use Rattle.vyrd_memory.specs.Runs.{AreSoundScripts, PlayToTheEnd, is_call_of}
-use Rattle.vyrd_memory.proofs.Standings.{act_of_event, standing_in, KeepsTo}
+use Rattle.vyrd_memory.proofs.Situations.{act_of_event, situation_after, KeepsTo}
 use Rattle.vyrd_memory.proofs.LegalEvents.{AreLegal, legal_events, caller_low}
 use Rattle.vyrd_memory.proofs.Agreements.{keeps_before}
 use Rattle.vyrd_memory.proofs.RaceLaws.{AllKeep, all_keep, newest_log}
@@ -27,7 +27,7 @@ use Rattle.vyrd_memory.proofs.RaceLaws.{AllKeep, all_keep, newest_log}
 abbrev pub AreCallsOf : Header → List Entry → Type 0
 AreCallsOf h entries = AllByRecursion (λ e. is_call_of h e.kind ≡ true) entries
 
-mark_fits : (h : Header) (s : Standing) (kind : Kind) → may_mark h s kind ≡ true → is_call_of h kind ≡ true
+mark_fits : (h : Header) (s : Situation) (kind : Kind) → may_mark h s kind ≡ true → is_call_of h kind ≡ true
 mark_fits h s (Call method args) may = first_true (same_subject (subject_of method) h.subject && are_args h.size method args) (is_at_rest s) may
 mark_fits h s (Return reply) may = refl
 mark_fits h s (Write word value) may = refl
@@ -36,7 +36,7 @@ mark_fits h s BlockOpen may = refl
 mark_fits h s BlockClose may = refl
 mark_fits h s BlockCommit may = refl
 
-event_fits : (h : Header) (c : ℕ) (did : Did) (s : Standing) (log : List Entry) → may_act h s (act_of_event did) ≡ true → AreCallsOf h log
+event_fits : (h : Header) (c : ℕ) (did : Did) (s : Situation) (log : List Entry) → may_act h s (act_of_event did) ≡ true → AreCallsOf h log
     → AreCallsOf h (cons_option (logged c did) log)
 event_fits h c (Read cell value) s log may fit = fit
 event_fits h c (Wrote cell value) s log may fit = (refl, fit)
@@ -50,7 +50,7 @@ log_fits h (e ∷ earlier) legal keep =
     let low = caller_low (cells_of h) earlier e legal.0 in
     let own : KeepsTo h (e.did ∷ part_of e.caller earlier) =
     subst (λ b. KeepsTo h (cons_option (cond b (Some e.did) None) (part_of e.caller earlier))) (same_number e.caller) (keep e.caller low) in
-    event_fits h e.caller e.did (standing_in (part_of e.caller earlier)) (filter_map log_entry earlier) own.0
+    event_fits h e.caller e.did (situation_after (part_of e.caller earlier)) (filter_map log_entry earlier) own.0
     (log_fits h earlier legal.1 (λ c low. keeps_before h c e earlier (keep c low)))
 
 turned : (h : Header) (earlier xs : List Entry) → AreCallsOf h (newest_first_onto earlier xs) → AreCallsOf h earlier × AreCallsOf h xs

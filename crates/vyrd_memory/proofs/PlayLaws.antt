@@ -21,11 +21,11 @@ use Rattle.vyrd_base.proofs.TestLaws.{first_true, second_true, same_number}
 use Rattle.vyrd_memory.specs.declared.act.Act.{Act}
 use Rattle.vyrd_memory.specs.declared.act.Act.TheVariants.{Load, Store, Take, Give, Mark, Done}
 use Rattle.vyrd_memory.specs.Scripts.{Script, stop, step, next_act, after_answer, answer_of, left_after}
-use Rattle.vyrd_memory.specs.Soundness.{Standing, IsSound, IsSoundSomewhere, may_act, holds}
+use Rattle.vyrd_memory.specs.Soundness.{Situation, IsSound, IsSoundSomewhere, may_act, holds}
 use Rattle.vyrd_memory.specs.Turns.{part_of, script_of, act_of, event_now, with_event, after_turn}
 use Rattle.vyrd_memory.specs.Playing.{event_in, words_with, IsWithin, IsReady, IsPlaying, HasPlayed, scene, memory_after, total}
 use Rattle.vyrd_memory.proofs.NumberLists.{element_below, map_alike}
-use Rattle.vyrd_memory.proofs.Standings.{some_same}
+use Rattle.vyrd_memory.proofs.Situations.{some_same}
 
 -- the same as `IsWithin`, as a test
 within_test : ℕ → Act → Bool
@@ -39,7 +39,7 @@ within_test n Done = true
 plain_within : (p l cell : ℕ) → nat_lt cell p ≡ true → nat_lt cell (p + l) ≡ true
 plain_within p l cell e = grind (arith, nat_tests)
 
-may_within : (h : Header) (s : Standing) (act : Act) → may_act h s act ≡ true → within_test (plain_words h + lock_words h) act ≡ true
+may_within : (h : Header) (s : Situation) (act : Act) → may_act h s act ≡ true → within_test (plain_words h + lock_words h) act ≡ true
 unfolding within_test
 may_within h s (Load cell) may = plain_within (plain_words h) (lock_words h) cell may
 may_within h s (Store cell value) may =
@@ -70,7 +70,7 @@ tested n (Give lock) e = grind (arith, nat_tests)
 tested n (Mark kind) e = tt
 tested n Done e = tt
 
-sound_within : (h : Header) (script : Script) → (s : Standing) × IsSound h s script
+sound_within : (h : Header) (script : Script) → (s : Situation) × IsSound h s script
     → within_test (plain_words h + lock_words h) (next_act script) ≡ true
 unfolding within_test
 sound_within h stop sound = refl

@@ -28,10 +28,10 @@ use Rattle.vyrd_base.proofs.HistoryLaws.{log_entry, reversed_map}
 use Rattle.vyrd_base.proofs.Fronts.{break_after}
 use Rattle.vyrd_base.proofs.TestLaws.{same_number}
 use Rattle.vyrd_memory.specs.Scripts.{Script, left_after}
-use Rattle.vyrd_memory.specs.Soundness.{Standing, at_rest, may_act}
+use Rattle.vyrd_memory.specs.Soundness.{Situation, at_rest, may_act}
 use Rattle.vyrd_memory.specs.Turns.{part_of, script_of}
 use Rattle.vyrd_memory.specs.Runs.{AreSoundScripts, PlayToTheEnd}
-use Rattle.vyrd_memory.proofs.Standings.{act_of_event, standing_in, KeepsTo, sound_left, sound_keeps, rests_at_stop}
+use Rattle.vyrd_memory.proofs.Situations.{act_of_event, situation_after, KeepsTo, sound_left, sound_keeps, rests_at_stop}
 use Rattle.vyrd_memory.proofs.LegalEvents.{AreLegal, legal_events, caller_low, are_answers}
 use Rattle.vyrd_memory.proofs.Agreements.{Agrees, agrees, keeps_before}
 use Rattle.vyrd_memory.proofs.KeptRules.{OnlyRaced, none_broken, isnt_open, write_kept, mark_kept}
@@ -59,7 +59,7 @@ unfolding first_break
 first_break_only h entries only = break_only h [] entries only
 
 -- one event more
-event_only : (h : Header) (c : ℕ) (did : Did) (s : Standing) (log : List Entry) → c < h.callers
+event_only : (h : Header) (c : ℕ) (did : Did) (s : Situation) (log : List Entry) → c < h.callers
     → may_act h s (act_of_event did) ≡ true → Agrees c s log
     → AreOnlyRaced h log → AreOnlyRaced h (cons_option (logged c did) log)
 event_only h c (Read cell value) s log low may a only = only
@@ -78,7 +78,7 @@ log_only h (e ∷ earlier) legal keep =
     let low = caller_low (cells_of h) earlier e legal.0 in
     let own : KeepsTo h (e.did ∷ part_of e.caller earlier) =
     subst (λ b. KeepsTo h (cons_option (cond b (Some e.did) None) (part_of e.caller earlier))) (same_number e.caller) (keep e.caller low) in
-    event_only h e.caller e.did (standing_in (part_of e.caller earlier)) (filter_map log_entry earlier) low own.0
+    event_only h e.caller e.did (situation_after (part_of e.caller earlier)) (filter_map log_entry earlier) low own.0
     (agrees h e.caller earlier own.1)
     (log_only h earlier legal.1 (λ c low. keeps_before h c e earlier (keep c low)))
 
@@ -94,11 +94,11 @@ none_any test k (suc n) each =
     ap (λ b. b || list_any test (numbers_from (k + 1) n)) (each k (omega arith) (omega arith))
     ∙ none_any test (k + 1) n (λ i from to. each i (omega arith) (omega arith))
 
-pub none_open : (h : Header) (earlier : List Stamped) → AllKeep h earlier → ((c : ℕ) → c < h.callers → standing_in (part_of c earlier) ≡ at_rest)
+pub none_open : (h : Header) (earlier : List Stamped) → AllKeep h earlier → ((c : ℕ) → c < h.callers → situation_after (part_of c earlier) ≡ at_rest)
     → is_call_open h (filter_map log_entry earlier) ≡ false
 none_open h earlier keep rest = none_any (λ c. is_some (open_call c (filter_map log_entry earlier))) 0 h.callers (λ c from to.
     let low : c < h.callers = omega arith in
-    isnt_open c (standing_in (part_of c earlier)) (filter_map log_entry earlier) (agrees h c earlier (keep c low))
+    isnt_open c (situation_after (part_of c earlier)) (filter_map log_entry earlier) (agrees h c earlier (keep c low))
     (ap (λ s. is_none s.called) (rest c low)))
 
 -- a fault is no broken rule
@@ -160,10 +160,10 @@ all_keep h scripts history sound legal played c low =
     sound_keeps h (script_of scripts c) part (sound.sound c low) (played c).plays (are_answers (cells_of h) (newest_first history) c legal)
 
 pub all_rest : (h : Header) (scripts : List Script) (history : List Stamped) → AreSoundScripts h scripts → AreLegal (cells_of h) (newest_first history)
-    → PlayToTheEnd scripts history → (c : ℕ) → c < h.callers → standing_in (part_of c (newest_first history)) ≡ at_rest
+    → PlayToTheEnd scripts history → (c : ℕ) → c < h.callers → situation_after (part_of c (newest_first history)) ≡ at_rest
 all_rest h scripts history sound legal played c low =
     let part = part_of c (newest_first history) in
-    rests_at_stop h (standing_in part) (left_after (script_of scripts c) part)
+    rests_at_stop h (situation_after part) (left_after (script_of scripts c) part)
     (sound_left h (script_of scripts c) part (sound.sound c low) (played c).plays
     (are_answers (cells_of h) (newest_first history) c legal)) (played c).done
 

@@ -14,20 +14,20 @@ use Rattle.vyrd_memory.specs.declared.act.Act.{Act}
 use Rattle.vyrd_memory.specs.declared.act.Act.TheVariants.{Load, Store, Take, Give, Mark, Done}
 use Rattle.vyrd_memory.specs.Scripts.{Script, stop, step, IsAnswer}
 
--- what a caller is in the middle of: the locks that it holds, the method of its open execution, whether that has committed,
--- and whether a block is open
-pub record Standing : Type 0 where
+-- A caller's situation, which is what it is in the middle of: the locks that it holds, the method of its open execution,
+-- whether that has committed, and whether a block is open.
+pub record Situation : Type 0 where
   pub locks : List ℕ
   pub called : Option Method
   pub committed : Bool
   pub in_block : Bool
 
--- nothing is in hand
-abbrev pub at_rest : Standing
+-- it is in the middle of nothing
+abbrev pub at_rest : Situation
 at_rest = record { locks = []; called = None; committed = false; in_block = false }
 
 -- a method was called, and nothing was done yet
-abbrev pub just_called : Method → Standing
+abbrev pub just_called : Method → Situation
 just_called method = record { locks = []; called = Some method; committed = false; in_block = false }
 
 -- whether a list has nothing in it
@@ -36,23 +36,23 @@ is_nil [] = true
 is_nil (x ∷ xs) = false
 
 -- whether the lock is held
-abbrev pub holds : Standing → ℕ → Bool
+abbrev pub holds : Situation → ℕ → Bool
 holds s lock = list_any (λ held. held == lock) s.locks
 
 -- whether an observer's execution is open
-abbrev pub observes : Standing → Bool
+abbrev pub observes : Situation → Bool
 observes s = option_map_or is_observer s.called false
 
 -- whether no lock is held
-abbrev pub holds_none : Standing → Bool
+abbrev pub holds_none : Situation → Bool
 holds_none s = is_nil s.locks
 
--- whether nothing is in hand
-abbrev pub is_at_rest : Standing → Bool
+-- whether it is in the middle of nothing
+abbrev pub is_at_rest : Situation → Bool
 is_at_rest s = holds_none s && is_none s.called && not s.committed && not s.in_block
 
 -- whether a mark may be left
-abbrev pub may_mark : Header → Standing → Kind → Bool
+abbrev pub may_mark : Header → Situation → Kind → Bool
 may_mark h s (Call method args) = same_subject (subject_of method) h.subject && are_args h.size method args && is_at_rest s
 may_mark h s (Return reply) = is_some s.called && not s.in_block && (observes s || s.committed) && holds_none s
 may_mark h s (Write word value) = false
@@ -62,7 +62,7 @@ may_mark h s BlockClose = is_some s.called && s.in_block
 may_mark h s BlockCommit = is_some s.called && s.in_block && not (observes s) && not s.committed
 
 -- whether an act may come next
-abbrev pub may_act : Header → Standing → Act → Bool
+abbrev pub may_act : Header → Situation → Act → Bool
 may_act h s (Load cell) = is_plain (cells_of h) cell
 may_act h s (Store cell value) = is_plain (cells_of h) cell && nat_lt value (2 ^ 63) && is_some s.called
 may_act h s (Take lock) = is_lock (cells_of h) lock && not (holds s lock)
@@ -70,8 +70,8 @@ may_act h s (Give lock) = is_lock (cells_of h) lock && holds s lock
 may_act h s (Mark kind) = may_mark h s kind
 may_act h s Done = false
 
--- what a mark makes of it
-abbrev pub after_mark : Standing → Kind → Standing
+-- what a mark makes of a situation
+abbrev pub after_mark : Situation → Kind → Situation
 after_mark s (Call method args) = just_called method
 after_mark s (Return reply) = at_rest
 after_mark s (Write word value) = s
@@ -80,8 +80,8 @@ after_mark s BlockOpen = record { locks = s.locks; called = s.called; committed 
 after_mark s BlockClose = record { locks = s.locks; called = s.called; committed = s.committed; in_block = false }
 after_mark s BlockCommit = record { locks = s.locks; called = s.called; committed = true; in_block = false }
 
--- what an act makes of it
-abbrev pub after_act : Standing → Act → Standing
+-- what an act makes of a situation
+abbrev pub after_act : Situation → Act → Situation
 after_act s (Take lock) = record { locks = lock ∷ s.locks; called = s.called; committed = s.committed; in_block = s.in_block }
 after_act s (Give lock) = record {
   locks = filter (λ held. not (held == lock)) s.locks;
@@ -92,11 +92,11 @@ after_act s (Give lock) = record {
 after_act s (Mark kind) = after_mark s kind
 after_act s _ = s
 
--- Whatever is loaded, each act may come where it comes, a call begins with nothing in hand, and nothing is in hand at the end.
-abbrev pub IsSound : Header → Standing → Script → Type 0
+-- Whatever is loaded, each act may come where it comes, a call begins at rest, and the caller is at rest at the end.
+abbrev pub IsSound : Header → Situation → Script → Type 0
 IsSound h s stop = s ≡ at_rest
 IsSound h s (step act rest) = (may_act h s act ≡ true) × ((answer : ℕ) → IsAnswer act answer → IsSound h (after_act s act) (rest answer))
 
--- the script is sound for a caller that is in the middle of something
+-- the script is sound in some situation
 abbrev pub IsSoundSomewhere : Header → Script → Type 0
-IsSoundSomewhere h script = ∥ ((s : Standing) × IsSound h s script) ∥₁
+IsSoundSomewhere h script = ∥ ((s : Situation) × IsSound h s script) ∥₁

@@ -20,7 +20,7 @@ use Rattle.vyrd_memory.specs.declared.op.Variant.{Variant}
 use Rattle.vyrd_memory.specs.declared.op.Variant.TheVariants.{Correct, Broken}
 use Rattle.vyrd_memory.specs.Arguments.{are_small}
 use Rattle.vyrd_memory.specs.Scripts.{Script, step, perform, returns}
-use Rattle.vyrd_memory.specs.Soundness.{Standing, IsSound, just_called, holds}
+use Rattle.vyrd_memory.specs.Soundness.{Situation, IsSound, just_called, holds}
 use Rattle.vyrd_memory.proofs.Small.{small_b}
 use Rattle.vyrd_buffers.specs.Cells.{count_cell, character_cell, lock_of, lock, unlock, lock_other}
 use Rattle.vyrd_buffers.specs.Procedures.{procedure_of, commit_count, append_at, append, load_from, store_from}
@@ -28,11 +28,11 @@ use Rattle.vyrd_buffers.specs.Procedures.{unlock_both, append_held, append_all, 
 use Rattle.vyrd_buffers.specs.Procedures.{read_from, read}
 
 -- these locks are held in an execution of the method, and whether that has committed
-abbrev holding : List ℕ → Method → Bool → Standing
+abbrev holding : List ℕ → Method → Bool → Situation
 holding locks method committed = record { locks = locks; called = Some method; committed = committed; in_block = false }
 
 -- in a block
-abbrev in_block : List ℕ → Method → Standing
+abbrev in_block : List ℕ → Method → Situation
 in_block locks method = record { locks = locks; called = Some method; committed = false; in_block = true }
 
 plain_cell : (h : Header) (cell : ℕ) → h.subject ≡ Buffers → cell < 8 * h.size → is_plain (cells_of h) cell ≡ true
@@ -50,13 +50,13 @@ lock_cell h b is low =
     ∙ both_true _ _ (is_at_most (8 * h.size) (8 * h.size + b) (omega arith)) (is_below (8 * h.size + b) (8 * h.size + h.size) (omega arith))
 
 -- a store
-stored : (h : Header) (s : Standing) (cell value : ℕ) (later : Script) → is_plain (cells_of h) cell ≡ true → value < 2 ^ 63 → is_some s.called ≡ true
+stored : (h : Header) (s : Situation) (cell value : ℕ) (later : Script) → is_plain (cells_of h) cell ≡ true → value < 2 ^ 63 → is_some s.called ≡ true
     → IsSound h s later → IsSound h s (perform (Store cell value) later)
 stored h s cell value later plain small called sound =
     (both_true _ _ (both_true _ _ plain (is_below value (2 ^ 63) small)) called, λ answer none. sound)
 
 -- both ways of a choice, each with what the test told
-either : (h : Header) (s : Standing) (b : Bool) (x y : Script) → (b ≡ true → IsSound h s x) → (b ≡ false → IsSound h s y) → IsSound h s (cond b x y)
+either : (h : Header) (s : Situation) (b : Bool) (x y : Script) → (b ≡ true → IsSound h s x) → (b ≡ false → IsSound h s y) → IsSound h s (cond b x y)
 either h s true x y e f = e refl
 either h s false x y e f = f refl
 
@@ -153,7 +153,7 @@ one_more_low (first ∷ characters) character all low =
     both_true _ _ (first_true _ _ all) (one_more_low characters character (second_true (nat_lt first (2 ^ 63)) (are_low characters) all) low)
 
 -- loading characters is sound where what follows is, for whatever was loaded
-sound_load_from : (h : Header) (s : Standing) (left b i : ℕ) (held : List ℕ) (loaded : List ℕ → Script) → h.subject ≡ Buffers → b < h.size
+sound_load_from : (h : Header) (s : Situation) (left b i : ℕ) (held : List ℕ) (loaded : List ℕ → Script) → h.subject ≡ Buffers → b < h.size
     → i + left ≤ 7 → are_low held ≡ true
     → ((all : List ℕ) → are_low all ≡ true → length all ≡ length held + left → IsSound h s (loaded all))
     → IsSound h s (load_from left b i held loaded)
@@ -165,7 +165,7 @@ sound_load_from h s (suc left) b i held loaded is low few small sound = (
       (λ all are_all long. sound all are_all (omega (arith, long, length_push held character))),
 )
 
-sound_store_from : (h : Header) (s : Standing) (characters : List ℕ) (b i : ℕ) (later : Script) → h.subject ≡ Buffers → b < h.size
+sound_store_from : (h : Header) (s : Situation) (characters : List ℕ) (b i : ℕ) (later : Script) → h.subject ≡ Buffers → b < h.size
     → is_some s.called ≡ true
     → i + length characters ≤ 7 → are_low characters ≡ true → IsSound h s later → IsSound h s (store_from characters b i later)
 sound_store_from h s [] b i later is low called few small sound = sound

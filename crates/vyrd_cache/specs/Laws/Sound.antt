@@ -19,7 +19,7 @@ use Rattle.vyrd_memory.specs.declared.op.Variant.{Variant}
 use Rattle.vyrd_memory.specs.declared.op.Variant.TheVariants.{Correct, Broken}
 use Rattle.vyrd_memory.specs.Arguments.{are_small}
 use Rattle.vyrd_memory.specs.Scripts.{Script, step}
-use Rattle.vyrd_memory.specs.Soundness.{Standing, IsSound, just_called, may_act, holds}
+use Rattle.vyrd_memory.specs.Soundness.{Situation, IsSound, just_called, may_act, holds}
 use Rattle.vyrd_memory.proofs.Small.{small_b, small_c}
 use Rattle.vyrd_cache.specs.Cells.{state_cell, cached_low, cached_high, stored_low, stored_high}
 use Rattle.vyrd_cache.specs.Cells.{lock_of, lock}
@@ -29,11 +29,11 @@ use Rattle.vyrd_cache.specs.Procedures.{answer_cached, write, flush}
 use Rattle.vyrd_cache.specs.Procedures.{evict, read}
 
 -- the lock is held in an execution of the method, and whether that has committed and whether a block is open
-abbrev holding : ℕ → Method → Bool → Bool → Standing
+abbrev holding : ℕ → Method → Bool → Bool → Situation
 holding lock method committed in_block = record { locks = lock ∷ []; called = Some method; committed = committed; in_block = in_block }
 
 -- no lock is held, in an execution of the method
-abbrev unlocked : Method → Bool → Standing
+abbrev unlocked : Method → Bool → Situation
 unlocked method committed = record { locks = []; called = Some method; committed = committed; in_block = false }
 
 plain_cell : (h : Header) (cell : ℕ) → h.subject ≡ Cache → cell < 5 * h.size → is_plain (cells_of h) cell ≡ true
@@ -44,7 +44,7 @@ lock_cell h chunk is low =
     ap (λ s. nat_le (plain_words_of s h.size) (lock_of h chunk) && nat_lt (lock_of h chunk) (plain_words_of s h.size + lock_words_of s h.size)) is
     ∙ both_true _ _ (is_at_most (5 * h.size) (5 * h.size + chunk) (omega arith)) (is_below (5 * h.size + chunk) (5 * h.size + h.size) (omega arith))
 
-may_store : (h : Header) (s : Standing) (method : Method) (cell value : ℕ) → h.subject ≡ Cache → cell < 5 * h.size
+may_store : (h : Header) (s : Situation) (method : Method) (cell value : ℕ) → h.subject ≡ Cache → cell < 5 * h.size
     → value < 2 ^ 63 → s.called ≡ Some method
     → may_act h s (Store cell value) ≡ true
 may_store h s method cell value is low small called =
@@ -100,12 +100,12 @@ pair_block h chunk method a x b y z is low mutates a_low b_low x_small y_small z
 )
 
 -- both ways of a choice
-either : (h : Header) (s : Standing) (b : Bool) (x y : Script) → IsSound h s x → IsSound h s y → IsSound h s (cond b x y)
+either : (h : Header) (s : Situation) (b : Bool) (x y : Script) → IsSound h s x → IsSound h s y → IsSound h s (cond b x y)
 either h s true x y e f = e
 either h s false x y e f = f
 
 -- a load
-loaded : (h : Header) (s : Standing) (cell : ℕ) (rest : ℕ → Script) → h.subject ≡ Cache → cell < 5 * h.size
+loaded : (h : Header) (s : Situation) (cell : ℕ) (rest : ℕ → Script) → h.subject ≡ Cache → cell < 5 * h.size
     → ((value : ℕ) → value < 2 ^ 63 → IsSound h s (rest value))
     → IsSound h s (step (Load cell) rest)
 loaded h s cell rest is low sound = (plain_cell h cell is low, sound)

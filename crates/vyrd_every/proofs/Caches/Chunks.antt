@@ -7,7 +7,7 @@ use Rattle.vyrd_base.specs.Amounts.{Amounts, with_amount}
 use Rattle.vyrd_base.specs.Views.{Chunk}
 use Rattle.vyrd_base.specs.Represented.{is_sound_chunk}
 use Rattle.vyrd_memory.specs.Alone.{Memory, with_cell}
-use Rattle.vyrd_memory.specs.Soundness.{Standing, holds}
+use Rattle.vyrd_memory.specs.Soundness.{Situation, holds}
 use Rattle.vyrd_memory.proofs.Memories.{Stands, changed_cell, other_cell}
 use Rattle.vyrd_cache.specs.Cells.{lock_of}
 use Rattle.vyrd_cache.specs.Contents.{chunk_of, shown}
@@ -18,7 +18,7 @@ use Rattle.vyrd_every.specs.Others.{Rely}
 use Rattle.vyrd_every.specs.Guarded.{cache}
 
 -- the words of a chunk whose lock is held
-pub chunk_access : (h : Header) (s : Standing) (n cell : ℕ) → n < h.size → holds s (lock_of h n) ≡ true → 5 * n ≤ cell → cell < 5 * n + 5
+pub chunk_access : (h : Header) (s : Situation) (n cell : ℕ) → n < h.size → holds s (lock_of h n) ≡ true → 5 * n ≤ cell → cell < 5 * n + 5
     → Access (cache h) s cell
 chunk_access h s n cell low held from to = record {
   low = omega (arith, low, from, to);
@@ -26,7 +26,7 @@ chunk_access h s n cell low held from to = record {
 }
 
 -- they stay as they are
-pub chunk_stays : (h : Header) (s : Standing) (k : Hand) (before now : Memory) (n : ℕ) → n < h.size → holds s (lock_of h n) ≡ true
+pub chunk_stays : (h : Header) (s : Situation) (k : Hand) (before now : Memory) (n : ℕ) → n < h.size → holds s (lock_of h n) ≡ true
     → Rely (cache h) s k before now → chunk_of now n ≡ chunk_of before n
 chunk_stays h s k before now n low held rely =
     same_chunk (chunk_of now n) (chunk_of before n)

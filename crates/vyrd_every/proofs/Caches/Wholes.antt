@@ -22,7 +22,7 @@ use Rattle.vyrd_memory.specs.Players.{is_callable}
 use Rattle.vyrd_memory.specs.Laws.Player.{callable_method}
 use Rattle.vyrd_memory.specs.Alone.{Memory, with_cell}
 use Rattle.vyrd_memory.specs.Scripts.{Script, step, perform, returns}
-use Rattle.vyrd_memory.specs.Soundness.{Standing, holds, just_called}
+use Rattle.vyrd_memory.specs.Soundness.{Situation, holds, just_called}
 use Rattle.vyrd_memory.proofs.Memories.{Stands, other_cell}
 use Rattle.vyrd_cache.specs.Cells.{state_cell, lock_of, lock}
 use Rattle.vyrd_cache.specs.Procedures.{joined, in_order, put_cached, put_stored, forget}
@@ -45,7 +45,7 @@ use Rattle.vyrd_every.proofs.Acts.{never, at, holds_first, without_slots, load_r
 use Rattle.vyrd_every.proofs.Caches.Chunks.{chunk_access, chunk_stays, thrice, thrice-other, after_cached, after_stored, after_state, kept, changed}
 
 -- the chunk's lock is held, and no other
-abbrev locked : Header → ℕ → Bool → Bool → Called → Standing
+abbrev locked : Header → ℕ → Bool → Bool → Called → Situation
 locked h n committed in_block called = at (lock_of h n ∷ []) committed in_block called
 
 has_lock : (h : Header) (n : ℕ) (committed in_block : Bool) (called : Called) → holds (locked h n committed in_block called) (lock_of h n) ≡ true

@@ -12,7 +12,7 @@ use Rattle.vyrd_memory.specs.declared.act.Act.TheVariants.{Store, Mark}
 use Rattle.vyrd_memory.specs.Alone.{Memory, with_cell}
 use Rattle.vyrd_memory.proofs.Memories.{changed_cell, other_cell}
 use Rattle.vyrd_memory.specs.Scripts.{Script, perform, returns, gives_up}
-use Rattle.vyrd_memory.specs.Soundness.{Standing, holds}
+use Rattle.vyrd_memory.specs.Soundness.{Situation, holds}
 use Rattle.vyrd_multiset.specs.Cells.{bucket_of, lock_of, unlock}
 use Rattle.vyrd_multiset.specs.Procedures.{commit_state, undo, validate_both, unlock_both}
 use Rattle.vyrd_multiset.specs.Contents.{IsMultiset}
@@ -35,7 +35,7 @@ gives_up_right h k shown called none is mutator stays =
     (λ now rely. returns_right (multiset h) k now true called 0 none (mutates k called 0 is mutator))
 
 -- a change of one slot's state leaves alone what it has to
-changes_one : (h : Header) (s : Standing) (k : Hand) (shown : Memory) (slot state : ℕ) → Access (multiset h) s (2 * slot) → (shown (2 * slot) ≡ 1 → k.owned slot ≡ true)
+changes_one : (h : Header) (s : Situation) (k : Hand) (shown : Memory) (slot state : ℕ) → Access (multiset h) s (2 * slot) → (shown (2 * slot) ≡ 1 → k.owned slot ≡ true)
     → Guarantee (multiset h) s k shown (with_cell shown (2 * slot) state)
 changes_one h s k shown slot state access mine = record {
   others = λ cell low free. other_cell shown (2 * slot) state cell (λ same. never free (subst (λ x. holds s (lock_of h (x / 8)) ≡ true) (sym same) access.held));
@@ -71,7 +71,7 @@ commit_state_right h k shown called bucket slot state low of is mutator mine lea
     without : Hand → List (ℕ × ℕ) → Hand
     without k pending = record { owned = k.owned; pending = pending; called = k.called; answered = k.answered }
 
-    inside : Standing
+    inside : Situation
     inside = at (lock_of h bucket ∷ []) false true called
 
     held : holds inside (lock_of h (slot / 4)) ≡ true
@@ -105,7 +105,7 @@ undo_right h k shown called x slot low of mine one is mutator stays =
     freed : Hand
     freed = without_slots k ((2 * slot, 0) ∷ k.pending)
 
-    inside : Standing
+    inside : Situation
     inside = at (lock_of h (bucket_of h x) ∷ []) false false called
 
     access : Access (multiset h) inside (2 * slot)
@@ -173,7 +173,7 @@ pair_leads h k shown args slot_x slot_y before r m =
         (other_cell shown (2 * slot_x) 2 (2 * slot_x + 1) (λ e. omega (arith, e)) ∙ r.has_x)
         r.of_x
 
-pair_leaves : (h : Header) (s : Standing) (k : Hand) (shown : Memory) (slot_x slot_y : ℕ) → Access (multiset h) s (2 * slot_x) → Access (multiset h) s (2 * slot_y)
+pair_leaves : (h : Header) (s : Situation) (k : Hand) (shown : Memory) (slot_x slot_y : ℕ) → Access (multiset h) s (2 * slot_x) → Access (multiset h) s (2 * slot_y)
     → k.owned slot_x ≡ true → k.owned slot_y ≡ true
     → Guarantee (multiset h) s k shown (with_cell (with_cell shown (2 * slot_x) 2) (2 * slot_y) 2)
 pair_leaves h s k shown slot_x slot_y access_x access_y mine_x mine_y = record {
@@ -237,7 +237,7 @@ validate_both_right h locks k shown args first second slot_x slot_y r is access_
     with_writes : List (ℕ × ℕ) → Hand
     with_writes pending = record { owned = k.owned; pending = pending; called = k.called; answered = k.answered }
 
-    inside : Standing
+    inside : Situation
     inside = at locks false true (pair_of args)
 
     keeps_own : (k k' : Hand) (shown now : Memory) → k'.owned ≡ k.owned → Keeps k' shown now → Keeps k shown now

@@ -10,7 +10,7 @@ use Rattle.vyrd_memory.specs.declared.op.Variant.TheVariants.{Correct}
 use Rattle.vyrd_memory.specs.Alone.{Memory, with_cell}
 use Rattle.vyrd_memory.proofs.Memories.{changed_cell, other_cell}
 use Rattle.vyrd_memory.specs.Scripts.{Script, perform}
-use Rattle.vyrd_memory.specs.Soundness.{Standing, holds, after_act}
+use Rattle.vyrd_memory.specs.Soundness.{Situation, holds, after_act}
 use Rattle.vyrd_multiset.specs.Cells.{bucket_of, lock_of, lock, unlock}
 use Rattle.vyrd_multiset.specs.Procedures.{reserve, find_from, find, compare, search_from}
 use Rattle.vyrd_multiset.specs.Laws.Sound.{gone}
@@ -27,31 +27,31 @@ pub one_two : (n : ℕ) → n ≡ 1 → n ≡ 2 → ⊥
 one_two n e f = omega (arith, e, f)
 
 -- the words of a slot whose bucket's lock is held
-pub state_access : (h : Header) (s : Standing) (j : ℕ) → j < 4 * h.size → holds s (lock_of h (j / 4)) ≡ true → Access (multiset h) s (2 * j)
+pub state_access : (h : Header) (s : Situation) (j : ℕ) → j < 4 * h.size → holds s (lock_of h (j / 4)) ≡ true → Access (multiset h) s (2 * j)
 state_access h s j low held = record {
   low = omega (arith, low);
   held = let e : j / 4 ≡ (2 * j) / 8 = omega arith in subst (λ b. holds s (lock_of h b) ≡ true) e held;
 }
 
-pub value_access : (h : Header) (s : Standing) (j : ℕ) → j < 4 * h.size → holds s (lock_of h (j / 4)) ≡ true → Access (multiset h) s (2 * j + 1)
+pub value_access : (h : Header) (s : Situation) (j : ℕ) → j < 4 * h.size → holds s (lock_of h (j / 4)) ≡ true → Access (multiset h) s (2 * j + 1)
 value_access h s j low held = record {
   low = omega (arith, low);
   held = let e : j / 4 ≡ (2 * j + 1) / 8 = omega arith in subst (λ b. holds s (lock_of h b) ≡ true) e held;
 }
 
-pub take_right : (h : Header) (s : Standing) (k : Hand) (shown : Memory) (bucket : ℕ) (later : Script)
+pub take_right : (h : Header) (s : Situation) (k : Hand) (shown : Memory) (bucket : ℕ) (later : Script)
     → ((held : ℕ) → holds s held ≡ true → held < lock_of h bucket)
     → ((now : Memory) → Rely (multiset h) (after_act s (Take (lock_of h bucket))) k shown now → DoesRight (multiset h) (after_act s (Take (lock_of h bucket))) k now later)
     → DoesRight (multiset h) s k shown (lock h bucket later)
 take_right h s k shown bucket later above rest = take (multiset h) s k shown (lock_of h bucket) later above rest
 
-pub give_right : (h : Header) (s : Standing) (k : Hand) (shown : Memory) (bucket : ℕ) (later : Script) → s.in_block ≡ false
+pub give_right : (h : Header) (s : Situation) (k : Hand) (shown : Memory) (bucket : ℕ) (later : Script) → s.in_block ≡ false
     → ((now : Memory) → Rely (multiset h) (after_act s (Give (lock_of h bucket))) k shown now → DoesRight (multiset h) (after_act s (Give (lock_of h bucket))) k now later)
     → DoesRight (multiset h) s k shown (unlock h bucket later)
 give_right h s k shown bucket later out rest = give (multiset h) s k shown (lock_of h bucket) later out rest
 
 -- a store outside a block, to one of the two words of a slot
-pub store_right : (h : Header) (s : Standing) (k next : Hand) (shown : Memory) (cell value j : ℕ) (later : Script) → s.in_block ≡ false → Access (multiset h) s cell
+pub store_right : (h : Header) (s : Situation) (k next : Hand) (shown : Memory) (cell value j : ℕ) (later : Script) → s.in_block ≡ false → Access (multiset h) s cell
     → (cell ≡ 2 * j) ⊎ (cell ≡ 2 * j + 1)
     → (shown (2 * j) ≡ 1 → k.owned j ≡ true)
     → ((i : ℕ) → next.owned i ≡ true → k.owned i ≡ true → shown (2 * i) ≡ 1 → with_cell shown cell value (2 * i) ≡ 1)
@@ -98,7 +98,7 @@ store_right h s k next shown cell value j later out access is mine kept fresh me
 pub record Keeps (k : Hand) (shown now : Memory) : Type 0 where
   pub slots : (i : ℕ) → k.owned i ≡ true → shown (2 * i) ≡ 1 → (now (2 * i) ≡ 1) × (now (2 * i + 1) ≡ shown (2 * i + 1))
 
-pub keeps_rely : (h : Header) (s : Standing) (k : Hand) (shown now : Memory) → Rely (multiset h) s k shown now → Keeps k shown now
+pub keeps_rely : (h : Header) (s : Situation) (k : Hand) (shown now : Memory) → Rely (multiset h) s k shown now → Keeps k shown now
 keeps_rely h s k shown now rely = record { slots = λ i mine one. ((rely.owned i mine).0 ∙ one, (rely.owned i mine).1) }
 
 pub keeps_more : (k : Hand) (a b c : Memory) → Keeps k a b → Keeps k b c → Keeps k a c
@@ -131,7 +131,7 @@ new_slot k j i pending mine wasnt = by_test (i == j) refl mine
     by_test false e m = absurd (never wasnt m)
 
 -- the value of a free slot is stored, and the slot reserved
-reserve_right : (h : Header) (s : Standing) (k : Hand) (shown : Memory) (j value : ℕ) (later : Script) → s.in_block ≡ false → j < 4 * h.size
+reserve_right : (h : Header) (s : Situation) (k : Hand) (shown : Memory) (j value : ℕ) (later : Script) → s.in_block ≡ false → j < 4 * h.size
     → holds s (lock_of h (j / 4)) ≡ true → shown (2 * j) ≡ 0
     → ((now : Memory) → now (2 * j) ≡ 1 → now (2 * j + 1) ≡ value → Keeps k shown now → (pending : List (ℕ × ℕ)) → DoesRight (multiset h) s (with_slot k j pending) now later)
     → DoesRight (multiset h) s k shown (reserve j value later)
@@ -195,18 +195,18 @@ reserve_right h s k shown j value later out low held free rest =
             )
 
 -- the slots of a run are in range, and the lock of their bucket is held
-pub record AreHeld (h : Header) (s : Standing) (slot left : ℕ) : Type 0 where
+pub record AreHeld (h : Header) (s : Situation) (slot left : ℕ) : Type 0 where
   pub low : (j : ℕ) → slot ≤ j → j < slot + left → j < 4 * h.size
   pub held : (j : ℕ) → slot ≤ j → j < slot + left → holds s (lock_of h (j / 4)) ≡ true
 
-held_next : (h : Header) (s : Standing) (slot left : ℕ) → AreHeld h s slot (suc left) → AreHeld h s (slot + 1) left
+held_next : (h : Header) (s : Situation) (slot left : ℕ) → AreHeld h s slot (suc left) → AreHeld h s (slot + 1) left
 held_next h s slot left each = record {
   low = λ j from to. each.low j (omega (arith, from)) (omega (arith, to));
   held = λ j from to. each.held j (omega (arith, from)) (omega (arith, to));
 }
 
 -- a free slot is found among these and reserved, or there is none
-pub find_from_right : (h : Header) (s : Standing) (k : Hand) (shown : Memory) (left slot value : ℕ) (found : Option ℕ → Script) → s.in_block ≡ false
+pub find_from_right : (h : Header) (s : Situation) (k : Hand) (shown : Memory) (left slot value : ℕ) (found : Option ℕ → Script) → s.in_block ≡ false
     → AreHeld h s slot left
     → ((j : ℕ) → slot ≤ j → j < slot + left → (now : Memory) → now (2 * j) ≡ 1 → now (2 * j + 1) ≡ value → Keeps k shown now
     → ((i : ℕ) → k.owned i ≡ true → shown (2 * i) ≡ 1 → i ≢ j) → (pending : List (ℕ × ℕ)) → DoesRight (multiset h) s (with_slot k j pending) now (found (Some j)))
@@ -291,7 +291,7 @@ find_right h k shown value called found low some none =
     (λ end kept. none end (keeps_more k shown last end (keeps_more k shown now last first keeps) kept))))
 
 -- the rest of a search does right, if what follows it does
-abbrev On : Header → Standing → Hand → ℕ → ℕ → ℕ → (Option ℕ → Script) → Memory → Type 0
+abbrev On : Header → Situation → Hand → ℕ → ℕ → ℕ → (Option ℕ → Script) → Memory → Type 0
 On h s k left slot value ended shown =
     ((j : ℕ) → slot + 1 ≤ j → j < slot + 1 + left → (now : Memory) → Rely (multiset h) s k shown now → now (2 * j) ≡ 2 → now (2 * j + 1) ≡ value
     → DoesRight (multiset h) s k now (ended (Some j)))
@@ -300,7 +300,7 @@ On h s k left slot value ended shown =
     → DoesRight (multiset h) s k shown (search_from left (slot + 1) value ended)
 
 -- a search ends at a valid slot with the value, or no slot from this one on is one
-pub search_from_right : (h : Header) (s : Standing) (k : Hand) (shown : Memory) (left slot value : ℕ) (ended : Option ℕ → Script) → s.in_block ≡ false
+pub search_from_right : (h : Header) (s : Situation) (k : Hand) (shown : Memory) (left slot value : ℕ) (ended : Option ℕ → Script) → s.in_block ≡ false
     → AreHeld h s slot left
     → ((j : ℕ) → slot ≤ j → j < slot + left → (now : Memory) → Rely (multiset h) s k shown now → now (2 * j) ≡ 2 → now (2 * j + 1) ≡ value
     → DoesRight (multiset h) s k now (ended (Some j)))

@@ -10,7 +10,7 @@ use Rattle.vyrd_base.specs.Callers.{Called}
 use Rattle.vyrd_memory.specs.declared.act.Act.TheVariants.{Store, Mark, Give}
 use Rattle.vyrd_memory.specs.Alone.{Memory}
 use Rattle.vyrd_memory.specs.Scripts.{Script, perform, returns}
-use Rattle.vyrd_memory.specs.Soundness.{Standing}
+use Rattle.vyrd_memory.specs.Soundness.{Situation}
 use Rattle.vyrd_tree.specs.Cells.{count_cell, lock_of, used_lock, unlock_node}
 use Rattle.vyrd_tree.specs.Procedures.Split.{with_unused, with_entry, write_entries, rewrite}
 use Rattle.vyrd_tree.specs.Procedures.Split.{add_entry, split, split_entry, split_key, lower_half}
@@ -93,7 +93,7 @@ unlocked_end h args k g m lock tree hand is =
     tree_give_last h TrInsert true k g m lock (returns 1) tree hand
     (λ g' m' rely. ended_right h args k g' m' rely.tree (hand_stays h (holding [] TrInsert true false) k g m g' m' hand rely) is)
 
-pub still_ascending : (h : Header) (s : Standing) (k : TreeHand) (g : Shape) (m : Memory) (g' : Shape) (m' : Memory) (called : Called) (level key node : ℕ)
+pub still_ascending : (h : Header) (s : Situation) (k : TreeHand) (g : Shape) (m : Memory) (g' : Shape) (m' : Memory) (called : Called) (level key node : ℕ)
     → HandStands h k g m → Ascending k g m called level key node → TreeRely h s k g m g' m' → Ascending k g' m' called level key node
 still_ascending h s k g m g' m' called level key node hand up rely = record {
   called_is = up.called_is;
@@ -174,10 +174,10 @@ pub room_right : (h : Header) (args : Args) (k : TreeHand) (g : Shape) (m : Memo
     → Onward h (holding (lock_of h n ∷ []) TrInsert true false) k g m (add_entry h (loaded_at m n) key node BlockClose (returns 1))
 room_right h args k g m level key node n ab room = with_place place.0 place.1 place.2
   where
-    s : Standing
+    s : Situation
     s = holding (lock_of h n ∷ []) TrInsert true false
 
-    inside : Standing
+    inside : Situation
     inside = holding (lock_of h n ∷ []) TrInsert true true
 
     place : (front : Entries) × (back : Entries) × IsBetween key (entries_at m n) front back
@@ -289,7 +289,7 @@ full_above h args k g m level key node n next ab full rounds =
     (λ b y r. unlocked_end h args k b y (lock_of h n) r.tree (hand_stays h s k g m b y ab.at.hand r) ab.up.called_is)
     some_right
   where
-    s : Standing
+    s : Situation
     s = holding (lock_of h n ∷ []) TrInsert true false
 
     splitting : ℕ → Script
@@ -423,7 +423,7 @@ full_above h args k g m level key node n next ab full rounds =
                 some_same : (p q : ℕ) → ◌≡◌ {A = Option ℕ} (Some p) (Some q) → p ≡ q
                 some_same p q e = cc
 
-                inside : Standing
+                inside : Situation
                 inside = holding (lock_of h n ∷ []) TrInsert true true
 
                 hand_now : HandStands h k' c z

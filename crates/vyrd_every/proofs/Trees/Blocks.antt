@@ -10,7 +10,7 @@ use Rattle.vyrd_memory.specs.declared.act.Act.TheVariants.{Store, Mark}
 use Rattle.vyrd_memory.specs.Alone.{Memory, with_cell}
 use Rattle.vyrd_memory.proofs.Memories.{changed_cell, other_cell}
 use Rattle.vyrd_memory.specs.Scripts.{Script, perform}
-use Rattle.vyrd_memory.specs.Soundness.{Standing, holds}
+use Rattle.vyrd_memory.specs.Soundness.{Situation, holds}
 use Rattle.vyrd_tree.specs.Cells.{root_cell, lock_of}
 use Rattle.vyrd_tree.specs.Procedures.Split.{write_entries}
 use Rattle.vyrd_tree.specs.Laws.Sound.Acts.{holding}
@@ -133,10 +133,10 @@ store_in_node h method committed k g m n place value ws later tree at high low s
       (subst (λ x. TreeRely h inside (with_pending k ((12 * n + place, value) ∷ ws)) g' x g'' m'') same rely'))),
 )
   where
-    s : Standing
+    s : Situation
     s = holding (lock_of h n ∷ []) method committed false
 
-    inside : Standing
+    inside : Situation
     inside = holding (lock_of h n ∷ []) method committed true
 
     linked' : g'.linked n ≡ true
@@ -247,7 +247,7 @@ node_rewritten size m n many front back xs fits before few = record {
     not_entry cell (inr le) j low = (omega (arith, le, low), omega (arith, le, low))
 
 -- the node's words are as they were when its lock was taken
-pub entries_kept : (h : Header) (s : Standing) (k : TreeHand) (g : Shape) (m : Memory) (n : ℕ) (g' : Shape) (m' : Memory) → IsLinked h.size g m
+pub entries_kept : (h : Header) (s : Situation) (k : TreeHand) (g : Shape) (m : Memory) (n : ℕ) (g' : Shape) (m' : Memory) → IsLinked h.size g m
     → AtNode h s k g m n → TreeRely h s k g m g' m' → entries_at m' n ≡ entries_at m n
 entries_kept h s k g m n g' m' tree at rely =
     ap (entries_from m' n 0) (rely.held n 1 at.linked at.held (omega arith)) ∙ entries_alike m m' n 0 (count_at m n)
@@ -255,14 +255,14 @@ entries_kept h s k g m n g' m' tree at rely =
     (rely.held n (4 + j) at.linked at.held (omega arith), rely.held n (8 + j) at.linked at.held (omega arith))))
 
 -- What a block does that gives a node other entries, which lead to no node that hangs for another caller.
-pub record Rewrites (h : Header) (s : Standing) (k : TreeHand) (g : Shape) (m m' : Memory) : Type 0 where
+pub record Rewrites (h : Header) (s : Situation) (k : TreeHand) (g : Shape) (m m' : Memory) : Type 0 where
   pub grows : Grows g m g m'
   pub leaves : TreeLeaves h s k g m g m'
   pub tree : IsLinked h.size g m'
   pub top : g.top ≡ level_at m (root_in h.size m) → g.top ≡ level_at m' (root_in h.size m')
   pub taken : (x : ℕ) → k.fresh ≡ Some x → (g.linked x ≡ false) × (x ≤ last_in h.size m') × ((k.fresh ≡ Some x) ⊎ (last_in h.size m < x))
 
-pub rewrites : (h : Header) (s : Standing) (k : TreeHand) (g : Shape) (m m' : Memory) (n : ℕ) (xs : Entries) → IsLinked h.size g m → HandStands h k g m
+pub rewrites : (h : Header) (s : Situation) (k : TreeHand) (g : Shape) (m m' : Memory) (n : ℕ) (xs : Entries) → IsLinked h.size g m → HandStands h k g m
     → g.linked n ≡ true → holds s (lock_of h n) ≡ true → Rewritten h.size m m' n xs → HasEntries g m (level_at m n) (g.low n) (bound_at m n) xs
     → ((x : ℕ) → g.linked x ≡ true → k.hanging ≢ Some x → Hangs g m x → level_at m n ≢ 0 → AllByRecursion (λ entry. entry.1 ≢ x) xs)
     → Rewrites h s k g m m'

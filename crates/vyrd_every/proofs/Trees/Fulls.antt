@@ -14,7 +14,7 @@ use Rattle.vyrd_memory.specs.declared.act.Act.TheVariants.{Mark}
 use Rattle.vyrd_memory.specs.declared.op.Variant.TheVariants.{Correct}
 use Rattle.vyrd_memory.specs.Alone.{Memory}
 use Rattle.vyrd_memory.specs.Scripts.{Script, perform, returns}
-use Rattle.vyrd_memory.specs.Soundness.{Standing}
+use Rattle.vyrd_memory.specs.Soundness.{Situation}
 use Rattle.vyrd_tree.specs.Cells.{lock_of, used_lock, unlock_node}
 use Rattle.vyrd_tree.specs.Procedures.Walk.{Arrived}
 use Rattle.vyrd_tree.specs.Procedures.Split.{with_entry, split, split_entry, split_key, lower_half}
@@ -76,7 +76,7 @@ three_two (a ∷ b ∷ c ∷ d ∷ e ∷ []) len = (refl, refl)
 three_two (a ∷ b ∷ c ∷ d ∷ e ∷ f ∷ more) len = absurd (omega (arith, len))
 
 -- the node is loaded the same as long as its lock is held
-pub loaded_same : (h : Header) (s : Standing) (k : TreeHand) (g : Shape) (m : Memory) (n : ℕ) (g' : Shape) (m' : Memory) → IsLinked h.size g m → AtNode h s k g m n
+pub loaded_same : (h : Header) (s : Situation) (k : TreeHand) (g : Shape) (m : Memory) (n : ℕ) (g' : Shape) (m' : Memory) → IsLinked h.size g m → AtNode h s k g m n
     → TreeRely h s k g m g' m' → loaded_at m' n ≡ loaded_at m n
 loaded_same h s k g m n g' m' tree at rely =
     ap (λ l. put l (bound_at m' n) (right_at m' n) (entries_at m' n)) (rely.held n 0 at.linked at.held (omega arith))
@@ -97,7 +97,7 @@ full_right h args k g m small_key small bare ascent n a x begun at is full apart
     called : Called
     called = record { method = TrInsert; args = args }
 
-    s : Standing
+    s : Situation
     s = holding (lock_of h n ∷ []) TrInsert false false
 
     after : ℕ → ℕ → Script
@@ -268,7 +268,7 @@ full_right h args k g m small_key small bare ascent n a x begun at is full apart
                 some_same : (p q : ℕ) → ◌≡◌ {A = Option ℕ} (Some p) (Some q) → p ≡ q
                 some_same p q e = cc
 
-                inside : Standing
+                inside : Situation
                 inside = holding (lock_of h n ∷ []) TrInsert false true
 
                 hand_c : HandStands h (with_pending k' writes) c z

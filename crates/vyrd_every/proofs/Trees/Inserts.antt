@@ -16,7 +16,7 @@ use Rattle.vyrd_memory.specs.declared.op.Variant.TheVariants.{Correct}
 use Rattle.vyrd_memory.specs.Alone.{Memory, with_cell}
 use Rattle.vyrd_memory.proofs.Memories.{changed_cell, other_cell}
 use Rattle.vyrd_memory.specs.Scripts.{Script, perform, returns, gives_up}
-use Rattle.vyrd_memory.specs.Soundness.{Standing}
+use Rattle.vyrd_memory.specs.Soundness.{Situation}
 use Rattle.vyrd_tree.specs.Cells.{value_cell, lock_of, unlock_node}
 use Rattle.vyrd_tree.specs.Procedures.Split.{with_unused, add_entry, rewrite, with_entry}
 use Rattle.vyrd_tree.specs.Procedures.Split.{split_entry, split_key}
@@ -121,7 +121,7 @@ insert_right h args k g m small_key small tree hand bare full =
     arrives : Arrives h TrInsert false k g m args.a 0 (λ at. insert_in h Correct args.a args.b at (place_of args.a at.entries))
     arrives n a x begun at leaf over = by_place (place_of args.a (entries_at x n)) refl
       where
-        s : Standing
+        s : Situation
         s = holding (lock_of h n ∷ []) TrInsert false false
 
         is : IsIn a x 0 n args.a

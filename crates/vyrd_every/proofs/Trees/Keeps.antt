@@ -9,10 +9,10 @@ use Rattle.vyrd_memory.specs.declared.act.Act.{Act}
 use Rattle.vyrd_memory.specs.declared.act.Act.TheVariants.{Load, Store, Take, Give, Mark, Done}
 use Rattle.vyrd_memory.specs.Alone.{Memory}
 use Rattle.vyrd_memory.specs.Scripts.{Script, stop, step, next_act, left_after}
-use Rattle.vyrd_memory.specs.Soundness.{Standing, holds, at_rest}
+use Rattle.vyrd_memory.specs.Soundness.{Situation, holds, at_rest}
 use Rattle.vyrd_memory.specs.Runs.{AreSoundScripts}
 use Rattle.vyrd_memory.specs.Turns.{part_of, script_of, is_done}
-use Rattle.vyrd_memory.proofs.Standings.{standing_in}
+use Rattle.vyrd_memory.proofs.Situations.{situation_after}
 use Rattle.vyrd_memory.proofs.LegalRuns.{IsRun}
 use Rattle.vyrd_every.specs.Structures.{shown_by}
 use Rattle.vyrd_every.specs.Trees.Shapes.{Shape, IsLinked}
@@ -56,12 +56,12 @@ tree_begins h scripts are = record {
   seen = λ c low called is reply answer. cc;
 }
 
-takes_higher : (h : Header) (s : Standing) (k : TreeHand) (g : Shape) (m : Memory) (script : Script) (lock : ℕ) → TreeRight h s k g m script
+takes_higher : (h : Header) (s : Situation) (k : TreeHand) (g : Shape) (m : Memory) (script : Script) (lock : ℕ) → TreeRight h s k g m script
     → next_act script ≡ Take lock → (held : ℕ) → holds s held ≡ true → held < lock
 takes_higher h s k g m stop lock right e = cc
 takes_higher h s k g m (step act rest) lock right e = subst (TreeReaches h s k g m) e right.2.reaches
 
-done_holds : (h : Header) (s : Standing) (k : TreeHand) (g : Shape) (m : Memory) (script : Script) (lock : ℕ) → TreeRight h s k g m script
+done_holds : (h : Header) (s : Situation) (k : TreeHand) (g : Shape) (m : Memory) (script : Script) (lock : ℕ) → TreeRight h s k g m script
     → is_done (next_act script) ≡ true → holds s lock ≡ false
 done_holds h s k g m stop lock right e = ap (λ s. holds s lock) right.rests
 done_holds h s k g m (step act rest) lock right e = absurd (undone act right.2.reaches e)
@@ -86,16 +86,16 @@ tree_keeping h scripts are = record {
   count = λ earlier passed state inv. inv.3.count;
   view = λ earlier passed state run inv. view_between h scripts earlier inv.0 inv.1 inv.2 passed state are.subject are.sound run inv.3;
   upward = λ earlier passed state run inv c low lock takes.
-      takes_higher h (standing_in (part_of c earlier)) (inv.0 c) inv.1 inv.2 (left_after (script_of scripts c) (part_of c earlier)) lock
+      takes_higher h (situation_after (part_of c earlier)) (inv.0 c) inv.1 inv.2 (left_after (script_of scripts c) (part_of c earlier)) lock
       (right earlier passed state run inv.0 inv.1 inv.2 inv.3 c low) takes;
   idle = λ earlier passed state run inv c low done lock.
-      done_holds h (standing_in (part_of c earlier)) (inv.0 c) inv.1 inv.2 (left_after (script_of scripts c) (part_of c earlier)) lock
+      done_holds h (situation_after (part_of c earlier)) (inv.0 c) inv.1 inv.2 (left_after (script_of scripts c) (part_of c earlier)) lock
       (right earlier passed state run inv.0 inv.1 inv.2 inv.3 c low) done;
 }
   where
     right : (earlier : List Stamped) (passed : List Amounts) (state : Amounts) → IsRun h scripts earlier
         → (hands : ℕ → TreeHand) (g : Shape) (m : Memory) → TreeInvariant h scripts earlier hands g m passed state
-        → (c : ℕ) → c < h.callers → TreeRight h (standing_in (part_of c earlier)) (hands c) g m (left_after (script_of scripts c) (part_of c earlier))
+        → (c : ℕ) → c < h.callers → TreeRight h (situation_after (part_of c earlier)) (hands c) g m (left_after (script_of scripts c) (part_of c earlier))
     right earlier passed state run hands g m inv c low =
-        (inv.each c low).right g m (rely_none h (standing_in (part_of c earlier)) (hands c) g m inv.tree
+        (inv.each c low).right g m (rely_none h (situation_after (part_of c earlier)) (hands c) g m inv.tree
         (tree_calm h scripts earlier hands g m passed state are.sound run inv c low))

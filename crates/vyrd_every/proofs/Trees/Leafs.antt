@@ -18,7 +18,7 @@ use Rattle.vyrd_memory.specs.declared.act.Act.TheVariants.{Store, Mark}
 use Rattle.vyrd_memory.specs.declared.op.Variant.TheVariants.{Correct}
 use Rattle.vyrd_memory.specs.Alone.{Memory}
 use Rattle.vyrd_memory.specs.Scripts.{Script, perform, returns, gives_up}
-use Rattle.vyrd_memory.specs.Soundness.{Standing, holds}
+use Rattle.vyrd_memory.specs.Soundness.{Situation, holds}
 use Rattle.vyrd_multiset.specs.Laws.Sound.{gone}
 use Rattle.vyrd_tree.specs.Cells.{count_cell, root_cell, lock_of, unlock_node}
 use Rattle.vyrd_tree.specs.Procedures.Walk.{Arrived, walk_from}
@@ -54,7 +54,7 @@ pub record IsIn (g : Shape) (m : Memory) (level n key : ℕ) : Type 0 where
   pub level_is : level_at m n ≡ level
   pub covers : Covers m g.low n key
 
-pub still_in : (h : Header) (s : Standing) (k : TreeHand) (g : Shape) (m : Memory) (g' : Shape) (m' : Memory) (level n key : ℕ) → IsIn g m level n key
+pub still_in : (h : Header) (s : Situation) (k : TreeHand) (g : Shape) (m : Memory) (g' : Shape) (m' : Memory) (level n key : ℕ) → IsIn g m level n key
     → holds s (lock_of h n) ≡ true → TreeRely h s k g m g' m' → IsIn g' m' level n key
 still_in h s k g m g' m' level n key is held rely = record {
   linked = rely.grows.linked n is.linked;
@@ -250,10 +250,10 @@ commit_block h called k g m n new ws later tree at leaf rewritten right commits 
       (hand_stays h (holding (lock_of h n ∷ []) called.method true false) (with_pending k ws) a (written ws x) b y hand_after r') r'')),
 )
   where
-    s : Standing
+    s : Situation
     s = holding (lock_of h n ∷ []) called.method false false
 
-    inside : Standing
+    inside : Situation
     inside = holding (lock_of h n ∷ []) called.method false true
 
     linked : a.linked n ≡ true
@@ -299,7 +299,7 @@ rewrite_right h called k g m n front back xs later tree at leaf before few right
     (λ g'' m'' rely'. block g'' m'' (tree_rely_more h s k g g' g'' m m' m'' rely
     (rely_with h (lock_of h n ∷ []) called.method false true false k [] g' g'' m' m'' rely'))))
   where
-    s : Standing
+    s : Situation
     s = holding (lock_of h n ∷ []) called.method false false
 
     closing : Script
@@ -354,7 +354,7 @@ lookup_right h args k g m tree hand bare =
     called : Called
     called = record { method = TrLookup; args = args }
 
-    free : Standing
+    free : Situation
     free = holding [] TrLookup false false
 
     arrives : Arrives h TrLookup false k g m args.a 0 (λ at. look_in h at (place_of args.a at.entries))
@@ -389,7 +389,7 @@ lookup_right h args k g m tree hand bare =
       subst Later (sym (gone (lock_of h n) [])) later,
     )
       where
-        s : Standing
+        s : Situation
         s = holding (lock_of h n ∷ []) TrLookup false false
 
         reply : ℕ
@@ -462,7 +462,7 @@ delete_right h args k g m tree hand bare =
     arrives : Arrives h TrDelete false k g m args.a 0 (λ at. delete_in h at (place_of args.a at.entries))
     arrives n a x begun at leaf over = by_place (place_of args.a (entries_at x n)) refl
       where
-        s : Standing
+        s : Situation
         s = holding (lock_of h n ∷ []) TrDelete false false
 
         is : IsIn a x 0 n args.a

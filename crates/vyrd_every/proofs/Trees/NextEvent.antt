@@ -23,10 +23,10 @@ use Rattle.vyrd_base.proofs.TestLaws.{first_true, second_true, same_of, same_num
 use Rattle.vyrd_memory.specs.declared.act.Act.TheVariants.{Mark}
 use Rattle.vyrd_memory.specs.Alone.{Memory}
 use Rattle.vyrd_memory.specs.Scripts.{Script, after_answer, answer_of, left_after, Plays}
-use Rattle.vyrd_memory.specs.Soundness.{Standing, holds, may_act, after_act}
+use Rattle.vyrd_memory.specs.Soundness.{Situation, holds, may_act, after_act}
 use Rattle.vyrd_memory.specs.Turns.{part_of, script_of}
 use Rattle.vyrd_memory.specs.Runs.{AreSoundScripts}
-use Rattle.vyrd_memory.proofs.Standings.{act_of_event, standing_in, KeepsTo}
+use Rattle.vyrd_memory.proofs.Situations.{act_of_event, situation_after, KeepsTo}
 use Rattle.vyrd_memory.proofs.LegalEvents.{AreLegal, caller_low, does}
 use Rattle.vyrd_memory.proofs.Agreements.{Agrees, agrees}
 use Rattle.vyrd_memory.proofs.KeptRules.{write_kept, mark_kept}
@@ -83,7 +83,7 @@ commit_leads k c log rest g m state called commits = (
   record { called = commits.called; is_called = sym called ∙ commits.is_called; reply = commits.reply; returns = commits.returns; allowed = commits.allowed },
 )
 
-event_leads : (h : Header) (s : Standing) (k next : TreeHand) (c : ℕ) (did : Did) (log : List Entry) (g : Shape) (m : Memory) (g' : Shape) (rest : Script)
+event_leads : (h : Header) (s : Situation) (k next : TreeHand) (c : ℕ) (did : Did) (log : List Entry) (g : Shape) (m : Memory) (g' : Shape) (rest : Script)
     (state : Amounts) → k.called ≡ open_call c log → TreeDoes h s k g m (act_of_event did) rest next g' → ShowsState g m state
     → (after : Amounts) × ShowsState g' (seen_after h s k m (act_of_event did)) after × Leading c did log rest state after
 event_leads h s k next c (Read cell value) log g m g' rest state called does shows = (state, does.leads state shows, refl)
@@ -151,7 +151,7 @@ event_returns c (Marked BlockOpen) k next log g m passed state answers called se
 event_returns c (Marked BlockClose) k next log g m passed state answers called seen = tt
 event_returns c (Marked BlockCommit) k next log g m passed state answers called seen = tt
 
-no_write : (h : Header) (s : Standing) (k : TreeHand) (g : Shape) (m : Memory) (kind : Kind) → TreeReaches h s k g m (Mark kind) → IsNoWrite kind
+no_write : (h : Header) (s : Situation) (k : TreeHand) (g : Shape) (m : Memory) (kind : Kind) → TreeReaches h s k g m (Mark kind) → IsNoWrite kind
 no_write h s k g m (Call method args) reaches = tt
 no_write h s k g m (Return reply) reaches = tt
 no_write h s k g m (Write word value) reaches = reaches
@@ -181,7 +181,7 @@ pub record TreeNext (h : Header) (scripts : List Script) (earlier : List Stamped
 -- whoever holds the root's lock sees the root that the log shows, but the caller whose block is seen
 pub tree_calm : (h : Header) (scripts : List Script) (earlier : List Stamped) (hands : ℕ → TreeHand) (g : Shape) (m : Memory) (passed : List Amounts)
     (state : Amounts) → AreSoundScripts h scripts → IsRun h scripts earlier → TreeInvariant h scripts earlier hands g m passed state
-    → (d : ℕ) → d < h.callers → holds (standing_in (part_of d earlier)) (root_lock h) ≡ true → (hands d).out ≡ false
+    → (d : ℕ) → d < h.callers → holds (situation_after (part_of d earlier)) (root_lock h) ≡ true → (hands d).out ≡ false
     → g.top ≡ level_at m (root_in h.size m)
 tree_calm h scripts earlier hands g m passed state sound run inv d low_d held quiet = by_ties inv.ties
   where
@@ -202,8 +202,8 @@ module _ (h : Header) (scripts : List Script) (earlier : List Stamped) (number c
   abbrev log : List Entry
   log = cons_option (logged c did) (log_in earlier)
 
-  abbrev standing : ℕ → Standing
-  standing d = standing_in (part_of d earlier)
+  abbrev situation : ℕ → Situation
+  situation d = situation_after (part_of d earlier)
 
   abbrev left : Script
   left = after_answer (left_after (script_of scripts c) (part_of c earlier)) 0
@@ -217,23 +217,23 @@ module _ (h : Header) (scripts : List Script) (earlier : List Stamped) (number c
   keeps : KeepsTo h (did ∷ part_of c earlier)
   keeps = subst (KeepsTo h) (part_own number c did earlier) (keeps_in h scripts (e ∷ earlier) c sound run low)
 
-  may : may_act h (standing c) (act_of_event did) ≡ true
+  may : may_act h (situation c) (act_of_event did) ≡ true
   may = keeps.0
 
-  agree : (d : ℕ) → d < h.callers → Agrees d (standing d) (log_in earlier)
+  agree : (d : ℕ) → d < h.callers → Agrees d (situation d) (log_in earlier)
   agree d low_d = agrees h d earlier (keeps_in h scripts earlier d sound before low_d)
 
-  agree_now : Agrees c (after_act (standing c) (act_of_event did)) log
-  agree_now = subst (λ p. Agrees c (standing_in p) log) (part_own number c did earlier) (agrees h c (e ∷ earlier) (keeps_in h scripts (e ∷ earlier) c sound run low))
+  agree_now : Agrees c (after_act (situation c) (act_of_event did)) log
+  agree_now = subst (λ p. Agrees c (situation_after p) log) (part_own number c did earlier) (agrees h c (e ∷ earlier) (keeps_in h scripts (e ∷ earlier) c sound run low))
 
   plays : Plays (script_of scripts c) (did ∷ part_of c earlier)
   plays = subst (Plays (script_of scripts c)) (part_own number c did earlier) (run.plays c)
 
-  locks : (a d lock : ℕ) → a < h.callers → d < h.callers → (a == d) ≡ false → holds (standing d) lock ≡ true → holds (standing a) lock ≡ false
+  locks : (a d lock : ℕ) → a < h.callers → d < h.callers → (a == d) ≡ false → holds (situation d) lock ≡ true → holds (situation a) lock ≡ false
   locks a d lock low_a low_d other held =
       held_by_one h a d earlier lock before.legal (keeps_in h scripts earlier a sound before low_a) (keeps_in h scripts earlier d sound before low_d) other held
 
-  two : (d : ℕ) → d < h.callers → (c == d) ≡ false → AreTwo h (standing c) (standing d) (hands c) (hands d) g m
+  two : (d : ℕ) → d < h.callers → (c == d) ≡ false → AreTwo h (situation c) (situation d) (hands c) (hands d) g m
   two d low_d other = record {
     tree = inv.tree;
     own = (inv.each c low).owns;
@@ -244,11 +244,11 @@ module _ (h : Header) (scripts : List Script) (earlier : List Stamped) (number c
     ahead = (inv.each d low_d).ahead;
   }
 
-  calm : (d : ℕ) → d < h.callers → holds (standing d) (root_lock h) ≡ true → (hands d).out ≡ false → g.top ≡ level_at m (root_in h.size m)
+  calm : (d : ℕ) → d < h.callers → holds (situation d) (root_lock h) ≡ true → (hands d).out ≡ false → g.top ≡ level_at m (root_in h.size m)
   calm d low_d = tree_calm h scripts earlier hands g m passed state sound before inv d low_d
 
   -- a load finds what callers see
-  found_word : (cell : ℕ) → cell < plain_words h → MayLoad h (standing c) g cell → (standing c).in_block ≡ false → value_in earlier cell ≡ m cell
+  found_word : (cell : ℕ) → cell < plain_words h → MayLoad h (situation c) g cell → (situation c).in_block ≡ false → value_in earlier cell ≡ m cell
   found_word cell fits may outside = by_ties inv.ties
     where
       own_free : holds_word c cell (log_in earlier) ≡ false
@@ -259,8 +259,8 @@ module _ (h : Header) (scripts : List Script) (earlier : List Stamped) (number c
           (λ same. subst (λ x. holds_word x cell (log_in earlier) ≡ false) same own_free)
           (λ other. by_test other (holds_word d cell (log_in earlier)) refl)
         where
-          by_hold : (c == d) ≡ false → MayHold h (standing d) (hands d) g m cell → ⊥
-          by_hold other (inl hold) = no_clash_load h (standing c) (standing d) (hands c) (hands d) g m cell (two d low_d other) may hold.1
+          by_hold : (c == d) ≡ false → MayHold h (situation d) (hands d) g m cell → ⊥
+          by_hold other (inl hold) = no_clash_load h (situation c) (situation d) (hands c) (hands d) g m cell (two d low_d other) may hold.1
           by_hold other (inr out) = never quiet out.0
 
           by_test : (c == d) ≡ false → (b : Bool) → holds_word d cell (log_in earlier) ≡ b → b ≡ false
@@ -283,10 +283,10 @@ module _ (h : Header) (scripts : List Script) (earlier : List Stamped) (number c
       by_ties (inl n) = free_value h earlier cell before.legal inv.kept fits (λ d low_d. free d low_d (n.quiet d low_d)) ∙ sym (ap (λ f. f cell) n.same)
       by_ties (inr o) = by_held o (holds_word o.who cell (log_in earlier)) refl ∙ sym (ap (λ f. f cell) o.same)
 
-  found : TreeReaches h (standing c) (hands c) g m (act_of_event did) → answer_of did ≡ answer_at m (act_of_event did)
+  found : TreeReaches h (situation c) (hands c) g m (act_of_event did) → answer_of did ≡ answer_at m (act_of_event did)
   found = by_did did (does (cells_of h) earlier e run.legal.0)
     where
-      by_did : (x : Did) → may_do (cells_of h) earlier c x ≡ true → TreeReaches h (standing c) (hands c) g m (act_of_event x)
+      by_did : (x : Did) → may_do (cells_of h) earlier c x ≡ true → TreeReaches h (situation c) (hands c) g m (act_of_event x)
           → answer_of x ≡ answer_at m (act_of_event x)
       by_did (Read cell value) allowed reaches =
           same_of value (value_in earlier cell) (second_true (is_plain (cells_of h) cell) (value == value_in earlier cell) allowed)
@@ -298,18 +298,18 @@ module _ (h : Header) (scripts : List Script) (earlier : List Stamped) (number c
       by_did (Marked kind) allowed reaches = refl
 
   -- the log stays well formed
-  kept_now : TreeReaches h (standing c) (hands c) g m (act_of_event did) → WellFormed h log
+  kept_now : TreeReaches h (situation c) (hands c) g m (act_of_event did) → WellFormed h log
   kept_now = by_did did may
     where
-      free : (cell d : ℕ) → MayStore h (standing c) (hands c) g m cell → d < h.callers → (d == c) ≡ false → holds_word d cell (log_in earlier) ≡ false
+      free : (cell d : ℕ) → MayStore h (situation c) (hands c) g m cell → d < h.callers → (d == c) ≡ false → holds_word d cell (log_in earlier) ≡ false
       free cell d stores low_d other = by_test (holds_word d cell (log_in earlier)) refl
         where
           by_test : (b : Bool) → holds_word d cell (log_in earlier) ≡ b → b ≡ false
           by_test false f = refl
-          by_test true f = absurd (no_clash h (standing c) (standing d) (hands c) (hands d) g m cell (two d low_d (apart_too d c other)) stores
+          by_test true f = absurd (no_clash h (situation c) (situation d) (hands c) (hands d) g m cell (two d low_d (apart_too d c other)) stores
               ((inv.each d low_d).covers cell f))
 
-      by_did : (x : Did) → may_act h (standing c) (act_of_event x) ≡ true → TreeReaches h (standing c) (hands c) g m (act_of_event x)
+      by_did : (x : Did) → may_act h (situation c) (act_of_event x) ≡ true → TreeReaches h (situation c) (hands c) g m (act_of_event x)
           → WellFormed h (cons_option (logged c x) (log_in earlier))
       by_did (Read cell value) allowed reaches = inv.kept
       by_did (Took lock) allowed reaches = inv.kept
@@ -317,12 +317,12 @@ module _ (h : Header) (scripts : List Script) (earlier : List Stamped) (number c
       by_did (Wrote cell value) allowed reaches = (
         write_unraced h c cell value (log_in earlier) version inv.kept
             (held_by_none h c cell (log_in earlier) (λ d low_d other. free cell d reaches low_d other))
-            (write_kept h c cell value (standing c) (log_in earlier) low allowed (agree c low)),
+            (write_kept h c cell value (situation c) (log_in earlier) low allowed (agree c low)),
         inv.kept,
       )
       by_did (Marked kind) allowed reaches = (
-        mark_unraced h c kind (log_in earlier) (no_write h (standing c) (hands c) g m kind reaches)
-            (mark_kept h c kind (standing c) (log_in earlier) low allowed (agree c low)),
+        mark_unraced h c kind (log_in earlier) (no_write h (situation c) (hands c) g m kind reaches)
+            (mark_kept h c kind (situation c) (log_in earlier) low allowed (agree c low)),
         inv.kept,
       )
 
@@ -332,18 +332,18 @@ module _ (h : Header) (scripts : List Script) (earlier : List Stamped) (number c
       agree_now may plays.0 found
 
   abbrev m' : Memory
-  m' = seen_after h (standing c) (hands c) m (act_of_event did)
+  m' = seen_after h (situation c) (hands c) m (act_of_event did)
 
   abbrev now_hands : ℕ → TreeHand
   now_hands = with_hand hands c own.next
 
   after : (next : Amounts) × ShowsState own.grown m' next × Leading c did (log_in earlier) left state next
-  after = event_leads h (standing c) (hands c) own.next c did (log_in earlier) g m own.grown left state (inv.each c low).called own.does inv.shows
+  after = event_leads h (situation c) (hands c) own.next c did (log_in earlier) g m own.grown left state (inv.each c low).called own.does inv.shows
 
   -- it is within what each other caller relies on
-  rely_of : (d : ℕ) → d < h.callers → (c == d) ≡ false → TreeRely h (standing d) (hands d) g m own.grown m'
+  rely_of : (d : ℕ) → d < h.callers → (c == d) ≡ false → TreeRely h (situation d) (hands d) g m own.grown m'
   rely_of d low_d other =
-      others_rely h (standing c) (standing d) (hands c) (hands d) g m (act_of_event did) left own.next own.grown inv.tree own.does (inv.each d low_d).owns
+      others_rely h (situation c) (situation d) (hands c) (hands d) g m (act_of_event did) left own.next own.grown inv.tree own.does (inv.each d low_d).owns
       (inv.apart c d low low_d other) (λ lock held. locks c d lock low low_d other held) (calm d low_d)
 
   own_now : OfTreeCaller h (script_of scripts c) (part_of c (e ∷ earlier)) log c (now_hands c) own.grown m'
@@ -365,7 +365,7 @@ module _ (h : Header) (scripts : List Script) (earlier : List Stamped) (number c
       flip k its apart = record { fresh = λ n mine theirs. apart.fresh n theirs mine; hanging = λ n mine theirs. apart.hanging n theirs mine }
 
       from : (d : ℕ) → d < h.callers → (c == d) ≡ false → AreApart own.next (hands d)
-      from d low_d apart = still_apart_from h (standing c) (hands c) (hands d) g m (act_of_event did) left own.next own.grown own.does (inv.each d low_d).owns
+      from d low_d apart = still_apart_from h (situation c) (hands c) (hands d) g m (act_of_event did) left own.next own.grown own.does (inv.each d low_d).owns
           (inv.apart c d low low_d apart)
 
       by_tests : (x : Bool) → (c == a) ≡ x → (y : Bool) → (c == b) ≡ y → AreApart (cond x own.next (hands a)) (cond y own.next (hands b))
@@ -375,29 +375,29 @@ module _ (h : Header) (scripts : List Script) (earlier : List Stamped) (number c
       by_tests false f false k = inv.apart a b low_a low_b other
 
   -- a word that an open block has written
-  held_of : (d w : ℕ) → d < h.callers → (standing d).in_block ≡ true → is_some (given_by w (hands d).pending) ≡ true → MayHold h (standing d) (hands d) g m w
+  held_of : (d w : ℕ) → d < h.callers → (situation d).in_block ≡ true → is_some (given_by w (hands d).pending) ≡ true → MayHold h (situation d) (hands d) g m w
   held_of d w low_d inside given =
       let open_ : has_block d (log_in earlier) ≡ true = (agree d low_d).in_block ∙ inside in
       (inv.each d low_d).covers w (ap (λ b. b && wrote d w (log_in earlier)) open_ ∙ wrote_is d w (log_in earlier) open_
       ∙ sym (ap (λ ws. is_some (given_by w ws)) (inv.each d low_d).pending) ∙ given)
 
-  stored : (w : ℕ) → (hands c).out ≡ false → (standing c).in_block ≡ true → is_some (given_by w (hands c).pending) ≡ true
-      → MayStore h (standing c) (hands c) g m w
+  stored : (w : ℕ) → (hands c).out ≡ false → (situation c).in_block ≡ true → is_some (given_by w (hands c).pending) ≡ true
+      → MayStore h (situation c) (hands c) g m w
   stored w quiet inside given = by_hold (held_of c w low inside given)
     where
-      by_hold : MayHold h (standing c) (hands c) g m w → MayStore h (standing c) (hands c) g m w
+      by_hold : MayHold h (situation c) (hands c) g m w → MayStore h (situation c) (hands c) g m w
       by_hold (inl hold) = inl (inside, quiet, inl hold.1)
       by_hold (inr out) = absurd (never quiet out.0)
 
   ties_now : NoneOut h now_hands own.grown m' (shown_by log) ⊎ OneOut h now_hands m' (shown_by log)
   ties_now =
-      ties_step h c (standing c) hands g m (act_of_event did) left own.next own.grown (shown_by (log_in earlier)) (shown_by log) low own.does may
-      (shown_more h (standing c) (hands c) g m c did (log_in earlier) (agree c low).in_block (inv.each c low).pending own.does.reaches)
+      ties_step h c (situation c) hands g m (act_of_event did) left own.next own.grown (shown_by (log_in earlier)) (shown_by log) low own.does may
+      (shown_more h (situation c) (hands c) g m c did (log_in earlier) (agree c low).in_block (inv.each c low).pending own.does.reaches)
       (λ out. ((inv.each c low).alone out).1)
       (λ d low_d other out. locks c d (root_lock h) low low_d (apart_too d c other) ((inv.each d low_d).alone out).0)
       (λ d w low_d other out quiet given_c given_d.
-      no_clash h (standing c) (standing d) (hands c) (hands d) g m w (two d low_d (apart_too d c other))
-      (may_store h (standing c) (hands c) g m (act_of_event did) w own.does.reaches may (stored w quiet) given_c)
+      no_clash h (situation c) (situation d) (hands c) (hands d) g m w (two d low_d (apart_too d c other))
+      (may_store h (situation c) (hands c) g m (act_of_event did) w own.does.reaches may (stored w quiet) given_c)
       (held_of d w low_d ((inv.each d low_d).alone out).1 given_d))
       inv.ties
 

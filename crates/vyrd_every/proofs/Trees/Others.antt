@@ -4,7 +4,7 @@ use Rattle.vyrd_base.specs.declared.header.Header.{Header}
 use Rattle.vyrd_memory.specs.declared.act.Act.{Act}
 use Rattle.vyrd_memory.specs.Alone.{Memory}
 use Rattle.vyrd_memory.specs.Scripts.{Script}
-use Rattle.vyrd_memory.specs.Soundness.{Standing, holds}
+use Rattle.vyrd_memory.specs.Soundness.{Situation, holds}
 use Rattle.vyrd_tree.specs.Cells.{lock_of, root_lock, used_lock}
 use Rattle.vyrd_tree.specs.Contents.{level_at, last_in, root_in}
 use Rattle.vyrd_every.proofs.Acts.{never}
@@ -15,7 +15,7 @@ use Rattle.vyrd_every.specs.Trees.Others.{TreeRely}
 use Rattle.vyrd_every.specs.Trees.RightScripts.{TreeDoes}
 
 -- The act of one caller, for another one. No lock is held by both.
-pub others_rely : (h : Header) (s its : Standing) (k other : TreeHand) (g : Shape) (m : Memory) (act : Act) (rest : Script) (next : TreeHand) (g' : Shape)
+pub others_rely : (h : Header) (s its : Situation) (k other : TreeHand) (g : Shape) (m : Memory) (act : Act) (rest : Script) (next : TreeHand) (g' : Shape)
     → IsLinked h.size g m → TreeDoes h s k g m act rest next g' → Owns h other g m → AreApart k other
     → ((lock : ℕ) → holds its lock ≡ true → holds s lock ≡ false)
     → (holds its (root_lock h) ≡ true → other.out ≡ false → g.top ≡ level_at m (root_in h.size m))
@@ -34,7 +34,7 @@ others_rely h s its k other g m act rest next g' tree does owns apart alone calm
 }
 
 -- after it the hands are apart still
-pub still_apart_from : (h : Header) (s : Standing) (k other : TreeHand) (g : Shape) (m : Memory) (act : Act) (rest : Script) (next : TreeHand) (g' : Shape)
+pub still_apart_from : (h : Header) (s : Situation) (k other : TreeHand) (g : Shape) (m : Memory) (act : Act) (rest : Script) (next : TreeHand) (g' : Shape)
     → TreeDoes h s k g m act rest next g' → Owns h other g m → AreApart k other → AreApart next other
 still_apart_from h s k other g m act rest next g' does owns apart = record {
   fresh = λ n mine its. by_taken n mine (does.taken n its).2;
@@ -50,7 +50,7 @@ still_apart_from h s k other g m act rest next g' does owns apart = record {
     by_hung n mine (inr new) = never new (owns.hanging n mine).0
 
 -- after it the other's hand says the same
-pub still_owns : (h : Header) (its : Standing) (other : TreeHand) (g : Shape) (m : Memory) (g' : Shape) (m' : Memory) → Owns h other g m → TreeRely h its other g m g' m'
+pub still_owns : (h : Header) (its : Situation) (other : TreeHand) (g : Shape) (m : Memory) (g' : Shape) (m' : Memory) → Owns h other g m → TreeRely h its other g m g' m'
     → Owns h other g' m'
 still_owns h its other g m g' m' owns rely = record {
   fresh = λ n mine. (rely.fresh n mine ∙ (owns.fresh n mine).0, rely.used n mine (owns.fresh n mine).1);
@@ -58,7 +58,7 @@ still_owns h its other g m g' m' owns rely = record {
 }
 
 -- and the caller's own hand says what it should
-pub owns_after : (h : Header) (s : Standing) (k : TreeHand) (g : Shape) (m : Memory) (act : Act) (rest : Script) (next : TreeHand) (g' : Shape)
+pub owns_after : (h : Header) (s : Situation) (k : TreeHand) (g : Shape) (m : Memory) (act : Act) (rest : Script) (next : TreeHand) (g' : Shape)
     → TreeDoes h s k g m act rest next g' → Owns h next g' (seen_after h s k m act)
 owns_after h s k g m act rest next g' does = record {
   fresh = λ n mine. let t = does.taken n mine in (t.0, t.1);

@@ -6,7 +6,7 @@ use Rattle.vyrd_base.specs.declared.subject.Method.{Method}
 use Rattle.vyrd_memory.specs.declared.act.Act.TheVariants.{Load, Take, Give}
 use Rattle.vyrd_memory.specs.Alone.{Memory}
 use Rattle.vyrd_memory.specs.Scripts.{Script, step, perform}
-use Rattle.vyrd_memory.specs.Soundness.{Standing, holds, after_act}
+use Rattle.vyrd_memory.specs.Soundness.{Situation, holds, after_act}
 use Rattle.vyrd_tree.specs.Cells.{lock_of, root_lock, used_lock}
 use Rattle.vyrd_tree.specs.Contents.{level_at, last_in, root_in}
 use Rattle.vyrd_tree.specs.Laws.Sound.Acts.{holding}
@@ -24,7 +24,7 @@ pub record HandStands (h : Header) (k : TreeHand) (g : Shape) (m : Memory) : Typ
   pub hanging : (n : ℕ) → k.hanging ≡ Some n → (g.linked n ≡ true) × Hangs g m n
   pub quiet : k.out ≡ false
 
-pub hand_stays : (h : Header) (s : Standing) (k : TreeHand) (g : Shape) (m : Memory) (g' : Shape) (m' : Memory) → HandStands h k g m
+pub hand_stays : (h : Header) (s : Situation) (k : TreeHand) (g : Shape) (m : Memory) (g' : Shape) (m' : Memory) → HandStands h k g m
     → TreeRely h s k g m g' m' → HandStands h k g' m'
 hand_stays h s k g m g' m' hand rely = record {
   fresh = λ n mine. let was = hand.fresh n mine in (rely.fresh n mine ∙ was.0, rely.used n mine was.1);
@@ -44,7 +44,7 @@ grows_more a b c x y z one two = record {
 }
 
 -- the others do one thing after the other
-pub tree_rely_more : (h : Header) (s : Standing) (k : TreeHand) (a b c : Shape) (x y z : Memory) → TreeRely h s k a x b y → TreeRely h s k b y c z
+pub tree_rely_more : (h : Header) (s : Situation) (k : TreeHand) (a b c : Shape) (x y z : Memory) → TreeRely h s k a x b y → TreeRely h s k b y c z
     → TreeRely h s k a x c z
 tree_rely_more h s k a b c x y z one two = record {
   grows = grows_more a b c x y z one.grows two.grows;
@@ -59,7 +59,7 @@ tree_rely_more h s k a b c x y z one two = record {
 }
 
 -- with fewer locks held, less is relied upon
-pub tree_rely_less : (h : Header) (s s' : Standing) (k : TreeHand) (a b : Shape) (x y : Memory) → ((lock : ℕ) → holds s' lock ≡ true → holds s lock ≡ true)
+pub tree_rely_less : (h : Header) (s s' : Situation) (k : TreeHand) (a b : Shape) (x y : Memory) → ((lock : ℕ) → holds s' lock ≡ true → holds s lock ≡ true)
     → TreeRely h s k a x b y → TreeRely h s' k a x b y
 tree_rely_less h s s' k a b x y fewer r = record {
   grows = r.grows;
@@ -73,7 +73,7 @@ tree_rely_less h s s' k a b x y fewer r = record {
   calm = λ held out. r.calm (fewer (root_lock h) held) out;
 }
 
-leaves_same : (h : Header) (s : Standing) (k : TreeHand) (g : Shape) (m : Memory) → TreeLeaves h s k g m g m
+leaves_same : (h : Header) (s : Situation) (k : TreeHand) (g : Shape) (m : Memory) → TreeLeaves h s k g m g m
 leaves_same h s k g m = record {
   others = λ n place linked free low. refl;
   unlinked = λ n un other. un;
@@ -84,7 +84,7 @@ leaves_same h s k g m = record {
 }
 
 -- what an act does that changes nothing
-pub record Changeless (h : Header) (s : Standing) (k : TreeHand) (g : Shape) (m : Memory) : Type 0 where
+pub record Changeless (h : Header) (s : Situation) (k : TreeHand) (g : Shape) (m : Memory) : Type 0 where
   pub grows : Grows g m g m
   pub leaves : TreeLeaves h s k g m g m
   pub taken : (n : ℕ) → k.fresh ≡ Some n → (g.linked n ≡ false) × (n ≤ last_in h.size m) × ((k.fresh ≡ Some n) ⊎ (last_in h.size m < n))
@@ -93,7 +93,7 @@ pub record Changeless (h : Header) (s : Standing) (k : TreeHand) (g : Shape) (m 
   pub closed : k.out ≡ true → k.out ≡ false → g.top ≡ level_at m (root_in h.size m)
   pub top : k.out ≡ false → g.top ≡ level_at m (root_in h.size m) → k.out ≡ false → g.top ≡ level_at m (root_in h.size m)
 
-pub changeless : (h : Header) (s : Standing) (k : TreeHand) (g : Shape) (m : Memory) → HandStands h k g m → Changeless h s k g m
+pub changeless : (h : Header) (s : Situation) (k : TreeHand) (g : Shape) (m : Memory) → HandStands h k g m → Changeless h s k g m
 changeless h s k g m hand = record {
   grows = grows_same g m;
   leaves = leaves_same h s k g m;
@@ -104,7 +104,7 @@ changeless h s k g m hand = record {
   top = λ out is quiet. is;
 }
 
-pub tree_load : (h : Header) (s : Standing) (k : TreeHand) (g : Shape) (m : Memory) (cell : ℕ) (rest : ℕ → Script) → IsLinked h.size g m → HandStands h k g m
+pub tree_load : (h : Header) (s : Situation) (k : TreeHand) (g : Shape) (m : Memory) (cell : ℕ) (rest : ℕ → Script) → IsLinked h.size g m → HandStands h k g m
     → MayLoad h s g cell → s.in_block ≡ false
     → ((g' : Shape) → (now : Memory) → TreeRely h s k g m g' now → TreeRight h s k g' now (rest (m cell)))
     → TreeRight h s k g m (step (Load cell) rest)
@@ -138,7 +138,7 @@ tree_load h s k g m cell rest tree hand may out later =
     or_false true = refl
     or_false false = refl
 
-pub tree_take : (h : Header) (s : Standing) (k : TreeHand) (g : Shape) (m : Memory) (lock : ℕ) (rest : Script) → IsLinked h.size g m → HandStands h k g m
+pub tree_take : (h : Header) (s : Situation) (k : TreeHand) (g : Shape) (m : Memory) (lock : ℕ) (rest : Script) → IsLinked h.size g m → HandStands h k g m
     → ((held : ℕ) → holds s held ≡ true → held < lock)
     → ((g' : Shape) → (now : Memory) → TreeRely h (after_act s (Take lock)) k g m g' now → TreeRight h (after_act s (Take lock)) k g' now rest)
     → TreeRight h s k g m (perform (Take lock) rest)
@@ -172,7 +172,7 @@ tree_take h s k g m lock rest tree hand above later =
     or_false true = refl
     or_false false = refl
 
-pub tree_give : (h : Header) (s : Standing) (k : TreeHand) (g : Shape) (m : Memory) (lock : ℕ) (rest : Script) → IsLinked h.size g m → HandStands h k g m
+pub tree_give : (h : Header) (s : Situation) (k : TreeHand) (g : Shape) (m : Memory) (lock : ℕ) (rest : Script) → IsLinked h.size g m → HandStands h k g m
     → s.in_block ≡ false
     → ((g' : Shape) → (now : Memory) → TreeRely h (after_act s (Give lock)) k g m g' now → TreeRight h (after_act s (Give lock)) k g' now rest)
     → TreeRight h s k g m (perform (Give lock) rest)

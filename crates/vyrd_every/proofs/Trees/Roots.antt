@@ -12,7 +12,7 @@ use Rattle.vyrd_memory.specs.declared.act.Act.TheVariants.{Store, Mark}
 use Rattle.vyrd_memory.specs.Alone.{Memory, with_cell}
 use Rattle.vyrd_memory.proofs.Memories.{changed_cell, other_cell}
 use Rattle.vyrd_memory.specs.Scripts.{Script, perform, returns}
-use Rattle.vyrd_memory.specs.Soundness.{Standing, holds}
+use Rattle.vyrd_memory.specs.Soundness.{Situation, holds}
 use Rattle.vyrd_tree.specs.Cells.{root_cell, root_lock, unlock_root}
 use Rattle.vyrd_tree.specs.Procedures.Split.{write_node}
 use Rattle.vyrd_tree.specs.Procedures.Ascent.{grow_root}
@@ -285,10 +285,10 @@ store_word h k g m lock u place value ws later hand mine fits low rest g' m' rel
       (subst (λ x. TreeRely h inside (with_pending k ((12 * u + place, value) ∷ ws)) g' x g'' m'') same rely'))),
 )
   where
-    s : Standing
+    s : Situation
     s = holding (lock ∷ []) TrInsert true false
 
-    inside : Standing
+    inside : Situation
     inside = holding (lock ∷ []) TrInsert true true
 
     c : Changeless h inside (with_pending k ws) g' m'
@@ -332,10 +332,10 @@ grown_stands size m u level key child root fits root_is level_is = record {
 pub growth_right : (h : Header) (args : Args) → GrowthRight h args
 growth_right h args = record { right = grow }
   where
-    s : Standing
+    s : Situation
     s = holding (root_lock h ∷ []) TrInsert true false
 
-    inside : Standing
+    inside : Situation
     inside = holding (root_lock h ∷ []) TrInsert true true
 
     root_held : holds (holding (root_lock h ∷ []) TrInsert true true) (root_lock h) ≡ true

@@ -11,7 +11,7 @@ use Rattle.vyrd_memory.specs.declared.act.Act.TheVariants.{Load}
 use Rattle.vyrd_memory.specs.declared.op.Variant.TheVariants.{Correct}
 use Rattle.vyrd_memory.specs.Alone.{Memory}
 use Rattle.vyrd_memory.specs.Scripts.{Script, step, returns}
-use Rattle.vyrd_memory.specs.Soundness.{Standing, holds}
+use Rattle.vyrd_memory.specs.Soundness.{Situation, holds}
 use Rattle.vyrd_tree.specs.Cells.{level_cell, root_cell, root_lock, lock_of, unlock_node, unlock_root}
 use Rattle.vyrd_tree.specs.Procedures.Walk.{walk_from}
 use Rattle.vyrd_tree.specs.Procedures.Split.{with_unused, add_entry, split_entry, split_key}
@@ -51,7 +51,7 @@ arrived_right h args k g m level key node n next ab rounds =
     subst (Goal (nat_lt (length (entries_at m n)) 4)) (sym (isnt_le (level_at m n) level (let e = ab.is.level_is in omega arith)))
     (by_room (le_or 4 (length (entries_at m n))))
   where
-    s : Standing
+    s : Situation
     s = holding (lock_of h n ∷ []) TrInsert true false
 
     Goal : Bool → Bool → Type 0
@@ -85,10 +85,10 @@ round_right h args next growth rounds = record { right = begin }
         (λ b y r'. rooted b y (x (root_cell h)) r'.tree (hand_stays h s k a x b y hand_a r')
         (still_ascending h s k a x b y (insert_of args) level key node hand_a up_a r') (r'.root root_held).0))
       where
-        free : Standing
+        free : Situation
         free = holding [] TrInsert true false
 
-        s : Standing
+        s : Situation
         s = holding (root_lock h ∷ []) TrInsert true false
 
         root_held : holds s (root_lock h) ≡ true

@@ -19,7 +19,7 @@ use Rattle.vyrd_memory.specs.Alone.{Memory}
 use Rattle.vyrd_memory.specs.Scripts.{Script}
 use Rattle.vyrd_memory.specs.Turns.{part_of}
 use Rattle.vyrd_memory.specs.Runs.{AreSoundScripts}
-use Rattle.vyrd_memory.proofs.Standings.{standing_in}
+use Rattle.vyrd_memory.proofs.Situations.{situation_after}
 use Rattle.vyrd_memory.proofs.Agreements.{agrees}
 use Rattle.vyrd_memory.proofs.LegalRuns.{IsRun}
 use Rattle.vyrd_memory.proofs.NumberLists.{element_below, map_alike}
@@ -163,7 +163,7 @@ view_between h scripts earlier hands g m passed state is sound run inv =
         inside : has_block o.who (log_in earlier) ≡ true
         inside = (agrees h o.who earlier (keeps_in h scripts earlier o.who sound run o.low)).in_block ∙ ((inv.each o.who o.low).alone o.out).1
 
-        not_held : MayHold h (standing_in (part_of o.who earlier)) (hands o.who) g m (12 * n + i) → ⊥
+        not_held : MayHold h (situation_after (part_of o.who earlier)) (hands o.who) g m (12 * n + i) → ⊥
         not_held (inl quiet) = never quiet.0 o.out
         not_held (inr out) = by_word out.1
           where

@@ -9,7 +9,7 @@ use Rattle.vyrd_memory.specs.declared.act.Act.TheVariants.{Store}
 use Rattle.vyrd_memory.specs.Alone.{Memory, with_cell}
 use Rattle.vyrd_memory.proofs.Memories.{changed_cell, other_cell}
 use Rattle.vyrd_memory.specs.Scripts.{Script, perform}
-use Rattle.vyrd_memory.specs.Soundness.{Standing, holds}
+use Rattle.vyrd_memory.specs.Soundness.{Situation, holds}
 use Rattle.vyrd_tree.specs.Cells.{root_cell, lock_of}
 use Rattle.vyrd_tree.specs.Procedures.Split.{write_entries, lower_half, upper_half, first_key}
 use Rattle.vyrd_tree.specs.Procedures.Split.{split}
@@ -280,10 +280,10 @@ store_in_fresh h method committed k g m n u place value ws later at mine fits lo
       (subst (λ x. TreeRely h inside (with_pending k ((12 * u + place, value) ∷ ws)) g' x g'' m'') same rely'))),
 )
   where
-    s : Standing
+    s : Situation
     s = holding (lock_of h n ∷ []) method committed false
 
-    inside : Standing
+    inside : Situation
     inside = holding (lock_of h n ∷ []) method committed true
 
     c : Changeless h inside (with_pending k ws) g' m'
@@ -333,14 +333,14 @@ split_stores h method committed k g m n u front back entry later tree at high mi
     five = front ++ entry ∷ back
 
 -- what the close of a split does
-pub record Splits (h : Header) (s : Standing) (k : TreeHand) (g : Shape) (m : Memory) (g' : Shape) (m' : Memory) (u : ℕ) : Type 0 where
+pub record Splits (h : Header) (s : Situation) (k : TreeHand) (g : Shape) (m : Memory) (g' : Shape) (m' : Memory) (u : ℕ) : Type 0 where
   pub grows : Grows g m g' m'
   pub leaves : TreeLeaves h s k g m g' m'
   pub tree : IsLinked h.size g' m'
   pub top : g.top ≡ level_at m (root_in h.size m) → g'.top ≡ level_at m' (root_in h.size m')
   pub hangs : (g'.linked u ≡ true) × Hangs g' m' u
 
-pub splits : (h : Header) (s : Standing) (k : TreeHand) (g : Shape) (m m' : Memory) (n u : ℕ) (five : Entries) → IsLinked h.size g m → HandStands h k g m
+pub splits : (h : Header) (s : Situation) (k : TreeHand) (g : Shape) (m m' : Memory) (n u : ℕ) (five : Entries) → IsLinked h.size g m → HandStands h k g m
     → g.linked n ≡ true → holds s (lock_of h n) ≡ true → k.fresh ≡ Some u
     → IsSplitAt h.size m m' n u (lower_half five) (upper_half five) (first_key (upper_half five))
     → AreHalves h.size (coded g m (level_at m n)) g.low (level_at m n) (g.low n) (bound_at m n) five

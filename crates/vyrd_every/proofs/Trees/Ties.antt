@@ -11,7 +11,7 @@ use Rattle.vyrd_memory.specs.declared.act.Act.{Act}
 use Rattle.vyrd_memory.specs.declared.act.Act.TheVariants.{Load, Store, Take, Give, Mark, Done}
 use Rattle.vyrd_memory.specs.Alone.{Memory}
 use Rattle.vyrd_memory.specs.Scripts.{Script}
-use Rattle.vyrd_memory.specs.Soundness.{Standing, holds, observes, may_act, after_act}
+use Rattle.vyrd_memory.specs.Soundness.{Situation, holds, observes, may_act, after_act}
 use Rattle.vyrd_memory.proofs.Agreements.{four_true}
 use Rattle.vyrd_tree.specs.Cells.{root_cell, root_lock}
 use Rattle.vyrd_every.specs.Hands.{written, pending_after}
@@ -25,7 +25,7 @@ use Rattle.vyrd_every.proofs.Trees.Written.{given_by, either_order, takes_effect
 use Rattle.vyrd_every.proofs.Trees.Ones.{still_out, alone_after}
 
 -- in a block that goes on, nothing takes effect
-no_effect : (s : Standing) (pending : List (ℕ × ℕ)) (act : Act) → s.in_block ≡ true → (after_act s act).in_block ≡ true
+no_effect : (s : Situation) (pending : List (ℕ × ℕ)) (act : Act) → s.in_block ≡ true → (after_act s act).in_block ≡ true
     → takes_effect s.in_block pending act ≡ []
 no_effect s pending (Load cell) inside goes = refl
 no_effect s pending (Store cell value) inside goes = ap (λ b. cond b [] ((cell, value) ∷ [])) inside
@@ -41,7 +41,7 @@ no_effect s pending (Mark BlockClose) inside goes = cc
 no_effect s pending (Mark BlockCommit) inside goes = cc
 
 -- while its writes are seen, a block writes nothing more
-same_pending : (h : Header) (s : Standing) (k : TreeHand) (g : Shape) (m : Memory) (act : Act) → k.out ≡ true → s.in_block ≡ true
+same_pending : (h : Header) (s : Situation) (k : TreeHand) (g : Shape) (m : Memory) (act : Act) → k.out ≡ true → s.in_block ≡ true
     → TreeReaches h s k g m act → out_after h s act k.out ≡ true → pending_after act k.pending ≡ k.pending
 same_pending h s k g m (Load cell) out inside reaches still = refl
 same_pending h s k g m (Store cell value) out inside (inl within) still = absurd (never within.1 out)
@@ -58,7 +58,7 @@ same_pending h s k g m (Mark BlockClose) out inside reaches still = refl
 same_pending h s k g m (Mark BlockCommit) out inside reaches still = refl
 
 -- when such a block ends, its writes take effect
-ends : (h : Header) (s : Standing) (k : TreeHand) (act : Act) → k.out ≡ true → s.in_block ≡ true → may_act h s act ≡ true
+ends : (h : Header) (s : Situation) (k : TreeHand) (act : Act) → k.out ≡ true → s.in_block ≡ true → may_act h s act ≡ true
     → out_after h s act k.out ≡ false → takes_effect s.in_block k.pending act ≡ k.pending
 ends h s k (Load cell) out inside may over = absurd (never over (ap (λ b. b || false) out))
 ends h s k (Store cell value) out inside may over = absurd (never over (ap (λ b. b || (s.in_block && cell == root_cell h)) out))
@@ -74,7 +74,7 @@ ends h s k (Mark BlockClose) out inside may over = refl
 ends h s k (Mark BlockCommit) out inside may over = refl
 
 -- what takes effect at an act is what its caller might store
-pub may_store : (h : Header) (s : Standing) (k : TreeHand) (g : Shape) (m : Memory) (act : Act) (w : ℕ) → TreeReaches h s k g m act → may_act h s act ≡ true
+pub may_store : (h : Header) (s : Situation) (k : TreeHand) (g : Shape) (m : Memory) (act : Act) (w : ℕ) → TreeReaches h s k g m act → may_act h s act ≡ true
     → (s.in_block ≡ true → is_some (given_by w k.pending) ≡ true → MayStore h s k g m w)
     → is_some (given_by w (takes_effect s.in_block k.pending act)) ≡ true → MayStore h s k g m w
 may_store h s k g m (Load cell) w reaches may pends given = cc
@@ -110,7 +110,7 @@ pub hand_other : (hands : ℕ → TreeHand) (c d : ℕ) (next : TreeHand) → (c
 hand_other hands c d next other = ap (λ b. cond b next (hands d)) other
 
 -- what callers see after one more event
-pub ties_step : (h : Header) (c : ℕ) (s : Standing) (hands : ℕ → TreeHand) (g : Shape) (m : Memory) (act : Act) (rest : Script) (next : TreeHand) (g' : Shape)
+pub ties_step : (h : Header) (c : ℕ) (s : Situation) (hands : ℕ → TreeHand) (g : Shape) (m : Memory) (act : Act) (rest : Script) (next : TreeHand) (g' : Shape)
     (shown shown' : Memory) → c < h.callers → TreeDoes h s (hands c) g m act rest next g' → may_act h s act ≡ true
     → shown' ≡ written (takes_effect s.in_block (hands c).pending act) shown
     → ((hands c).out ≡ true → s.in_block ≡ true)

@@ -11,7 +11,7 @@ use Rattle.vyrd_memory.specs.declared.act.Act.TheVariants.{Load, Store}
 use Rattle.vyrd_memory.specs.Alone.{Memory, with_cell}
 use Rattle.vyrd_memory.proofs.Memories.{changed_cell, other_cell}
 use Rattle.vyrd_memory.specs.Scripts.{Script, step, perform}
-use Rattle.vyrd_memory.specs.Soundness.{Standing, holds}
+use Rattle.vyrd_memory.specs.Soundness.{Situation, holds}
 use Rattle.vyrd_multiset.specs.Laws.Sound.{gone}
 use Rattle.vyrd_tree.specs.Cells.{used_cell, used_lock, root_lock, unlock_used}
 use Rattle.vyrd_tree.specs.Procedures.Split.{with_unused}
@@ -112,7 +112,7 @@ abbrev pub with_fresh : TreeHand → ℕ → List (ℕ × ℕ) → TreeHand
 with_fresh k u ws = record { fresh = Some u; hanging = k.hanging; pending = ws; out = false; called = k.called; answered = k.answered }
 
 -- what is relied upon with a node taken is more
-pub rely_fresh : (h : Header) (s : Standing) (k : TreeHand) (u : ℕ) (ws : List (ℕ × ℕ)) (g g' : Shape) (m m' : Memory) → k.fresh ≡ None
+pub rely_fresh : (h : Header) (s : Situation) (k : TreeHand) (u : ℕ) (ws : List (ℕ × ℕ)) (g g' : Shape) (m m' : Memory) → k.fresh ≡ None
     → TreeRely h s (with_fresh k u ws) g m g' m' → TreeRely h s k g m g' m'
 rely_fresh h s k u ws g g' m m' none r = record {
   grows = r.grows;
@@ -151,10 +151,10 @@ unused_right h method committed lock k g m none found below tree hand bare at_no
     (hand_stays h both k b y c z (hand_stays h both k a x b y (hand_stays h s k g m a x hand begun) r) r') (r'.count first_held)
     (λ held out. r'.calm (more (root_lock h) held) out)))
   where
-    s : Standing
+    s : Situation
     s = holding (lock ∷ []) method committed false
 
-    both : Standing
+    both : Situation
     both = holding (used_lock h ∷ lock ∷ []) method committed false
 
     by_used : ℕ → Script

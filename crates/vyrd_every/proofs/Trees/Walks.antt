@@ -10,7 +10,7 @@ use Rattle.vyrd_memory.specs.declared.act.Act.TheVariants.{Load}
 use Rattle.vyrd_memory.specs.declared.op.Variant.TheVariants.{Correct}
 use Rattle.vyrd_memory.specs.Alone.{Memory}
 use Rattle.vyrd_memory.specs.Scripts.{Script, step}
-use Rattle.vyrd_memory.specs.Soundness.{Standing, holds}
+use Rattle.vyrd_memory.specs.Soundness.{Situation, holds}
 use Rattle.vyrd_tree.specs.Cells.{level_cell, count_cell, bound_cell, right_cell, value_cell, lock_of, unlock_node}
 use Rattle.vyrd_tree.specs.Procedures.Walk.{Arrived, load_keys, load_values, is_past, child_place}
 use Rattle.vyrd_tree.specs.Procedures.Walk.{descend, arrive, pass_on, visit_node, walk_from}
@@ -116,14 +116,14 @@ some_left size g m key toward n visited fits w =
     omega arith
 
 -- A node whose lock is held, from the moment on when it was taken.
-pub record AtNode (h : Header) (s : Standing) (k : TreeHand) (g : Shape) (m : Memory) (n : ℕ) : Type 0 where
+pub record AtNode (h : Header) (s : Situation) (k : TreeHand) (g : Shape) (m : Memory) (n : ℕ) : Type 0 where
   pub linked : g.linked n ≡ true
   pub held : holds s (lock_of h n) ≡ true
   pub out : s.in_block ≡ false
   pub hand : HandStands h k g m
 
 -- a word of it is loaded: it is as it was when the lock was taken
-pub load_node : (h : Header) (s : Standing) (k : TreeHand) (g : Shape) (m : Memory) (n place : ℕ) (rest : ℕ → Script) → AtNode h s k g m n → place < 12
+pub load_node : (h : Header) (s : Situation) (k : TreeHand) (g : Shape) (m : Memory) (n place : ℕ) (rest : ℕ → Script) → AtNode h s k g m n → place < 12
     → ((g' : Shape) → (m' : Memory) → TreeRely h s k g m g' m' → TreeRight h s k g' m' (rest (m (12 * n + place))))
     → (g' : Shape) → (m' : Memory) → TreeRely h s k g m g' m' → TreeRight h s k g' m' (step (Load (12 * n + place)) rest)
 load_node h s k g m n place rest at low later g' m' rely =
@@ -134,10 +134,10 @@ load_node h s k g m n place rest at low later g' m' rely =
     (later g'' m'' (tree_rely_more h s k g g' g'' m m' m'' rely rely')))
 
 -- what comes next does right, however others have gone on
-abbrev pub Onward : Header → Standing → TreeHand → Shape → Memory → Script → Type 0
+abbrev pub Onward : Header → Situation → TreeHand → Shape → Memory → Script → Type 0
 Onward h s k g m script = (g' : Shape) → (m' : Memory) → TreeRely h s k g m g' m' → TreeRight h s k g' m' script
 
-pub keys_right : (h : Header) (s : Standing) (k : TreeHand) (g : Shape) (m : Memory) (n : ℕ) → AtNode h s k g m n
+pub keys_right : (h : Header) (s : Situation) (k : TreeHand) (g : Shape) (m : Memory) (n : ℕ) → AtNode h s k g m n
     → (many place : ℕ) (loaded : List ℕ → Script) → place + many ≤ 4
     → Onward h s k g m (loaded (map (key_at m n) (numbers_from place many)))
     → Onward h s k g m (load_keys many n place loaded)
@@ -146,7 +146,7 @@ keys_right h s k g m n at (suc many) place loaded low later =
     load_node h s k g m n (4 + place) (λ key. load_keys many n (place + 1) (λ keys. loaded (key ∷ keys))) at (omega (arith, low))
     (keys_right h s k g m n at many (place + 1) (λ keys. loaded (key_at m n place ∷ keys)) (omega (arith, low)) later)
 
-pub values_right : (h : Header) (s : Standing) (k : TreeHand) (g : Shape) (m : Memory) (n : ℕ) → AtNode h s k g m n
+pub values_right : (h : Header) (s : Situation) (k : TreeHand) (g : Shape) (m : Memory) (n : ℕ) → AtNode h s k g m n
     → (many place : ℕ) (loaded : Entries → Script) → place + many ≤ 4
     → Onward h s k g m (loaded (entries_from m n place many))
     → Onward h s k g m (load_values (map (key_at m n) (numbers_from place many)) n place loaded)
@@ -208,10 +208,10 @@ visit_right h method committed key toward k g m n lost visit arrived tree at fro
     (sym (least (count_at m n) (tree.few n at.linked)))
     (by_bound (zero_or (bound_at m n)) (le_or (bound_at m n) key))
   where
-    s : Standing
+    s : Situation
     s = holding (lock_of h n ∷ []) method committed false
 
-    free : Standing
+    free : Situation
     free = holding [] method committed false
 
     Goal : Bool → Bool → Type 0
@@ -317,10 +317,10 @@ walk_right h method committed key toward k g m lost arrived hand there zero n vi
 walk_right h method committed key toward k g m lost arrived hand there (suc left) n visited g' m' rely w =
     visits (walk_right h method committed key toward k g m lost arrived hand there left)
   where
-    s : Standing
+    s : Situation
     s = holding (lock_of h n ∷ []) method committed false
 
-    free : Standing
+    free : Situation
     free = holding [] method committed false
 
     below : {last : ℕ} → (n : ℕ) → n ≤ last → last < h.size → n < h.size

@@ -15,7 +15,7 @@ use Rattle.vyrd_memory.specs.declared.op.Op.{Op}
 use Rattle.vyrd_memory.specs.declared.op.Variant.TheVariants.{Correct}
 use Rattle.vyrd_memory.specs.Alone.{Memory}
 use Rattle.vyrd_memory.specs.Scripts.{Script, stop, step, followed_by, operations}
-use Rattle.vyrd_memory.specs.Soundness.{Standing, at_rest, just_called, after_act}
+use Rattle.vyrd_memory.specs.Soundness.{Situation, at_rest, just_called, after_act}
 use Rattle.vyrd_memory.specs.Players.{is_callable, are_callable}
 use Rattle.vyrd_memory.specs.Laws.Player.{callable_method, callable_small}
 use Rattle.vyrd_memory.specs.Turns.{script_of}
@@ -85,7 +85,7 @@ follows_leads k (Mark BlockOpen) rest later g m state leads = leads
 follows_leads k (Mark BlockClose) rest later g m state leads = leads
 follows_leads k (Mark BlockCommit) rest later g m state leads = follows_commit k rest later g m state leads
 
-follows_does : (h : Header) (s : Standing) (k : TreeHand) (g : Shape) (m : Memory) (act : Act) (rest later : Script) (next : TreeHand) (g' : Shape)
+follows_does : (h : Header) (s : Situation) (k : TreeHand) (g : Shape) (m : Memory) (act : Act) (rest later : Script) (next : TreeHand) (g' : Shape)
     → TreeDoes h s k g m act rest next g' → TreeDoes h s k g m act (followed_by rest later) next g'
 follows_does h s k g m act rest later next g' does = record {
   reaches = does.reaches;
@@ -108,7 +108,7 @@ follows_does h s k g m act rest later next g' does = record {
 }
 
 -- one script after the other
-followed_right : (h : Header) (s : Standing) (k : TreeHand) (g : Shape) (m : Memory) (script later : Script)
+followed_right : (h : Header) (s : Situation) (k : TreeHand) (g : Shape) (m : Memory) (script later : Script)
     → ((k' : TreeHand) (g' : Shape) (now : Memory) → IsLinked h.size g' now → TreeRests at_rest k' → TreeRight h at_rest k' g' now later)
     → IsLinked h.size g m → TreeRight h s k g m script → TreeRight h s k g m (followed_by script later)
 followed_right h s k g m stop later then_ tree right =

@@ -11,9 +11,9 @@ use Rattle.vyrd_base.specs.Commits.{commit_count}
 use Rattle.vyrd_base.specs.Front.{WellFormed}
 use Rattle.vyrd_memory.specs.Alone.{Memory}
 use Rattle.vyrd_memory.specs.Scripts.{Script, left_after}
-use Rattle.vyrd_memory.specs.Soundness.{Standing, holds}
+use Rattle.vyrd_memory.specs.Soundness.{Situation, holds}
 use Rattle.vyrd_memory.specs.Turns.{part_of, script_of}
-use Rattle.vyrd_memory.proofs.Standings.{standing_in}
+use Rattle.vyrd_memory.proofs.Situations.{situation_after}
 use Rattle.vyrd_tree.specs.Cells.{root_cell, root_lock}
 use Rattle.vyrd_tree.specs.Contents.{level_at, root_in}
 use Rattle.vyrd_every.specs.Structures.{shown_by}
@@ -27,7 +27,7 @@ use Rattle.vyrd_every.specs.Trees.RightScripts.{TreeRight}
 
 -- A word that a caller's open block may have written: until its writes are seen, a word of a node that the
 -- caller may store; and then the root's word, or one of the new root's.
-abbrev pub MayHold : Header → Standing → TreeHand → Shape → Memory → ℕ → Type 0
+abbrev pub MayHold : Header → Situation → TreeHand → Shape → Memory → ℕ → Type 0
 MayHold h s k g m cell = ((k.out ≡ false) × InNode h s k g m cell)
     ⊎ ((k.out ≡ true) × ((cell ≡ root_cell h) ⊎ IsWordOf (root_in h.size m) cell))
 
@@ -37,13 +37,13 @@ MayHold h s k g m cell = ((k.out ≡ false) × InNode h s k g m cell)
 -- is above the one that the log shows.
 pub record OfTreeCaller (h : Header) (script : Script) (part : List Did) (log : List Entry) (c : ℕ) (k : TreeHand)
     (g : Shape) (m : Memory) : Type 0 where
-  pub right : (g' : Shape) (now : Memory) → TreeRely h (standing_in part) k g m g' now
-      → TreeRight h (standing_in part) k g' now (left_after script part)
+  pub right : (g' : Shape) (now : Memory) → TreeRely h (situation_after part) k g m g' now
+      → TreeRight h (situation_after part) k g' now (left_after script part)
   pub pending : k.pending ≡ block_writes c log
   pub called : k.called ≡ open_call c log
-  pub covers : (w : ℕ) → holds_word c w log ≡ true → MayHold h (standing_in part) k g m w
+  pub covers : (w : ℕ) → holds_word c w log ≡ true → MayHold h (situation_after part) k g m w
   pub owns : Owns h k g m
-  pub alone : k.out ≡ true → (holds (standing_in part) (root_lock h) ≡ true) × ((standing_in part).in_block ≡ true)
+  pub alone : k.out ≡ true → (holds (situation_after part) (root_lock h) ≡ true) × ((situation_after part).in_block ≡ true)
   pub ahead : k.out ≡ true → g.top < level_at m (root_in h.size m)
 
 -- no block's writes are seen before its end: callers see what the log shows

@@ -3,7 +3,7 @@ use Rattle.std.specs.Prelude.{◌≡◌, ◌≢◌, ◌⊎◌, ℕ, ◌<◌, ◌
 use Rattle.vyrd_base.specs.declared.header.Header.{Header}
 use Rattle.vyrd_base.specs.Callers.{Called}
 use Rattle.vyrd_memory.specs.Alone.{Memory}
-use Rattle.vyrd_memory.specs.Soundness.{Standing, holds, at_rest}
+use Rattle.vyrd_memory.specs.Soundness.{Situation, holds, at_rest}
 use Rattle.vyrd_tree.specs.Cells.{node_cell, root_cell, used_cell, lock_of, root_lock, used_lock}
 use Rattle.vyrd_tree.specs.Contents.{level_at, last_in}
 use Rattle.vyrd_every.specs.Trees.Shapes.{Shape, Hangs}
@@ -24,7 +24,7 @@ abbrev pub empty_tree_hand : TreeHand
 empty_tree_hand = record { fresh = None; hanging = None; pending = []; out = false; called = None; answered = None }
 
 -- nothing is in hand, and no lock is held
-pub record TreeRests (s : Standing) (k : TreeHand) : Type 0 where
+pub record TreeRests (s : Situation) (k : TreeHand) : Type 0 where
   pub rests : s ≡ at_rest
   pub fresh : k.fresh ≡ None
   pub hanging : k.hanging ≡ None
@@ -50,7 +50,7 @@ pub record IsWordOf (node cell : ℕ) : Type 0 where
 
 -- a word that may be loaded of a node: any one of a linked node whose lock is held, and the level of any
 -- linked node
-pub record OfNode (h : Header) (s : Standing) (g : Shape) (cell : ℕ) : Type 0 where
+pub record OfNode (h : Header) (s : Situation) (g : Shape) (cell : ℕ) : Type 0 where
   pub node : ℕ
   pub place : ℕ
   pub is : cell ≡ node_cell node place
@@ -59,12 +59,12 @@ pub record OfNode (h : Header) (s : Standing) (g : Shape) (cell : ℕ) : Type 0 
   pub may : (holds s (lock_of h node) ≡ true) ⊎ (place ≡ 0)
 
 -- a word that may be loaded: of a node, the root's word, and, under its lock, the count of nodes in use
-abbrev pub MayLoad : Header → Standing → Shape → ℕ → Type 0
+abbrev pub MayLoad : Header → Situation → Shape → ℕ → Type 0
 MayLoad h s g cell = OfNode h s g cell ⊎ (cell ≡ root_cell h) ⊎ ((cell ≡ used_cell h) × (holds s (used_lock h) ≡ true))
 
 -- a word that may be stored of a node: any one of the node that was taken, and any but the level of a
 -- linked node whose lock is held and which isn't above the root that the log shows
-pub record InNode (h : Header) (s : Standing) (k : TreeHand) (g : Shape) (m : Memory) (cell : ℕ) : Type 0 where
+pub record InNode (h : Header) (s : Situation) (k : TreeHand) (g : Shape) (m : Memory) (cell : ℕ) : Type 0 where
   pub node : ℕ
   pub place : ℕ
   pub is : cell ≡ node_cell node place
@@ -74,7 +74,7 @@ pub record InNode (h : Header) (s : Standing) (k : TreeHand) (g : Shape) (m : Me
 
 -- A word that may be stored: in a block whose writes aren't seen yet, one of a node, or the root's word
 -- under its lock; and outside of blocks the count of nodes in use, under its lock.
-abbrev pub MayStore : Header → Standing → TreeHand → Shape → Memory → ℕ → Type 0
+abbrev pub MayStore : Header → Situation → TreeHand → Shape → Memory → ℕ → Type 0
 MayStore h s k g m cell =
     ((s.in_block ≡ true) × (k.out ≡ false)
     × (InNode h s k g m cell ⊎ ((cell ≡ root_cell h) × (holds s (root_lock h) ≡ true))))

@@ -12,7 +12,7 @@ use Rattle.vyrd_memory.specs.declared.act.Act.{Act}
 use Rattle.vyrd_memory.specs.declared.act.Act.TheVariants.{Load, Store, Take, Give, Mark, Done}
 use Rattle.vyrd_memory.specs.Alone.{Memory}
 use Rattle.vyrd_memory.specs.Scripts.{Script, stop, step}
-use Rattle.vyrd_memory.specs.Soundness.{Standing, holds, after_act}
+use Rattle.vyrd_memory.specs.Soundness.{Situation, holds, after_act}
 use Rattle.vyrd_tree.specs.Cells.{root_lock}
 use Rattle.vyrd_tree.specs.Contents.{level_at, last_in, root_in}
 use Rattle.vyrd_every.specs.Hands.{answer_at, pending_after, called_after}
@@ -26,7 +26,7 @@ use Rattle.vyrd_every.specs.Trees.Others.{Grows, TreeRely, TreeLeaves}
 -- What an act may reach. A load is not within a block, where own writes are hidden. A lock is taken only
 -- above all that are held, so that no callers wait for one another in a circle. None is given back in a
 -- block.
-abbrev pub TreeReaches : Header → Standing → TreeHand → Shape → Memory → Act → Type 0
+abbrev pub TreeReaches : Header → Situation → TreeHand → Shape → Memory → Act → Type 0
 TreeReaches h s k g m (Load cell) = MayLoad h s g cell × (s.in_block ≡ false)
 TreeReaches h s k g m (Store cell value) = MayStore h s k g m cell
 TreeReaches h s k g m (Take lock) = (held : ℕ) → holds s held ≡ true → held < lock
@@ -72,7 +72,7 @@ TreeAnswers k g m _ next = next.answered ≡ k.answered
 -- An act does right: it reaches what it may, undoes nothing that stays true for good, leaves alone what
 -- others rely on, keeps the tree, and leads to the right state. The next hand is what the caller has in
 -- hand then, and the next shape that of the tree.
-pub record TreeDoes (h : Header) (s : Standing) (k : TreeHand) (g : Shape) (m : Memory) (act : Act)
+pub record TreeDoes (h : Header) (s : Situation) (k : TreeHand) (g : Shape) (m : Memory) (act : Act)
     (rest : Script) (next : TreeHand) (g' : Shape) : Type 0 where
   pub reaches : TreeReaches h s k g m act
   pub grows : Grows g m g' (seen_after h s k m act)
@@ -111,7 +111,7 @@ pub record TreeDoes (h : Header) (s : Standing) (k : TreeHand) (g : Shape) (m : 
 
 -- A script does right from here on: its next act does, and whatever the others make of the tree then, so
 -- does the rest. At its end the caller is at rest.
-abbrev pub TreeRight : Header → Standing → TreeHand → Shape → Memory → Script → Type 0
+abbrev pub TreeRight : Header → Situation → TreeHand → Shape → Memory → Script → Type 0
 TreeRight h s k g m stop = TreeRests s k
 TreeRight h s k g m (step act rest) = (next : TreeHand) × (grown : Shape) × TreeDoes h s k g m act (rest 0) next grown
     × ((g' : Shape) → (now : Memory) → TreeRely h (after_act s act) next grown (seen_after h s k m act) g' now

@@ -14,7 +14,7 @@ use Rattle.vyrd_base.proofs.TestLaws.{first_true, second_true}
 use Rattle.vyrd_memory.specs.declared.act.Act.{Act}
 use Rattle.vyrd_memory.specs.declared.act.Act.TheVariants.{Load, Store, Take, Give, Mark, Done}
 use Rattle.vyrd_memory.specs.Scripts.{Script, stop, step, next_act, after_answer, is_stop, is_call_or_done, is_between, IsAnswer}
-use Rattle.vyrd_memory.specs.Soundness.{Standing, IsSoundSomewhere, after_act, may_act, is_at_rest, holds_none}
+use Rattle.vyrd_memory.specs.Soundness.{Situation, IsSoundSomewhere, after_act, may_act, is_at_rest, holds_none}
 use Rattle.vyrd_memory.specs.Bounds.{is_return}
 use Rattle.vyrd_memory.specs.InHand.{IsInHand}
 
@@ -31,7 +31,7 @@ is_of_some Q None p e if_some = cc
 is_of_some Q (Some x) p e if_some = let same : x ≡ p = cc in subst Q same if_some
 
 pub in_hand_sound : (h : Header) (n : ℕ) (script : Script) → InHand h n script → IsSoundSomewhere h script
-in_hand_sound h n script hand = ∥∥₁_map hand (λ is. (is.standing, is.sound))
+in_hand_sound h n script hand = ∥∥₁_map hand (λ is. (is.situation, is.sound))
 
 not_done : (h : Header) (n : ℕ) (script : Script) → IsInHand h n script → next_act script ≢ Done
 not_done h n stop is = absurd is.ends
@@ -56,7 +56,7 @@ pub in_hand_left : (h : Header) (n : ℕ) (script : Script) → InHand h n scrip
 in_hand_left h n script hand = let e : nat_le 1 n ≡ true = ∥∥₁_elim hand (Bool-set _ _) (some_left h n script) in grind (arith, nat_tests)
 
 -- an act that is allowed in an open execution is no call
-pub no_call : (h : Header) (s : Standing) (act : Act) → is_some s.called ≡ true → may_act h s act ≡ true → is_call_or_done act ≡ false
+pub no_call : (h : Header) (s : Situation) (act : Act) → is_some s.called ≡ true → may_act h s act ≡ true → is_call_or_done act ≡ false
 no_call h s (Load cell) called may = refl
 no_call h s (Store cell value) called may = refl
 no_call h s (Take lock) called may = refl
@@ -73,7 +73,7 @@ no_call h s (Mark (Call method args)) called may =
     not_both None some none = cc
     not_both (Some x) some none = cc
 
-    idle_called : (s : Standing) → is_at_rest s ≡ true → is_none s.called ≡ true
+    idle_called : (s : Situation) → is_at_rest s ≡ true → is_none s.called ≡ true
     idle_called s e =
         second_true (holds_none s) (is_none s.called)
         (first_true (holds_none s && is_none s.called) (not s.committed)
@@ -86,7 +86,7 @@ no_call h s (Mark BlockClose) called may = refl
 no_call h s (Mark BlockCommit) called may = refl
 
 -- the execution stays open until its return
-pub still_called : (s : Standing) (act : Act) → is_some s.called ≡ true → is_return act ≡ false → is_some (after_act s act).called ≡ true
+pub still_called : (s : Situation) (act : Act) → is_some s.called ≡ true → is_return act ≡ false → is_some (after_act s act).called ≡ true
 still_called s (Load cell) called goes = called
 still_called s (Store cell value) called goes = called
 still_called s (Take lock) called goes = called
@@ -105,15 +105,15 @@ next_in_hand : (h : Header) (n : ℕ) (script : Script) (answer : ℕ) → is_re
     → IsInHand h (n - 1) (after_answer script answer)
 next_in_hand h n stop answer goes is_answer is = absurd is.ends
 next_in_hand h n (step act rest) answer goes is_answer is = record {
-  standing = after_act is.standing act;
-  called = still_called is.standing act is.called goes;
+  situation = after_act is.situation act;
+  called = still_called is.situation act is.called goes;
   sound = is.sound.1 answer is_answer;
   ends = is.ends.2 goes answer is_answer;
 }
 
 isnt_call : (h : Header) (n : ℕ) (script : Script) → IsInHand h n script → is_between script ≡ false
 isnt_call h n stop is = absurd is.ends
-isnt_call h n (step act rest) is = no_call h is.standing act is.called is.sound.0
+isnt_call h n (step act rest) is = no_call h is.situation act is.called is.sound.0
 
 pub in_hand_isnt_between : (h : Header) (n : ℕ) (script : Script) → InHand h n script → is_between script ≡ false
 in_hand_isnt_between h n script hand = ∥∥₁_elim hand (Bool-set _ _) (isnt_call h n script)

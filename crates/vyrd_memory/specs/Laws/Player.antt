@@ -19,7 +19,7 @@ use Rattle.vyrd_memory.specs.declared.act.Act.{Act}
 use Rattle.vyrd_memory.specs.declared.act.Act.TheVariants.{Load, Store, Take, Give, Mark, Done}
 use Rattle.vyrd_memory.specs.declared.op.Op.{Op}
 use Rattle.vyrd_memory.specs.Scripts.{Script, stop, step, next_act, after_answer, followed_by, operations, is_between, is_call_or_done, IsAnswer}
-use Rattle.vyrd_memory.specs.Soundness.{Standing, IsSound, IsSoundSomewhere, at_rest, just_called, after_act}
+use Rattle.vyrd_memory.specs.Soundness.{Situation, IsSound, IsSoundSomewhere, at_rest, just_called, after_act}
 use Rattle.vyrd_memory.specs.Bounds.{EndsByReturn, EndsWithin, SumsUp, bound_taken, is_return, bound_of, bound_in, bounds_of}
 use Rattle.vyrd_memory.specs.InHand.{IsInHand}
 use Rattle.vyrd_memory.specs.Laws.Hand.{no_call, still_called, stop_of, in_hand_goes_on, in_hand_isnt_between, in_hand_over}
@@ -34,7 +34,7 @@ AreSound h body = (op : Op) → is_callable h op ≡ true → IsSound h (just_ca
 abbrev pub AreBounded : Header → (Op → Script) → Type 0
 AreBounded h body = (op : Op) → is_callable h op ≡ true → EndsByReturn (bound_of h op.method - 1) (body op)
 
-followed-sound : (h : Header) (s : Standing) (a b : Script) → IsSound h s a → IsSound h at_rest b → IsSound h s (followed_by a b)
+followed-sound : (h : Header) (s : Situation) (a b : Script) → IsSound h s a → IsSound h at_rest b → IsSound h s (followed_by a b)
 followed-sound h s stop b first then_ = subst (λ s. IsSound h s b) (sym first) then_
 followed-sound h s (step act rest) b first then_ =
     (first.0, λ answer is. followed-sound h (after_act s act) (rest answer) b (first.1 answer is) then_)
@@ -67,7 +67,7 @@ operations-sound h body (op ∷ ops) each callable = (
 )
 
 pub followed-somewhere : (h : Header) (n : ℕ) (a b : Script) → ∥ IsInHand h n a ∥₁ → IsSound h at_rest b → IsSoundSomewhere h (followed_by a b)
-followed-somewhere h n a b hand later = ∥∥₁_map hand (λ is. (is.standing, followed-sound h is.standing a b is.sound later))
+followed-somewhere h n a b hand later = ∥∥₁_map hand (λ is. (is.situation, followed-sound h is.situation a b is.sound later))
 
 followed-ends : (n : ℕ) (a b : Script) → EndsByReturn n a → EndsWithin n (followed_by a b)
 followed-ends n stop b ends = absurd ends
@@ -132,7 +132,7 @@ return_zero Done answer ends is = is
 return_zero (Mark kind) answer ends is = is
 
 -- a procedure calls nothing, so what follows it sums up as before
-followed-sums : (h : Header) (s : Standing) (k n : ℕ) (a b : Script) → is_some s.called ≡ true → IsSound h s a → EndsByReturn k a
+followed-sums : (h : Header) (s : Situation) (k n : ℕ) (a b : Script) → is_some s.called ≡ true → IsSound h s a → EndsByReturn k a
     → SumsUp h n b → SumsUp h n (followed_by a b)
 followed-sums h s k n stop b called sound ends sums = absurd ends
 followed-sums h s k n (step act rest) b called sound ends sums =

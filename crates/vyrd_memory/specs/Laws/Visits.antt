@@ -11,7 +11,7 @@ use Rattle.vyrd_base.proofs.TestLaws.{first_true, second_true}
 use Rattle.vyrd_memory.specs.declared.act.Act.{Act}
 use Rattle.vyrd_memory.specs.declared.act.Act.TheVariants.{Load, Store, Take, Give, Mark, Done}
 use Rattle.vyrd_memory.specs.Scripts.{stop, next_act, after_answer, is_call_or_done, is_between, IsAnswer}
-use Rattle.vyrd_memory.specs.Soundness.{Standing, IsSound, IsSoundSomewhere, at_rest, after_act, is_nil}
+use Rattle.vyrd_memory.specs.Soundness.{Situation, IsSound, IsSoundSomewhere, at_rest, after_act, is_nil}
 use Rattle.vyrd_memory.specs.Bounds.{bound_of, EndsWithin, SumsUp, bound_taken, is_return}
 use Rattle.vyrd_memory.specs.Visits.{visited, listed, rest_of_visit, visit, ahead_after}
 
@@ -27,7 +27,7 @@ visit_sound : (crosses : Bool) → IsSound visited at_rest (listed (visit crosse
 visit_sound false = (refl, λ a i. (refl, λ a i. (refl, λ a i. (refl, λ a i. (refl, λ a i. (refl, λ a i. (refl, λ a i. (refl, λ a i. (refl, λ a i. refl)))))))))
 visit_sound true = (refl, λ a i. (refl, λ a i. (refl, λ a i. (refl, λ a i. (refl, λ a i. (refl, λ a i. (refl, λ a i. (refl, λ a i. (refl, λ a i. refl)))))))))
 
-sound_later : (h : Header) (s : Standing) (acts : List Act) (n : ℕ) → IsSound h s (listed acts) → IsSoundSomewhere h (listed (drop n acts))
+sound_later : (h : Header) (s : Situation) (acts : List Act) (n : ℕ) → IsSound h s (listed acts) → IsSoundSomewhere h (listed (drop n acts))
 sound_later h s acts zero sound = ∣ (s, sound) ∣₁
 sound_later h s [] (suc n) sound = ∣ (s, sound) ∣₁
 sound_later h s (act ∷ acts) (suc n) sound = sound_later h (after_act s act) acts n (sound.1 0 (zero_is_answer act))

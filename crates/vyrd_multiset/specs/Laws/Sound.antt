@@ -20,7 +20,7 @@ use Rattle.vyrd_memory.specs.declared.op.Variant.{Variant}
 use Rattle.vyrd_memory.specs.declared.op.Variant.TheVariants.{Correct, Broken}
 use Rattle.vyrd_memory.specs.Scripts.{Script, step, perform, returns, gives_up}
 use Rattle.vyrd_memory.specs.Arguments.{are_small}
-use Rattle.vyrd_memory.specs.Soundness.{Standing, IsSound, just_called, holds}
+use Rattle.vyrd_memory.specs.Soundness.{Situation, IsSound, just_called, holds}
 use Rattle.vyrd_multiset.specs.Cells.{bucket_of, first_slot, state_cell, value_cell, lock_of, lock}
 use Rattle.vyrd_multiset.specs.Cells.{unlock}
 use Rattle.vyrd_multiset.specs.Procedures.{reserve, find_from, find, commit_state, inserted}
@@ -57,15 +57,15 @@ is_its_lock h is bucket low =
     ∙ between (8 * h.size) h.size (8 * h.size + bucket) (omega arith) (omega arith)
 
 -- what a caller is in the middle of, where it holds these locks and has called this method
-abbrev pub holding : List ℕ → Method → Bool → Standing
+abbrev pub holding : List ℕ → Method → Bool → Situation
 holding locks method committed = record { locks = locks; called = Some method; committed = committed; in_block = false }
 
-load_sound : (h : Header) (s : Standing) (cell : ℕ) (rest : ℕ → Script) → is_plain (cells_of h) cell ≡ true
+load_sound : (h : Header) (s : Situation) (cell : ℕ) (rest : ℕ → Script) → is_plain (cells_of h) cell ≡ true
     → ((answer : ℕ) → IsSound h s (rest answer))
     → IsSound h s (step (Load cell) rest)
 load_sound h s cell rest plain later = (plain, λ answer is. later answer)
 
-store_sound : (h : Header) (s : Standing) (cell value : ℕ) (later : Script) → is_plain (cells_of h) cell ≡ true → value < 2 ^ 63
+store_sound : (h : Header) (s : Situation) (cell value : ℕ) (later : Script) → is_plain (cells_of h) cell ≡ true → value < 2 ^ 63
     → is_some s.called ≡ true
     → IsSound h s later → IsSound h s (perform (Store cell value) later)
 store_sound h s cell value later plain low called sound =
@@ -101,7 +101,7 @@ gives_up_sound : (h : Header) (method : Method) → is_observer method ≡ false
 gives_up_sound h method mutates = (simp mutates, λ answer is. returns_sound h method 0)
 
 -- finding a slot is sound where what follows is, for every slot that it may find and where it finds none
-find_from_sound : (h : Header) (s : Standing) (left slot value : ℕ) (found : Option ℕ → Script) → h.subject ≡ Multiset → is_some s.called ≡ true
+find_from_sound : (h : Header) (s : Situation) (left slot value : ℕ) (found : Option ℕ → Script) → h.subject ≡ Multiset → is_some s.called ≡ true
     → slot + left ≤ 4 * h.size → value < 2 ^ 63 → ((i : ℕ) → i < 4 * h.size → IsSound h s (found (Some i))) → IsSound h s (found None)
     → IsSound h s (find_from left slot value found)
 find_from_sound h s zero slot value found is called fits low some none = none
@@ -120,7 +120,7 @@ find_from_sound h s (suc left) slot value found is called fits low some none =
       | false ↦ find_from_sound h s left (slot + 1) value found is called (omega arith) low some none
     ])
 
-search_from_sound : (h : Header) (s : Standing) (left slot value : ℕ) (ended : Option ℕ → Script) → h.subject ≡ Multiset
+search_from_sound : (h : Header) (s : Situation) (left slot value : ℕ) (ended : Option ℕ → Script) → h.subject ≡ Multiset
     → slot + left ≤ 4 * h.size → ((i : ℕ) → i < 4 * h.size → IsSound h s (ended (Some i))) → IsSound h s (ended None)
     → IsSound h s (search_from left slot value ended)
 search_from_sound h s zero slot value ended is fits some none = none
@@ -169,7 +169,7 @@ search_in_sound h method x ended is some none =
     (search_from_sound h (holding (lock_of h b ∷ []) method false) 4 (first_slot b) x ended is (slots_fit h x) some none)
 
 -- in a block
-abbrev in_block : List ℕ → Method → Standing
+abbrev in_block : List ℕ → Method → Situation
 in_block locks method = record { locks = locks; called = Some method; committed = false; in_block = true }
 
 commit_state_sound : (h : Header) (method : Method) (x slot state : ℕ) → h.subject ≡ Multiset → is_observer method ≡ false

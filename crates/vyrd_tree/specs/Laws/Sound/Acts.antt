@@ -12,10 +12,10 @@ use Rattle.vyrd_base.specs.Histories.{cells_of, is_plain, is_lock}
 use Rattle.vyrd_base.proofs.TestLaws.{both_true, same_number, is_below, is_at_most, lower_isnt}
 use Rattle.vyrd_memory.specs.declared.act.Act.TheVariants.{Load, Store, Take, Give}
 use Rattle.vyrd_memory.specs.Scripts.{Script, step, perform, returns, gives_up}
-use Rattle.vyrd_memory.specs.Soundness.{Standing, IsSound, holds}
+use Rattle.vyrd_memory.specs.Soundness.{Situation, IsSound, holds}
 
 -- these locks are held in an execution of the method, and whether that has committed and whether a block is open
-abbrev pub holding : List ℕ → Method → Bool → Bool → Standing
+abbrev pub holding : List ℕ → Method → Bool → Bool → Situation
 holding locks method committed in_block = record { locks = locks; called = Some method; committed = committed; in_block = in_block }
 
 pub plain_cell : (h : Header) (cell : ℕ) → h.subject ≡ Tree → cell < 12 * h.size + 2 → is_plain (cells_of h) cell ≡ true
@@ -31,7 +31,7 @@ lock_cell h lock is fits =
     ∙ both_true _ _ (is_at_most (12 * h.size + 2) lock fits.0) (is_below lock (12 * h.size + 2 + (h.size + 2)) (omega (arith, fits.1)))
 
 -- a load
-pub loads : (h : Header) (s : Standing) (cell : ℕ) (rest : ℕ → Script) → h.subject ≡ Tree → cell < 12 * h.size + 2
+pub loads : (h : Header) (s : Situation) (cell : ℕ) (rest : ℕ → Script) → h.subject ≡ Tree → cell < 12 * h.size + 2
     → ((value : ℕ) → value < 2 ^ 63 → IsSound h s (rest value)) → IsSound h s (step (Load cell) rest)
 loads h s cell rest is low sound = (plain_cell h cell is low, sound)
 
@@ -96,7 +96,7 @@ pub gave_up : (h : Header) (method : Method) → is_observer method ≡ false �
 gave_up h method mutates = (rw mutates, λ _ _. returned h method true 0 (rw mutates))
 
 -- both ways of a choice, each of which knows the test
-pub either : (h : Header) (s : Standing) (b : Bool) (x y : Script) → (b ≡ true → IsSound h s x) → (b ≡ false → IsSound h s y)
+pub either : (h : Header) (s : Situation) (b : Bool) (x y : Script) → (b ≡ true → IsSound h s x) → (b ≡ false → IsSound h s y)
     → IsSound h s (cond b x y)
 either h s true x y e f = e refl
 either h s false x y e f = f refl

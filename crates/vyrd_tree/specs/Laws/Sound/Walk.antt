@@ -10,7 +10,7 @@ use Rattle.vyrd_base.specs.declared.subject.Method.{Method}
 use Rattle.vyrd_memory.specs.declared.act.Act.TheVariants.{Load}
 use Rattle.vyrd_memory.specs.declared.op.Variant.{Variant}
 use Rattle.vyrd_memory.specs.Scripts.{Script, step}
-use Rattle.vyrd_memory.specs.Soundness.{Standing, IsSound}
+use Rattle.vyrd_memory.specs.Soundness.{Situation, IsSound}
 use Rattle.vyrd_tree.specs.Cells.{level_cell, count_cell, bound_cell, right_cell, key_cell, value_cell, lock_of, unlock_node}
 use Rattle.vyrd_tree.specs.Procedures.Walk.{Arrived, load_keys, load_values, child_place, to_child}
 use Rattle.vyrd_tree.specs.Procedures.Walk.{descend, load_rest, arrive, moves_right, pass_on}
@@ -41,7 +41,7 @@ pub record IsLoaded (h : Header) (at : Arrived) : Type 0 where
   pub few : length at.entries ≤ 4
   pub small : AreSmallEntries at.entries
 
-keys_sound : (h : Header) (s : Standing) (left node place : ℕ) (loaded : List ℕ → Script) → h.subject ≡ Tree → node < h.size → place + left ≤ 4
+keys_sound : (h : Header) (s : Situation) (left node place : ℕ) (loaded : List ℕ → Script) → h.subject ≡ Tree → node < h.size → place + left ≤ 4
     → ((keys : List ℕ) → length keys ≡ left → AreSmall keys → IsSound h s (loaded keys)) → IsSound h s (load_keys left node place loaded)
 keys_sound h s zero node place loaded is low fits sound = sound [] refl tt
 keys_sound h s (suc left) node place loaded is low fits sound =
@@ -49,7 +49,7 @@ keys_sound h s (suc left) node place loaded is low fits sound =
     (λ key small. keys_sound h s left node (place + 1) (λ keys. loaded (key ∷ keys)) is low (omega arith)
     (λ keys len all. sound (key ∷ keys) (ap suc len) (small, all)))
 
-values_sound : (h : Header) (s : Standing) (keys : List ℕ) (node place : ℕ) (loaded : List (ℕ × ℕ) → Script) → h.subject ≡ Tree → node < h.size
+values_sound : (h : Header) (s : Situation) (keys : List ℕ) (node place : ℕ) (loaded : List (ℕ × ℕ) → Script) → h.subject ≡ Tree → node < h.size
     → place + length keys ≤ 4 → AreSmall keys
     → ((entries : List (ℕ × ℕ)) → length entries ≡ length keys → AreSmallEntries entries → IsSound h s (loaded entries))
     → IsSound h s (load_values keys node place loaded)
@@ -72,7 +72,7 @@ child_low key (x ∷ y ∷ keys) (suc n) fits =
     ]
 
 -- a node's lock is held, and no block is open
-abbrev at_node : Header → ℕ → Method → Bool → Standing
+abbrev at_node : Header → ℕ → Method → Bool → Situation
 at_node h node method committed = holding (lock_of h node ∷ []) method committed false
 
 descend_sound : (h : Header) (method : Method) (committed : Bool) (key node count : ℕ) (lost : Script) (visit : ℕ → Script)
@@ -109,7 +109,7 @@ abbrev first_loads : ℕ → (ℕ → ℕ → ℕ → ℕ → Script) → Script
 first_loads node rest = step (Load (level_cell node)) (λ level. step (Load (count_cell node)) (λ count.
     step (Load (bound_cell node)) (λ bound. step (Load (right_cell node)) (λ right. rest level count bound right))))
 
-first_loads_sound : (h : Header) (s : Standing) (node : ℕ) (rest : ℕ → ℕ → ℕ → ℕ → Script) → h.subject ≡ Tree → node < h.size
+first_loads_sound : (h : Header) (s : Situation) (node : ℕ) (rest : ℕ → ℕ → ℕ → ℕ → Script) → h.subject ≡ Tree → node < h.size
     → ((level count bound right : ℕ) → level < 2 ^ 63 → bound < 2 ^ 63 → right < 2 ^ 63 → IsSound h s (rest level count bound right))
     → IsSound h s (first_loads node rest)
 first_loads_sound h s node rest is low sound =

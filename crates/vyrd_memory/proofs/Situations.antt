@@ -1,4 +1,4 @@
--- Where a caller stands after its part of a history, the newest event first. A sound script that is played keeps to what may be
+-- The situation of a caller after its part of a history, the newest event first. A sound script that is played keeps to what may be
 -- done.
 use Rattle.std.proofs.Common.{◌≡◌, true, List, [], ◌∷◌, Option, Some, refl, ap, sym, subst}
 use Rattle.vyrd_base.specs.declared.header.Header.{Header}
@@ -7,7 +7,7 @@ use Rattle.vyrd_base.specs.declared.history.Did.TheVariants.{Read, Wrote, Took, 
 use Rattle.vyrd_memory.specs.declared.act.Act.{Act}
 use Rattle.vyrd_memory.specs.declared.act.Act.TheVariants.{Load, Store, Take, Give, Mark, Done}
 use Rattle.vyrd_memory.specs.Scripts.{Script, stop, step, next_act, after_answer, event_of, answer_of, left_after, IsAnswer, Plays}
-use Rattle.vyrd_memory.specs.Soundness.{Standing, at_rest, may_act, after_act, IsSound}
+use Rattle.vyrd_memory.specs.Soundness.{Situation, at_rest, may_act, after_act, IsSound}
 use Rattle.vyrd_memory.specs.Turns.{is_done}
 
 -- the act whose event it is
@@ -18,15 +18,15 @@ act_of_event (Took lock) = Take lock
 act_of_event (Gave lock) = Give lock
 act_of_event (Marked kind) = Mark kind
 
--- where the caller stands after these events
-abbrev pub standing_in : List Did → Standing
-standing_in [] = at_rest
-standing_in (did ∷ earlier) = after_act (standing_in earlier) (act_of_event did)
+-- the caller's situation after these events
+abbrev pub situation_after : List Did → Situation
+situation_after [] = at_rest
+situation_after (did ∷ earlier) = after_act (situation_after earlier) (act_of_event did)
 
--- each event may come where it stands
+-- each event may come in the situation that those before it leave
 abbrev pub KeepsTo : Header → List Did → Type 0
 KeepsTo h [] = Unit {0}
-KeepsTo h (did ∷ earlier) = (may_act h (standing_in earlier) (act_of_event did) ≡ true) × KeepsTo h earlier
+KeepsTo h (did ∷ earlier) = (may_act h (situation_after earlier) (act_of_event did) ≡ true) × KeepsTo h earlier
 
 -- each event gave an answer that its act may have
 abbrev pub AreAnswers : List Did → Type 0
@@ -45,12 +45,12 @@ event_act (Mark kind) did e = ap act_of_event (some_same (Marked kind) did e)
 event_act Done did e = cc
 
 -- an event of a sound script may come, and what is left is sound after it
-sound_may : (h : Header) (s : Standing) (script : Script) (did : Did) → IsSound h s script → event_of (next_act script) (answer_of did) ≡ Some did
+sound_may : (h : Header) (s : Situation) (script : Script) (did : Did) → IsSound h s script → event_of (next_act script) (answer_of did) ≡ Some did
     → may_act h s (act_of_event did) ≡ true
 sound_may h s stop did sound e = cc
 sound_may h s (step act rest) did sound e = subst (λ act. may_act h s act ≡ true) (event_act act did e) sound.0
 
-sound_step : (h : Header) (s : Standing) (script : Script) (did : Did) → IsSound h s script → event_of (next_act script) (answer_of did) ≡ Some did
+sound_step : (h : Header) (s : Situation) (script : Script) (did : Did) → IsSound h s script → event_of (next_act script) (answer_of did) ≡ Some did
     → IsAnswer (act_of_event did) (answer_of did) → IsSound h (after_act s (act_of_event did)) (after_answer script (answer_of did))
 sound_step h s stop did sound e answer = cc
 sound_step h s (step act rest) did sound e answer =
@@ -60,24 +60,24 @@ sound_step h s (step act rest) did sound e answer =
 
 -- what is left of a sound script that was played so far
 pub sound_left : (h : Header) (script : Script) (dids : List Did) → IsSound h at_rest script → Plays script dids → AreAnswers dids
-    → IsSound h (standing_in dids) (left_after script dids)
+    → IsSound h (situation_after dids) (left_after script dids)
 sound_left h script [] sound plays answers = sound
 sound_left h script (did ∷ earlier) sound plays answers =
-    sound_step h (standing_in earlier) (left_after script earlier) did (sound_left h script earlier sound plays.1 answers.1) plays.0 answers.0
+    sound_step h (situation_after earlier) (left_after script earlier) did (sound_left h script earlier sound plays.1 answers.1) plays.0 answers.0
 
 pub sound_keeps : (h : Header) (script : Script) (dids : List Did) → IsSound h at_rest script → Plays script dids → AreAnswers dids → KeepsTo h dids
 sound_keeps h script [] sound plays answers = tt
 sound_keeps h script (did ∷ earlier) sound plays answers = (
-  sound_may h (standing_in earlier) (left_after script earlier) did (sound_left h script earlier sound plays.1 answers.1) plays.0,
+  sound_may h (situation_after earlier) (left_after script earlier) did (sound_left h script earlier sound plays.1 answers.1) plays.0,
   sound_keeps h script earlier sound plays.1 answers.1,
 )
 
 -- a sound script that is at its end has nothing in hand, and a sound script that does nothing more is at its end
-pub rests_at_stop : (h : Header) (s : Standing) (script : Script) → IsSound h s script → script ≡ stop → s ≡ at_rest
+pub rests_at_stop : (h : Header) (s : Situation) (script : Script) → IsSound h s script → script ≡ stop → s ≡ at_rest
 rests_at_stop h s stop sound e = sound
 rests_at_stop h s (step act rest) sound e = cc
 
-pub done_is_stop : (h : Header) (s : Standing) (script : Script) → IsSound h s script → is_done (next_act script) ≡ true → script ≡ stop
+pub done_is_stop : (h : Header) (s : Situation) (script : Script) → IsSound h s script → is_done (next_act script) ≡ true → script ≡ stop
 done_is_stop h s stop sound e = refl
 done_is_stop h s (step act rest) sound e = absurd (undone act sound.0 e)
   where
