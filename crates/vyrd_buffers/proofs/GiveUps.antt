@@ -14,7 +14,7 @@ use Rattle.vyrd_memory.specs.declared.op.Op.{Op}
 use Rattle.vyrd_memory.specs.declared.op.Variant.TheVariants.{Correct}
 use Rattle.vyrd_memory.specs.Scripts.{Script}
 use Rattle.vyrd_memory.specs.Alone.{Memory, state_in, alone, GivesUpWhere, state_after, MeetsSpecification}
-use Rattle.vyrd_memory.proofs.Memories.{stands}
+use Rattle.vyrd_memory.proofs.Memories.{represents}
 use Rattle.vyrd_buffers.specs.Procedures.{append, append_from, cut}
 use Rattle.vyrd_buffers.specs.Laws.Alone.{append_alone, append_from_alone, cut_alone}
 use Rattle.vyrd_buffers.specs.Laws.Alone.Done.{Appends}
@@ -62,7 +62,7 @@ pub append_gives_up : (h : Header) (memory : Memory) (state : Amounts) (c b x : 
     → GivesUpWhere (text_length (amount_of state b) ≡ 7) (alone c (append h b x) memory)
 append_gives_up h memory state c b x is low small e =
     append_meets h op (append h b x) c memory state b (x + 1) (λ reply. refl)
-    (append_alone h op c b x memory state is (stands h memory state e) low small (λ reply. refl))
+    (append_alone h op c b x memory state is (represents h memory state e) low small (λ reply. refl))
     (text_length (amount_of state b) ≡ 7)
     (λ full. seven (text_length (amount_of state b)) (length_at_most (amount_of state b)) (sym (full_length (amount_of state b) x small) ∙ full))
     (λ all. full_length (amount_of state b) x small ∙ ap (λ n. nat_le (n + 1) 7) all)
@@ -78,7 +78,7 @@ pub append_from_gives_up : (h : Header) (memory : Memory) (state : Amounts) (c b
     → GivesUpWhere (has_room (amount_of state b) (amount_of state s) ≡ false) (alone c (append_from h Correct b s) memory)
 append_from_gives_up h memory state c b s is low low_s e =
     append_meets h op (append_from h Correct b s) c memory state b (amount_of state s) (λ reply. refl)
-    (append_from_alone h op c b s memory state is (stands h memory state e) low low_s (λ reply. refl))
+    (append_from_alone h op c b s memory state is (represents h memory state e) low low_s (λ reply. refl))
     (has_room (amount_of state b) (amount_of state s) ≡ false) (λ full. full) (λ full. full)
   where
     op : Op
@@ -92,7 +92,7 @@ cut_never_gives_up h memory state c b n is low e = subst (GivesUpWhere ⊥) (sym
     op = record { method = BuCut; args = record { a = b; b = n; c = 0 } }
 
     m : MeetsSpecification h op (cut h b n) c memory state
-    m = cut_alone h op c b n memory state is (stands h memory state e) low refl
+    m = cut_alone h op c b n memory state is (represents h memory state e) low refl
 
     refuses : m.outcome.reply ≡ 0 → ⊥
     refuses none =

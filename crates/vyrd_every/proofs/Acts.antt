@@ -26,7 +26,7 @@ never e f = cc
 -- an act that changes nothing that the log shows, nor what is reserved
 pub quiet : (S : Structure) (s : Situation) (k : Hand) (shown : Memory) (act : Act) (rest : Script) (next : Hand) → shown_after s k shown act ≡ shown
     → next.owned ≡ k.owned → Reaches S s act
-    → ((state : Amounts) → S.Stands shown state → Leads S k act rest (shown_after s k shown act) state)
+    → ((state : Amounts) → S.Represents shown state → Leads S k act rest (shown_after s k shown act) state)
     → next.pending ≡ pending_after act k.pending → next.called ≡ called_after act k.called → Answers S k shown act next
     → ActsRight S s k shown act rest next
 quiet S s k shown act rest next same own reaches leads pending called answers = record {
@@ -98,7 +98,7 @@ mutates k called reply is mutator c is' observes =
 
 -- a commit outside a block
 pub lone_commit_right : (S : Structure) (locks : List ℕ) (k : Hand) (shown : Memory) (called : Called) (later : Script)
-    → ((state : Amounts) → S.Stands shown state → Commits k S later shown state)
+    → ((state : Amounts) → S.Represents shown state → Commits k S later shown state)
     → ((now : Memory) → Rely S (at locks true false called) k shown now → DoesRight S (at locks true false called) k now later)
     → DoesRight S (at locks false false called) k shown (perform (Mark Commit) later)
 lone_commit_right S locks k shown called later leads rest =
@@ -134,7 +134,7 @@ block_store_right S locks k shown called cell value later access rest = (
 -- a block commits, and its slots are reserved no more
 pub commit_right : (S : Structure) (locks : List ℕ) (k : Hand) (shown : Memory) (called : Called) (later : Script)
     → Guarantee S (at locks false true called) k shown (written k.pending shown)
-    → ((state : Amounts) → S.Stands shown state → Commits k S later (written k.pending shown) state)
+    → ((state : Amounts) → S.Represents shown state → Commits k S later (written k.pending shown) state)
     → ((now : Memory) → Rely S (at locks true false called) (without_slots k k.pending) (written k.pending shown) now
     → DoesRight S (at locks true false called) (without_slots k k.pending) now later)
     → DoesRight S (at locks false true called) k shown (perform (Mark BlockCommit) later)
@@ -156,7 +156,7 @@ commit_right S locks k shown called later guarantee leads rest = (
 -- a block is closed without a commit, and what it wrote shows the same state
 pub close_right : (S : Structure) (locks : List ℕ) (k : Hand) (shown : Memory) (called : Called) (later : Script)
     → Guarantee S (at locks false true called) k shown (written k.pending shown)
-    → ((state : Amounts) → S.Stands shown state → S.Stands (written k.pending shown) state)
+    → ((state : Amounts) → S.Represents shown state → S.Represents (written k.pending shown) state)
     → ((now : Memory) → Rely S (at locks false false called) (without_slots k k.pending) (written k.pending shown) now
     → DoesRight S (at locks false false called) (without_slots k k.pending) now later)
     → DoesRight S (at locks false true called) k shown (perform (Mark BlockClose) later)
@@ -177,7 +177,7 @@ close_right S locks k shown called later guarantee leads rest = (
 
 -- an observer has its answer when it gives its last lock back
 pub answer_right : (S : Structure) (k : Hand) (shown : Memory) (lock : ℕ) (called : Called) (reply : ℕ) → ((i : ℕ) → k.owned i ≡ false)
-    → k.called ≡ Some called → ((state : Amounts) → S.Stands shown state → answer_in state called.method called.args ≡ reply)
+    → k.called ≡ Some called → ((state : Amounts) → S.Represents shown state → answer_in state called.method called.args ≡ reply)
     → DoesRight S (at (lock ∷ []) false false called) k shown (perform (Give lock) (returns reply))
 answer_right S k shown lock called reply none is seen = (
   answered,

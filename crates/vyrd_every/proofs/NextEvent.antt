@@ -154,7 +154,7 @@ kept_step S scripts earlier hands passed state c (Marked kind) is sound run hold
 
 -- the state after the event
 commit_leads : (S : Structure) (k : Hand) (c : ℕ) (log : List Entry) (rest : Script) (now : Memory) (state : Amounts) → k.called ≡ open_call c log
-    → Commits k S rest now state → (next : Amounts) × S.Stands now next × Committing c log rest state next
+    → Commits k S rest now state → (next : Amounts) × S.Represents now next × Committing c log rest state next
 commit_leads S k c log rest now state called commits = (
   commits.next,
   commits.means,
@@ -162,8 +162,8 @@ commit_leads S k c log rest now state called commits = (
 )
 
 event_leads : (S : Structure) (s : Situation) (k next : Hand) (c : ℕ) (did : Did) (log : List Entry) (shown : Memory) (rest : Script) (state : Amounts)
-    → k.called ≡ open_call c log → ActsRight S s k shown (act_of_event did) rest next → S.Stands shown state
-    → (after : Amounts) × S.Stands (shown_after s k shown (act_of_event did)) after × Leading c did log rest state after
+    → k.called ≡ open_call c log → ActsRight S s k shown (act_of_event did) rest next → S.Represents shown state
+    → (after : Amounts) × S.Represents (shown_after s k shown (act_of_event did)) after × Leading c did log rest state after
 event_leads S s k next c (Read cell value) log shown rest state called does m = (state, does.leads state m, refl)
 event_leads S s k next c (Wrote cell value) log shown rest state called does m = (state, does.leads state m, refl)
 event_leads S s k next c (Took lock) log shown rest state called does m = (state, does.leads state m, refl)
@@ -218,7 +218,7 @@ seen_quiet c did k next log states more none same_call same_answer seen called i
     ∙ seen called (sym same_call ∙ is) reply (sym same_answer ∙ answer))
 
 seen_own : (S : Structure) (c : ℕ) (did : Did) (k next : Hand) (log : List Entry) (shown : Memory) (passed more : List Amounts) (state : Amounts)
-    → Answers S k shown (act_of_event did) next → next.called ≡ called_after (act_of_event did) k.called → S.Stands shown state
+    → Answers S k shown (act_of_event did) next → next.called ≡ called_after (act_of_event did) k.called → S.Represents shown state
     → length passed ≡ commit_count log → SeenBy k c log (passed ++ state ∷ [])
     → SeenBy next c (cons_option (logged c did) log) ((passed ++ state ∷ []) ++ more)
 seen_own S c (Read cell value) k next log shown passed more state answers called m count seen =
@@ -296,7 +296,7 @@ next_event S scripts earlier number c did hands passed state is sound run holds 
         (keeps_in S.header scripts earlier d sound before low_d) access_c access_d) (same_number c)))
         (holds.apart c d low low_d other))));
     apart = λ a b low_a low_b other slot mine its. two_apart a b low_a low_b other slot (c == a) refl (c == b) refl mine its;
-    means = subst (λ m. S.Stands m after.0) (sym own.shows) after.1;
+    means = subst (λ m. S.Represents m after.0) (sym own.shows) after.1;
     count = passed_step c did (log_in earlier) passed state holds.count;
     seen = λ d low_d called is_called reply answer. subst (λ states. has_answer states (commit_count (entries_before_call d log)) called reply ≡ true)
         (sym (path_grows c did (log_in earlier) left passed state after.0 after.2))
@@ -354,7 +354,7 @@ next_event S scripts earlier number c did hands passed state is sound run holds 
     own_now = subst (λ p. OfCaller S (script_of scripts c) p log c (now_hands c)) (sym (part_own number c did earlier))
         (subst (λ k. OfCaller S (script_of scripts c) (did ∷ part_of c earlier) log c k) (sym (ap (λ b. cond b own.next (hands c)) (same_number c))) own.one)
 
-    after : (next : Amounts) × S.Stands (shown_after s (hands c) (shown_by (log_in earlier)) (act_of_event did)) next
+    after : (next : Amounts) × S.Represents (shown_after s (hands c) (shown_by (log_in earlier)) (act_of_event did)) next
         × Leading c did (log_in earlier) left state next
     after = event_leads S s (hands c) own.next c did (log_in earlier) (shown_by (log_in earlier)) left state mine.called own.does holds.means
 

@@ -40,7 +40,7 @@ pub record OfCaller (S : Structure) (script : Script) (part : List Did) (log : L
   pub reserved : (slot : ℕ) → k.owned slot ≡ true → S.Reserved (shown_by log) slot
 
 -- The log so far is well formed; the above holds of each caller, with the hand that it has; no slot is
--- reserved by two callers; the memory stands for the state, and that state was led to by as many commits
+-- reserved by two callers; the memory represents the state, and that state was led to by as many commits
 -- as the log has; and an observer that has its answer found it in one of the states since its call.
 pub record Invariant (S : Structure) (scripts : List Script) (earlier : List Stamped) (hands : ℕ → Hand)
     (passed : List Amounts) (state : Amounts) : Type 0 where
@@ -49,7 +49,7 @@ pub record Invariant (S : Structure) (scripts : List Script) (earlier : List Sta
       → OfCaller S (script_of scripts c) (part_of c earlier) (log_in earlier) c (hands c)
   pub apart : (c d : ℕ) → c < S.header.callers → d < S.header.callers → (c == d) ≡ false
       → (slot : ℕ) → (hands c).owned slot ≡ true → (hands d).owned slot ≡ true → ⊥
-  pub means : S.Stands (shown_by (log_in earlier)) state
+  pub means : S.Represents (shown_by (log_in earlier)) state
   pub count : length passed ≡ commit_count (log_in earlier)
   pub seen : (c : ℕ) → c < S.header.callers → (called : Called) → (hands c).called ≡ Some called
       → (reply : ℕ) → (hands c).answered ≡ Some reply

@@ -37,7 +37,7 @@ WillReturn reply (step (Mark (Return other)) rest) = other ≡ reply
 WillReturn reply (step act rest) = (answer : ℕ) → IsAnswer act answer → WillReturn reply (rest answer)
 
 -- A commit leads from this state to another one: by the specification, with the reply that the script
--- will return, and the memory after the commit stands for it.
+-- will return, and the memory after the commit represents it.
 pub record Commits (k : Hand) (S : Structure) (rest : Script) (now : Memory) (state : Amounts) : Type 0 where
   pub called : Called
   pub is_called : k.called ≡ Some called
@@ -45,13 +45,13 @@ pub record Commits (k : Hand) (S : Structure) (rest : Script) (now : Memory) (st
   pub returns : WillReturn reply rest
   pub next : Amounts
   pub allowed : next_state called.method called.args reply state ≡ Some next
-  pub means : S.Stands now next
+  pub means : S.Represents now next
 
--- a commit leads to the next state, and after any other act the memory stands for the state as before
+-- a commit leads to the next state, and after any other act the memory represents the state as before
 abbrev pub Leads : Structure → Hand → Act → Script → Memory → Amounts → Type 0
 Leads S k (Mark Commit) rest now state = Commits k S rest now state
 Leads S k (Mark BlockCommit) rest now state = Commits k S rest now state
-Leads S k _ rest now state = S.Stands now state
+Leads S k _ rest now state = S.Represents now state
 
 -- an observer has its answer now: it is the answer in each state for which the memory may stand
 pub record Sees (S : Structure) (k next : Hand) (shown : Memory) : Type 0 where
@@ -59,7 +59,7 @@ pub record Sees (S : Structure) (k next : Hand) (shown : Memory) : Type 0 where
   pub is_called : k.called ≡ Some called
   pub reply : ℕ
   pub answer : next.answered ≡ Some reply
-  pub seen : (state : Amounts) → S.Stands shown state → answer_in state called.method called.args ≡ reply
+  pub seen : (state : Amounts) → S.Represents shown state → answer_in state called.method called.args ≡ reply
 
 -- An observer may find its answer when it gives a lock back. It keeps it until it returns, and returns no
 -- other. A call begins without one.
@@ -80,7 +80,7 @@ pub record ActsRight (S : Structure) (s : Situation) (k : Hand) (shown : Memory)
       → S.Reserved shown slot → S.Reserved (shown_after s k shown act) slot
   pub fresh : (slot : ℕ) → next.owned slot ≡ true → k.owned slot ≡ false
       → S.Free shown slot × S.Reserved (shown_after s k shown act) slot
-  pub leads : (state : Amounts) → S.Stands shown state → Leads S k act rest (shown_after s k shown act) state
+  pub leads : (state : Amounts) → S.Represents shown state → Leads S k act rest (shown_after s k shown act) state
   pub pending : next.pending ≡ pending_after act k.pending
   pub called : next.called ≡ called_after act k.called
   pub answers : Answers S k shown act next

@@ -1,9 +1,9 @@
--- What a structure is to the proof: which lock guards which word, for which state of the specification a
--- memory stands, and what a caller may reserve beyond its locks. Nothing else of a structure is known to
+-- What a structure is to the proof: which lock guards which word, which state of the specification a
+-- memory represents, and what a caller may reserve beyond its locks. Nothing else of a structure is known to
 -- the proof about schedules.
 --
 -- The memory is the one that the log shows. It has the writes that took effect, and not those of blocks
--- that are still open. So it is what the judge rebuilds, and a state stands for it between any two
+-- that are still open. So it is what the judge rebuilds, and it represents a state between any two
 -- events, also while somebody is in the middle of a block.
 use Rattle.std.specs.Prelude.{◌≡◌, ℕ, ◌<◌, true, List, []}
 use Rattle.vyrd_base.specs.declared.header.Header.{Header}
@@ -26,8 +26,8 @@ pub record Structure : Type 1 where
   -- the words with numbers below this one are guarded, each by its lock
   pub words : ℕ
   pub guard : ℕ → ℕ
-  -- the memory stands for the state
-  pub Stands : Memory → Amounts → Type 0
+  -- the memory represents the state
+  pub Represents : Memory → Amounts → Type 0
   -- Slots are what a caller may reserve: the others then leave its words alone, though nobody holds its
   -- lock. The memory shows which slots are free and which are reserved, and two memories may be the same
   -- at the words of a slot.
@@ -42,11 +42,11 @@ pub record Structure : Type 1 where
   pub apart : (a : Memory) (slot : ℕ) → Free a slot → Reserved a slot → ⊥
 
 -- The structure fits its header: its logs are of version 1, guarded words are plain, their guards are locks, the memory of no
--- entries stands for the first state, and where the memory that a log shows stands for a state, that
+-- entries represents the first state, and where the memory that a log shows represents a state, that
 -- state is the view of the words.
 pub record Fits (S : Structure) : Type 0 where
   pub version : S.header.version ≡ 1
   pub plain : (cell : ℕ) → cell < S.words → cell < plain_words S.header
   pub locks : (cell : ℕ) → cell < S.words → is_lock (cells_of S.header) (S.guard cell) ≡ true
-  pub begins : S.Stands (shown_by []) start
-  pub view : (log : List Entry) (state : Amounts) → S.Stands (shown_by log) state → view_of_words S.header (old_words_after S.header log) ≡ state
+  pub begins : S.Represents (shown_by []) start
+  pub view : (log : List Entry) (state : Amounts) → S.Represents (shown_by log) state → view_of_words S.header (old_words_after S.header log) ≡ state

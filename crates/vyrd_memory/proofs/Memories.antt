@@ -1,4 +1,4 @@
--- What it says of a memory that it stands for a state.
+-- What it says of a memory that it represents a state.
 use Rattle.std.proofs.Common.{◌≡◌, ℕ, ◌+◌, ◌<◌, ◌≤◌, Bool, true, false, cond, length, map, Some, refl, ap, ◌∙◌, sym, arith, rules}
 use Rattle.std.specs.Prelude.{◌==◌, ◌≢◌, ◌&&◌, drop, slice_index}
 use Rattle.std.specs.Bool.{then_some}
@@ -17,7 +17,7 @@ use Rattle.vyrd_memory.specs.Alone.{Memory, words_in, state_in, with_cell}
 use Rattle.vyrd_memory.proofs.NumberLists.{element_below, drop-from, all_pass, pass_all}
 
 -- the words are sound, the locks are free, and the state is what the words show
-pub record Stands (h : Header) (memory : Memory) (state : Amounts) : Type 0 where
+pub record Represents (h : Header) (memory : Memory) (state : Amounts) : Type 0 where
   pub sound : is_sound h.subject h.size (words_in h memory) ≡ true
   pub free : (lock : ℕ) → plain_words h ≤ lock → lock < plain_words h + lock_words h → memory lock ≡ 0
   pub shows : view_of_words h (words_in h memory) ≡ state
@@ -52,10 +52,10 @@ right_length h memory =
     let is : length (words_in h memory) ≡ plain_words h + lock_words h = length-mapped memory 0 (plain_words h + lock_words h) in
     grind (arith, nat_tests)
 
--- what a memory that stands for a state is
-pub stands : (h : Header) (memory : Memory) (state : Amounts) → state_in h memory ≡ Some state → Stands h memory state
+-- what a memory that represents a state is
+pub represents : (h : Header) (memory : Memory) (state : Amounts) → state_in h memory ≡ Some state → Represents h memory state
 unfolding state_of_words
-stands h memory state e = record {
+represents h memory state e = record {
   sound = first_true (is_sound h.subject h.size (words_in h memory)) (list_all is_free (drop (plain_words h) (words_in h memory))) both;
   free = λ lock from to. zero_of (memory lock) (all_pass (λ lock. is_free (memory lock)) (plain_words h) (lock_words h) free lock from to);
   shows = all.1;
@@ -74,10 +74,10 @@ stands h memory state e = record {
         sym (ap (list_all is_free) (locks_are h memory) ∙ free_list memory (plain_words h) (lock_words h))
         ∙ second_true (is_sound h.subject h.size (words_in h memory)) (list_all is_free (drop (plain_words h) (words_in h memory))) both
 
--- a memory that is so stands for the state
-pub standing : (h : Header) (memory : Memory) (state : Amounts) → Stands h memory state → state_in h memory ≡ Some state
+-- a memory that is so represents the state
+pub represented : (h : Header) (memory : Memory) (state : Amounts) → Represents h memory state → state_in h memory ≡ Some state
 unfolding state_of_words
-standing h memory state s =
+represented h memory state s =
     ap (λ b. then_some b (view_of_words h (words_in h memory))) (both_true _ _ (right_length h memory) (both_true _ _ s.sound free)) ∙ ap Some s.shows
   where
     free : list_all is_free (drop (plain_words h) (words_in h memory)) ≡ true

@@ -25,7 +25,7 @@ with_cell memory cell value other = if other == cell then value else memory othe
 abbrev pub words_in : Header → Memory → List ℕ
 words_in h memory = map memory (numbers_below (plain_words h + lock_words h))
 
--- the state that the memory stands for, with all locks free
+-- the state that the memory represents, with all locks free
 abbrev pub state_in : Header → Memory → Option Amounts
 state_in h memory = state_of_words h (words_in h memory)
 
@@ -59,7 +59,7 @@ abbrev pub state_after : Bool → Op → ℕ → Amounts → Option Amounts
 state_after true op reply state = if reply == answer_in state op.method op.args then Some state else None
 state_after false op reply state = next_state op.method op.args reply state
 
--- the operation with this script, played alone from a memory that stands for a state, does what the specification says
+-- the operation with this script, played alone from a memory that represents a state, does what the specification says
 pub record MeetsSpecification (h : Header) (op : Op) (script : Script) (c : ℕ) (memory : Memory) (state : Amounts) : Type 0 where
   pub outcome : Outcome
   pub ends : alone c script memory ≡ Some outcome

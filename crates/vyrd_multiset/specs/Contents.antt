@@ -1,4 +1,4 @@
--- What a memory holds that stands for a state of the multiset.
+-- What a memory holds that represents a state of the multiset.
 use Rattle.std.specs.Prelude.{◌≡◌, ℕ, ◌+◌, ◌*◌, ◌%◌, ◌/◌, ◌<◌, ◌==◌, List, [], ◌∷◌}
 use Rattle.std.specs.Prelude.{flat_map, if◌then◌else◌}
 use Rattle.vyrd_base.specs.declared.header.Header.{Header}

@@ -13,7 +13,7 @@ use Rattle.vyrd_tree.specs.Laws.Alone.Counts.{zero_or, le_or}
 use Rattle.vyrd_tree.specs.Contents.{level_at, count_at, bound_at, right_at, last_in, Below, IsTree}
 use Rattle.vyrd_tree.specs.Laws.Alone.Order.{after_of, after_falls, after_few, next_of, one_cover}
 use Rattle.vyrd_tree.specs.Laws.Alone.Order.{zero_low}
-use Rattle.vyrd_tree.specs.Laws.Alone.Changes.{stands_for}
+use Rattle.vyrd_tree.specs.Laws.Alone.Changes.{tree_represents}
 use Rattle.vyrd_tree.specs.Laws.Alone.Played.{EndsSo}
 use Rattle.vyrd_tree.specs.Laws.Alone.WalkArrives.{past, not_past}
 use Rattle.vyrd_tree.specs.Laws.Alone.Inserted.{LeafOf, InsertDone, insert_alone}
@@ -72,7 +72,7 @@ pub insert_gives_up : (h : Header) (memory : Memory) (state : Amounts) (c key va
     → GivesUpWhere (HasNoRoom h memory state key) (alone c (insert_entry h Correct key value) memory)
 insert_gives_up h memory state c key value is e small_key small =
     by_outcome (HasNoRoom h memory state key) (InsertDone h memory state key value) (alone c (insert_entry h Correct key value) memory)
-    (insert_alone h c memory state key value (stands_for h memory state is e) small_key small) says
+    (insert_alone h c memory state key value (tree_represents h memory state is e) small_key small) says
   where
     says : (reply : ℕ) (after : Memory) → InsertDone h memory state key value reply after
         → (reply ≡ 0 → HasNoRoom h memory state key) × (HasNoRoom h memory state key → reply ≡ 0)

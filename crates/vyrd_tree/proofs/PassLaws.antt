@@ -20,10 +20,10 @@ use Rattle.vyrd_tree.specs.Procedures.{changes_nothing, place_of, insert_in_then
 use Rattle.vyrd_tree.specs.Room.{leaf_of}
 use Rattle.vyrd_tree.specs.Hanging.{is_hanging}
 use Rattle.vyrd_tree.specs.Passes.{SplitsLeaf, KeepsState}
-use Rattle.vyrd_tree.specs.Contents.{count_at, last_in, entries_at, ShowsBy, StandsFor}
+use Rattle.vyrd_tree.specs.Contents.{count_at, last_in, entries_at, ShowsBy, TreeRepresents}
 use Rattle.vyrd_tree.specs.Laws.Alone.Entries.{found_around, not_found}
 use Rattle.vyrd_tree.specs.Laws.Alone.Tested.{length-entries}
-use Rattle.vyrd_tree.specs.Laws.Alone.Changes.{stands_for, stands_so}
+use Rattle.vyrd_tree.specs.Laws.Alone.Changes.{tree_represents, tree_represented}
 use Rattle.vyrd_tree.specs.Laws.Alone.Played.{EndsSo}
 use Rattle.vyrd_tree.specs.Laws.Alone.WalkArrives.{loaded_at, with_lock, locked_words}
 use Rattle.vyrd_tree.specs.Laws.Alone.WalkArrives.{walk_down_arrives}
@@ -46,11 +46,11 @@ pub round_keeps_state : (h : Header) (c level key node : ℕ) (memory : Memory) 
     → state_in h memory ≡ Some state → is_hanging h memory level key node ≡ true → KeepsState h c level key node memory state
 round_keeps_state h c level key node memory state is e hangs = by_end (round_comes h c level key node memory)
   where
-    st : StandsFor h memory state
-    st = stands_for h memory state is e
+    st : TreeRepresents h memory state
+    st = tree_represents h memory state is e
 
-    stands : (m : Memory) (low : ℕ → ℕ) → ShowsBy h.size m low state → FreeAll h m → state_in h m ≡ Some state
-    stands m low shown free = stands_so h m state is (record { low = low; held = shown; free = free })
+    represents : (m : Memory) (low : ℕ → ℕ) → ShowsBy h.size m low state → FreeAll h m → state_in h m ≡ Some state
+    represents m low shown free = tree_represented h m state is (record { low = low; held = shown; free = free })
 
     played : (ending : Script) (next : ℕ → ℕ → ℕ → Script) (Q : Option Outcome → Type 0) → Stops h c state ending Q
         → GoesOnAt h c state (level + 1) next Q → Q (alone c (ascend_once h Correct level key node ending next) memory)
@@ -61,7 +61,7 @@ round_keeps_state h c level key node memory state is e hangs = by_end (round_com
         → alone c (ascend_once h Correct level key node ending next) memory ≡ alone c ending after)
         → state_in h after ≡ Some state
     at_end after same = subst (IfEnds Says) (same (returns 0) (λ level' key' node'. stop))
-        (played (returns 0) (λ level' key' node'. stop) (IfEnds Says) (λ m low shown free. stands m low shown free)
+        (played (returns 0) (λ level' key' node'. stop) (IfEnds Says) (λ m low shown free. represents m low shown free)
         (λ m low key' node' shown free hangs'. tt))
       where
         Says : Memory → Type 0
@@ -94,15 +94,15 @@ round_keeps_state h c level key node memory state is e hangs = by_end (round_com
 
         found : IfEnds Says (alone c (only (level + 1) key' node') after)
         found = subst (IfEnds Says) (same stop only) (played stop only (IfEnds Says) (λ m low shown free. tt)
-            (λ m low key'' node'' shown free hangs'. seen m (stands m low shown free) key'' node''
+            (λ m low key'' node'' shown free hangs'. seen m (represents m low shown free) key'' node''
             (hanging_passes h m low (level + 1) key'' node'' is shown.tree hangs') (key'' == key') (node'' == node') refl refl))
 
     by_end : Comes h c level key node (λ ending next. ascend_once h Correct level key node ending next) memory
         → KeepsState h c level key node memory state
-    by_end (inl s) = record { after = s.0; stands = at_end s.0 s.1; goes_on = inl s.1 }
+    by_end (inl s) = record { after = s.0; represents = at_end s.0 s.1; goes_on = inl s.1 }
     by_end (inr (inl s)) =
         let says = at_next s.0 s.1 s.2 s.3 in
-        record { after = s.0; stands = says.0; goes_on = inr (record { key = s.1; node = s.2; rest = s.3; hangs = says.1 }) }
+        record { after = s.0; represents = says.0; goes_on = inr (record { key = s.1; node = s.2; rest = s.3; hangs = says.1 }) }
     by_end (inr (inr s)) =
         absurd (subst (EndsSo (λ reply after. ⊤)) (s (returns 0) (λ level' key' node'. returns 0))
         (played (returns 0) (λ level' key' node'. returns 0) (EndsSo (λ reply after. ⊤)) (λ m low shown free. tt)
@@ -118,15 +118,15 @@ insert_splits_leaf h c args memory state is e small_key small none full room = r
   leaf = u;
   after = split.0;
   rest = comes;
-  stands = says.0 ∙ sym (ap (λ n. then_some (not (not (n == 0))) next) none);
+  represents = says.0 ∙ sym (ap (λ n. then_some (not (not (n == 0))) next) none);
   hangs = says.1;
 }
   where
     next : Amounts
     next = with_amount state args.a (2 ^ 32 + args.b)
 
-    st : StandsFor h memory state
-    st = stands_for h memory state is e
+    st : TreeRepresents h memory state
+    st = tree_represents h memory state is e
 
     n : ℕ
     n = leaf_of h memory args.a
@@ -173,7 +173,7 @@ insert_splits_leaf h c args memory state is e small_key small none full room = r
     says : (state_in h split.0 ≡ Some next) × (is_hanging h split.0 0 key u ≡ true)
     says = subst Says (split.1 (returns 1)) (leaf_is_split h c m st.low state n args.a args.b at small_key small
         (not_found args.a (entries_at m n) is_new) Says (returns 1) four space (λ m' low shown free hangs. (
-          stands_so h m' next is (record { low = low; held = shown; free = free }),
+          tree_represented h m' next is (record { low = low; held = shown; free = free }),
           hanging_passes h m' low 0 key u is shown.tree hangs,
         )))
       where

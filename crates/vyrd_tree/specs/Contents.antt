@@ -1,4 +1,4 @@
--- What a memory of a tree holds: what is said of each node in use, and a memory that stands for a
+-- What a memory of a tree holds: what is said of each node in use, and a memory that represents a
 -- state. A node's low is the least key that it may have.
 use Rattle.std.specs.Prelude.{◌≡◌, ◌≢◌, ℕ, ◌+◌, ◌*◌, ◌^◌, ◌<◌, ◌≤◌, ⊤, List, [], ◌∷◌, length, map}
 use Rattle.std.specs.Prelude.{flat_map}
@@ -138,7 +138,7 @@ pub record ShowsBy (size : ℕ) (m : Memory) (low : ℕ → ℕ) (s : Amounts) :
   pub formed : IsAmounts s
 
 -- It holds one, and all locks are free.
-pub record StandsFor (h : Header) (m : Memory) (s : Amounts) : Type 0 where
+pub record TreeRepresents (h : Header) (m : Memory) (s : Amounts) : Type 0 where
   pub low : ℕ → ℕ
   pub held : ShowsBy h.size m low s
   pub free : (lock : ℕ) → 12 * h.size + 2 ≤ lock → lock < 13 * h.size + 4 → m lock ≡ 0

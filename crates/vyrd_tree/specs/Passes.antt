@@ -12,7 +12,7 @@ use Rattle.vyrd_tree.specs.Procedures.{insert_then}
 use Rattle.vyrd_tree.specs.Procedures.Ascent.{ascend_once}
 use Rattle.vyrd_tree.specs.Hanging.{is_hanging}
 
--- An insert that splits a leaf, played alone, comes to the unlock after its commit with words that stand for the next state
+-- An insert that splits a leaf, played alone, comes to the unlock after its commit with words that represent the next state
 -- with the reply 1, and the new leaf hangs. There it goes on with what is given to follow a split, whatever that is: it may
 -- read any cell, so no other memory would do. What `insert_entry` gives is the ascent.
 pub record SplitsLeaf (h : Header) (c : ℕ) (args : Args) (memory : Memory) (state : Amounts) : Type 0 where
@@ -20,7 +20,7 @@ pub record SplitsLeaf (h : Header) (c : ℕ) (args : Args) (memory : Memory) (st
   pub leaf : ℕ
   pub after : Memory
   pub rest : (split : ℕ → ℕ → Script) → alone c (insert_then h Correct args.a args.b split) memory ≡ alone c (split key leaf) after
-  pub stands : state_in h after ≡ next_state TrInsert args 1 state
+  pub represents : state_in h after ≡ next_state TrInsert args 1 state
   pub hangs : is_hanging h after 0 key leaf ≡ true
 
 -- What a round goes on with is given: one script for where the ascent stops, and one for where the next round begins. This round,
@@ -35,9 +35,9 @@ pub record GoesOnFrom (h : Header) (c level : ℕ) (round : Script → (ℕ → 
   pub rest : (stops : Script) (next : ℕ → ℕ → ℕ → Script) → alone c (round stops next) memory ≡ alone c (next (level + 1) key node) after
   pub hangs : is_hanging h after (level + 1) key node ≡ true
 
--- A round, played alone, comes to words that stand for the same state, and there the ascent stops or the next round begins.
+-- A round, played alone, comes to words that represent the same state, and there the ascent stops or the next round begins.
 pub record KeepsState (h : Header) (c level key node : ℕ) (memory : Memory) (state : Amounts) : Type 0 where
   pub after : Memory
-  pub stands : state_in h after ≡ Some state
+  pub represents : state_in h after ≡ Some state
   pub goes_on : StopsAt c (ascend_once h Correct level key node) memory after
       ⊎ GoesOnFrom h c level (ascend_once h Correct level key node) memory after

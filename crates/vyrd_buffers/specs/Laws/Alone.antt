@@ -24,7 +24,7 @@ use Rattle.vyrd_memory.specs.declared.op.Variant.TheVariants.{Correct}
 use Rattle.vyrd_memory.specs.Arguments.{are_small}
 use Rattle.vyrd_memory.specs.Scripts.{step, returns}
 use Rattle.vyrd_memory.specs.Alone.{Memory, with_cell, alone, MeetsSpecification, IsRightAlone}
-use Rattle.vyrd_memory.proofs.Memories.{Stands, stands, other_cell}
+use Rattle.vyrd_memory.proofs.Memories.{Represents, represents, other_cell}
 use Rattle.vyrd_buffers.specs.Cells.{count_cell, character_cell, lock_of, unlock}
 use Rattle.vyrd_buffers.specs.Procedures.{commit_count, append_at, append, load_from, unlock_both, append_held, append_all, append_from}
 use Rattle.vyrd_buffers.specs.Procedures.{cut_at, cut, length_of, read_from, read, procedure_of}
@@ -39,7 +39,7 @@ use Rattle.vyrd_buffers.specs.Laws.Alone.Played.{run_lock_both, run_unlock_both,
 use Rattle.vyrd_buffers.specs.Laws.Alone.Done.{met, full_allowed, room_allowed, free_lock, held_sound, held_shown, unlocked, changed, appended, Appends, Cuts, answer_alone}
 
 -- an append of one character
-pub append_alone : (h : Header) (op : Op) (c b x : ℕ) (memory : Memory) (state : Amounts) → h.subject ≡ Buffers → Stands h memory state
+pub append_alone : (h : Header) (op : Op) (c b x : ℕ) (memory : Memory) (state : Amounts) → h.subject ≡ Buffers → Represents h memory state
     → b < h.size → x < 255 → Appends op state b (x + 1) → MeetsSpecification h op (append h b x) c memory state
 append_alone h op c b x memory state is s low small says = by_count (nat_le 7 count) refl
   where
@@ -85,7 +85,7 @@ append_alone h op c b x memory state is s low small says = by_count (nat_le 7 co
         (says 1 ∙ room_allowed state b (x + 1) (room ∙ ap not full))
 
 -- an append of the text of a buffer, which may be the same one
-pub append_from_alone : (h : Header) (op : Op) (c b s : ℕ) (memory : Memory) (state : Amounts) → h.subject ≡ Buffers → Stands h memory state
+pub append_from_alone : (h : Header) (op : Op) (c b s : ℕ) (memory : Memory) (state : Amounts) → h.subject ≡ Buffers → Represents h memory state
     → b < h.size → s < h.size → Appends op state b (amount_of state s) → MeetsSpecification h op (append_from h Correct b s) c memory state
 append_from_alone h op c b s memory state is st low low_s says = by_room (nat_le (count + more) 7) refl
   where
@@ -175,7 +175,7 @@ append_from_alone h op c b s memory state is st low low_s says = by_room (nat_le
         (says 1 ∙ room_allowed state b (amount_of state s) (room ∙ fits))
 
 -- a cut
-pub cut_alone : (h : Header) (op : Op) (c b n : ℕ) (memory : Memory) (state : Amounts) → h.subject ≡ Buffers → Stands h memory state
+pub cut_alone : (h : Header) (op : Op) (c b n : ℕ) (memory : Memory) (state : Amounts) → h.subject ≡ Buffers → Represents h memory state
     → b < h.size → Cuts op state b n → MeetsSpecification h op (cut h b n) c memory state
 cut_alone h op c b n memory state is s low says = by_count (nat_le count n) refl
   where
@@ -231,7 +231,7 @@ cut_alone h op c b n memory state is s low says = by_count (nat_le count n) refl
         says
 
 -- a length
-length_alone : (h : Header) (args : Args) (c : ℕ) (memory : Memory) (state : Amounts) → h.subject ≡ Buffers → Stands h memory state
+length_alone : (h : Header) (args : Args) (c : ℕ) (memory : Memory) (state : Amounts) → h.subject ≡ Buffers → Represents h memory state
     → args.a < h.size → MeetsSpecification h (record { method = BuLength; args = args }) (length_of h args.a) c memory state
 length_alone h args c memory state is s low =
     answer_alone h (record { method = BuLength; args = args }) (length_of h args.a) c args.a (min (memory (count_cell args.a)) 7) memory state
@@ -244,7 +244,7 @@ length_alone h args c memory state is s low =
     sound = sound_at h memory state args.a is s low
 
 -- a read
-read_alone : (h : Header) (args : Args) (c : ℕ) (memory : Memory) (state : Amounts) → h.subject ≡ Buffers → Stands h memory state
+read_alone : (h : Header) (args : Args) (c : ℕ) (memory : Memory) (state : Amounts) → h.subject ≡ Buffers → Represents h memory state
     → args.a < h.size → MeetsSpecification h (record { method = BuRead; args = args }) (read h args.a) c memory state
 read_alone h args c memory state is s low =
     answer_alone h (record { method = BuRead; args = args }) (read h args.a) c args.a
@@ -280,7 +280,7 @@ second_below : (size limit : ℕ) (args : Args) → (nat_lt args.a size && nat_l
 second_below size limit args fit = below_of args.b limit (second_true (nat_lt args.a size) (nat_lt args.b limit) fit)
 
 by_method_right : (h : Header) (method : Method) (args : Args) → h.subject ≡ Buffers → subject_of method ≡ Buffers
-    → are_ranged h.size method args ≡ true → (c : ℕ) (memory : Memory) (state : Amounts) → Stands h memory state
+    → are_ranged h.size method args ≡ true → (c : ℕ) (memory : Memory) (state : Amounts) → Represents h memory state
     → MeetsSpecification h (record { method = method; args = args }) (procedure_of h Correct method args) c memory state
 by_method_right h BuAppend args is of fit c memory state s =
     append_alone h (record { method = BuAppend; args = args }) c args.a args.b memory state is s (first_below h.size args (nat_lt args.b 255) fit)
@@ -308,4 +308,4 @@ pub procedure_right_alone : (h : Header) (method : Method) (args : Args) → h.s
     → are_args h.size method args ≡ true → are_small args ≡ true
     → IsRightAlone h (record { method = method; args = args }) (procedure_of h Correct method args)
 procedure_right_alone h method args is of fit small = λ c memory state e.
-    by_method_right h method args is of (ranged h.size method args fit) c memory state (stands h memory state e)
+    by_method_right h method args is of (ranged h.size method args fit) c memory state (represents h memory state e)

@@ -23,7 +23,7 @@ use Rattle.vyrd_memory.specs.declared.op.Variant.TheVariants.{Correct}
 use Rattle.vyrd_memory.specs.Arguments.{are_small}
 use Rattle.vyrd_memory.specs.Scripts.{Script, step}
 use Rattle.vyrd_memory.specs.Alone.{Memory, with_cell, alone, state_after, MeetsSpecification, IsRightAlone}
-use Rattle.vyrd_memory.proofs.Memories.{Stands, stands, standing, changed_cell}
+use Rattle.vyrd_memory.proofs.Memories.{Represents, represents, represented, changed_cell}
 use Rattle.vyrd_cache.specs.Cells.{state_cell, lock_of, lock}
 use Rattle.vyrd_cache.specs.Procedures.{joined, procedure_of, put_cached, put_stored, forget}
 use Rattle.vyrd_cache.specs.Procedures.{only_commit, fetch, answer_cached}
@@ -45,31 +45,31 @@ use Rattle.vyrd_cache.specs.Laws.Alone.Pairs.{shown_clean, joined_small}
 
 -- an operation that ends so, and where the specification allows it
 met : (h : Header) (op : Op) (script : Script) (c : ℕ) (old new : Memory) (state next : Amounts) (reply : ℕ)
-    → alone c script old ≡ Some (record { reply = reply; memory = new }) → Stands h new next
+    → alone c script old ≡ Some (record { reply = reply; memory = new }) → Represents h new next
     → state_after (is_observer op.method) op reply state ≡ Some next → MeetsSpecification h op script c old state
 met h op script c old new state next reply ends is allowed = record {
   outcome = record { reply = reply; memory = new };
   ends = ends;
-  after = standing h new next is ∙ sym allowed;
-  goes_on = subst (λ (o : Option Amounts). IsSome o) (sym (standing h new next is)) refl;
+  after = represented h new next is ∙ sym allowed;
+  goes_on = subst (λ (o : Option Amounts). IsSome o) (sym (represented h new next is)) refl;
 }
 
--- the memory stands for a state where its chunk k is known
-kept : (h : Header) (old new : Memory) (state : Amounts) (k : ℕ) (chunk : Chunk) → h.subject ≡ Cache → Stands h old state → k < h.size
+-- the memory represents a state where its chunk k is known
+kept : (h : Header) (old new : Memory) (state : Amounts) (k : ℕ) (chunk : Chunk) → h.subject ≡ Cache → Represents h old state → k < h.size
     → Leaves old new k (lock_of h k) → new (lock_of h k) ≡ 0 → chunk_of new k ≡ chunk → is_sound_chunk chunk ≡ true
     → shown chunk ≡ shown (chunk_of old k)
-    → Stands h new state
+    → Represents h new state
 kept h old new state k chunk is s low leaves free e sound same =
     kept_chunk h old new state k is s low leaves free (ap is_sound_chunk e ∙ sound) (ap shown e ∙ same)
 
-changed : (h : Header) (old new : Memory) (state : Amounts) (k : ℕ) (chunk : Chunk) → h.subject ≡ Cache → Stands h old state → k < h.size
+changed : (h : Header) (old new : Memory) (state : Amounts) (k : ℕ) (chunk : Chunk) → h.subject ≡ Cache → Represents h old state → k < h.size
     → Leaves old new k (lock_of h k) → new (lock_of h k) ≡ 0 → chunk_of new k ≡ chunk → is_sound_chunk chunk ≡ true
-    → Stands h new (with_amount state k (shown chunk))
+    → Represents h new (with_amount state k (shown chunk))
 changed h old new state k chunk is s low leaves free e sound =
-    subst (λ d. Stands h new (with_amount state k (shown d))) e (changed_chunk h old new state k is s low leaves free (ap is_sound_chunk e ∙ sound))
+    subst (λ d. Represents h new (with_amount state k (shown d))) e (changed_chunk h old new state k is s low leaves free (ap is_sound_chunk e ∙ sound))
 
 -- the lock is free at the beginning
-free_lock : (h : Header) (memory : Memory) (state : Amounts) (k : ℕ) → h.subject ≡ Cache → Stands h memory state → k < h.size
+free_lock : (h : Header) (memory : Memory) (state : Amounts) (k : ℕ) → h.subject ≡ Cache → Represents h memory state → k < h.size
     → memory (lock_of h k) ≡ 0
 free_lock h memory state k is s low =
     let plain : plain_words h ≡ 5 * h.size = ap (λ t. plain_words_of t h.size) is in
@@ -98,8 +98,8 @@ write_alone h args is low few c memory state e =
     (write h Correct args.a args.b args.c) c memory new state
     (with_amount state args.a (args.c * 2 ^ 32 + args.b)) 1 (run_lock h c args.a memory (put_cached h args.a args.b args.c) free) after refl
   where
-    s : Stands h memory state
-    s = stands h memory state e
+    s : Represents h memory state
+    s = represents h memory state e
 
     free : memory (lock_of h args.a) ≡ 0
     free = free_lock h memory state args.a is s low
@@ -107,7 +107,7 @@ write_alone h args is low few c memory state e =
     new : Memory
     new = stored c (lock_of h args.a) memory (5 * args.a + 1) args.b (5 * args.a + 2) args.c (5 * args.a) 2
 
-    after : Stands h new (with_amount state args.a (args.c * 2 ^ 32 + args.b))
+    after : Represents h new (with_amount state args.a (args.c * 2 ^ 32 + args.b))
     after = changed h memory new state args.a (with_cached 2 args.b args.c (chunk_of memory args.a)) is s low
         (leaves_cached h.size c args.a memory 2 args.b args.c)
         (stored-lock c (lock_of h args.a) memory (5 * args.a + 1) args.b (5 * args.a + 2) args.c (5 * args.a) 2)
@@ -122,13 +122,13 @@ write_alone h args is low few c memory state e =
 
 -- a call that leaves all as it is
 only_commit_alone : (h : Header) (op : Op) (script : Script) (c k : ℕ) (memory : Memory) (state : Amounts) → h.subject ≡ Cache
-    → Stands h memory state → k < h.size
+    → Represents h memory state → k < h.size
     → alone c script memory ≡ alone c (only_commit h k) (held c (lock_of h k) memory)
     → state_after (is_observer op.method) op 1 state ≡ Some state → MeetsSpecification h op script c memory state
 only_commit_alone h op script c k memory state is s low run allowed =
     met h op script c memory (untouched c (lock_of h k) memory) state state 1 run after allowed
   where
-    after : Stands h (untouched c (lock_of h k) memory) state
+    after : Represents h (untouched c (lock_of h k) memory) state
     after = kept h memory (untouched c (lock_of h k) memory) state k (chunk_of memory k) is s low
         (λ cell e0 e1 e2 e3 e4 lock. untouched-other c (lock_of h k) memory cell lock)
         (changed_cell (held c (lock_of h k) memory) (lock_of h k) 0)
@@ -136,7 +136,7 @@ only_commit_alone h op script c k memory state is s low run allowed =
 
 -- a call that puts a dirty chunk's pair into the store, where it is what the chunk shows
 put_stored_alone : (h : Header) (op : Op) (script : Script) (c k left : ℕ) (memory : Memory) (state : Amounts) → h.subject ≡ Cache
-    → Stands h memory state → k < h.size
+    → Represents h memory state → k < h.size
     → (memory (5 * k) == 2) ≡ true
     → alone c script memory ≡ alone c (put_stored h k left) (held c (lock_of h k) memory)
     → is_sound_chunk (with_stored left (memory (5 * k + 1)) (memory (5 * k + 2)) (chunk_of memory k)) ≡ true
@@ -159,7 +159,7 @@ put_stored_alone h op script c k left memory state is s low dirty run sound show
         ∙ ap (λ n. with_stored left n loaded_high (chunk_of memory k)) (held_load c (lock_of h k) memory (5 * k + 1) (omega arith))
         ∙ ap (λ n. with_stored left (memory (5 * k + 1)) n (chunk_of memory k)) (held_load c (lock_of h k) memory (5 * k + 2) (omega arith))
 
-    after : Stands h new state
+    after : Represents h new state
     after = kept h memory new state k (with_stored left (memory (5 * k + 1)) (memory (5 * k + 2)) (chunk_of memory k)) is s low
         (leaves_stored h.size c k memory left loaded_low loaded_high)
         (stored-lock c (lock_of h k) memory (5 * k + 3) loaded_low (5 * k + 4) loaded_high (5 * k) left)
@@ -170,8 +170,8 @@ flush_alone : (h : Header) (args : Args) → h.subject ≡ Cache → args.a < h.
     → IsRightAlone h (record { method = CaFlush; args = args }) (flush h args.a)
 flush_alone h args is low c memory state e = by_state (memory (5 * args.a) == 2) refl
   where
-    s : Stands h memory state
-    s = stands h memory state e
+    s : Represents h memory state
+    s = represents h memory state e
 
     run : alone c (flush h args.a) memory
         ≡ alone c (cond (memory (5 * args.a) == 2) (put_stored h args.a 1) (only_commit h args.a)) (held c (lock_of h args.a) memory)
@@ -196,8 +196,8 @@ evict_alone : (h : Header) (args : Args) → h.subject ≡ Cache → args.a < h.
     → IsRightAlone h (record { method = CaEvict; args = args }) (evict h args.a)
 evict_alone h args is low c memory state e = by_state (memory (5 * args.a) == 2) refl
   where
-    s : Stands h memory state
-    s = stands h memory state e
+    s : Represents h memory state
+    s = represents h memory state e
 
     run : alone c (evict h args.a) memory
         ≡ alone c (cond (memory (5 * args.a) == 2) (put_stored h args.a 0) (cond (memory (5 * args.a) == 0) (only_commit h args.a) (forget h args.a)))
@@ -249,8 +249,8 @@ read_alone : (h : Header) (args : Args) → h.subject ≡ Cache → args.a < h.s
     → IsRightAlone h (record { method = CaRead; args = args }) (read h args.a)
 read_alone h args is low c memory state e = by_state (memory (5 * args.a) == 0) refl
   where
-    s : Stands h memory state
-    s = stands h memory state e
+    s : Represents h memory state
+    s = represents h memory state e
 
     sound : is_sound_chunk (chunk_of memory args.a) ≡ true
     sound = sound_at h memory state args.a is s low

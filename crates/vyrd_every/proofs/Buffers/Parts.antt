@@ -13,7 +13,7 @@ use Rattle.vyrd_base.proofs.TestLaws.{same_number, same_of, isnt_same, apart_of}
 use Rattle.vyrd_base.proofs.TextLaws.{text_same}
 use Rattle.vyrd_memory.specs.declared.act.Act.TheVariants.{Load, Mark}
 use Rattle.vyrd_memory.specs.Alone.{Memory, with_cell}
-use Rattle.vyrd_memory.proofs.Memories.{Stands}
+use Rattle.vyrd_memory.proofs.Memories.{Represents}
 use Rattle.vyrd_memory.specs.Scripts.{Script, step, perform, returns}
 use Rattle.vyrd_buffers.specs.Cells.{character_cell, lock_of, lock, unlock, lock_other}
 use Rattle.vyrd_buffers.specs.Procedures.{commit_count, load_from, store_from, read_from, unlock_both}
@@ -123,8 +123,8 @@ pub record Finishes (h : Header) (locks : List ℕ) (called : Called) (reply : �
 
 -- what a commit with this reply has to lead to
 abbrev pub LeadsTo : Header → Called → ℕ → Memory → Memory → Type 0
-LeadsTo h called reply now after = (before : Amounts) → Stands h now before
-    → (next : Amounts) × (next_state called.method called.args reply before ≡ Some next) × Stands h after next
+LeadsTo h called reply now after = (before : Amounts) → Represents h now before
+    → (next : Amounts) × (next_state called.method called.args reply before ≡ Some next) × Represents h after next
 
 -- a commit that changes nothing
 pub only_commit_right : (h : Header) (locks : List ℕ) (called : Called) (k : Hand) (now : Memory) (reply : ℕ) (later : Script)
@@ -164,7 +164,7 @@ block_right h locks called k before characters b i count reply later held few is
       returns = finishes.will;
       next = end.0;
       allowed = end.1;
-      means = subst (λ memory. Stands h memory end.0) (sym (shows m2)) end.2;
+      means = subst (λ memory. Represents h memory end.0) (sym (shows m2)) end.2;
     })
     (λ last rely. finishes.ends (without_slots (writing k pending) pending) last (λ slot. refl) is))))
   where

@@ -8,7 +8,7 @@ use Rattle.vyrd_base.specs.Callers.{Called}
 use Rattle.vyrd_base.specs.Amounts.{Amounts, amount_of, with_amount}
 use Rattle.vyrd_base.specs.Buffers.{text_of, text_length, has_room, joined, cut_to, are_characters, is_buffer}
 use Rattle.vyrd_memory.specs.Alone.{Memory, with_cell}
-use Rattle.vyrd_memory.proofs.Memories.{Stands, other_cell}
+use Rattle.vyrd_memory.proofs.Memories.{Represents, other_cell}
 use Rattle.vyrd_buffers.specs.Cells.{count_cell, character_cell, lock_of}
 use Rattle.vyrd_buffers.specs.Contents.{buffer_of, shown}
 use Rattle.vyrd_buffers.specs.Laws.Alone.Changes.{Leaves, sound_at, shown_at}
@@ -83,18 +83,18 @@ block_leaves characters b i count memory few = λ cell apart.
     ∙ with_characters-other characters b i memory cell (λ j from to same. apart (omega (arith, to, same, few)))
 
 -- Characters are appended that make this text.
-pub appended_stands : (h : Header) (memory : Memory) (state : Amounts) (b count n text : ℕ) (characters : List ℕ) → h.subject ≡ Buffers
-    → Stands h memory state → b < h.size → memory (8 * b) ≡ count → length characters ≡ n → count + n ≤ 7
+pub appended_represents : (h : Header) (memory : Memory) (state : Amounts) (b count n text : ℕ) (characters : List ℕ) → h.subject ≡ Buffers
+    → Represents h memory state → b < h.size → memory (8 * b) ≡ count → length characters ≡ n → count + n ≤ 7
     → are_characters (slice_index characters) n ≡ true → text_of (slice_index characters) n ≡ text
-    → Stands h (with_appended characters b count n memory) (with_amount state b (joined (amount_of state b) text))
-appended_stands h memory state b count n text characters is s low has many few sound same =
+    → Represents h (with_appended characters b count n memory) (with_amount state b (joined (amount_of state b) text))
+appended_represents h memory state b count n text characters is s low has many few sound same =
     appended h memory memory (with_appended characters b count n memory) state b count n text characters is s low (λ cell below. refl)
     has many few sound same (λ cell apart. with_appended-other characters b count n memory cell many few apart) (λ cell below. refl)
 
 -- The buffer is cut to n characters.
-pub cut_stands : (h : Header) (memory : Memory) (state : Amounts) (b n : ℕ) → h.subject ≡ Buffers → Stands h memory state → b < h.size
-    → n < memory (8 * b) → Stands h (with_cell memory (count_cell b) n) (with_amount state b (cut_to n (amount_of state b)))
-cut_stands h memory state b n is s low less =
+pub cut_represents : (h : Header) (memory : Memory) (state : Amounts) (b n : ℕ) → h.subject ≡ Buffers → Represents h memory state → b < h.size
+    → n < memory (8 * b) → Represents h (with_cell memory (count_cell b) n) (with_amount state b (cut_to n (amount_of state b)))
+cut_represents h memory state b n is s low less =
     changed h memory after after state b (cut_to n (amount_of state b)) is s low (with_count-other b n memory) (λ cell below. refl)
     (cut_sound (buffer_of memory b) (buffer_of after b) n (with_count-is b n memory) sound less)
     (cut_shown (buffer_of memory b) (buffer_of after b) n (with_count-is b n memory) sound less ∙ ap (cut_to n) (sym (shown_at h memory state b is s low)))
@@ -106,9 +106,9 @@ cut_stands h memory state b n is s low less =
     sound = sound_at h memory state b is s low
 
 -- One that has no more is cut already.
-pub uncut_stands : (h : Header) (memory : Memory) (state : Amounts) (b n : ℕ) → h.subject ≡ Buffers → Stands h memory state → b < h.size
-    → memory (8 * b) ≤ n → Stands h memory (with_amount state b (cut_to n (amount_of state b)))
-uncut_stands h memory state b n is s low few =
+pub uncut_represents : (h : Header) (memory : Memory) (state : Amounts) (b n : ℕ) → h.subject ≡ Buffers → Represents h memory state → b < h.size
+    → memory (8 * b) ≤ n → Represents h memory (with_amount state b (cut_to n (amount_of state b)))
+uncut_represents h memory state b n is s low few =
     changed h memory memory memory state b (cut_to n (amount_of state b)) is s low (λ cell apart. refl) (λ cell below. refl) sound
     (sym (uncut_shown (buffer_of memory b) n sound few) ∙ ap (cut_to n) (sym (shown_at h memory state b is s low)))
   where
@@ -116,19 +116,19 @@ uncut_stands h memory state b n is s low few =
     sound = sound_at h memory state b is s low
 
 -- how long a buffer's text is
-pub length_at : (h : Header) (memory : Memory) (state : Amounts) (b : ℕ) → h.subject ≡ Buffers → Stands h memory state → b < h.size
+pub length_at : (h : Header) (memory : Memory) (state : Amounts) (b : ℕ) → h.subject ≡ Buffers → Represents h memory state → b < h.size
     → text_length (amount_of state b) ≡ memory (8 * b)
 length_at h memory state b is s low =
     ap text_length (shown_at h memory state b is s low) ∙ length_shown (buffer_of memory b) (sound_at h memory state b is s low)
 
 -- whether there is room for one character, and for the text of another buffer
-pub room_for_one_at : (h : Header) (memory : Memory) (state : Amounts) (b x : ℕ) → h.subject ≡ Buffers → Stands h memory state → b < h.size → x < 255
+pub room_for_one_at : (h : Header) (memory : Memory) (state : Amounts) (b x : ℕ) → h.subject ≡ Buffers → Represents h memory state → b < h.size → x < 255
     → has_room (amount_of state b) (x + 1) ≡ not (nat_le 7 (memory (8 * b)))
 room_for_one_at h memory state b x is s low small =
     ap (λ text. has_room text (x + 1)) (shown_at h memory state b is s low)
     ∙ room_for_one (buffer_of memory b) x (sound_at h memory state b is s low) small
 
-pub room_at : (h : Header) (memory : Memory) (state : Amounts) (a b : ℕ) → h.subject ≡ Buffers → Stands h memory state → a < h.size → b < h.size
+pub room_at : (h : Header) (memory : Memory) (state : Amounts) (a b : ℕ) → h.subject ≡ Buffers → Represents h memory state → a < h.size → b < h.size
     → has_room (amount_of state a) (amount_of state b) ≡ nat_le (memory (8 * a) + memory (8 * b)) 7
 room_at h memory state a b is s low_a low_b =
     ap (λ text. has_room text (amount_of state b)) (shown_at h memory state a is s low_a)

@@ -19,7 +19,7 @@ use Rattle.vyrd_memory.specs.declared.op.Variant.TheVariants.{Correct}
 use Rattle.vyrd_memory.specs.Players.{is_callable}
 use Rattle.vyrd_memory.specs.Laws.Player.{callable_method, callable_args}
 use Rattle.vyrd_memory.specs.Alone.{Memory}
-use Rattle.vyrd_memory.proofs.Memories.{Stands}
+use Rattle.vyrd_memory.proofs.Memories.{Represents}
 use Rattle.vyrd_memory.specs.Scripts.{Script, step, perform, returns}
 use Rattle.vyrd_memory.specs.Soundness.{just_called}
 use Rattle.vyrd_buffers.specs.Cells.{count_cell, character_cell, lock_of, unlock}
@@ -35,7 +35,7 @@ use Rattle.vyrd_every.specs.RightScripts.{DoesRight, IsRight}
 use Rattle.vyrd_every.specs.Guarded.{buffers}
 use Rattle.vyrd_every.proofs.Acts.{at, answer_right}
 use Rattle.vyrd_every.proofs.Buffers.Texts.{IsHeld, Stays, stays_same, stays_more, stays_count, stays_character, after_block}
-use Rattle.vyrd_every.proofs.Buffers.Texts.{appended_stands, cut_stands, uncut_stands, length_at, room_for_one_at, room_at}
+use Rattle.vyrd_every.proofs.Buffers.Texts.{appended_represents, cut_represents, uncut_represents, length_at, room_for_one_at, room_at}
 use Rattle.vyrd_every.proofs.Buffers.Parts.{word_right, load_from_right, read_from_right, Finishes, LeadsTo, only_commit_right}
 use Rattle.vyrd_every.proofs.Buffers.Parts.{block_right, unlock_right, lock_right, lock_both_right}
 
@@ -74,7 +74,7 @@ append_right h k before args is low small none called_is =
           with_amount state args.a (joined (amount_of state args.a) (args.b + 1)),
           room_allowed state args.a (args.b + 1)
               (room_for_one_at h then_ state args.a args.b is s low small ∙ ap (λ n. not (nat_le 7 n)) same ∙ ap not e),
-          appended_stands h then_ state args.a (now (8 * args.a)) 1 (args.b + 1) (args.b ∷ []) is s low same refl (omega (arith, few))
+          appended_represents h then_ state args.a (now (8 * args.a)) 1 (args.b + 1) (args.b ∷ []) is s low same refl (omega (arith, few))
               (is_below args.b 255 small) (one_text args.b),
         ))
 
@@ -98,9 +98,9 @@ both_held h locks a b lower higher = by_order (nat_le a b) refl
 lesser : (n m : ℕ) → m ≡ n → m ≤ 7 → m ≡ min n 7
 lesser n m e few = omega (arith, e, few)
 
--- the count of a buffer whose lock is held, where the memory stands for a state
+-- the count of a buffer whose lock is held, where the memory represents a state
 count_now : (h : Header) (locks : List ℕ) (before now : Memory) (state : Amounts) (b : ℕ) → h.subject ≡ Buffers → Stays h locks before now → IsHeld h locks b
-    → Stands h now state → now (8 * b) ≡ min (before (8 * b)) 7
+    → Represents h now state → now (8 * b) ≡ min (before (8 * b)) 7
 count_now h locks before now state b is stays held s =
     lesser (before (8 * b)) (now (8 * b)) (stays_count h locks before now b stays held)
     (count_at_most (buffer_of now b) (sound_at h now state b is s held.low))
@@ -125,7 +125,7 @@ append_all_right h locks k now args first second is held_a held_b none called_is
     few : more ≤ 7
     few = omega arith
 
-    room_is : (then_ : Memory) (state : Amounts) → Stays h locks now then_ → Stands h then_ state
+    room_is : (then_ : Memory) (state : Amounts) → Stays h locks now then_ → Represents h then_ state
         → has_room (amount_of state args.a) (amount_of state args.b) ≡ nat_le (count + more) 7
     room_is then_ state stays s =
         room_at h then_ state args.a args.b is s held_a.low held_b.low
@@ -148,7 +148,7 @@ append_all_right h locks k now args first second is held_a held_b none called_is
         let more_is : then_ (8 * args.b) ≡ more = count_now h locks now then_ state args.b is all held_b s in (
           with_amount state args.a (joined (amount_of state args.a) (amount_of state args.b)),
           room_allowed state args.a (amount_of state args.b) (room_is then_ state all s ∙ e),
-          appended_stands h then_ state args.a count more (amount_of state args.b) (loaded last args.b more 0) is s held_a.low
+          appended_represents h then_ state args.a count more (amount_of state args.b) (loaded last args.b more 0) is s held_a.low
               (count_now h locks now then_ state args.a is all held_a s) (loaded-length last args.b more 0) (at_most_of (count + more) 7 e)
               (characters_same (slice_index (loaded last args.b more 0)) (buffer_of then_ args.b).character more (loaded_is last then_ stays)
               ∙ ap (are_characters (buffer_of then_ args.b).character) (sym more_is) ∙ characters_in (buffer_of then_ args.b) sound)
@@ -227,7 +227,7 @@ cut_right h k before args is low none called_is =
         (λ state s. (
           with_amount state args.a (cut_to args.b (amount_of state args.a)),
           refl,
-          uncut_stands h now state args.a args.b is s low (at_most_of (now (8 * args.a)) args.b e),
+          uncut_represents h now state args.a args.b is s low (at_most_of (now (8 * args.a)) args.b e),
         ))
     by_count now held false e =
         block_right h locks called k now [] args.a 0 args.b 1 ends held (omega arith) called_is (unlock_right h called args.a 1 refl)
@@ -236,7 +236,7 @@ cut_right h k before args is low none called_is =
         let less = above_of (now (8 * args.a)) args.b e in (
           with_amount state args.a (cut_to args.b (amount_of state args.a)),
           refl,
-          cut_stands h then_ state args.a args.b is s low (omega (arith, same, less)),
+          cut_represents h then_ state args.a args.b is s low (omega (arith, same, less)),
         ))
 
 -- a length, and a read, have their answers when they give the lock back
@@ -277,7 +277,7 @@ read_right h k before args is low none called_is =
     within : (x : ℕ) → x < 255 → x ≡ x % 255
     within x small = omega (arith, small)
 
-    answer : (now last : Memory) → IsHeld h locks args.a → Stays h locks now last → (state : Amounts) → Stands h last state
+    answer : (now last : Memory) → IsHeld h locks args.a → Stays h locks now last → (state : Amounts) → Represents h last state
         → amount_of state args.a ≡ text_of (λ j. last (character_cell args.a j) % 255) (min (now (8 * args.a)) 7)
     answer now last held stays state s =
         shown_at h last state args.a is s low

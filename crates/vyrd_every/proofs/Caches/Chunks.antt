@@ -8,7 +8,7 @@ use Rattle.vyrd_base.specs.Views.{Chunk}
 use Rattle.vyrd_base.specs.Represented.{is_sound_chunk}
 use Rattle.vyrd_memory.specs.Alone.{Memory, with_cell}
 use Rattle.vyrd_memory.specs.Soundness.{Situation, holds}
-use Rattle.vyrd_memory.proofs.Memories.{Stands, changed_cell, other_cell}
+use Rattle.vyrd_memory.proofs.Memories.{Represents, changed_cell, other_cell}
 use Rattle.vyrd_cache.specs.Cells.{lock_of}
 use Rattle.vyrd_cache.specs.Contents.{chunk_of, shown}
 use Rattle.vyrd_cache.specs.Laws.Alone.Changes.{same_chunk, Leaves, changed_chunk, kept_chunk}
@@ -85,23 +85,23 @@ after_state memory n z =
     (other_cell memory (5 * n) z (5 * n + 4) (λ e. omega (arith, e)))
 
 -- no entries are of locks, so that all are free in what the log shows
-pub free_lock : (h : Header) (memory : Memory) (state : Amounts) (n : ℕ) → h.subject ≡ Cache → Stands h memory state → n < h.size
+pub free_lock : (h : Header) (memory : Memory) (state : Amounts) (n : ℕ) → h.subject ≡ Cache → Represents h memory state → n < h.size
     → memory (lock_of h n) ≡ 0
 free_lock h memory state n is s low =
     let plain : plain_words h ≡ 5 * h.size = ap (λ t. plain_words_of t h.size) is in
     let locks : lock_words h ≡ h.size = ap (λ t. lock_words_of t h.size) is in
     s.free (lock_of h n) (omega (arith, plain, locks, low)) (omega (arith, plain, locks, low))
 
--- the memory stands for a state where its chunk is known
-pub kept : (h : Header) (old new : Memory) (state : Amounts) (n : ℕ) (chunk : Chunk) → h.subject ≡ Cache → Stands h old state → n < h.size
+-- the memory represents a state where its chunk is known
+pub kept : (h : Header) (old new : Memory) (state : Amounts) (n : ℕ) (chunk : Chunk) → h.subject ≡ Cache → Represents h old state → n < h.size
     → Leaves old new n (lock_of h n) → new (lock_of h n) ≡ old (lock_of h n) → chunk_of new n ≡ chunk → is_sound_chunk chunk ≡ true
-    → shown chunk ≡ shown (chunk_of old n) → Stands h new state
+    → shown chunk ≡ shown (chunk_of old n) → Represents h new state
 kept h old new state n chunk is s low leaves free e sound same =
     kept_chunk h old new state n is s low leaves (free ∙ free_lock h old state n is s low) (ap is_sound_chunk e ∙ sound) (ap shown e ∙ same)
 
-pub changed : (h : Header) (old new : Memory) (state : Amounts) (n : ℕ) (chunk : Chunk) → h.subject ≡ Cache → Stands h old state → n < h.size
+pub changed : (h : Header) (old new : Memory) (state : Amounts) (n : ℕ) (chunk : Chunk) → h.subject ≡ Cache → Represents h old state → n < h.size
     → Leaves old new n (lock_of h n) → new (lock_of h n) ≡ old (lock_of h n) → chunk_of new n ≡ chunk → is_sound_chunk chunk ≡ true
-    → Stands h new (with_amount state n (shown chunk))
+    → Represents h new (with_amount state n (shown chunk))
 changed h old new state n chunk is s low leaves free e sound =
-    subst (λ d. Stands h new (with_amount state n (shown d))) e
+    subst (λ d. Represents h new (with_amount state n (shown d))) e
     (changed_chunk h old new state n is s low leaves (free ∙ free_lock h old state n is s low) (ap is_sound_chunk e ∙ sound))

@@ -17,7 +17,7 @@ use Rattle.vyrd_base.proofs.TestLaws.{both_true, is_below, is_at_most}
 use Rattle.vyrd_memory.specs.Alone.{words_in}
 use Rattle.vyrd_memory.proofs.NumberLists.{element_below, flat_map_alike, pass_all}
 use Rattle.vyrd_memory.proofs.PartSums.{collected-is}
-use Rattle.vyrd_memory.proofs.Memories.{Stands}
+use Rattle.vyrd_memory.proofs.Memories.{Represents}
 use Rattle.vyrd_cache.specs.Cells.{lock_of}
 use Rattle.vyrd_cache.specs.Contents.{chunk_of}
 use Rattle.vyrd_cache.specs.Laws.Alone.Changes.{same_chunk, chunk_in}
@@ -39,9 +39,9 @@ nothing_given size q k =
     by_key true = refl
     by_key false = refl
 
-empty_stands : (h : Header) → h.subject ≡ Cache → Stands h (shown_by []) start
+empty_represents : (h : Header) → h.subject ≡ Cache → Represents h (shown_by []) start
 unfolding view_of_words
-empty_stands h is = record {
+empty_represents h is = record {
   sound = subst (λ subject. is_sound subject h.size (words_in h (shown_by [])) ≡ true) (sym is)
       (pass_all (λ j. is_sound_chunk (chunk_at (words_in h (shown_by [])) j)) 0 h.size (λ j from to.
       let below : j < h.size = omega (arith, to) in ap is_sound_chunk (chunk_in h (shown_by []) j is below)));
@@ -54,8 +54,8 @@ empty_stands h is = record {
       ap (λ c. given q (chunk_parts h.size j c)) (chunk_in h (shown_by []) j is below) ∙ nothing_given h.size q j));
 }
 
--- the view of the words that the log leaves is the state that they stand for
-view_is : (h : Header) (log : List Entry) (state : Amounts) → h.subject ≡ Cache → Stands h (shown_by log) state
+-- the view of the words that the log leaves is the state that they represent
+view_is : (h : Header) (log : List Entry) (state : Amounts) → h.subject ≡ Cache → Represents h (shown_by log) state
     → view_of_words h (old_words_after h log) ≡ state
 unfolding view_of_words old_words_after
 view_is h log state is s =
@@ -85,6 +85,6 @@ cache_fits h one is = record {
   version = one;
   plain = λ cell low. subst (λ s. cell < plain_words_of s h.size) (sym is) low;
   locks = λ cell low. lock_cell h (cell / 5) is (omega (arith, low));
-  begins = empty_stands h is;
+  begins = empty_represents h is;
   view = λ log state s. view_is h log state is s;
 }

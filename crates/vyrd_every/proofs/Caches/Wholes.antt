@@ -23,7 +23,7 @@ use Rattle.vyrd_memory.specs.Laws.Player.{callable_method}
 use Rattle.vyrd_memory.specs.Alone.{Memory, with_cell}
 use Rattle.vyrd_memory.specs.Scripts.{Script, step, perform, returns}
 use Rattle.vyrd_memory.specs.Soundness.{Situation, holds, just_called}
-use Rattle.vyrd_memory.proofs.Memories.{Stands, other_cell}
+use Rattle.vyrd_memory.proofs.Memories.{Represents, other_cell}
 use Rattle.vyrd_cache.specs.Cells.{state_cell, lock_of, lock}
 use Rattle.vyrd_cache.specs.Procedures.{joined, in_order, put_cached, put_stored, forget}
 use Rattle.vyrd_cache.specs.Procedures.{only_commit, fetch, answer_cached}
@@ -149,8 +149,8 @@ stored_right h n a x b y z called k before later low from_a to_a from_b to_b res
 
 -- what a commit with reply 1 has to lead to
 abbrev LeadsTo : Header → Called → Memory → Memory → Type 0
-LeadsTo h called now after = (before : Amounts) → Stands h now before
-    → (next : Amounts) × (next_state called.method called.args 1 before ≡ Some next) × Stands h after next
+LeadsTo h called now after = (before : Amounts) → Represents h now before
+    → (next : Amounts) × (next_state called.method called.args 1 before ≡ Some next) × Represents h after next
 
 -- such a block that commits, and the return
 committed_right : (h : Header) (n a x b y z : ℕ) (called : Called) (k : Hand) (before : Memory) → n < h.size

@@ -18,7 +18,7 @@ use Rattle.vyrd_multiset.specs.Laws.Sound.{is_its_lock}
 use Rattle.vyrd_every.specs.Structures.{Fits, shown_by}
 use Rattle.vyrd_every.specs.Guarded.{multiset}
 
--- the view of the words that the log leaves is the state that they stand for
+-- the view of the words that the log leaves is the state that they represent
 view_is : (h : Header) (log : List Entry) (state : Amounts) → h.subject ≡ Multiset → IsMultiset h (shown_by log) state
     → view_of_words h (old_words_after h log) ≡ state
 unfolding view_of_words old_words_after

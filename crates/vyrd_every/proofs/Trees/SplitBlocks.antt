@@ -158,7 +158,7 @@ split_stands size m n u level bound right front back entry n_low u_low other lev
       (λ j from to. (
         end_same (12 * n + (4 + j)) (λ i low. omega (arith, low)),
         end_same (12 * n + (8 + j)) (λ i low. omega (arith, low)),
-      )) ∙ stands
+      )) ∙ represents
       ∙ sym stood.2.lower;
   new_level = at_u 0 (omega arith) ∙ w.level_is ∙ sym level_is;
   new_bound = at_u 2 (omega arith) ∙ w.bound_is ∙ sym bound_is;
@@ -241,8 +241,8 @@ split_stands size m n u level bound right front back entry n_low u_low other lev
     before₂ : entries_from m₂ n 0 (count_at m n) ≡ front ++ back
     before₂ = entries_alike m m₂ n 0 (count_at m n) (λ j from to. (at_n (4 + j) (omega (arith, to, full)), at_n (8 + j) (omega (arith, to, full)))) ∙ before
 
-    stands : entries_from m₃ n 0 (length pre + length kept) ≡ pre ++ kept
-    stands = front_stands m₂ m₃ n (count_at m n) pre stood.1 kept (before₂ ∙ stood.2.stood) (by_place stood.2.place) (omega (arith, three_of))
+    represents : entries_from m₃ n 0 (length pre + length kept) ≡ pre ++ kept
+    represents = front_stands m₂ m₃ n (count_at m n) pre stood.1 kept (before₂ ∙ stood.2.stood) (by_place stood.2.place) (omega (arith, three_of))
       where
         by_place : (length pre ≡ length front) ⊎ (kept ≡ []) → Written m₂ m₃ n (length pre) kept
         by_place (inl same) = written_at m₂ m₃ n (length front) (length pre) kept same w'

@@ -22,12 +22,12 @@ use Rattle.vyrd_memory.specs.Scripts.{Script}
 use Rattle.vyrd_memory.specs.Alone.{Memory, alone, state_in, state_after, MeetsSpecification, IsRightAlone}
 use Rattle.vyrd_multiset.specs.Procedures.{insert, insert_pair, delete, lookup, procedure_of}
 use Rattle.vyrd_multiset.specs.Contents.{IsMultiset}
-use Rattle.vyrd_multiset.specs.Laws.Alone.Changes.{is_multiset, stands_for}
+use Rattle.vyrd_multiset.specs.Laws.Alone.Changes.{is_multiset, multiset_represented}
 use Rattle.vyrd_multiset.specs.Laws.Alone.Played.{Ended, ended_with}
 use Rattle.vyrd_multiset.specs.Laws.Alone.Done.{InsertDone, insert_done, PairDone, pair_done}
 use Rattle.vyrd_multiset.specs.Laws.Alone.Done.{DeleteDone, delete_done, LookupDone, lookup_done}
 
--- the memory at the end stands for the state that the specification says
+-- the memory at the end represents the state that the specification says
 record Meets (h : Header) (op : Op) (s : Amounts) (reply : ℕ) (after : Memory) : Type 0 where
   state : Amounts
   says : state_after (is_observer op.method) op reply s ≡ Some state
@@ -39,7 +39,7 @@ meets : (h : Header) (op : Op) (script : Script) (c : ℕ) (memory : Memory) (s 
 meets h op script c memory s is Q ended says =
     let o = ended_with (alone c script memory) Q ended in
     let m = says o.0.reply o.0.memory o.2 in
-    let e : state_in h o.0.memory ≡ Some m.state = stands_for h o.0.memory m.state is m.is in
+    let e : state_in h o.0.memory ≡ Some m.state = multiset_represented h o.0.memory m.state is m.is in
     record {
       outcome = o.0;
       ends = o.1;

@@ -4,7 +4,7 @@
 -- A tree in a memory is said by what holds of each node in use (Contents), for the least key that
 -- each may have, its low. On each level the nodes' ranges of keys share no key, and every key has
 -- its node (Order). So the chain of the leaves shows for a key what the leaf of its range gives
--- (View). Such a tree is what the tests of its words say (Tested), and a memory that stands for a
+-- (View). Such a tree is what the tests of its words say (Tested), and a memory that represents a
 -- state has one (Changes). A walk arrives at the node of the key's range (WalkArrives), a changed
 -- leaf keeps the tree (EntriesStaySound, Done), a split and a new root keep it (SplitKeepsTree,
 -- RootKeepsTree), and so does each round of the ascent (AscentKeepsState).
@@ -46,8 +46,8 @@ use Rattle.vyrd_memory.specs.Arguments.{are_small}
 use Rattle.vyrd_memory.proofs.Small.{small_a, small_b}
 use Rattle.vyrd_memory.specs.Alone.{Memory, alone, state_in, state_after, MeetsSpecification, IsRightAlone}
 use Rattle.vyrd_tree.specs.Procedures.{procedure_of, lookup, delete, insert_entry}
-use Rattle.vyrd_tree.specs.Contents.{StandsFor}
-use Rattle.vyrd_tree.specs.Laws.Alone.Changes.{stands_for, stands_so}
+use Rattle.vyrd_tree.specs.Contents.{TreeRepresents}
+use Rattle.vyrd_tree.specs.Laws.Alone.Changes.{tree_represents, tree_represented}
 use Rattle.vyrd_tree.specs.Laws.Alone.Played.{EndsSo, ended_with}
 use Rattle.vyrd_tree.specs.Laws.Alone.Done.{Meets, lookup_alone, delete_alone}
 use Rattle.vyrd_tree.specs.Laws.Alone.Inserted.{InsertDone, insert_alone}
@@ -63,7 +63,7 @@ meets : (h : Header) (op : Op) (script : Script) (c : ℕ) (memory : Memory) (s 
 meets h op script c memory s is Q ended says =
     let o = ended_with (alone c script memory) Q ended in
     let m = says o.0.reply o.0.memory o.2 in
-    let e : state_in h o.0.memory ≡ Some m.state = stands_so h o.0.memory m.state is m.stands in
+    let e : state_in h o.0.memory ≡ Some m.state = tree_represented h o.0.memory m.state is m.represents in
     record {
       outcome = o.0;
       ends = o.1;
@@ -79,7 +79,7 @@ isnt_there s x none = ap (λ n. not (n == 0)) none
 
 by_method_right : (h : Header) (method : Method) (args : Args) → h.subject ≡ Tree
     → subject_of method ≡ Tree → args.a < 2 ^ 32 → args.b < 2 ^ 32
-    → (c : ℕ) (memory : Memory) (s : Amounts) → StandsFor h memory s
+    → (c : ℕ) (memory : Memory) (s : Amounts) → TreeRepresents h memory s
     → MeetsSpecification h (record { method = method; args = args })
     (procedure_of h Correct method args) c memory s
 by_method_right h TrInsert args is of small_key small c memory s st =
@@ -91,17 +91,17 @@ by_method_right h TrInsert args is of small_key small c memory s st =
 
     says : (reply : ℕ) (after : Memory) → InsertDone h memory s args.a args.b reply after
         → Meets h (says_of (record { method = TrInsert; args = args }) s) reply after
-    says reply after (inl d) = record { state = s; allowed = ap (λ r. next_state TrInsert args r s) d.0; stands = d.2 }
+    says reply after (inl d) = record { state = s; allowed = ap (λ r. next_state TrInsert args r s) d.0; represents = d.2 }
     says reply after (inr (inl d)) = record {
       state = next;
       allowed = ap (λ r. next_state TrInsert args r s) d.0
           ∙ ap (λ b. then_some (not b) (with_amount s args.a (2 ^ 32 + args.b))) (isnt_there s args.a d.1);
-      stands = d.2;
+      represents = d.2;
     }
     says reply after (inr (inr d)) = record {
       state = next;
       allowed = ap (λ r. next_state TrInsert args r s) d.0 ∙ ap (λ b. then_some b (with_amount s args.a (2 ^ 32 + args.b))) (is_there s args.a d.1);
-      stands = d.2;
+      represents = d.2;
     }
 by_method_right h TrDelete args is of small_key small c memory s st =
     meets h (record { method = TrDelete; args = args }) (delete h Correct args.a) c memory s is _ (delete_alone h c memory s args.a st)
@@ -110,18 +110,18 @@ by_method_right h TrDelete args is of small_key small c memory s st =
         state = s;
         allowed = ap (λ r. next_state TrDelete args r s) d.1
             ∙ ap (λ b. then_some (not b) s) (isnt_there s args.a d.0);
-        stands = d.2;
+        represents = d.2;
       }
       | inr d ↦ record {
         state = with_amount s args.a 0;
         allowed = ap (λ r. next_state TrDelete args r s) d.1
             ∙ ap (λ b. then_some b (with_amount s args.a 0)) (is_there s args.a d.0);
-        stands = d.2;
+        represents = d.2;
       }
     ])
 by_method_right h TrLookup args is of small_key small c memory s st =
     meets h (record { method = TrLookup; args = args }) (lookup h Correct args.a) c memory s is _ (lookup_alone h c memory s args.a st)
-    (λ reply after d. record { state = s; allowed = answered reply d.1; stands = d.0 })
+    (λ reply after d. record { state = s; allowed = answered reply d.1; represents = d.0 })
   where
     answers : (reply : ℕ) → reply ≡ answer_in s TrLookup args → cond (reply == answer_in s TrLookup args) (Some s) None ≡ Some s
     answers reply e = ap (λ b. cond b (Some s) None) (is_same reply (answer_in s TrLookup args) e)
@@ -155,4 +155,4 @@ pub procedure_right_alone : (h : Header) (method : Method) (args : Args)
     → IsRightAlone h (record { method = method; args = args }) (procedure_of h Correct method args)
 procedure_right_alone h method args is of small = λ c memory s e.
     by_method_right h method args is of (small_a args small) (small_b args small) c memory s
-    (stands_for h memory s is e)
+    (tree_represents h memory s is e)

@@ -1,5 +1,5 @@
 -- Proofs of laws that an impl in src/ names: no contract says what is defined here.
--- How the state changes for which a memory of string buffers stands, where one buffer changes.
+-- How the state changes that a memory of string buffers represents, where one buffer changes.
 use Rattle.std.proofs.Common.{◌≡◌, ◌≢◌, ℕ, ◌+◌, ◌*◌, ◌/◌, ◌<◌, ◌≤◌, Bool, true, false, cond, List, [], ◌∷◌, refl, ap, ◌∙◌, sym, subst, arith}
 use Rattle.std.specs.Prelude.{◌==◌, ◌&&◌, nat_le, flat_map}
 use Rattle.vyrd_base.specs.declared.header.Header.{Header}
@@ -17,7 +17,7 @@ use Rattle.vyrd_base.proofs.TextLaws.{text_same, characters_same}
 use Rattle.vyrd_memory.specs.Alone.{Memory, words_in}
 use Rattle.vyrd_memory.proofs.NumberLists.{all_pass, pass_all}
 use Rattle.vyrd_memory.proofs.PartSums.{given-changed, collected-is}
-use Rattle.vyrd_memory.proofs.Memories.{Stands, word_at}
+use Rattle.vyrd_memory.proofs.Memories.{Represents, word_at}
 use Rattle.vyrd_buffers.specs.Contents.{buffer_of, shown}
 
 -- two buffers with the same words
@@ -62,7 +62,7 @@ buffer_in h memory b is low =
     }
 
 -- each buffer is sound
-pub sound_at : (h : Header) (memory : Memory) (state : Amounts) (b : ℕ) → h.subject ≡ Buffers → Stands h memory state → b < h.size
+pub sound_at : (h : Header) (memory : Memory) (state : Amounts) (b : ℕ) → h.subject ≡ Buffers → Represents h memory state → b < h.size
     → is_buffer (buffer_of memory b) ≡ true
 sound_at h memory state b is s low =
     sym (sound_alike (buffer_at (words_in h memory) b) (buffer_of memory b) (buffer_in h memory b is low))
@@ -91,14 +91,14 @@ given_at h memory q j is low sound =
     ap (given q) (part_is h memory j is low sound) ∙ one
 
 -- the amount of a key is what all buffers give it
-amounts_given : (h : Header) (memory : Memory) (state : Amounts) (q : ℕ) → h.subject ≡ Buffers → Stands h memory state
+amounts_given : (h : Header) (memory : Memory) (state : Amounts) (q : ℕ) → h.subject ≡ Buffers → Represents h memory state
     → amount_of state q ≡ given q (flat_map (part_at h memory) (numbers_below h.size))
 unfolding view_of_words
 amounts_given h memory state q is s =
     ap (λ t. amount_of t q) (sym s.shows) ∙ amount_of-collected (parts_of h.subject h.size (words_in h memory)) q
     ∙ ap (λ subject. given q (parts_of subject h.size (words_in h memory))) is
 
-pub is_amounts : (h : Header) (memory : Memory) (state : Amounts) → Stands h memory state → IsAmounts state
+pub is_amounts : (h : Header) (memory : Memory) (state : Amounts) → Represents h memory state → IsAmounts state
 unfolding view_of_words
 is_amounts h memory state s = subst IsAmounts s.shows (IsAmounts-collected (parts_of h.subject h.size (words_in h memory)))
 
@@ -107,7 +107,7 @@ abbrev parts_without : Header → Memory → ℕ → ℕ → List (ℕ × ℕ)
 parts_without h memory b j = cond (j == b) [] (part_at h memory j)
 
 -- which is nothing to the key b
-none_without : (h : Header) (memory : Memory) (state : Amounts) (b : ℕ) → h.subject ≡ Buffers → Stands h memory state
+none_without : (h : Header) (memory : Memory) (state : Amounts) (b : ℕ) → h.subject ≡ Buffers → Represents h memory state
     → given b (flat_map (parts_without h memory b) (numbers_from 0 h.size)) ≡ 0
 none_without h memory state b is s = given_nothing (parts_without h memory b) b 0 h.size (λ j from to. by_place j (omega arith) (j == b) refl)
   where
@@ -119,7 +119,7 @@ none_without h memory state b is s = given_nothing (parts_without h memory b) b 
         ∙ ap (λ same. cond same (shown (buffer_of memory j)) 0) (isnt_same b j apart)
 
 -- the amount of a buffer's number is the text that it shows
-pub shown_at : (h : Header) (memory : Memory) (state : Amounts) (b : ℕ) → h.subject ≡ Buffers → Stands h memory state → b < h.size
+pub shown_at : (h : Header) (memory : Memory) (state : Amounts) (b : ℕ) → h.subject ≡ Buffers → Represents h memory state → b < h.size
     → amount_of state b ≡ shown (buffer_of memory b)
 shown_at h memory state b is s low =
     omega (
@@ -155,7 +155,7 @@ other_buffer old new b j leaves apart = record {
 }
 
 -- what the buffers give where buffer b alone changed
-amounts_changed : (h : Header) (old new : Memory) (state : Amounts) (b q : ℕ) → h.subject ≡ Buffers → Stands h old state → b < h.size
+amounts_changed : (h : Header) (old new : Memory) (state : Amounts) (b q : ℕ) → h.subject ≡ Buffers → Represents h old state → b < h.size
     → Leaves old new b → is_buffer (buffer_of new b) ≡ true
     → given q (flat_map (part_at h new) (numbers_below h.size)) ≡ cond (q == b) (shown (buffer_of new b)) (amount_of state q)
 amounts_changed h old new state b q is s low leaves sound = by_key (q == b) refl
@@ -192,9 +192,9 @@ amounts_changed h old new state b q is s low leaves sound = by_key (q == b) refl
         omega (arith, change, before, after, amounts_given h old state q is s) in
         now ∙ sym (ap (λ same. cond same (shown (buffer_of new b)) (amount_of state q)) e)
 
--- The memory after buffer b changed to another sound buffer stands for the state with the text that this one shows.
-pub changed_buffer : (h : Header) (old new : Memory) (state : Amounts) (b : ℕ) → h.subject ≡ Buffers → Stands h old state → b < h.size
-    → Leaves old new b → is_buffer (buffer_of new b) ≡ true → Stands h new (with_amount state b (shown (buffer_of new b)))
+-- The memory after buffer b changed to another sound buffer represents the state with the text that this one shows.
+pub changed_buffer : (h : Header) (old new : Memory) (state : Amounts) (b : ℕ) → h.subject ≡ Buffers → Represents h old state → b < h.size
+    → Leaves old new b → is_buffer (buffer_of new b) ≡ true → Represents h new (with_amount state b (shown (buffer_of new b)))
 unfolding view_of_words
 changed_buffer h old new state b is s low leaves sound = record {
   sound = subst (λ subject. is_sound subject h.size (words_in h new) ≡ true) (sym is) all_sound;
@@ -233,16 +233,16 @@ same_amount state b is =
     by_key q true e = ap (amount_of state) (sym (same_of q b e))
     by_key q false e = refl
 
--- Where the buffer shows the same text as before, the memory stands for the same state.
-pub kept_buffer : (h : Header) (old new : Memory) (state : Amounts) (b : ℕ) → h.subject ≡ Buffers → Stands h old state → b < h.size
-    → Leaves old new b → is_buffer (buffer_of new b) ≡ true → shown (buffer_of new b) ≡ shown (buffer_of old b) → Stands h new state
+-- Where the buffer shows the same text as before, the memory represents the same state.
+pub kept_buffer : (h : Header) (old new : Memory) (state : Amounts) (b : ℕ) → h.subject ≡ Buffers → Represents h old state → b < h.size
+    → Leaves old new b → is_buffer (buffer_of new b) ≡ true → shown (buffer_of new b) ≡ shown (buffer_of old b) → Represents h new state
 kept_buffer h old new state b is s low leaves sound same =
-    subst (Stands h new) (ap (with_amount state b) (same ∙ sym (shown_at h old state b is s low)) ∙ same_amount state b (is_amounts h old state s))
+    subst (Represents h new) (ap (with_amount state b) (same ∙ sym (shown_at h old state b is s low)) ∙ same_amount state b (is_amounts h old state s))
     (changed_buffer h old new state b is s low leaves sound)
 
 -- Where no cell has changed, it does too.
-pub same_cells : (h : Header) (old new : Memory) (state : Amounts) (b : ℕ) → h.subject ≡ Buffers → Stands h old state → b < h.size
-    → ((cell : ℕ) → new cell ≡ old cell) → Stands h new state
+pub same_cells : (h : Header) (old new : Memory) (state : Amounts) (b : ℕ) → h.subject ≡ Buffers → Represents h old state → b < h.size
+    → ((cell : ℕ) → new cell ≡ old cell) → Represents h new state
 same_cells h old new state b is s low same =
     kept_buffer h old new state b is s low (λ cell other. same cell) (sound_alike (buffer_of new b) (buffer_of old b) alike ∙ sound)
     (shown_alike (buffer_of new b) (buffer_of old b) alike sound)

@@ -14,7 +14,7 @@ use Rattle.vyrd_base.proofs.TestLaws.{same_number}
 use Rattle.vyrd_memory.specs.declared.op.Op.{Op}
 use Rattle.vyrd_memory.specs.Scripts.{Script}
 use Rattle.vyrd_memory.specs.Alone.{Memory, with_cell, alone, state_after, MeetsSpecification}
-use Rattle.vyrd_memory.proofs.Memories.{Stands, standing, other_cell}
+use Rattle.vyrd_memory.proofs.Memories.{Represents, represented, other_cell}
 use Rattle.vyrd_buffers.specs.Cells.{count_cell, lock_of}
 use Rattle.vyrd_buffers.specs.Contents.{buffer_of, shown}
 use Rattle.vyrd_buffers.specs.Laws.Alone.Changes.{Alike, sound_alike, shown_alike, sound_at, shown_at, Leaves, changed_buffer, same_cells}
@@ -25,13 +25,13 @@ use Rattle.vyrd_buffers.specs.Laws.Alone.Stores.{with_appended, with_appended-is
 
 -- an operation that ends so, and where the specification allows it
 pub met : (h : Header) (op : Op) (script : Script) (c : ℕ) (old new : Memory) (state next : Amounts) (reply : ℕ)
-    → alone c script old ≡ Some (record { reply = reply; memory = new }) → Stands h new next
+    → alone c script old ≡ Some (record { reply = reply; memory = new }) → Represents h new next
     → state_after (is_observer op.method) op reply state ≡ Some next → MeetsSpecification h op script c old state
 met h op script c old new state next reply ends is allowed = record {
   outcome = record { reply = reply; memory = new };
   ends = ends;
-  after = standing h new next is ∙ sym allowed;
-  goes_on = subst (λ (o : Option Amounts). IsSome o) (sym (standing h new next is)) refl;
+  after = represented h new next is ∙ sym allowed;
+  goes_on = subst (λ (o : Option Amounts). IsSome o) (sym (represented h new next is)) refl;
 }
 
 -- what the specification allows: an append to a full buffer, one where there is room, and an answer
@@ -48,7 +48,7 @@ answer_allowed op reply state is =
     ∙ ap (λ same. cond same (Some state) None) (same_number (answer_in state op.method op.args))
 
 -- a lock is free at the beginning
-pub free_lock : (h : Header) (memory : Memory) (state : Amounts) (b : ℕ) → h.subject ≡ Buffers → Stands h memory state → b < h.size
+pub free_lock : (h : Header) (memory : Memory) (state : Amounts) (b : ℕ) → h.subject ≡ Buffers → Represents h memory state → b < h.size
     → memory (lock_of h b) ≡ 0
 free_lock h memory state b is s low =
     let plain : plain_words h ≡ 8 * h.size = ap (λ t. plain_words_of t h.size) is in
@@ -56,25 +56,25 @@ free_lock h memory state b is s low =
     s.free (lock_of h b) (omega arith) (omega arith)
 
 -- with locks held each buffer is sound, and shows its amount
-pub held_sound : (h : Header) (memory now : Memory) (state : Amounts) (b : ℕ) → h.subject ≡ Buffers → Stands h memory state → b < h.size
+pub held_sound : (h : Header) (memory now : Memory) (state : Amounts) (b : ℕ) → h.subject ≡ Buffers → Represents h memory state → b < h.size
     → SameWords h.size memory now → is_buffer (buffer_of now b) ≡ true
 held_sound h memory now state b is s low words =
     sound_alike (buffer_of now b) (buffer_of memory b) (same_buffer h.size memory now b words low) ∙ sound_at h memory state b is s low
 
-pub held_shown : (h : Header) (memory now : Memory) (state : Amounts) (b : ℕ) → h.subject ≡ Buffers → Stands h memory state → b < h.size
+pub held_shown : (h : Header) (memory now : Memory) (state : Amounts) (b : ℕ) → h.subject ≡ Buffers → Represents h memory state → b < h.size
     → SameWords h.size memory now → shown (buffer_of now b) ≡ amount_of state b
 held_shown h memory now state b is s low words =
     shown_alike (buffer_of now b) (buffer_of memory b) (same_buffer h.size memory now b words low) (sound_at h memory state b is s low)
     ∙ sym (shown_at h memory state b is s low)
 
--- The words of buffer b alone were stored into, after which the locks were given back: the memory stands for the state with the
+-- The words of buffer b alone were stored into, after which the locks were given back: the memory represents the state with the
 -- text that the buffer shows.
-pub changed : (h : Header) (old after new : Memory) (state : Amounts) (b text : ℕ) → h.subject ≡ Buffers → Stands h old state → b < h.size
+pub changed : (h : Header) (old after new : Memory) (state : Amounts) (b text : ℕ) → h.subject ≡ Buffers → Represents h old state → b < h.size
     → Leaves old new b → SameWords h.size after new → is_buffer (buffer_of after b) ≡ true → shown (buffer_of after b) ≡ text
-    → Stands h new (with_amount state b text)
+    → Represents h new (with_amount state b text)
 changed h old after new state b text is s low leaves words sound shows =
     let alike : Alike (buffer_of new b) (buffer_of after b) = same_buffer h.size after new b words low in
-    subst (λ t. Stands h new (with_amount state b t)) (shown_alike (buffer_of new b) (buffer_of after b) alike sound ∙ shows)
+    subst (λ t. Represents h new (with_amount state b t)) (shown_alike (buffer_of new b) (buffer_of after b) alike sound ∙ shows)
     (changed_buffer h old new state b is s low leaves (sound_alike (buffer_of new b) (buffer_of after b) alike ∙ sound))
 
 -- a lock was taken and given back
@@ -83,14 +83,14 @@ pub unlocked : (h : Header) (c b : ℕ) (memory : Memory) → memory (lock_of h 
 unlocked h c b memory free cell =
     given_back memory (held c (lock_of h b) memory) (lock_of h b) cell free (λ apart. other_cell memory (lock_of h b) (c + 1) cell apart)
 
--- These characters were appended to buffer b with locks held, which were given back: the memory stands for the state with the
+-- These characters were appended to buffer b with locks held, which were given back: the memory represents the state with the
 -- joined text.
 pub appended : (h : Header) (old now new : Memory) (state : Amounts) (b count more text : ℕ) (characters : List ℕ)
-    → h.subject ≡ Buffers → Stands h old state → b < h.size
+    → h.subject ≡ Buffers → Represents h old state → b < h.size
     → SameWords h.size old now → now (count_cell b) ≡ count → length characters ≡ more → count + more ≤ 7
     → are_characters (slice_index characters) more ≡ true → text_of (slice_index characters) more ≡ text
     → Leaves old new b → SameWords h.size (with_appended characters b count more now) new
-    → Stands h new (with_amount state b (joined (amount_of state b) text))
+    → Represents h new (with_amount state b (joined (amount_of state b) text))
 appended h old now new state b count more text characters is s low words e many few small shows leaves given =
     changed h old after new state b (joined (amount_of state b) text) is s low leaves given
     (appended_sound (buffer_of now b) (buffer_of after b) (slice_index characters) more done sound small (omega (arith, e, few)))
@@ -117,7 +117,7 @@ Cuts op state b n = state_after (is_observer op.method) op 1 state ≡ Some (wit
 
 -- an observer, after which all is as it was
 pub answer_alone : (h : Header) (op : Op) (script : Script) (c b reply : ℕ) (memory : Memory) (state : Amounts) → h.subject ≡ Buffers
-    → Stands h memory state → b < h.size → is_observer op.method ≡ true
+    → Represents h memory state → b < h.size → is_observer op.method ≡ true
     → alone c script memory ≡ Some (record { reply = reply; memory = with_cell (held c (lock_of h b) memory) (lock_of h b) 0 })
     → reply ≡ answer_in state op.method op.args → MeetsSpecification h op script c memory state
 answer_alone h op script c b reply memory state is s low looks run answer =

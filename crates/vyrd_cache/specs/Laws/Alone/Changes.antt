@@ -1,5 +1,5 @@
 -- Proofs of laws that an impl in src/ names: no contract says what is defined here.
--- How the state changes for which a cache's memory stands, where one chunk changes.
+-- How the state changes that a cache's memory represents, where one chunk changes.
 use Rattle.std.proofs.Common.{◌≡◌, ℕ, ◌+◌, ◌*◌, ◌<◌, ◌≤◌, Bool, true, false, cond, List, [], ◌∷◌, refl, ap, ◌∙◌, sym, subst, arith}
 use Rattle.std.specs.Prelude.{◌≢◌, ◌==◌, ◌&&◌, ◌||◌, not, flat_map}
 use Rattle.vyrd_base.specs.declared.header.Header.{Header}
@@ -15,7 +15,7 @@ use Rattle.vyrd_base.proofs.TestLaws.{first_true, second_true, same_number, isnt
 use Rattle.vyrd_memory.specs.Alone.{Memory, words_in}
 use Rattle.vyrd_memory.proofs.NumberLists.{all_pass, pass_all}
 use Rattle.vyrd_memory.proofs.PartSums.{given-changed, collected-is}
-use Rattle.vyrd_memory.proofs.Memories.{Stands, word_at}
+use Rattle.vyrd_memory.proofs.Memories.{Represents, word_at}
 use Rattle.vyrd_cache.specs.Contents.{chunk_of, shown}
 
 -- two chunks with the same words
@@ -37,7 +37,7 @@ chunk_in h memory k is low =
     (word_at h memory (5 * k + 4) (omega arith))
 
 -- each chunk is sound
-pub sound_at : (h : Header) (memory : Memory) (state : Amounts) (k : ℕ) → h.subject ≡ Cache → Stands h memory state → k < h.size
+pub sound_at : (h : Header) (memory : Memory) (state : Amounts) (k : ℕ) → h.subject ≡ Cache → Represents h memory state → k < h.size
     → is_sound_chunk (chunk_of memory k) ≡ true
 sound_at h memory state k is s low =
     ap is_sound_chunk (sym (chunk_in h memory k is low))
@@ -71,14 +71,14 @@ given_at h memory q j is low sound =
     ap (λ c. given q (chunk_parts h.size j c)) (chunk_in h memory j is low) ∙ ap (given q) (parts_sound h.size j (chunk_of memory j) sound) ∙ one
 
 -- the amount of a key is what all chunks give it
-amounts_given : (h : Header) (memory : Memory) (state : Amounts) (q : ℕ) → h.subject ≡ Cache → Stands h memory state
+amounts_given : (h : Header) (memory : Memory) (state : Amounts) (q : ℕ) → h.subject ≡ Cache → Represents h memory state
     → amount_of state q ≡ given q (flat_map (part_at h memory) (numbers_below h.size))
 unfolding view_of_words
 amounts_given h memory state q is s =
     ap (λ t. amount_of t q) (sym s.shows) ∙ amount_of-collected (parts_of h.subject h.size (words_in h memory)) q
     ∙ ap (λ subject. given q (parts_of subject h.size (words_in h memory))) is
 
-pub is_amounts : (h : Header) (memory : Memory) (state : Amounts) → Stands h memory state → IsAmounts state
+pub is_amounts : (h : Header) (memory : Memory) (state : Amounts) → Represents h memory state → IsAmounts state
 unfolding view_of_words
 is_amounts h memory state s = subst IsAmounts s.shows (IsAmounts-collected (parts_of h.subject h.size (words_in h memory)))
 
@@ -87,7 +87,7 @@ abbrev parts_without : Header → Memory → ℕ → ℕ → List (ℕ × ℕ)
 parts_without h memory k j = cond (j == k) [] (part_at h memory j)
 
 -- which is nothing to the key k
-none_without : (h : Header) (memory : Memory) (state : Amounts) (k : ℕ) → h.subject ≡ Cache → Stands h memory state
+none_without : (h : Header) (memory : Memory) (state : Amounts) (k : ℕ) → h.subject ≡ Cache → Represents h memory state
     → given k (flat_map (parts_without h memory k) (numbers_from 0 h.size)) ≡ 0
 none_without h memory state k is s = given_nothing (parts_without h memory k) k 0 h.size (λ j from to. by_place j (omega arith) (j == k) refl)
   where
@@ -99,7 +99,7 @@ none_without h memory state k is s = given_nothing (parts_without h memory k) k 
         ∙ ap (λ b. cond b (shown (chunk_of memory j)) 0) (isnt_same k j apart)
 
 -- the amount of a chunk's number is the pair that it shows
-pub shown_at : (h : Header) (memory : Memory) (state : Amounts) (k : ℕ) → h.subject ≡ Cache → Stands h memory state → k < h.size
+pub shown_at : (h : Header) (memory : Memory) (state : Amounts) (k : ℕ) → h.subject ≡ Cache → Represents h memory state → k < h.size
     → amount_of state k ≡ shown (chunk_of memory k)
 shown_at h memory state k is s low =
     omega (
@@ -134,7 +134,7 @@ other_chunk size old new k j leaves low below apart =
     (leaves (5 * j + 4) (omega arith) (omega arith) (omega arith) (omega arith) (omega arith) (omega arith))
 
 -- what the chunks give where chunk k alone changed
-amounts_changed : (h : Header) (old new : Memory) (state : Amounts) (k q : ℕ) → h.subject ≡ Cache → Stands h old state → k < h.size
+amounts_changed : (h : Header) (old new : Memory) (state : Amounts) (k q : ℕ) → h.subject ≡ Cache → Represents h old state → k < h.size
     → Leaves old new k (5 * h.size + k) → is_sound_chunk (chunk_of new k) ≡ true
     → given q (flat_map (part_at h new) (numbers_below h.size)) ≡ cond (q == k) (shown (chunk_of new k)) (amount_of state q)
 amounts_changed h old new state k q is s low leaves sound = by_key (q == k) refl
@@ -168,10 +168,10 @@ amounts_changed h old new state k q is s low leaves sound = by_key (q == k) refl
         omega (arith, change, before, after, amounts_given h old state q is s) in
         now ∙ sym (ap (λ b. cond b (shown (chunk_of new k)) (amount_of state q)) e)
 
--- The memory after chunk k changed to another sound chunk stands for the state with the pair that this one shows.
-pub changed_chunk : (h : Header) (old new : Memory) (state : Amounts) (k : ℕ) → h.subject ≡ Cache → Stands h old state → k < h.size
+-- The memory after chunk k changed to another sound chunk represents the state with the pair that this one shows.
+pub changed_chunk : (h : Header) (old new : Memory) (state : Amounts) (k : ℕ) → h.subject ≡ Cache → Represents h old state → k < h.size
     → Leaves old new k (5 * h.size + k) → new (5 * h.size + k) ≡ 0 → is_sound_chunk (chunk_of new k) ≡ true
-    → Stands h new (with_amount state k (shown (chunk_of new k)))
+    → Represents h new (with_amount state k (shown (chunk_of new k)))
 unfolding view_of_words
 changed_chunk h old new state k is s low leaves free sound = record {
   sound = subst (λ subject. is_sound subject h.size (words_in h new) ≡ true) (sym is) all_sound;
@@ -213,11 +213,11 @@ same_amount state k is =
     by_key q true e = ap (amount_of state) (sym (same_of q k e))
     by_key q false e = refl
 
--- Where the chunk shows the same pair as before, the memory stands for the same state.
-pub kept_chunk : (h : Header) (old new : Memory) (state : Amounts) (k : ℕ) → h.subject ≡ Cache → Stands h old state → k < h.size
+-- Where the chunk shows the same pair as before, the memory represents the same state.
+pub kept_chunk : (h : Header) (old new : Memory) (state : Amounts) (k : ℕ) → h.subject ≡ Cache → Represents h old state → k < h.size
     → Leaves old new k (5 * h.size + k) → new (5 * h.size + k) ≡ 0 → is_sound_chunk (chunk_of new k) ≡ true
     → shown (chunk_of new k) ≡ shown (chunk_of old k)
-    → Stands h new state
+    → Represents h new state
 kept_chunk h old new state k is s low leaves free sound same =
-    subst (Stands h new) (ap (with_amount state k) (same ∙ sym (shown_at h old state k is s low)) ∙ same_amount state k (is_amounts h old state s))
+    subst (Represents h new) (ap (with_amount state k) (same ∙ sym (shown_at h old state k is s low)) ∙ same_amount state k (is_amounts h old state s))
     (changed_chunk h old new state k is s low leaves free sound)

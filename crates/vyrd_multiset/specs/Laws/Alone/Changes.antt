@@ -1,5 +1,5 @@
 -- Proofs of laws that an impl in src/ names: no contract says what is defined here.
--- How the state changes for which a memory of a multiset stands, where one slot changes.
+-- How the state changes that a memory of a multiset represents, where one slot changes.
 use Rattle.std.proofs.Common.{◌≡◌, ◌≢◌, ℕ, zero, suc, ◌+◌, ◌-◌, ◌*◌, ◌%◌, ◌/◌, ◌<◌, ◌≤◌, Bool, true, false, cond, not, List, [], ◌∷◌, Some, refl, ap, ◌∙◌, sym, subst, arith}
 use Rattle.std.specs.Prelude.{◌==◌, ◌||◌, flat_map, slice_index}
 use Rattle.std.proofs.lemmas.Bool.Decides.{nat_tests}
@@ -16,7 +16,7 @@ use Rattle.vyrd_base.proofs.TestLaws.{same_of, same_number, isnt_same}
 use Rattle.vyrd_memory.specs.Alone.{Memory, words_in, state_in}
 use Rattle.vyrd_memory.proofs.NumberLists.{all_pass, pass_all, flat_map_alike}
 use Rattle.vyrd_memory.proofs.PartSums.{given-changed, collected-is}
-use Rattle.vyrd_memory.proofs.Memories.{Stands, word_at, stands, standing}
+use Rattle.vyrd_memory.proofs.Memories.{Represents, word_at, represents, represented}
 use Rattle.vyrd_multiset.specs.Cells.{bucket_of}
 use Rattle.vyrd_multiset.specs.Contents.{parts_in, IsMultiset}
 
@@ -54,13 +54,13 @@ slot_passes a v n k says = of_remainder (v % n) says
         by_test true e = let valid : a ≡ 2 = grind (arith, nat_tests) in let same = says valid in grind (arith, nat_tests)
         by_test false e = refl
 
--- the parts of words that stand for a state
+-- the parts of words that represent a state
 shown_parts : (h : Header) (memory : Memory) → h.subject ≡ Multiset → view_of_words h (words_in h memory) ≡ collected
     (flat_map (parts_in memory) (numbers_below (4 * h.size)))
 unfolding view_of_words
 shown_parts h memory is = ap (λ s. collected (parts_of s h.size (words_in h memory))) is ∙ ap collected (parts_are h memory is)
 
--- a memory that stands for a state is so
+-- a memory that represents a state is so
 pub is_multiset : (h : Header) (memory : Memory) (state : Amounts) → h.subject ≡ Multiset → state_in h memory ≡ Some state → IsMultiset h memory state
 is_multiset h memory state is e = record {
   sound = λ i low valid. slot_says (memory (2 * i)) (memory (2 * i + 1)) h.size (i / 4) (slot i low) valid;
@@ -69,8 +69,8 @@ is_multiset h memory state is e = record {
   formed = subst IsAmounts shown (IsAmounts-collected (flat_map (parts_in memory) (numbers_below (4 * h.size))));
 }
   where
-    here : Stands h memory state
-    here = stands h memory state e
+    here : Represents h memory state
+    here = represents h memory state e
 
     plain : plain_words h ≡ 8 * h.size
     plain = ap (λ s. plain_words_of s h.size) is
@@ -85,9 +85,9 @@ is_multiset h memory state is e = record {
         ∙ all_pass (is_sound_slot h.size (words_in h memory)) 0 (4 * h.size) (ap (λ s. is_sound s h.size (words_in h memory)) (sym is) ∙ here.sound) i
         (omega arith) (omega arith)
 
--- a memory that is so stands for the state
-pub stands_for : (h : Header) (memory : Memory) (state : Amounts) → h.subject ≡ Multiset → IsMultiset h memory state → state_in h memory ≡ Some state
-stands_for h memory state is m = standing h memory state (record {
+-- a memory that is so represents the state
+pub multiset_represented : (h : Header) (memory : Memory) (state : Amounts) → h.subject ≡ Multiset → IsMultiset h memory state → state_in h memory ≡ Some state
+multiset_represented h memory state is m = represented h memory state (record {
   sound = ap (λ s. is_sound s h.size (words_in h memory)) is ∙ pass_all (is_sound_slot h.size (words_in h memory)) 0 (4 * h.size) slot;
   free = free;
   shows = shown_parts h memory is ∙ collected-is (flat_map (parts_in memory) (numbers_below (4 * h.size))) state m.formed m.shows;

@@ -1,5 +1,5 @@
 -- Proofs of laws that an impl in src/ names: no contract says what is defined here.
--- What each correct procedure has done when it is over, played alone from a memory that stands for a state.
+-- What each correct procedure has done when it is over, played alone from a memory that represents a state.
 use Rattle.std.proofs.Common.{◌≡◌, ◌≢◌, ℕ, ◌+◌, ◌-◌, ◌*◌, ◌%◌, ◌/◌, ◌<◌, ◌≤◌, ◌⊎◌, inl, inr, min, max, Bool, true, false, cond, [], ◌∷◌, Option, Some, None, refl, ap, ◌∙◌, sym, subst, arith}
 use Rattle.std.specs.Prelude.{◌==◌, ◌&&◌, nat_le}
 use Rattle.std.proofs.lemmas.Bool.Decides.{nat_tests}

@@ -1,5 +1,5 @@
 -- Proofs of laws that an impl in src/ names: no contract says what is defined here.
--- The ascent, played alone: each round leaves words that stand for the same state.
+-- The ascent, played alone: each round leaves words that represent the same state.
 use Rattle.std.proofs.Common.{◌≡◌, ◌≢◌, ℕ, zero, suc, ◌+◌, ◌*◌, ◌<◌, ◌≤◌, ◌⊎◌, inl, inr, Bool, cond, [], ◌∷◌, ◌++◌, length, Option, refl, ap, ◌∙◌, sym, subst, arith}
 use Rattle.std.specs.Prelude.{nat_le, nat_lt}
 use Rattle.std.specs.List.{AllByRecursion as Each}
@@ -37,7 +37,7 @@ use Rattle.vyrd_tree.specs.Procedures.Split.{add_entry, split_entry, split_key, 
 use Rattle.vyrd_tree.specs.Procedures.Split.{write_node}
 use Rattle.vyrd_tree.specs.Procedures.Ascent.{grow_root, add_child, ascend_once, ascend}
 
--- an ascent ending in a memory that stands for the same state
+-- an ascent ending in a memory that represents the same state
 abbrev pub Stops : Header → ℕ → Amounts → Script → (Option Outcome → Type 0) → Type 0
 Stops h c s ending Q = (m : Memory) (low : ℕ → ℕ) → ShowsBy h.size m low s → FreeAll h m → Q (alone c ending m)
 
@@ -149,7 +149,7 @@ child_added h c m low s level key node n ending next Q at hangs at_stop at_next 
         (λ q a used leaf off over. refl)
         (λ m' low' st free hangs'. at_next m' low' (split_key (loaded_at m n) key node) (last_in h.size m + 1) st free hangs')))
 
--- One round: the ascent ending, or the next round begins, in a memory that stands for the same state.
+-- One round: the ascent ending, or the next round begins, in a memory that represents the same state.
 pub round_played : (h : Header) (c : ℕ) (m : Memory) (low : ℕ → ℕ) (s : Amounts) (level key node : ℕ) (ending : Script) (next : ℕ → ℕ → ℕ → Script)
     (Q : Option Outcome → Type 0)
     → ShowsBy h.size m low s → FreeAll h m → IsHanging h.size m low level key node → Stops h c s ending Q → GoesOnAt h c s (level + 1) next Q
@@ -249,7 +249,7 @@ round_played h c m low s level key node ending next Q st free hangs at_stop at_n
     by_top (inl le) = subst (λ b. Q (alone c (by_level root b) held)) (sym (is_at_most (level_at held root) level le)) (grows le)
     by_top (inr lt) = subst (λ b. Q (alone c (by_level root b) held)) (sym (isnt_at_most (level_at held root) level lt)) (walks lt)
 
--- The whole ascent ends in a memory that stands for the same state.
+-- The whole ascent ends in a memory that represents the same state.
 pub ascend_played : (h : Header) (c : ℕ) (s : Amounts) (ending : Script) (Q : Option Outcome → Type 0) → Stops h c s ending Q
     → (rounds : ℕ) (m : Memory) (low : ℕ → ℕ) (level key node : ℕ)
     → ShowsBy h.size m low s → FreeAll h m → IsHanging h.size m low level key node → Q (alone c (ascend h Correct rounds level key node ending) m)

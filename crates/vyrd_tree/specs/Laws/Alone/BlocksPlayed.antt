@@ -14,7 +14,7 @@ use Rattle.vyrd_memory.specs.Alone.{Memory, with_cell, Outcome, after_kind, alon
 use Rattle.vyrd_memory.proofs.Memories.{changed_cell, other_cell}
 use Rattle.vyrd_tree.specs.Laws.Alone.Counts.{le_or}
 use Rattle.vyrd_tree.specs.Contents.{level_at, last_in, entries_at, entries_from, Covers, Entries}
-use Rattle.vyrd_tree.specs.Contents.{gives, ShowsBy, StandsFor}
+use Rattle.vyrd_tree.specs.Contents.{gives, ShowsBy, TreeRepresents}
 use Rattle.vyrd_tree.specs.Laws.Alone.Entries.{drop_front}
 use Rattle.vyrd_tree.specs.Laws.Alone.EntriesStaySound.{length_join}
 use Rattle.vyrd_tree.specs.Laws.Alone.Changes.{SameWords, same_words_tree, same_words_entries}
@@ -61,14 +61,14 @@ pub released_words : (h : Header) (m : Memory) (held : ℕ) → 12 * h.size + 2 
 released_words h m held high cell small = other_cell m held 0 cell (omega (arith, small, high))
 
 pub released : (h : Header) (m : Memory) (low : ℕ → ℕ) (s : Amounts) (held : ℕ) → 12 * h.size + 2 ≤ held → ShowsBy h.size m low s → FreeBut h m held
-    → StandsFor h (with_cell m held 0) s
+    → TreeRepresents h (with_cell m held 0) s
 released h m low s held high st free = record {
   low = low;
   held = shows_same_words h.size m (with_cell m held 0) low s (released_words h m held high) st;
   free = all_free h m held free;
 }
 
--- a node with its lock held, in a memory that is otherwise one that stands for a state
+-- a node with its lock held, in a memory that is otherwise one that represents a state
 pub record IsAt (h : Header) (m : Memory) (low : ℕ → ℕ) (s : Amounts) (n key level : ℕ) : Type 0 where
   pub shown : ShowsBy h.size m low s
   pub in_use : n ≤ last_in h.size m
@@ -76,7 +76,7 @@ pub record IsAt (h : Header) (m : Memory) (low : ℕ → ℕ) (s : Amounts) (n k
   pub covers : Covers m low n key
   pub free : FreeBut h m (lock_of h n)
 
-pub is_at : (h : Header) (c : ℕ) (m : Memory) (s : Amounts) (st : StandsFor h m s) (n key level : ℕ) → n ≤ last_in h.size m → level_at m n ≡ level
+pub is_at : (h : Header) (c : ℕ) (m : Memory) (s : Amounts) (st : TreeRepresents h m s) (n key level : ℕ) → n ≤ last_in h.size m → level_at m n ≡ level
     → Covers m st.low n key
     → IsAt h (with_lock h c m n) st.low s n key level
 is_at h c m s st n key level used level_is over = record {

@@ -1,5 +1,5 @@
 -- Proofs of laws that an impl in src/ names: no contract says what is defined here.
--- A memory that stands for a state of the tree, and memories that differ from it in the entries of one node.
+-- A memory that represents a state of the tree, and memories that differ from it in the entries of one node.
 use Rattle.std.proofs.Common.{◌≡◌, ◌≢◌, ℕ, ◌+◌, ◌*◌, ◌<◌, ◌≤◌, ◌⊎◌, inl, inr, true, List, Some, refl, ap, ◌∙◌, sym, subst, arith}
 use Rattle.std.specs.Prelude.{slice_index}
 use Rattle.vyrd_base.specs.declared.header.Header.{Header}
@@ -12,13 +12,13 @@ use Rattle.vyrd_base.specs.Trees.{is_tree, last_of, low_of}
 use Rattle.vyrd_base.specs.Views.{view_of_words, parts_of}
 use Rattle.vyrd_base.proofs.SumLaws.{amount_of-collected, IsAmounts-collected}
 use Rattle.vyrd_memory.specs.Alone.{Memory, words_in, state_in}
-use Rattle.vyrd_memory.proofs.Memories.{Stands, stands, standing, word_at}
+use Rattle.vyrd_memory.proofs.Memories.{Represents, represents, represented, word_at}
 use Rattle.vyrd_memory.proofs.NumberLists.{map_alike}
 use Rattle.vyrd_memory.proofs.PartSums.{collected-is}
 use Rattle.vyrd_tree.specs.Contents.{level_at, count_at, bound_at, right_at, key_at, value_at}
 use Rattle.vyrd_tree.specs.Contents.{last_in, root_in, AreEntries, AreEntriesAt, IsChild, LeadsOn}
 use Rattle.vyrd_tree.specs.Contents.{IsTree, entries_at, entries_from, Covers, Entries, gives}
-use Rattle.vyrd_tree.specs.Contents.{ShowsBy, StandsFor}
+use Rattle.vyrd_tree.specs.Contents.{ShowsBy, TreeRepresents}
 use Rattle.vyrd_tree.specs.Laws.Alone.Order.{covered}
 use Rattle.vyrd_tree.specs.Laws.Alone.Entries.{each_more}
 use Rattle.vyrd_tree.specs.Laws.Alone.View.{leaf_gives}
@@ -156,17 +156,17 @@ covers_same size m m' low n q same fits over = record {
   to = subst (λ b. b ≢ 0 → q < b) (sym (same (12 * n + 2) (omega arith))) over.to;
 }
 
--- what a memory that stands for a state is
-pub stands_for : (h : Header) (m : Memory) (s : Amounts) → h.subject ≡ Tree → state_in h m ≡ Some s → StandsFor h m s
+-- what a memory that represents a state is
+pub tree_represents : (h : Header) (m : Memory) (s : Amounts) → h.subject ≡ Tree → state_in h m ≡ Some s → TreeRepresents h m s
 unfolding view_of_words
-stands_for h m s is e = record {
+tree_represents h m s is e = record {
   low = low;
   held = record { tree = t; shows = shows; formed = subst IsAmounts shown (IsAmounts-collected (chain_parts h.size words)) };
   free = λ lock from to. st.free lock (omega (arith, plain, from)) (omega (arith, cells, to));
 }
   where
-    st : Stands h m s
-    st = stands h m s e
+    st : Represents h m s
+    st = represents h m s e
 
     plain : plain_words h ≡ 12 * h.size + 2
     plain = plain_is h is
@@ -204,10 +204,10 @@ stands_for h m s is e = record {
         ∙ leaf) (covers_same h.size m (slice_index (words_in h m)) low n q (words_same h m is) fits over)
         ∙ ap (gives q) (same_words_entries h.size m (slice_index (words_in h m)) (words_same h m is) n fits (t.few n used))
 
--- a memory that is so stands for the state
-pub stands_so : (h : Header) (m : Memory) (s : Amounts) → h.subject ≡ Tree → StandsFor h m s → state_in h m ≡ Some s
+-- a memory that is so represents the state
+pub tree_represented : (h : Header) (m : Memory) (s : Amounts) → h.subject ≡ Tree → TreeRepresents h m s → state_in h m ≡ Some s
 unfolding view_of_words
-stands_so h m s is st = standing h m s (record {
+tree_represented h m s is st = represented h m s (record {
   sound = ap (λ s. is_sound s h.size (words_in h m)) is ∙ words_of_tree h.size (words_in h m) low of_words;
   free = λ lock from to. st.free lock (let plain = plain_is h is in omega (arith, plain, from)) (let cells = cells_are h is in
       omega (arith, cells, to));

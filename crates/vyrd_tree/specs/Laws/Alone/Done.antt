@@ -14,7 +14,7 @@ use Rattle.vyrd_memory.specs.Scripts.{Script, returns, gives_up}
 use Rattle.vyrd_memory.specs.Alone.{Memory, with_cell, Outcome, alone}
 use Rattle.vyrd_tree.specs.Contents.{level_at, count_at, bound_at, last_in, IsLeafEntry, AreEntries}
 use Rattle.vyrd_tree.specs.Contents.{AreEntriesAt, IsTree, entries_at, Covers, Entries, gives}
-use Rattle.vyrd_tree.specs.Contents.{StandsFor, Rising}
+use Rattle.vyrd_tree.specs.Contents.{TreeRepresents, Rising}
 use Rattle.vyrd_tree.specs.Laws.Alone.Order.{one_cover}
 use Rattle.vyrd_tree.specs.Laws.Alone.Entries.{gives-append, gives_none, gives_one}
 use Rattle.vyrd_tree.specs.Laws.Alone.Entries.{entry_gives_none}
@@ -75,7 +75,7 @@ changed_outside size m low s n key amount q a t used leaf over used_a leaf_a apa
 pub leaf_changed : (h : Header) (m m' : Memory) (low : ℕ → ℕ) (s : Amounts) (n key amount : ℕ) (new : Entries)
     → IsAt h m low s n key 0 → Rewritten h.size m m' n new
     → SameLocks h m m' → AreEntries (last_in h.size m) (level_at m) low (level_at m n) (low n) (bound_at m n) new → gives key new ≡ amount
-    → ((q : ℕ) → q ≢ key → gives q new ≡ gives q (entries_at m n)) → StandsFor h (with_cell m' (lock_of h n) 0) (with_amount s key amount)
+    → ((q : ℕ) → q ≢ key → gives q new ≡ gives q (entries_at m n)) → TreeRepresents h (with_cell m' (lock_of h n) 0) (with_amount s key amount)
 leaf_changed h m m' low s n key amount new at r locks es here there =
     released h m' low (with_amount s key amount) (lock_of h n) (omega arith)
     (rewritten_shows h.size m m' low s (with_amount s key amount) at.shown n new at.in_use r es (IsAmounts-with_amount s key amount at.shown.formed)
@@ -87,15 +87,15 @@ leaf_changed h m m' low s n key amount new at r locks es here there =
     off (inl lt) = omega (arith, lt)
     off (inr lt) = omega (arith, lt)
 
--- the memory at the end stands for the state that the replies lead to
+-- the memory at the end represents the state that the replies lead to
 pub record Meets (h : Header) (says : ℕ → Option Amounts) (reply : ℕ) (after : Memory) : Type 0 where
   pub state : Amounts
   pub allowed : says reply ≡ Some state
-  pub stands : StandsFor h after state
+  pub represents : TreeRepresents h after state
 
 -- only the lock of the node is given back
 pub nothing_changed : (h : Header) (m : Memory) (low : ℕ → ℕ) (s : Amounts) (n key level : ℕ) → IsAt h m low s n key level
-    → StandsFor h (with_cell m (lock_of h n) 0) s
+    → TreeRepresents h (with_cell m (lock_of h n) 0) s
 nothing_changed h m low s n key level at = released h m low s (lock_of h n) (omega arith) at.shown at.free
 
 -- what an operation does in the leaf of its key
@@ -105,7 +105,7 @@ InLeaf h c before s key arrived Q = (m : Memory) (low : ℕ → ℕ) (n : ℕ) �
 
 -- from the root to the leaf of the key
 pub walked_down : (h : Header) (c : ℕ) (m : Memory) (s : Amounts) (key : ℕ) (lost : Script) (arrived : Arrived
-    → Script) (Q : Option Outcome → Type 0) → StandsFor h m s
+    → Script) (Q : Option Outcome → Type 0) → TreeRepresents h m s
     → InLeaf h c m s key arrived Q → Q (alone c (Rattle.vyrd_tree.specs.Procedures.walk_down h Correct key lost arrived) m)
 walked_down h c m s key lost arrived Q st there =
     walk_down_arrives h c key m st.low lost arrived Q st.held.tree (λ n low. st.free (lock_of h n) (omega arith) (omega (arith, low)))
@@ -120,15 +120,15 @@ value_is xs front back entry e = ap (λ ys. value_in ys (length front)) e ∙ at
     at (x ∷ front) = at front
 
 -- A lookup replies the key's value plus 1, or 0, and changes nothing.
-pub lookup_alone : (h : Header) (c : ℕ) (m : Memory) (s : Amounts) (key : ℕ) → StandsFor h m s
-    → EndsSo (λ reply after. StandsFor h after s
+pub lookup_alone : (h : Header) (c : ℕ) (m : Memory) (s : Amounts) (key : ℕ) → TreeRepresents h m s
+    → EndsSo (λ reply after. TreeRepresents h after s
     × (((amount_of s key ≡ 0) × (reply ≡ 0)) ⊎ ((value : ℕ) × (amount_of s key ≡ 2 ^ 32 + value) × (reply ≡ value + 1))))
     (alone c (lookup h Correct key) m)
 lookup_alone h c m s key st = walked_down h c m s key (returns 0) (λ at. Rattle.vyrd_tree.specs.Cells.unlock_node h at.node
     (returns (reply_of at.entries (place_of key at.entries)))) Q st there
   where
     Says : ℕ → Memory → Type 0
-    Says reply after = StandsFor h after s
+    Says reply after = TreeRepresents h after s
         × (((amount_of s key ≡ 0) × (reply ≡ 0)) ⊎ ((value : ℕ) × (amount_of s key ≡ 2 ^ 32 + value) × (reply ≡ value + 1)))
 
     Q : Option Outcome → Type 0
@@ -156,15 +156,15 @@ lookup_alone h c m s key st = walked_down h c m s key (returns 0) (λ at. Rattle
             )
 
 -- A delete removes the key and replies 1, or replies 0 where it isn't there.
-pub delete_alone : (h : Header) (c : ℕ) (m : Memory) (s : Amounts) (key : ℕ) → StandsFor h m s
+pub delete_alone : (h : Header) (c : ℕ) (m : Memory) (s : Amounts) (key : ℕ) → TreeRepresents h m s
     → EndsSo (λ reply after.
-    ((amount_of s key ≡ 0) × (reply ≡ 0) × StandsFor h after s) ⊎ ((amount_of s key ≢ 0) × (reply ≡ 1) × StandsFor h after (with_amount s key 0)))
+    ((amount_of s key ≡ 0) × (reply ≡ 0) × TreeRepresents h after s) ⊎ ((amount_of s key ≢ 0) × (reply ≡ 1) × TreeRepresents h after (with_amount s key 0)))
     (alone c (delete h Correct key) m)
 delete_alone h c m s key st = walked_down h c m s key gives_up (λ at. delete_in h at (place_of key at.entries)) Q st there
   where
     Says : ℕ → Memory → Type 0
-    Says reply after = ((amount_of s key ≡ 0) × (reply ≡ 0) × StandsFor h after s)
-        ⊎ ((amount_of s key ≢ 0) × (reply ≡ 1) × StandsFor h after (with_amount s key 0))
+    Says reply after = ((amount_of s key ≡ 0) × (reply ≡ 0) × TreeRepresents h after s)
+        ⊎ ((amount_of s key ≢ 0) × (reply ≡ 1) × TreeRepresents h after (with_amount s key 0))
 
     Q : Option Outcome → Type 0
     Q = EndsSo Says

@@ -15,7 +15,7 @@ use Rattle.vyrd_memory.proofs.Memories.{changed_cell, other_cell}
 use Rattle.vyrd_tree.specs.Laws.Alone.Counts.{le_or}
 use Rattle.vyrd_tree.specs.Contents.{level_at, count_at, bound_at, key_at, value_at, last_in}
 use Rattle.vyrd_tree.specs.Contents.{IsLeafEntry, AreEntries, IsTree, entries_at, entries_from}
-use Rattle.vyrd_tree.specs.Contents.{Covers, Entries, gives, StandsFor}
+use Rattle.vyrd_tree.specs.Contents.{Covers, Entries, gives, TreeRepresents}
 use Rattle.vyrd_tree.specs.Laws.Alone.Entries.{gives-append, gives_one, entry_gives_it}
 use Rattle.vyrd_tree.specs.Laws.Alone.Entries.{entry_gives_none, found_around, not_found, IsAround}
 use Rattle.vyrd_tree.specs.Laws.Alone.Entries.{each_back}
@@ -97,12 +97,12 @@ pub record LeafOf (size : ℕ) (m : Memory) (low : ℕ → ℕ) (key n : ℕ) : 
 -- Nothing is inserted where the leaf of a new key is full and no node is unused. A new key gets the reply 1, another the reply 2.
 abbrev pub InsertDone : Header → Memory → Amounts → ℕ → ℕ → ℕ → Memory → Type 0
 InsertDone h m s key value reply after =
-    ((reply ≡ 0) × (amount_of s key ≡ 0) × StandsFor h after s
+    ((reply ≡ 0) × (amount_of s key ≡ 0) × TreeRepresents h after s
     × ((low : ℕ → ℕ) × (n : ℕ) × IsTree h.size m low × LeafOf h.size m low key n × (count_at m n ≡ 4))
     × (h.size ≤ last_in h.size m + 1))
-    ⊎ (((reply ≡ 1) × (amount_of s key ≡ 0) × StandsFor h after (with_amount s key (2 ^ 32 + value))
+    ⊎ (((reply ≡ 1) × (amount_of s key ≡ 0) × TreeRepresents h after (with_amount s key (2 ^ 32 + value))
     × ((low : ℕ → ℕ) × (n : ℕ) × IsTree h.size m low × LeafOf h.size m low key n × ((count_at m n < 4) ⊎ (last_in h.size m + 1 < h.size))))
-    ⊎ ((reply ≡ 2) × (amount_of s key ≢ 0) × StandsFor h after (with_amount s key (2 ^ 32 + value))))
+    ⊎ ((reply ≡ 2) × (amount_of s key ≢ 0) × TreeRepresents h after (with_amount s key (2 ^ 32 + value))))
 
 -- in the leaf of the key
 module _ (h : Header) (c : ℕ) (before m : Memory) (low : ℕ
@@ -268,7 +268,7 @@ module _ (h : Header) (c : ℕ) (before m : Memory) (low : ℕ
           subst (λ o. Q (alone c (insert_in h Correct key value (loaded_at m n) o) m)) (sym e) (replaced i found.0 found.1 found.2 found.3 found.4)
 
 -- An insert of numbers of 32 bits.
-pub insert_alone : (h : Header) (c : ℕ) (m : Memory) (s : Amounts) (key value : ℕ) → StandsFor h m s → key < 2 ^ 32 → value < 2 ^ 32
+pub insert_alone : (h : Header) (c : ℕ) (m : Memory) (s : Amounts) (key value : ℕ) → TreeRepresents h m s → key < 2 ^ 32 → value < 2 ^ 32
     → EndsSo (InsertDone h m s key value) (alone c (insert_entry h Correct key value) m)
 insert_alone h c m s key value st small_key small =
     walked_down h c m s key gives_up (λ at. insert_in h Correct key value at (place_of key at.entries)) (EndsSo (InsertDone h m s key value)) st

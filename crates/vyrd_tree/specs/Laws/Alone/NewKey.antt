@@ -9,7 +9,7 @@ use Rattle.vyrd_base.proofs.AmountLaws.{IsAmounts-with_amount}
 use Rattle.vyrd_memory.specs.Scripts.{Script}
 use Rattle.vyrd_memory.specs.Alone.{Memory, with_cell, Outcome, alone}
 use Rattle.vyrd_tree.specs.Contents.{level_at, count_at, bound_at, last_in, IsLeafEntry, AreEntries}
-use Rattle.vyrd_tree.specs.Contents.{IsTree, entries_at, Entries, gives, ShowsBy, StandsFor}
+use Rattle.vyrd_tree.specs.Contents.{IsTree, entries_at, Entries, gives, ShowsBy, TreeRepresents}
 use Rattle.vyrd_tree.specs.Laws.Alone.Entries.{gives_none, entry_gives_it, entry_gives_none}
 use Rattle.vyrd_tree.specs.Laws.Alone.EntriesStaySound.{entries_added, gives_around}
 use Rattle.vyrd_tree.specs.Laws.Alone.SplitKeepsTree.{IsHanging}
@@ -67,7 +67,7 @@ module _ (h : Header) (c : ℕ) (m : Memory) (low : ℕ → ℕ) (s : Amounts) (
 
   -- in a leaf that has room: what follows begins where the leaf's lock has been given back
   pub leaf_gets_entry : (Q : Option Outcome → Type 0) (later : Script) → count_at m n < 4
-      → ((m' : Memory) → StandsFor h m' (with_amount s key (2 ^ 32 + value)) → Q (alone c later m'))
+      → ((m' : Memory) → TreeRepresents h m' (with_amount s key (2 ^ 32 + value)) → Q (alone c later m'))
       → Q (alone c (add_entry h (loaded_at m n) key value BlockCommit later) m)
   leaf_gets_entry Q later room goes_on =
       added_played h c m low s n key 0 value BlockCommit later Q (λ m later. refl) at front back is room

@@ -184,7 +184,7 @@ split_played h c m Q n front back entry close later closes used room full before
               (λ j from to. (
                 end_same (12 * n + (4 + j)) (λ i low. omega (arith, low)),
                 end_same (12 * n + (8 + j)) (λ i low. omega (arith, low)),
-              )) ∙ stands
+              )) ∙ represents
               ∙ sym stood.2.lower;
           new_level = at_u 0 (omega arith) ∙ w.level_is;
           new_bound = at_u 2 (omega arith) ∙ w.bound_is;
@@ -252,8 +252,8 @@ split_played h c m Q n front back entry close later closes used room full before
         written_pre (inl same) = written_at m₂ m₃ n (length front) (length pre) kept same w'
         written_pre (inr none) = written_nowhere m₂ m₃ n (length front) (length pre) kept none w'
 
-        stands : entries_from m₃ n 0 (length pre + length kept) ≡ pre ++ kept
-        stands = front_stands m₂ m₃ n 4 pre stood.1 kept old_stand (written_pre stood.2.place) (omega (arith, three_of))
+        represents : entries_from m₃ n 0 (length pre + length kept) ≡ pre ++ kept
+        represents = front_stands m₂ m₃ n 4 pre stood.1 kept old_stand (written_pre stood.2.place) (omega (arith, three_of))
 
 -- The stores of a new root, from where its node was got on.
 pub grow_played : (h : Header) (c : ℕ) (m : Memory) (Q : Option Outcome
