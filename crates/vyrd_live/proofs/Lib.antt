@@ -1,6 +1,6 @@
 pub mod Lanes
 pub mod RoomLaws
-pub mod StandingLaws
+pub mod FitLaws
 pub mod WorkLaws
 pub mod Parts
 pub mod EndingLaws

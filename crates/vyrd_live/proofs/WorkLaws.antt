@@ -16,7 +16,7 @@ use Rattle.vyrd_live.specs.Working.{dids_of, IsWorking, HasRoomAhead}
 use Rattle.vyrd_live.specs.Acts.{HasActed}
 use Rattle.vyrd_live.proofs.Lanes.{dids_of-snoc, length-dids}
 use Rattle.vyrd_live.proofs.RoomLaws.{began_with_room, still_in_time}
-use Rattle.vyrd_live.proofs.StandingLaws.{stands_on, stands_with_room, stands_fresh, nothing_left}
+use Rattle.vyrd_live.proofs.FitLaws.{fits_on, fits_with_room, fits_fresh, nothing_left}
 
 -- the answer that an act got is the one that its event gave
 answer_is : (act : Act) (answer : ℕ) (did : Did) → event_of act answer ≡ Some did → IsAnswer act answer → answer_of did ≡ answer
@@ -34,7 +34,7 @@ working_first h script hand empty between sound = record {
   plays = subst (λ (lane : List Stamped). Plays script (dids_of lane)) (sym empty) tt;
   left_is = ap (λ (lane : List Stamped). left_after script (dids_of lane)) (sym empty);
   had_room = subst (λ (lane : List Stamped). HadRoom h hand.limit (dids_of lane)) (sym empty) tt;
-  stands = stands_fresh h script hand between sound;
+  fits = fits_fresh h script hand between sound;
   in_time = λ goes. let no : true ≡ false = sym between ∙ goes in cc;
 }
 
@@ -48,7 +48,7 @@ working_with_room h script left hand now is w room =
       plays = subst (λ (lane : List Stamped). Plays script (dids_of lane)) (sym lane) w.plays;
       left_is = w.left_is ∙ ap (λ (lane : List Stamped). left_after script (dids_of lane)) (sym lane);
       had_room = subst (λ (v : HandView). HadRoom h v.limit (dids_of v.lane)) (sym is) w.had_room;
-      stands = stands_with_room h left hand now is w.stands;
+      fits = fits_with_room h left hand now is w.fits;
       in_time = λ goes. room.spare;
     }
 
@@ -78,7 +78,7 @@ working_on h script left hand now answer rests acted room w =
             (began_with_room h hand.limit (length hand.lane) (next_act left) answer acted.did acted.event room.room),
         w.had_room,
       ));
-      stands = stands_on h left hand now answer acted w.stands;
+      fits = fits_on h left hand now answer acted w.fits;
       in_time = λ goes. subst (λ n. ∥ EndsWithin n (after_answer left answer) ∥₁) (sym spare)
           (still_in_time hand.spare left answer rests acted.answered room.spare goes);
     }
@@ -109,4 +109,4 @@ one_longer act answer before after acted =
 -- a script that was played to its end
 pub worked_to_the_end : (h : Header) (script left : Script) (hand : HandView) → IsWorking h script left hand → next_act left ≡ Done
     → PlaysToTheEnd script (dids_of hand.lane)
-worked_to_the_end h script left hand w done = record { plays = w.plays; done = sym w.left_is ∙ nothing_left h left hand done w.stands }
+worked_to_the_end h script left hand w done = record { plays = w.plays; done = sym w.left_is ∙ nothing_left h left hand done w.fits }

@@ -25,7 +25,7 @@ pub record IsMemoryOf (h : Header) (plan : Plan) : Type 0 where
   pub locks : plan.locks ≡ lock_words h
 
 -- what is left of a script is sound for a caller that holds these locks, and the hand holds them
-pub record Stands (h : Header) (left : Script) (hand : HandView) : Type 0 where
+pub record FitsHand (h : Header) (left : Script) (hand : HandView) : Type 0 where
   pub situation : Situation
   pub sound : IsSound h situation left
   pub held : (lock : ℕ) → holds situation lock ≡ true → (plain_words h ≤ lock) × Holds hand lock
@@ -35,7 +35,7 @@ pub record IsWorking (h : Header) (script left : Script) (hand : HandView) : Typ
   pub plays : Plays script (dids_of hand.lane)
   pub left_is : left ≡ left_after script (dids_of hand.lane)
   pub had_room : HadRoom h hand.limit (dids_of hand.lane)
-  pub stands : ∥ Stands h left hand ∥₁
+  pub fits : ∥ FitsHand h left hand ∥₁
   pub in_time : is_between left ≡ false → ∥ EndsWithin hand.spare left ∥₁
 
 -- an act that begins an operation leaves room for its bound

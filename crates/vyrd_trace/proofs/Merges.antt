@@ -35,29 +35,29 @@ same_from_get (x ∷ xs) (y ∷ ys) l f =
     let tail = same_from_get xs ys (omega arith) (λ i e q. f (suc i) e q) in λ k. head k ∷ tail k
 
 -- the event stands in the history at its number
-abbrev pub StandsIn : List Stamped → Stamped → Type 0
-StandsIn h e = slice_get h e.number ≡ Some e
+abbrev pub IsInPlace : List Stamped → Stamped → Type 0
+IsInPlace h e = slice_get h e.number ≡ Some e
 
 -- an event that is written at its number leaves every right place right
-pub write_keeps : (h hist : List Stamped) (e : Stamped) (i : ℕ) → e.number < length hist → StandsIn h e
+pub write_keeps : (h hist : List Stamped) (e : Stamped) (i : ℕ) → e.number < length hist → IsInPlace h e
     → slice_get hist i ≡ slice_get h i → slice_get (set hist e.number e) i ≡ slice_get h i
 write_keeps h hist e i inside stands was = dite (ℕ_discrete i e.number)
     (λ same. ap (slice_get (set hist e.number e)) same ∙ set_same hist e.number e inside ∙ sym stands ∙ ap (slice_get h) (sym same))
     (λ apart. set_other hist e.number i e apart ∙ was)
 
 -- and one event more of the lane stands in its place
-pub write_places : (h hist lane : List Stamped) (k : ℕ) (d : Stamped) → k < length lane → All (StandsIn h) lane
-    → (get_or lane k d).number < length hist → All (StandsIn hist) (take k lane)
-    → All (StandsIn (set hist (get_or lane k d).number (get_or lane k d))) (take (k + 1) lane)
+pub write_places : (h hist lane : List Stamped) (k : ℕ) (d : Stamped) → k < length lane → All (IsInPlace h) lane
+    → (get_or lane k d).number < length hist → All (IsInPlace hist) (take k lane)
+    → All (IsInPlace (set hist (get_or lane k d).number (get_or lane k d))) (take (k + 1) lane)
 write_places h hist lane k d l stands inside placed =
     let e : Stamped = get_or lane k d in
-    All-more (StandsIn (set hist e.number e)) lane k d l
-    (λ j f below. let x : Stamped = slice_index_or (take k lane) j f in let s : StandsIn h x = All-take (StandsIn h) k lane stands j f below in
+    All-more (IsInPlace (set hist e.number e)) lane k d l
+    (λ j f below. let x : Stamped = slice_index_or (take k lane) j f in let s : IsInPlace h x = All-take (IsInPlace h) k lane stands j f below in
     write_keeps h hist e x.number inside (stands k d l) (placed j f below ∙ sym s) ∙ s)
     (set_same hist e.number e inside)
 
-pub all_placed : (hist lane : List Stamped) (k : ℕ) → length lane ≤ k → All (StandsIn hist) (take k lane) → All (StandsIn hist) lane
-all_placed hist lane k le placed = All-same (StandsIn hist) lane (take k lane) (sym (take_all k lane le)) placed
+pub all_placed : (hist lane : List Stamped) (k : ℕ) → length lane ≤ k → All (IsInPlace hist) (take k lane) → All (IsInPlace hist) lane
+all_placed hist lane k le placed = All-same (IsInPlace hist) lane (take k lane) (sym (take_all k lane le)) placed
 
 -- the lane of an item at its place
 pub lane_at_item : {A : Type 0} (f : A → List Stamped) (ls : List A) (i : ℕ) (v : A) → i < length ls → v ≡ get_or ls i v
@@ -68,8 +68,8 @@ lane_at_item f (x ∷ xs) (suc i) v l e = lane_at_item f xs i v (omega arith) e
 
 module _ (h : List Stamped) (lanes : List (List Stamped)) (m : IsMerge h lanes) where
   -- each lane's events stand in the history at their numbers
-  pub lane_stands : (c : ℕ) (lane : List Stamped) → c < length lanes → slice_index_or lanes c [] ≡ lane → All (StandsIn h) lane
-  lane_stands c lane l is k d below =
+  pub lane_in_place : (c : ℕ) (lane : List Stamped) → c < length lanes → slice_index_or lanes c [] ≡ lane → All (IsInPlace h) lane
+  lane_in_place c lane l is k d below =
       let same : part c h ≡ lane = m.parts c l ∙ is in
       let f = part_in c h k d (subst (λ (q : List Stamped). k < length q) (sym same) below) in
       let got : slice_get h f.0 ≡ Some (slice_index_or lane k d) = f.1 ∙ ap (λ (q : List Stamped). Some (slice_index_or q k d)) same in
@@ -79,11 +79,11 @@ module _ (h : List Stamped) (lanes : List (List Stamped)) (m : IsMerge h lanes) 
   pub numbers_inside : (c : ℕ) (lane : List Stamped) → c < length lanes → slice_index_or lanes c [] ≡ lane
       → All (λ (e : Stamped). e.number < length h) lane
   numbers_inside c lane l is k d below =
-      slice_get_within h (slice_index_or lane k d).number (slice_index_or lane k d) (lane_stands c lane l is k d below)
+      slice_get_within h (slice_index_or lane k d).number (slice_index_or lane k d) (lane_in_place c lane l is k d below)
 
   -- with the lane of caller c written, the events of all callers up to c stand in their places
   pub merge_step : (c : ℕ) (lane old new : List Stamped) → c < length lanes → slice_index_or lanes c [] ≡ lane
-      → ((i : ℕ) → slice_get old i ≡ slice_get h i → slice_get new i ≡ slice_get h i) → All (StandsIn new) lane
+      → ((i : ℕ) → slice_get old i ≡ slice_get h i → slice_get new i ≡ slice_get h i) → All (IsInPlace new) lane
       → ((i : ℕ) (e : Stamped) → slice_get h i ≡ Some e → e.caller < c → slice_get old i ≡ Some e) → (i : ℕ) (e : Stamped)
       → slice_get h i ≡ Some e → e.caller < c + 1 → slice_get new i ≡ Some e
   merge_step c lane old new l is kept placed so_far i e at below = dite (ℕ_discrete e.caller c)
@@ -91,7 +91,7 @@ module _ (h : List Stamped) (lanes : List (List Stamped)) (m : IsMerge h lanes) 
       let f = in_part c h i e at same in let there : part c h ≡ lane = m.parts c l ∙ is in
       let got = placed f.0 e (subst (λ (q : List Stamped). f.0 < length q) there f.1) in
       let is_e : slice_index_or lane f.0 e ≡ e = ap (λ (q : List Stamped). slice_index_or q f.0 e) (sym there) ∙ f.2 e in
-      ap (slice_get new) (sym (m.placed i e at).0) ∙ subst (StandsIn new) is_e got)
+      ap (slice_get new) (sym (m.placed i e at).0) ∙ subst (IsInPlace new) is_e got)
       (λ apart. kept i (so_far i e at (omega arith) ∙ sym at) ∙ at)
 
   -- with all lanes written it is the history

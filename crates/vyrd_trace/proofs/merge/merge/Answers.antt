@@ -1,7 +1,7 @@
 use Rattle.std.proofs.Common.{◌≡◌, ◌<◌, List, map, length, sym, ◌∙◌, arith, Vec, Global}
 use Rattle.std.proofs.lemmas.List.{length-map}
 use Rattle.vyrd_base.specs.declared.history.Stamped.{Stamped}
-use Rattle.vyrd_trace.proofs.Merges.{lane_at_item, lane_stands, numbers_inside, merge_step, merged}
+use Rattle.vyrd_trace.proofs.Merges.{lane_at_item, lane_in_place, numbers_inside, merge_step, merged}
 use Rattle.vyrd_trace.proofs.merge.merge.Goals as goal
 
 abbrev items : Vec Stamped Global → List Stamped
@@ -24,7 +24,7 @@ loop-lane-preserved c = λ h m long.
     let count = length-map ls items in
     let is = lane_at_item items ls c.loop-lane.lane-index c.lane-item.result c.loop-lane-test.true c.lane-item.is ∙ sym c.as_slice.ensures.value in
     let inside : c.loop-lane.lane-index < length (map items ls) = omega arith in
-    let stands = lane_stands h (map items ls) m c.loop-lane.lane-index c.as_slice.result.now inside is in
+    let stands = lane_in_place h (map items ls) m c.loop-lane.lane-index c.as_slice.result.now inside is in
     let same = c.place.auto.history in
     merge_step h (map items ls) m c.loop-lane.lane-index c.as_slice.result.now c.loop-lane.history c.place.new.history inside is
     (λ i was. c.place.ensures.kept h i stands was) (c.place.ensures.placed h stands)

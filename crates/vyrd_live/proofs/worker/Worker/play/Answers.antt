@@ -8,7 +8,7 @@ use Rattle.vyrd_live.specs.Rooms.{HadRoom}
 use Rattle.vyrd_live.specs.Working.{dids_of, IsWorking, HasRoomAhead}
 use Rattle.vyrd_live.specs.Acts.{HasActed, MayAct}
 use Rattle.vyrd_live.proofs.RoomLaws.{room_for_one}
-use Rattle.vyrd_live.proofs.StandingLaws.{next_may}
+use Rattle.vyrd_live.proofs.FitLaws.{next_may}
 use Rattle.vyrd_live.proofs.SendingLaws.{sent_same, sent_before}
 use Rattle.vyrd_live.proofs.WorkLaws.{working_first, working_with_room, working_turn, same_hand, one_longer, worked_to_the_end}
 use Rattle.vyrd_live.proofs.worker.Worker.play.Given as given
@@ -52,7 +52,7 @@ pub make_event-requires-clause-may : goal.make_event-requires-clause-may
 make_event-requires-clause-may g c κs within =
     subst (λ m. MayAct c.args.traced.now.plan c.make_room.new.self.hand (next_act (g.M.Machine.script m))) (sym c.in-Ok.ensures.machine)
     (next_may (g.M.Machine.header_of c.args.self.now.machine) c.args.traced.now.plan
-    (g.M.Machine.script c.loop-self.self.machine) c.make_room.new.self.hand c.requires.fresh.memory (goes g c) (working g c).stands)
+    (g.M.Machine.script c.loop-self.self.machine) c.make_room.new.self.hand c.requires.fresh.memory (goes g c) (working g c).fits)
 
 pub loop-self-preserved : goal.loop-self-preserved
 loop-self-preserved g c =

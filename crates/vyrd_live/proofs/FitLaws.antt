@@ -27,7 +27,7 @@ use Rattle.vyrd_trace.specs.Lanes.{last_value}
 use Rattle.vyrd_trace.specs.Hands.{HandView, Holds, with_spare, with_one_more}
 use Rattle.vyrd_trace.proofs.Holding.{holds-taken, holds-still, holds-beside}
 use Rattle.vyrd_live.specs.Acts.{MayAct, HasActed}
-use Rattle.vyrd_live.specs.Working.{IsMemoryOf, Stands}
+use Rattle.vyrd_live.specs.Working.{IsMemoryOf, FitsHand}
 
 -- the same as `MayAct`, as a test
 may_test : Plan → HandView → Act → Bool
@@ -106,15 +106,15 @@ may_of h plan hand s (Give lock) is held may =
 may_of h plan hand s (Mark kind) is held may = no_write h s kind may
 may_of h plan hand s Done is held may = may
 
-next_test : (h : Header) (plan : Plan) (left : Script) (hand : HandView) → IsMemoryOf h plan → next_act left ≢ Done → Stands h left hand
+next_test : (h : Header) (plan : Plan) (left : Script) (hand : HandView) → IsMemoryOf h plan → next_act left ≢ Done → FitsHand h left hand
     → may_test plan hand (next_act left) ≡ true
-next_test h plan stop hand is goes stands = absurd (goes refl)
-next_test h plan (step act rest) hand is goes stands = may_of h plan hand stands.situation act is stands.held stands.sound.0
+next_test h plan stop hand is goes fits = absurd (goes refl)
+next_test h plan (step act rest) hand is goes fits = may_of h plan hand fits.situation act is fits.held fits.sound.0
 
 -- what comes next may be done
-pub next_may : (h : Header) (plan : Plan) (left : Script) (hand : HandView) → IsMemoryOf h plan → next_act left ≢ Done → ∥ Stands h left hand ∥₁
+pub next_may : (h : Header) (plan : Plan) (left : Script) (hand : HandView) → IsMemoryOf h plan → next_act left ≢ Done → ∥ FitsHand h left hand ∥₁
     → MayAct plan hand (next_act left)
-next_may h plan left hand is goes stands = tested plan hand (next_act left) (∥∥₁_elim stands (Bool-set _ _) (next_test h plan left hand is goes))
+next_may h plan left hand is goes fits = tested plan hand (next_act left) (∥∥₁_elim fits (Bool-set _ _) (next_test h plan left hand is goes))
 
 -- a lock that is held of those that are left when another one is given back
 other_held : (lock given : ℕ) (locks : List ℕ) → list_any (λ held. held == lock) (filter (λ held. not (held == given)) locks) ≡ true
@@ -219,29 +219,29 @@ held_after h s (Mark BlockCommit) answer did number look hand may e held =
     (still_held h s hand number (Marked BlockCommit) look (λ lock le. refl) held)
 held_after h s Done answer did number look hand may e held = cc
 
-stands_after : (h : Header) (left : Script) (hand now : HandView) (answer : ℕ) → HasActed (next_act left) answer hand now → Stands h left hand
-    → Stands h (after_answer left answer) now
-stands_after h stop hand now answer acted stands = none acted.event
+fits_after : (h : Header) (left : Script) (hand now : HandView) (answer : ℕ) → HasActed (next_act left) answer hand now → FitsHand h left hand
+    → FitsHand h (after_answer left answer) now
+fits_after h stop hand now answer acted fits = none acted.event
   where
-    none : None ≡ Some acted.did → Stands h stop now
+    none : None ≡ Some acted.did → FitsHand h stop now
     none e = cc
-stands_after h (step act rest) hand now answer acted stands = record {
-  situation = after_act stands.situation act;
-  sound = stands.sound.1 answer acted.answered;
-  held = subst (AreHeld h (after_act stands.situation act)) (sym acted.hand)
-      (held_after h stands.situation act answer acted.did acted.number now.look hand stands.sound.0 acted.event stands.held);
+fits_after h (step act rest) hand now answer acted fits = record {
+  situation = after_act fits.situation act;
+  sound = fits.sound.1 answer acted.answered;
+  held = subst (AreHeld h (after_act fits.situation act)) (sym acted.hand)
+      (held_after h fits.situation act answer acted.did acted.number now.look hand fits.sound.0 acted.event fits.held);
 }
 
 -- what is left after the act can be played on
-pub stands_on : (h : Header) (left : Script) (hand now : HandView) (answer : ℕ) → HasActed (next_act left) answer hand now → ∥ Stands h left hand ∥₁
-    → ∥ Stands h (after_answer left answer) now ∥₁
-stands_on h left hand now answer acted stands = ∥∥₁_map stands (stands_after h left hand now answer acted)
+pub fits_on : (h : Header) (left : Script) (hand now : HandView) (answer : ℕ) → HasActed (next_act left) answer hand now → ∥ FitsHand h left hand ∥₁
+    → ∥ FitsHand h (after_answer left answer) now ∥₁
+fits_on h left hand now answer acted fits = ∥∥₁_map fits (fits_after h left hand now answer acted)
 
 -- room alone changes nothing
-pub stands_with_room : (h : Header) (left : Script) (hand now : HandView) → now ≡ with_spare hand now.spare
-    → ∥ Stands h left hand ∥₁ → ∥ Stands h left now ∥₁
-stands_with_room h left hand now is stands =
-    ∥∥₁_map stands (λ s. subst (Stands h left) (sym is) (record { situation = s.situation; sound = s.sound; held = s.held }))
+pub fits_with_room : (h : Header) (left : Script) (hand now : HandView) → now ≡ with_spare hand now.spare
+    → ∥ FitsHand h left hand ∥₁ → ∥ FitsHand h left now ∥₁
+fits_with_room h left hand now is fits =
+    ∥∥₁_map fits (λ s. subst (FitsHand h left) (sym is) (record { situation = s.situation; sound = s.sound; held = s.held }))
 
 -- between operations no lock is held
 none_held : (h : Header) (s : Situation) (left : Script) → is_between left ≡ true → IsSound h s left → is_nil s.locks ≡ true
@@ -266,8 +266,8 @@ none_held h s (step (Mark BlockOpen) rest) between sound = cc
 none_held h s (step (Mark BlockClose) rest) between sound = cc
 none_held h s (step (Mark BlockCommit) rest) between sound = cc
 
-stands_first : (h : Header) (left : Script) (hand : HandView) → is_between left ≡ true → (s : Situation) × IsSound h s left → Stands h left hand
-stands_first h left hand between sound = record {
+fits_first : (h : Header) (left : Script) (hand : HandView) → is_between left ≡ true → (s : Situation) × IsSound h s left → FitsHand h left hand
+fits_first h left hand between sound = record {
   situation = sound.0;
   sound = sound.1;
   held = λ lock e. absurd (no_locks sound.0.locks lock (none_held h sound.0 left between sound.1) e);
@@ -278,13 +278,13 @@ stands_first h left hand between sound = record {
     no_locks (x ∷ xs) lock none e = cc
 
 -- a sound script that hasn't begun can be played
-pub stands_fresh : (h : Header) (left : Script) (hand : HandView) → is_between left ≡ true → IsSoundSomewhere h left → ∥ Stands h left hand ∥₁
-stands_fresh h left hand between sound = ∥∥₁_map sound (stands_first h left hand between)
+pub fits_fresh : (h : Header) (left : Script) (hand : HandView) → is_between left ≡ true → IsSoundSomewhere h left → ∥ FitsHand h left hand ∥₁
+fits_fresh h left hand between sound = ∥∥₁_map sound (fits_first h left hand between)
 
 -- where nothing comes next, nothing is left
-nothing : (h : Header) (left : Script) (hand : HandView) → next_act left ≡ Done → Stands h left hand → is_stop left ≡ true
-nothing h stop hand done stands = refl
-nothing h (step act rest) hand done stands = let no : false ≡ true = sym (ap (may_act h stands.situation) done) ∙ stands.sound.0 in cc
+nothing : (h : Header) (left : Script) (hand : HandView) → next_act left ≡ Done → FitsHand h left hand → is_stop left ≡ true
+nothing h stop hand done fits = refl
+nothing h (step act rest) hand done fits = let no : false ≡ true = sym (ap (may_act h fits.situation) done) ∙ fits.sound.0 in cc
 
-pub nothing_left : (h : Header) (left : Script) (hand : HandView) → next_act left ≡ Done → ∥ Stands h left hand ∥₁ → left ≡ stop
-nothing_left h left hand done stands = stop_of left (∥∥₁_elim stands (Bool-set _ _) (nothing h left hand done))
+pub nothing_left : (h : Header) (left : Script) (hand : HandView) → next_act left ≡ Done → ∥ FitsHand h left hand ∥₁ → left ≡ stop
+nothing_left h left hand done fits = stop_of left (∥∥₁_elim fits (Bool-set _ _) (nothing h left hand done))
