@@ -20,7 +20,7 @@ use Rattle.vyrd_memory.specs.declared.act.Act.{Act}
 use Rattle.vyrd_memory.specs.declared.act.Act.TheVariants.{Load, Store, Take, Give, Mark, Done}
 use Rattle.vyrd_memory.specs.Scripts.{Script, stop, step, next_act, after_answer, event_of, is_stop, is_between}
 use Rattle.vyrd_memory.specs.Soundness.{Situation, IsSound, IsSoundSomewhere, at_rest, holds, is_nil, is_at_rest, may_act, after_act}
-use Rattle.vyrd_memory.specs.Laws.Hand.{stop_of}
+use Rattle.vyrd_memory.specs.Laws.Underway.{stop_of}
 use Rattle.vyrd_trace.specs.declared.plan.Plan.{Plan}
 use Rattle.vyrd_trace.specs.declared.look.Look.{Look}
 use Rattle.vyrd_trace.specs.Lanes.{last_value}

@@ -32,7 +32,7 @@ use vyrd_work::{AnyMachine, Work, WorkMachine};
 ///
 /// Each caller asks the gate before each of its events, again and again until the answer is true, and may have `limit` events.
 /// Before an operation it makes room for as many events as the operation may have. Where the limit leaves fewer it stops, with
-/// no operation in hand and no lock held, and the run is `Spent` once the others have ended too. That doesn't come where the
+/// no operation under way and no lock held, and the run is `Spent` once the others have ended too. That doesn't come where the
 /// bounds of each caller's operations sum to at most `limit`. `Memory` may come at any time.
 ///
 /// A verifier takes in the events beside the callers, as far as they reach it, and the rest once all have ended. While the

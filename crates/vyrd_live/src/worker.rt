@@ -108,7 +108,7 @@ impl<M: Machine> Worker<M> {
         Ending::Finished
     }
 
-    /// Makes room for the next operation, where none is in hand.
+    /// Makes room for the next operation, where none is under way.
     fn make_room(&mut self) -> Result<(), Reserve>
         requires goes_on { next_act (M.script self.old.machine) ≢ Done }
         requires in_time { is_between (M.script self.old.machine) ≡ false → ∥ EndsWithin self.old.hand.spare (M.script self.old.machine) ∥₁ }

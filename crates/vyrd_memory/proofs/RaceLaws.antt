@@ -151,7 +151,7 @@ named_is_broken h entries line rule closed e =
     (accepted entries) line rule (first_fault_isnt h (front h entries) line rule) closed (accepted_isnt entries line rule)
     (sym (parts h entries) ∙ e)
 
--- in a legal history sound scripts that are played keep to what may be done, and at their end nothing is in hand
+-- in a legal history sound scripts that are played keep to what may be done, and at their end the caller is at rest
 pub all_keep : (h : Header) (scripts : List Script) (history : List Stamped) → AreSoundScripts h scripts
     → AreLegal (cells_of h) (newest_first history)
     → PlayToTheEnd scripts history → AllKeep h (newest_first history)

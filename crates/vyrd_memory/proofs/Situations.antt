@@ -72,7 +72,7 @@ sound_keeps h script (did ∷ earlier) sound plays answers = (
   sound_keeps h script earlier sound plays.1 answers.1,
 )
 
--- a sound script that is at its end has nothing in hand, and a sound script that does nothing more is at its end
+-- a sound script that is at its end leaves the caller at rest, and a sound script that does nothing more is at its end
 pub rests_at_stop : (h : Header) (s : Situation) (script : Script) → IsSound h s script → script ≡ stop → s ≡ at_rest
 rests_at_stop h s stop sound e = sound
 rests_at_stop h s (step act rest) sound e = cc

@@ -44,7 +44,7 @@ EndsByReturn n stop = ⊥
 EndsByReturn n (step act rest) = (1 ≤ n) × (is_return act ≡ true → is_stop (rest 0) ≡ true)
     × (is_return act ≡ false → (answer : ℕ) → IsAnswer act answer → EndsByReturn (n - 1) (rest answer))
 
--- Whatever is loaded, the operation in hand ends within n acts. Where the script ends, none is in hand.
+-- Whatever is loaded, the operation under way ends within n acts. Where the script ends, none is under way.
 abbrev pub EndsWithin : ℕ → Script → Type 0
 EndsWithin n stop = ⊤
 EndsWithin n (step act rest) = (1 ≤ n) × (is_return act ≡ false → (answer : ℕ) → IsAnswer act answer → EndsWithin (n - 1) (rest answer))

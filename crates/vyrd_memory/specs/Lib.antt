@@ -4,7 +4,7 @@ pub mod Soundness
 pub mod Bounds
 pub mod Alone
 pub mod Turns
-pub mod InHand
+pub mod Underway
 pub mod Players
 pub mod Playing
 pub mod Runs

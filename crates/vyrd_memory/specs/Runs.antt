@@ -19,7 +19,7 @@ use Rattle.vyrd_memory.specs.Scripts.{Script, PlaysToTheEnd}
 use Rattle.vyrd_memory.specs.Soundness.{IsSound, at_rest}
 use Rattle.vyrd_memory.specs.Turns.{part_of, script_of, RunsTo, GetsStuck}
 
--- there is a script for each caller of the header, and each is sound for a caller that has nothing in hand
+-- there is a script for each caller of the header, and each is sound for a caller at rest
 pub record AreSoundScripts (h : Header) (scripts : List Script) : Type 0 where
   pub count : length scripts ≡ h.callers
   pub sound : (c : ℕ) → c < h.callers → IsSound h at_rest (script_of scripts c)

@@ -61,7 +61,7 @@ is_call_or_done Done = true
 is_call_or_done (Mark (Call method args)) = true
 is_call_or_done _ = false
 
--- whether no operation is in hand
+-- whether no operation is under way
 abbrev pub is_between : Script → Bool
 is_between script = is_call_or_done (next_act script)
 

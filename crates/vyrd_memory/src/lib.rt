@@ -7,7 +7,6 @@
 
 mod act;
 mod bound;
-mod hand;
 pub mod laws;
 mod machine;
 mod op;
@@ -16,6 +15,7 @@ mod progress;
 #[cfg(test)]
 mod tests;
 mod turns;
+mod underway;
 
 pub use act::Act;
 pub use machine::Machine;

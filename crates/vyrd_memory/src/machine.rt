@@ -28,7 +28,7 @@ pub trait Machine: Drop {
     // How many events there are to come at most.
     ghost ahead: { Self → ℕ };
 
-    // How many of them to the end of the operation in hand, or of the next one where none is in hand.
+    // How many of them to the end of the operation under way, or of the next one where none is under way.
     ghost op_ahead: { Self → ℕ };
 
     /// What comes next.
@@ -44,23 +44,23 @@ pub trait Machine: Drop {
         ensures caller { caller_of self.new ≡ caller_of self.old }
         ensures falls { ahead self.new < ahead self.old };
 
-    /// How many events there are to come at most: the bounds of all operations to come, and what is left of the one in hand.
+    /// How many events there are to come at most: the bounds of all operations to come, and what is left of the one under way.
     fn left(&self) -> u64
         ensures { result ≡ ahead self.now };
 
-    /// How many events there are at most to the end of the operation in hand. Between two operations it is the bound of the
+    /// How many events there are at most to the end of the operation under way. Between two operations it is the bound of the
     /// next one, and 0 where there is none.
     fn op_left(&self) -> u64
         ensures { result ≡ op_ahead self.now };
 
-    /// Whether no operation is in hand. The caller then holds no lock.
+    /// Whether no operation is under way. The caller then holds no lock.
     fn between(&self) -> bool
         ensures { result ≡ is_between (script self.now) };
 
     // The script keeps to its cells, holds what it gives, takes nothing that it holds, and breaks no rule of shape.
     ghost is_sound: { (m : Self) → IsSoundSomewhere (header_of m) (script m) };
 
-    // The operation in hand ends in time.
+    // The operation under way ends in time.
     ghost ends_in_time: { (m : Self) → ∥ EndsWithin (op_ahead m) (script m) ∥₁ };
 
     // Between operations the bound is that of the next one.
@@ -69,10 +69,10 @@ pub trait Machine: Drop {
     // Between operations what is ahead is the sum of the bounds of those to come.
     ghost sums: { (m : Self) → is_between (script m) ≡ true → SumsUp (header_of m) (ahead m) (script m) };
 
-    // What is ahead of the operation in hand is ahead.
+    // What is ahead of the operation under way is ahead.
     ghost op_is_ahead: { (m : Self) → op_ahead m ≤ ahead m };
 
-    // After its return no operation is in hand.
+    // After its return no operation is under way.
     ghost rests: { (m : Self) → is_return (next_act (script m)) ≡ true → is_between (after_answer (script m) 0) ≡ true };
 
     // At the end there is nothing ahead.

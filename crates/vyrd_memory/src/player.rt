@@ -12,25 +12,25 @@ ghost use Rattle.vyrd_memory.specs.Players.{are_callable, first_bound, is_callab
 
 use crate::act::Act;
 use crate::bound::bound;
-use crate::hand::Hand;
 use crate::machine::Machine;
 use crate::op::{Op, Variant};
 use crate::progress::Progress;
+use crate::underway::Underway;
 use std::alloc::{AllocError, Global};
 use vyrd_base::{Header, Kind};
 
 /// A machine of one caller: it calls its operations one after the other, each by the procedure of its structure.
 #[derive(Drop)]
 pub struct Player<P: Progress> {
-    hand: Hand<P>,
+    underway: Underway<P>,
     caller: u32,
     variant: Variant,
     ops: Vec<Op>,
     begun: usize,
     later: u64,
     ghost within: { begun ≤ vec_len ops },
-    ghost callable: { are_callable hand.header (drop begun ops.items) ≡ true },
-    ghost bounded: { later ≡ bounds_of hand.header (drop begun ops.items) },
+    ghost callable: { are_callable underway.header (drop begun ops.items) ≡ true },
+    ghost bounded: { later ≡ bounds_of underway.header (drop begun ops.items) },
     ghost small: { later ≤ 200000 * 279208 },
 }
 
@@ -58,7 +58,7 @@ impl<P: Progress> Player<P> {
         let later = sum_of_bounds(&header, ops);
         let ops = ops.to_vec(alloc)?;
         Ok(Player {
-            hand: Hand::empty(header),
+            underway: Underway::empty(header),
             caller,
             variant,
             ops,
@@ -73,27 +73,27 @@ impl<P: Progress> Player<P> {
     fn next_op(&self) -> Option<Op>
         ensures { MatchOption result
             (drop self.now.begun self.now.ops.items ≡ [])
-            (λ op. (drop self.now.begun self.now.ops.items ≡ op ∷ drop (self.now.begun + 1) self.now.ops.items) × (is_callable self.now.hand.header op ≡ true)) }
+            (λ op. (drop self.now.begun self.now.ops.items ≡ op ∷ drop (self.now.begun + 1) self.now.ops.items) × (is_callable self.now.underway.header op ≡ true)) }
     {
         self.ops.get(self.begun).copied()
     }
 
-    /// Takes the next operation in hand, after the mark of its call.
+    /// Begins the next operation, after the mark of its call.
     fn begin(&mut self, op: Op)
-        requires idle { is_none self.old.hand.progress ≡ true }
+        requires idle { is_none self.old.underway.progress ≡ true }
         requires next { drop self.old.begun self.old.ops.items ≡ op ∷ drop (self.old.begun + 1) self.old.ops.items }
-        requires callable { is_callable self.old.hand.header op ≡ true }
-        ensures begins { IfSome self.new.hand.progress (λ p. P.rest self.new.hand.header p ≡ P.procedure self.old.hand.header self.old.variant op) }
-        ensures some { is_some self.new.hand.progress ≡ true }
-        ensures header { self.new.hand.header ≡ self.old.hand.header }
+        requires callable { is_callable self.old.underway.header op ≡ true }
+        ensures begins { IfSome self.new.underway.progress (λ p. P.rest self.new.underway.header p ≡ P.procedure self.old.underway.header self.old.variant op) }
+        ensures some { is_some self.new.underway.progress ≡ true }
+        ensures header { self.new.underway.header ≡ self.old.underway.header }
         ensures caller { self.new.caller ≡ self.old.caller }
         ensures variant { self.new.variant ≡ self.old.variant }
         ensures later { drop self.new.begun self.new.ops.items ≡ drop (self.old.begun + 1) self.old.ops.items }
-        ensures falls { self.new.hand.left + self.new.later < self.old.hand.left + self.old.later }
+        ensures falls { self.new.underway.left + self.new.later < self.old.underway.left + self.old.later }
     {
-        self.later -= bound(&self.hand.header, op.method);
+        self.later -= bound(&self.underway.header, op.method);
         self.begun += 1;
-        self.hand.begin(self.variant, op);
+        self.underway.begin(self.variant, op);
     }
 }
 
@@ -101,48 +101,48 @@ impl<P: Progress> Machine for Player<P> {
     ghost use Rattle.std.proofs.Common.{◌∙◌};
     ghost use Rattle.vyrd_memory.specs.Laws.Player.{callable_method, callable_args, callable_small, player_sound, player_in_time, player_bound, player_sums, player_within, player_rests, player_done};
 
-    ghost header_of = { λ m. m.hand.header };
+    ghost header_of = { λ m. m.underway.header };
 
     ghost caller_of = { λ m. m.caller };
 
     ghost script = { λ m. followed_by
-        (option_map_or (P.rest m.hand.header) m.hand.progress stop)
-        (operations (P.procedure m.hand.header m.variant) (drop m.begun m.ops.items)) };
+        (option_map_or (P.rest m.underway.header) m.underway.progress stop)
+        (operations (P.procedure m.underway.header m.variant) (drop m.begun m.ops.items)) };
 
-    ghost ahead = { λ m. m.hand.left + m.later };
+    ghost ahead = { λ m. m.underway.left + m.later };
 
-    ghost op_ahead = { λ m. if is_some m.hand.progress then m.hand.left else first_bound m.hand.header (drop m.begun m.ops.items) };
+    ghost op_ahead = { λ m. if is_some m.underway.progress then m.underway.left else first_bound m.underway.header (drop m.begun m.ops.items) };
 
-    ghost is_sound = { λ m. player_sound m.hand.header m.hand.left (P.rest m.hand.header) m.hand.progress
-        (P.procedure m.hand.header m.variant) (drop m.begun m.ops.items)
-        (λ op callable. P.is_sound m.hand.header m.variant op m.hand.subject (callable_method m.hand.header op callable ∙ m.hand.subject) (callable_args m.hand.header op callable) (callable_small m.hand.header op callable))
-        m.callable m.hand.goes_on };
+    ghost is_sound = { λ m. player_sound m.underway.header m.underway.left (P.rest m.underway.header) m.underway.progress
+        (P.procedure m.underway.header m.variant) (drop m.begun m.ops.items)
+        (λ op callable. P.is_sound m.underway.header m.variant op m.underway.subject (callable_method m.underway.header op callable ∙ m.underway.subject) (callable_args m.underway.header op callable) (callable_small m.underway.header op callable))
+        m.callable m.underway.goes_on };
 
-    ghost ends_in_time = { λ m. player_in_time m.hand.header m.hand.left (P.rest m.hand.header) m.hand.progress
-        (P.procedure m.hand.header m.variant) (drop m.begun m.ops.items)
-        (λ op callable. P.ends_in_time m.hand.header m.variant op m.hand.subject (callable_method m.hand.header op callable ∙ m.hand.subject) (callable_args m.hand.header op callable) (callable_small m.hand.header op callable))
-        m.callable m.hand.goes_on };
+    ghost ends_in_time = { λ m. player_in_time m.underway.header m.underway.left (P.rest m.underway.header) m.underway.progress
+        (P.procedure m.underway.header m.variant) (drop m.begun m.ops.items)
+        (λ op callable. P.ends_in_time m.underway.header m.variant op m.underway.subject (callable_method m.underway.header op callable ∙ m.underway.subject) (callable_args m.underway.header op callable) (callable_small m.underway.header op callable))
+        m.callable m.underway.goes_on };
 
-    ghost next_bound = { λ m method args. player_bound m.hand.header m.hand.left (P.rest m.hand.header) m.hand.progress
-        (P.procedure m.hand.header m.variant) (drop m.begun m.ops.items) method args m.hand.goes_on };
+    ghost next_bound = { λ m method args. player_bound m.underway.header m.underway.left (P.rest m.underway.header) m.underway.progress
+        (P.procedure m.underway.header m.variant) (drop m.begun m.ops.items) method args m.underway.goes_on };
 
-    ghost sums = { λ m. player_sums m.hand.header m.hand.left m.later (P.rest m.hand.header) m.hand.progress
-        (P.procedure m.hand.header m.variant) (drop m.begun m.ops.items)
-        (λ op callable. P.is_sound m.hand.header m.variant op m.hand.subject (callable_method m.hand.header op callable ∙ m.hand.subject) (callable_args m.hand.header op callable) (callable_small m.hand.header op callable))
-        (λ op callable. P.ends_in_time m.hand.header m.variant op m.hand.subject (callable_method m.hand.header op callable ∙ m.hand.subject) (callable_args m.hand.header op callable) (callable_small m.hand.header op callable))
-        m.callable m.hand.goes_on m.bounded m.hand.idle };
+    ghost sums = { λ m. player_sums m.underway.header m.underway.left m.later (P.rest m.underway.header) m.underway.progress
+        (P.procedure m.underway.header m.variant) (drop m.begun m.ops.items)
+        (λ op callable. P.is_sound m.underway.header m.variant op m.underway.subject (callable_method m.underway.header op callable ∙ m.underway.subject) (callable_args m.underway.header op callable) (callable_small m.underway.header op callable))
+        (λ op callable. P.ends_in_time m.underway.header m.variant op m.underway.subject (callable_method m.underway.header op callable ∙ m.underway.subject) (callable_args m.underway.header op callable) (callable_small m.underway.header op callable))
+        m.callable m.underway.goes_on m.bounded m.underway.idle };
 
-    ghost op_is_ahead = { λ m. player_within m.hand.header m.hand.left m.later m.hand.progress (drop m.begun m.ops.items) m.bounded };
+    ghost op_is_ahead = { λ m. player_within m.underway.header m.underway.left m.later m.underway.progress (drop m.begun m.ops.items) m.bounded };
 
-    ghost rests = { λ m. player_rests m.hand.header m.hand.left (P.rest m.hand.header) m.hand.progress
-        (P.procedure m.hand.header m.variant) (drop m.begun m.ops.items) m.hand.goes_on };
+    ghost rests = { λ m. player_rests m.underway.header m.underway.left (P.rest m.underway.header) m.underway.progress
+        (P.procedure m.underway.header m.variant) (drop m.begun m.ops.items) m.underway.goes_on };
 
-    ghost done = { λ m. player_done m.hand.header m.hand.left m.later (P.rest m.hand.header) m.hand.progress
-        (P.procedure m.hand.header m.variant) (drop m.begun m.ops.items) m.bounded m.hand.goes_on m.hand.idle };
+    ghost done = { λ m. player_done m.underway.header m.underway.left m.later (P.rest m.underway.header) m.underway.progress
+        (P.procedure m.underway.header m.variant) (drop m.begun m.ops.items) m.bounded m.underway.goes_on m.underway.idle };
 
     fn wants(&self) -> Act {
-        match self.hand.progress {
-            Some(progress) => progress.wants(&self.hand.header),
+        match self.underway.progress {
+            Some(progress) => progress.wants(&self.underway.header),
             None => match self.next_op() {
                 Some(op) => Act::Mark(Kind::Call(op.method, op.args)),
                 None => Act::Done,
@@ -151,29 +151,29 @@ impl<P: Progress> Machine for Player<P> {
     }
 
     fn took(&mut self, answer: u64) {
-        if self.hand.progress.is_some() {
-            self.hand.go_on(answer);
+        if self.underway.progress.is_some() {
+            self.underway.go_on(answer);
         } else if let Some(op) = self.next_op() {
             self.begin(op);
         }
     }
 
     fn left(&self) -> u64 {
-        self.hand.left + self.later
+        self.underway.left + self.later
     }
 
     fn op_left(&self) -> u64 {
-        match self.hand.progress {
-            Some(_) => self.hand.left,
+        match self.underway.progress {
+            Some(_) => self.underway.left,
             None => match self.next_op() {
-                Some(op) => bound(&self.hand.header, op.method),
+                Some(op) => bound(&self.underway.header, op.method),
                 None => 0,
             },
         }
     }
 
     fn between(&self) -> bool {
-        self.hand.progress.is_none()
+        self.underway.progress.is_none()
     }
 }
 

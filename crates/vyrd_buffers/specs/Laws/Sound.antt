@@ -80,7 +80,7 @@ given h b method committed later is low sound = (
   λ answer none. subst (λ locks. IsSound h (holding locks method committed) later) (sym (gone (lock_of h b) [])) sound,
 )
 
--- the return, after which nothing is in hand
+-- the return, after which the caller is at rest
 returned : (h : Header) (method : Method) (committed : Bool) (reply : ℕ) → (is_observer method || committed) ≡ true
     → IsSound h (holding [] method committed) (returns reply)
 returned h method committed reply may = (both_true _ _ (both_true _ _ refl may) refl, λ answer none. refl)

@@ -66,7 +66,7 @@ given h chunk method committed rest is low sound = (
     gone : filter (λ held. not (held == lock_of h chunk)) (lock_of h chunk ∷ []) ≡ []
     gone = rw (same_number (lock_of h chunk))
 
--- the return, after which nothing is in hand
+-- the return, after which the caller is at rest
 returned : (h : Header) (method : Method) (committed : Bool) (reply : ℕ) → (is_observer method || committed) ≡ true
     → IsSound h (unlocked method committed) (in_order (Mark (Return reply) ∷ []))
 returned h method committed reply may = (both_true _ _ may refl, λ answer none. refl)

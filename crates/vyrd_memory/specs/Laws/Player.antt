@@ -1,5 +1,5 @@
 -- Proofs of laws that an impl in src/ names: no contract says what is defined here.
--- What a player's script is: the operation in hand, followed by the operations to come.
+-- What a player's script is: the operation under way, followed by the operations to come.
 use Rattle.std.proofs.Common.{◌≡◌, ℕ, ◌+◌, ◌-◌, ◌≤◌, Bool, true, false, not, ◌&&◌, List, [], ◌∷◌, Option, Some, None, refl, ap, ◌∙◌, sym, subst, arith}
 use Rattle.std.specs.Prelude.{◌≢◌, IfSome, is_some, is_none, if◌then◌else◌}
 use Rattle.std.specs.Option.{option_map_or}
@@ -21,8 +21,8 @@ use Rattle.vyrd_memory.specs.declared.op.Op.{Op}
 use Rattle.vyrd_memory.specs.Scripts.{Script, stop, step, next_act, after_answer, followed_by, operations, is_between, is_call_or_done, IsAnswer}
 use Rattle.vyrd_memory.specs.Soundness.{Situation, IsSound, IsSoundSomewhere, at_rest, just_called, after_act}
 use Rattle.vyrd_memory.specs.Bounds.{EndsByReturn, EndsWithin, SumsUp, bound_taken, is_return, bound_of, bound_in, bounds_of}
-use Rattle.vyrd_memory.specs.InHand.{IsInHand}
-use Rattle.vyrd_memory.specs.Laws.Hand.{no_call, still_called, stop_of, in_hand_goes_on, in_hand_isnt_between, in_hand_over}
+use Rattle.vyrd_memory.specs.Underway.{IsUnderway}
+use Rattle.vyrd_memory.specs.Laws.Underway.{no_call, still_called, stop_of, underway_goes_on, underway_isnt_between, underway_over}
 use Rattle.vyrd_memory.specs.Arguments.{are_small}
 use Rattle.vyrd_memory.specs.Players.{is_callable, are_callable, first_bound}
 
@@ -66,15 +66,15 @@ operations-sound h body (op ∷ ops) each callable = (
       (operations-sound h body ops each (second_true (is_callable h op) (are_callable h ops) callable)),
 )
 
-pub followed-somewhere : (h : Header) (n : ℕ) (a b : Script) → ∥ IsInHand h n a ∥₁ → IsSound h at_rest b → IsSoundSomewhere h (followed_by a b)
-followed-somewhere h n a b hand later = ∥∥₁_map hand (λ is. (is.situation, followed-sound h is.situation a b is.sound later))
+pub followed-somewhere : (h : Header) (n : ℕ) (a b : Script) → ∥ IsUnderway h n a ∥₁ → IsSound h at_rest b → IsSoundSomewhere h (followed_by a b)
+followed-somewhere h n a b underway later = ∥∥₁_map underway (λ is. (is.situation, followed-sound h is.situation a b is.sound later))
 
 followed-ends : (n : ℕ) (a b : Script) → EndsByReturn n a → EndsWithin n (followed_by a b)
 followed-ends n stop b ends = absurd ends
 followed-ends n (step act rest) b ends = (ends.0, λ goes answer is. followed-ends (n - 1) (rest answer) b (ends.2 goes answer is))
 
-pub followed-in_time : (h : Header) (n : ℕ) (a b : Script) → ∥ IsInHand h n a ∥₁ → ∥ EndsWithin n (followed_by a b) ∥₁
-followed-in_time h n a b hand = ∥∥₁_map hand (λ is. followed-ends n a b is.ends)
+pub followed-in_time : (h : Header) (n : ℕ) (a b : Script) → ∥ IsUnderway h n a ∥₁ → ∥ EndsWithin n (followed_by a b) ∥₁
+followed-in_time h n a b underway = ∥∥₁_map underway (λ is. followed-ends n a b is.ends)
 
 -- a bound leaves room for the marks of the call and the return
 pub bound_is_some : (subject : Subject) (n : ℕ) (method : Method) → 1 ≤ bound_in subject n method
@@ -165,7 +165,7 @@ operations-sums h body (op ∷ ops) sound bounded callable =
           (sound op this) (bounded op this) (operations-sums h body ops sound bounded those)),
     )
 
--- what comes next of the operation in hand comes next of all
+-- what comes next of the operation under way comes next of all
 pub followed-next : (a b : Script) → next_act a ≢ Done → next_act (followed_by a b) ≡ next_act a
 followed-next stop b goes = absurd (goes refl)
 followed-next (step act rest) b goes = refl
@@ -197,54 +197,54 @@ pub operations-between : (body : Op → Script) (ops : List Op) → is_between (
 operations-between body [] = refl
 operations-between body (op ∷ ops) = refl
 
--- the script of a player with this operation in hand, if there is one
+-- the script of a player with this operation under way, if there is one
 abbrev pub player_script : {P : Type 0} → (P → Script) → Option P → (Op → Script) → List Op → Script
 player_script rest progress body ops = followed_by (option_map_or rest progress stop) (operations body ops)
 
--- what is known of the operation in hand
-abbrev pub HandIs : {P : Type 0} → Header → ℕ → (P → Script) → Option P → Type 0
-HandIs h n rest progress = ∥ IfSome progress (λ p. IsInHand h n (rest p)) ∥₁
+-- what is known of the operation under way
+abbrev pub IfUnderway : {P : Type 0} → Header → ℕ → (P → Script) → Option P → Type 0
+IfUnderway h n rest progress = ∥ IfSome progress (λ p. IsUnderway h n (rest p)) ∥₁
 
 pub player_sound : {P : Type 0} (h : Header) (n : ℕ) (rest : P → Script) (progress : Option P) (body : Op → Script) (ops : List Op)
-    → AreSound h body → are_callable h ops ≡ true → HandIs h n rest progress → IsSoundSomewhere h (player_script rest progress body ops)
-player_sound h n rest None body ops each callable hand = ∣ (at_rest, operations-sound h body ops each callable) ∣₁
-player_sound h n rest (Some p) body ops each callable hand =
-    followed-somewhere h n (rest p) (operations body ops) hand (operations-sound h body ops each callable)
+    → AreSound h body → are_callable h ops ≡ true → IfUnderway h n rest progress → IsSoundSomewhere h (player_script rest progress body ops)
+player_sound h n rest None body ops each callable underway = ∣ (at_rest, operations-sound h body ops each callable) ∣₁
+player_sound h n rest (Some p) body ops each callable underway =
+    followed-somewhere h n (rest p) (operations body ops) underway (operations-sound h body ops each callable)
 
 pub player_in_time : {P : Type 0} (h : Header) (n : ℕ) (rest : P → Script) (progress : Option P) (body : Op → Script) (ops : List Op)
-    → AreBounded h body → are_callable h ops ≡ true → HandIs h n rest progress
+    → AreBounded h body → are_callable h ops ≡ true → IfUnderway h n rest progress
     → ∥ EndsWithin (if is_some progress then n else first_bound h ops) (player_script rest progress body ops) ∥₁
-player_in_time h n rest None body ops each callable hand = ∣ operations-in_time h body ops each callable ∣₁
-player_in_time h n rest (Some p) body ops each callable hand = followed-in_time h n (rest p) (operations body ops) hand
+player_in_time h n rest None body ops each callable underway = ∣ operations-in_time h body ops each callable ∣₁
+player_in_time h n rest (Some p) body ops each callable underway = followed-in_time h n (rest p) (operations body ops) underway
 
-hand_isnt_between : {P : Type 0} (h : Header) (n : ℕ) (rest : P → Script) (p : P) (body : Op → Script) (ops : List Op)
-    → HandIs h n rest (Some p) → is_between (player_script rest (Some p) body ops) ≡ false
-hand_isnt_between h n rest p body ops hand =
-    ap is_call_or_done (followed-next (rest p) (operations body ops) (in_hand_goes_on h n (rest p) hand)) ∙ in_hand_isnt_between h n (rest p) hand
+player_isnt_between : {P : Type 0} (h : Header) (n : ℕ) (rest : P → Script) (p : P) (body : Op → Script) (ops : List Op)
+    → IfUnderway h n rest (Some p) → is_between (player_script rest (Some p) body ops) ≡ false
+player_isnt_between h n rest p body ops underway =
+    ap is_call_or_done (followed-next (rest p) (operations body ops) (underway_goes_on h n (rest p) underway)) ∙ underway_isnt_between h n (rest p) underway
 
 pub player_between : {P : Type 0} (h : Header) (n : ℕ) (rest : P → Script) (progress : Option P) (body : Op → Script) (ops : List Op)
-    → HandIs h n rest progress → is_between (player_script rest progress body ops) ≡ not (is_some progress)
-player_between h n rest None body ops hand = operations-between body ops
-player_between h n rest (Some p) body ops hand = hand_isnt_between h n rest p body ops hand
+    → IfUnderway h n rest progress → is_between (player_script rest progress body ops) ≡ not (is_some progress)
+player_between h n rest None body ops underway = operations-between body ops
+player_between h n rest (Some p) body ops underway = player_isnt_between h n rest p body ops underway
 
 pub player_bound : {P : Type 0} (h : Header) (n : ℕ) (rest : P → Script) (progress : Option P) (body : Op
     → Script) (ops : List Op) (method : Method) (args : Args)
-    → HandIs h n rest progress → next_act (player_script rest progress body ops) ≡ Mark (Call method args)
+    → IfUnderway h n rest progress → next_act (player_script rest progress body ops) ≡ Mark (Call method args)
     → (if is_some progress then n else first_bound h ops) ≡ bound_of h method
-player_bound h n rest None body ops method args hand e = operations-bound h body ops method args e
-player_bound h n rest (Some p) body ops method args hand e =
-    let no : true ≡ false = sym (ap is_call_or_done e) ∙ hand_isnt_between h n rest p body ops hand in cc
+player_bound h n rest None body ops method args underway e = operations-bound h body ops method args e
+player_bound h n rest (Some p) body ops method args underway e =
+    let no : true ≡ false = sym (ap is_call_or_done e) ∙ player_isnt_between h n rest p body ops underway in cc
 
 -- between operations what is ahead is the sum of the bounds of those to come
 pub player_sums : {P : Type 0} (h : Header) (n later : ℕ) (rest : P → Script) (progress : Option P) (body : Op → Script) (ops : List Op)
-    → AreSound h body → AreBounded h body → are_callable h ops ≡ true → HandIs h n rest progress → later ≡ bounds_of h ops
+    → AreSound h body → AreBounded h body → are_callable h ops ≡ true → IfUnderway h n rest progress → later ≡ bounds_of h ops
     → (is_none progress ≡ true → n ≡ 0) → is_between (player_script rest progress body ops) ≡ true
     → SumsUp h (n + later) (player_script rest progress body ops)
-player_sums h n later rest None body ops sound bounded callable hand sum idle between =
+player_sums h n later rest None body ops sound bounded callable underway sum idle between =
     let same : bounds_of h ops ≡ n + later = omega (arith, sum, idle refl) in
     subst (λ m. SumsUp h m (operations body ops)) same (operations-sums h body ops sound bounded callable)
-player_sums h n later rest (Some p) body ops sound bounded callable hand sum idle between =
-    absurd (differ (sym between ∙ hand_isnt_between h n rest p body ops hand))
+player_sums h n later rest (Some p) body ops sound bounded callable underway sum idle between =
+    absurd (differ (sym between ∙ player_isnt_between h n rest p body ops underway))
   where
     differ : true ≡ false → ⊥
     differ e = cc
@@ -269,33 +269,33 @@ return_answered Done ends = cc
 return_answered (Mark kind) ends = refl
 
 pub player_rests : {P : Type 0} (h : Header) (n : ℕ) (rest : P → Script) (progress : Option P) (body : Op → Script) (ops : List Op)
-    → HandIs h n rest progress → is_return (next_act (player_script rest progress body ops)) ≡ true
+    → IfUnderway h n rest progress → is_return (next_act (player_script rest progress body ops)) ≡ true
     → is_between (after_answer (player_script rest progress body ops) 0) ≡ true
-player_rests h n rest None body ops hand ends = operations-rests body ops ends
-player_rests h n rest (Some p) body ops hand ends =
-    let goes = in_hand_goes_on h n (rest p) hand in
+player_rests h n rest None body ops underway ends = operations-rests body ops ends
+player_rests h n rest (Some p) body ops underway ends =
+    let goes = underway_goes_on h n (rest p) underway in
     let ends' : is_return (next_act (rest p)) ≡ true = sym (ap is_return (followed-next (rest p) (operations body ops) goes)) ∙ ends in
     ap is_between (followed-after (rest p) (operations body ops) 0 goes
-    ∙ ap (λ s. followed_by s (operations body ops)) (in_hand_over h n (rest p) 0 hand ends' (return_answered (next_act (rest p)) ends')))
+    ∙ ap (λ s. followed_by s (operations body ops)) (underway_over h n (rest p) 0 underway ends' (return_answered (next_act (rest p)) ends')))
     ∙ operations-between body ops
 
 pub player_done : {P : Type 0} (h : Header) (n later : ℕ) (rest : P → Script) (progress : Option P) (body : Op → Script) (ops : List Op)
-    → later ≡ bounds_of h ops → HandIs h n rest progress → (is_none progress ≡ true → n ≡ 0)
+    → later ≡ bounds_of h ops → IfUnderway h n rest progress → (is_none progress ≡ true → n ≡ 0)
     → player_script rest progress body ops ≡ stop → n + later ≡ 0
-player_done h n later rest None body ops sum hand idle e = omega (arith, sum, operations-done h body ops e, idle refl)
-player_done h n later rest (Some p) body ops sum hand idle e =
-    absurd (followed-goes_on (rest p) (operations body ops) (in_hand_goes_on h n (rest p) hand) e)
+player_done h n later rest None body ops sum underway idle e = omega (arith, sum, operations-done h body ops e, idle refl)
+player_done h n later rest (Some p) body ops sum underway idle e =
+    absurd (followed-goes_on (rest p) (operations body ops) (underway_goes_on h n (rest p) underway) e)
 
 pub player_wants : {P : Type 0} (h : Header) (n : ℕ) (rest : P → Script) (progress : Option P) (p : P) (body : Op → Script) (ops : List Op)
-    → HandIs h n rest progress → progress ≡ Some p → next_act (player_script rest progress body ops) ≡ next_act (rest p)
-player_wants h n rest None p body ops hand e = cc
-player_wants h n rest (Some x) p body ops hand e =
-    let same : x ≡ p = cc in followed-next (rest x) (operations body ops) (in_hand_goes_on h n (rest x) hand) ∙ ap (λ p. next_act (rest p)) same
+    → IfUnderway h n rest progress → progress ≡ Some p → next_act (player_script rest progress body ops) ≡ next_act (rest p)
+player_wants h n rest None p body ops underway e = cc
+player_wants h n rest (Some x) p body ops underway e =
+    let same : x ≡ p = cc in followed-next (rest x) (operations body ops) (underway_goes_on h n (rest x) underway) ∙ ap (λ p. next_act (rest p)) same
 
 pub player_goes_on : {P : Type 0} (h : Header) (n : ℕ) (rest : P → Script) (progress : Option P) (body : Op
     → Script) (ops : List Op) (answer : ℕ) (new : Script)
-    → HandIs h n rest progress → is_some progress ≡ true → new ≡ after_answer (option_map_or rest progress stop) answer
+    → IfUnderway h n rest progress → is_some progress ≡ true → new ≡ after_answer (option_map_or rest progress stop) answer
     → followed_by new (operations body ops) ≡ after_answer (player_script rest progress body ops) answer
-player_goes_on h n rest None body ops answer new hand some e = cc
-player_goes_on h n rest (Some p) body ops answer new hand some e =
-    ap (λ s. followed_by s (operations body ops)) e ∙ sym (followed-after (rest p) (operations body ops) answer (in_hand_goes_on h n (rest p) hand))
+player_goes_on h n rest None body ops answer new underway some e = cc
+player_goes_on h n rest (Some p) body ops answer new underway some e =
+    ap (λ s. followed_by s (operations body ops)) e ∙ sym (followed-after (rest p) (operations body ops) answer (underway_goes_on h n (rest p) underway))

@@ -86,7 +86,7 @@ pub gives_second : (h : Header) (method : Method) (committed in_block : Bool) (f
 gives_second h method committed in_block first lock later is fits higher sound =
     gives h (first ∷ []) method committed in_block lock later is fits (ap (λ b. cond (not b) (first ∷ []) []) (lower_isnt first lock higher)) sound
 
--- the return, after which nothing is in hand
+-- the return, after which the caller is at rest
 pub returned : (h : Header) (method : Method) (committed : Bool) (reply : ℕ) → (is_observer method || committed) ≡ true
     → IsSound h (holding [] method committed false) (returns reply)
 returned h method committed reply may = (both_true _ _ may refl, λ _ _. refl)

@@ -23,7 +23,7 @@ at_place h ops n (Some x) some is all =
 pub returns : goal.returns
 returns g c =
     rw (c.copied.ensures)
-    (at_place c.args.self.now.hand.header c.args.self.now.ops.items c.args.self.now.begun c.get.result
+    (at_place c.args.self.now.underway.header c.args.self.now.ops.items c.args.self.now.begun c.get.result
     (c.get.ensures.lookup.0 ∙ ap (λ xs. nat_lt c.args.self.now.begun (length xs)) c.deref.ensures.value)
     (subst (λ xs. IfSome c.get.result (λ x. x.now ≡ get_or xs c.args.self.now.begun x.now)) c.deref.ensures.value c.get.ensures.lookup.1)
     c.args.self.now.callable)

@@ -10,6 +10,6 @@ returns-then-is_some-clause-script g c =
     let m = c.args.self.now in
     let new = option_map_or (g.P.Progress.rest c.go_on.new.self.header) c.go_on.new.self.progress stop in
     ap (λ h. followed_by new (operations (g.P.Progress.procedure h m.variant) (drop m.begun m.ops.items))) c.go_on.ensures.header
-    ∙ player_goes_on m.hand.header m.hand.left (g.P.Progress.rest m.hand.header) m.hand.progress (g.P.Progress.procedure m.hand.header m.variant)
+    ∙ player_goes_on m.underway.header m.underway.left (g.P.Progress.rest m.underway.header) m.underway.progress (g.P.Progress.procedure m.underway.header m.variant)
     (drop m.begun m.ops.items)
-    c.args.answer new m.hand.goes_on (sym c.is_some.ensures ∙ c.if-is_some.true) c.go_on.ensures.script
+    c.args.answer new m.underway.goes_on (sym c.is_some.ensures ∙ c.if-is_some.true) c.go_on.ensures.script

@@ -1,44 +1,44 @@
-//! What a player has in hand.
+//! What a player has under way.
 
 ghost use Rattle.std.specs.Prelude.{◌≡◌, ◌+◌, ◌<◌, ◌≤◌, ◌-◌, true, IfSome, Option, Some, None, is_none, is_some};
 ghost use Rattle.std.specs.Option.{option_map_or};
 ghost use Rattle.vyrd_base.specs.Subjects.{subject_of, are_args};
 ghost use Rattle.vyrd_memory.specs.Scripts.{stop, next_act, after_answer, IsAnswer};
 ghost use Rattle.vyrd_memory.specs.Bounds.{bound_of};
-ghost use Rattle.vyrd_memory.specs.InHand.{IsInHand};
+ghost use Rattle.vyrd_memory.specs.Underway.{IsUnderway};
 
 use crate::bound::bound;
 use crate::op::{Op, Variant};
 use crate::progress::Progress;
 use vyrd_base::Header;
 
-/// An operation in hand, if there is one, and how many events it has left at most.
+/// The operation under way, if there is one, and how many events it has left at most.
 #[derive(Drop)]
-pub(crate) struct Hand<P: Progress> {
+pub(crate) struct Underway<P: Progress> {
     pub header: Header,
     pub progress: Option<P>,
     pub left: u64,
     ghost subject: { header.subject ≡ P.subject },
-    ghost goes_on: { ∥ IfSome progress (λ p. IsInHand header left (P.rest header p)) ∥₁ },
+    ghost goes_on: { ∥ IfSome progress (λ p. IsUnderway header left (P.rest header p)) ∥₁ },
     ghost idle: { is_none progress ≡ true → left ≡ 0 },
     ghost small: { left ≤ 279208 },
 }
 
-impl<P: Progress> Hand<P> {
-    /// Nothing in hand.
-    pub fn empty(header: Header) -> Hand<P>
+impl<P: Progress> Underway<P> {
+    /// Nothing under way.
+    pub fn empty(header: Header) -> Underway<P>
         requires subject { header.subject ≡ P.subject }
         ensures progress { result.progress ≡ None }
         ensures header { result.header ≡ header }
     {
-        Hand {
+        Underway {
             header,
             progress: None,
             left: 0,
         }
     }
 
-    /// Takes an operation in hand after the mark of its call.
+    /// Begins an operation after the mark of its call.
     pub fn begin(&mut self, variant: Variant, op: Op)
         requires method { subject_of op.method ≡ P.subject }
         requires args { are_args self.old.header.size op.method op.args ≡ true }

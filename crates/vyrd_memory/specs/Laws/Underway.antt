@@ -1,5 +1,5 @@
 -- Proofs of laws that an impl in src/ names: no contract says what is defined here.
--- What it says of a script that it is an operation in hand.
+-- What it says of a script that it is an operation under way.
 use Rattle.std.proofs.Common.{◌≡◌, ℕ, ◌-◌, ◌≤◌, true, false, not, ◌&&◌, refl, ap, ◌∙◌, sym, subst, arith, Option, Some, None}
 use Rattle.std.specs.Prelude.{◌≢◌, nat_le, IfSome, is_some, is_none}
 use Rattle.std.proofs.lemmas.Bool.Decides.{nat_tests}
@@ -16,10 +16,10 @@ use Rattle.vyrd_memory.specs.declared.act.Act.TheVariants.{Load, Store, Take, Gi
 use Rattle.vyrd_memory.specs.Scripts.{Script, stop, step, next_act, after_answer, is_stop, is_call_or_done, is_between, IsAnswer}
 use Rattle.vyrd_memory.specs.Soundness.{Situation, IsSoundSomewhere, after_act, may_act, is_at_rest, holds_none}
 use Rattle.vyrd_memory.specs.Bounds.{is_return}
-use Rattle.vyrd_memory.specs.InHand.{IsInHand}
+use Rattle.vyrd_memory.specs.Underway.{IsUnderway}
 
-abbrev pub InHand : Header → ℕ → Script → Type 0
-InHand h n script = ∥ IsInHand h n script ∥₁
+abbrev pub Underway : Header → ℕ → Script → Type 0
+Underway h n script = ∥ IsUnderway h n script ∥₁
 
 -- what is said of an operation that is there
 pub of_some : {P : Type 0} (Q : P → Type 0) (o : Option P) (p : P) → o ≡ Some p → ∥ IfSome o Q ∥₁ → ∥ Q p ∥₁
@@ -30,10 +30,10 @@ pub is_of_some : {P : Type 0} (Q : P → Type 0) (o : Option P) (p : P) → o �
 is_of_some Q None p e if_some = cc
 is_of_some Q (Some x) p e if_some = let same : x ≡ p = cc in subst Q same if_some
 
-pub in_hand_sound : (h : Header) (n : ℕ) (script : Script) → InHand h n script → IsSoundSomewhere h script
-in_hand_sound h n script hand = ∥∥₁_map hand (λ is. (is.situation, is.sound))
+pub underway_sound : (h : Header) (n : ℕ) (script : Script) → Underway h n script → IsSoundSomewhere h script
+underway_sound h n script underway = ∥∥₁_map underway (λ is. (is.situation, is.sound))
 
-not_done : (h : Header) (n : ℕ) (script : Script) → IsInHand h n script → next_act script ≢ Done
+not_done : (h : Header) (n : ℕ) (script : Script) → IsUnderway h n script → next_act script ≢ Done
 not_done h n stop is = absurd is.ends
 not_done h n (step Done rest) is = absurd (cc_of is.sound.0)
   where
@@ -45,15 +45,15 @@ not_done h n (step (Take lock) rest) is = λ e. cc
 not_done h n (step (Give lock) rest) is = λ e. cc
 not_done h n (step (Mark kind) rest) is = λ e. cc
 
-pub in_hand_goes_on : (h : Header) (n : ℕ) (script : Script) → InHand h n script → next_act script ≢ Done
-in_hand_goes_on h n script hand = λ e. ∥∥₁_elim hand ⊥_prop (λ is. not_done h n script is e)
+pub underway_goes_on : (h : Header) (n : ℕ) (script : Script) → Underway h n script → next_act script ≢ Done
+underway_goes_on h n script underway = λ e. ∥∥₁_elim underway ⊥_prop (λ is. not_done h n script is e)
 
-some_left : (h : Header) (n : ℕ) (script : Script) → IsInHand h n script → nat_le 1 n ≡ true
+some_left : (h : Header) (n : ℕ) (script : Script) → IsUnderway h n script → nat_le 1 n ≡ true
 some_left h n stop is = absurd is.ends
 some_left h n (step act rest) is = let low : 1 ≤ n = is.ends.0 in grind (arith, nat_tests)
 
-pub in_hand_left : (h : Header) (n : ℕ) (script : Script) → InHand h n script → 1 ≤ n
-in_hand_left h n script hand = let e : nat_le 1 n ≡ true = ∥∥₁_elim hand (Bool-set _ _) (some_left h n script) in grind (arith, nat_tests)
+pub underway_left : (h : Header) (n : ℕ) (script : Script) → Underway h n script → 1 ≤ n
+underway_left h n script underway = let e : nat_le 1 n ≡ true = ∥∥₁_elim underway (Bool-set _ _) (some_left h n script) in grind (arith, nat_tests)
 
 -- an act that is allowed in an open execution is no call
 pub no_call : (h : Header) (s : Situation) (act : Act) → is_some s.called ≡ true → may_act h s act ≡ true → is_call_or_done act ≡ false
@@ -100,35 +100,35 @@ still_called s (Mark BlockOpen) called goes = called
 still_called s (Mark BlockClose) called goes = called
 still_called s (Mark BlockCommit) called goes = called
 
-next_in_hand : (h : Header) (n : ℕ) (script : Script) (answer : ℕ) → is_return (next_act script) ≡ false
-    → IsAnswer (next_act script) answer → IsInHand h n script
-    → IsInHand h (n - 1) (after_answer script answer)
-next_in_hand h n stop answer goes is_answer is = absurd is.ends
-next_in_hand h n (step act rest) answer goes is_answer is = record {
+next_underway : (h : Header) (n : ℕ) (script : Script) (answer : ℕ) → is_return (next_act script) ≡ false
+    → IsAnswer (next_act script) answer → IsUnderway h n script
+    → IsUnderway h (n - 1) (after_answer script answer)
+next_underway h n stop answer goes is_answer is = absurd is.ends
+next_underway h n (step act rest) answer goes is_answer is = record {
   situation = after_act is.situation act;
   called = still_called is.situation act is.called goes;
   sound = is.sound.1 answer is_answer;
   ends = is.ends.2 goes answer is_answer;
 }
 
-isnt_call : (h : Header) (n : ℕ) (script : Script) → IsInHand h n script → is_between script ≡ false
+isnt_call : (h : Header) (n : ℕ) (script : Script) → IsUnderway h n script → is_between script ≡ false
 isnt_call h n stop is = absurd is.ends
 isnt_call h n (step act rest) is = no_call h is.situation act is.called is.sound.0
 
-pub in_hand_isnt_between : (h : Header) (n : ℕ) (script : Script) → InHand h n script → is_between script ≡ false
-in_hand_isnt_between h n script hand = ∥∥₁_elim hand (Bool-set _ _) (isnt_call h n script)
+pub underway_isnt_between : (h : Header) (n : ℕ) (script : Script) → Underway h n script → is_between script ≡ false
+underway_isnt_between h n script underway = ∥∥₁_elim underway (Bool-set _ _) (isnt_call h n script)
 
-pub in_hand_next : (h : Header) (n : ℕ) (script : Script) (answer : ℕ) → InHand h n script → is_return (next_act script) ≡ false
+pub underway_next : (h : Header) (n : ℕ) (script : Script) (answer : ℕ) → Underway h n script → is_return (next_act script) ≡ false
     → IsAnswer (next_act script) answer
-    → InHand h (n - 1) (after_answer script answer)
-in_hand_next h n script answer hand goes is_answer = ∥∥₁_map hand (next_in_hand h n script answer goes is_answer)
+    → Underway h (n - 1) (after_answer script answer)
+underway_next h n script answer underway goes is_answer = ∥∥₁_map underway (next_underway h n script answer goes is_answer)
 
 pub stop_of : (script : Script) → is_stop script ≡ true → script ≡ stop
 stop_of stop e = refl
 stop_of (step act rest) e = cc
 
 over : (h : Header) (n : ℕ) (script : Script) (answer : ℕ) → is_return (next_act script) ≡ true
-    → IsAnswer (next_act script) answer → IsInHand h n script
+    → IsAnswer (next_act script) answer → IsUnderway h n script
     → is_stop (after_answer script answer) ≡ true
 over h n stop answer ends is_answer is = absurd is.ends
 over h n (step act rest) answer ends is_answer is = let zero : answer ≡ 0 = zero_answer act answer ends is_answer in
@@ -142,8 +142,8 @@ over h n (step act rest) answer ends is_answer is = let zero : answer ≡ 0 = ze
     zero_answer Done answer ends is_answer = cc
     zero_answer (Mark kind) answer ends is_answer = is_answer
 
-pub in_hand_over : (h : Header) (n : ℕ) (script : Script) (answer : ℕ) → InHand h n script → is_return (next_act script) ≡ true
+pub underway_over : (h : Header) (n : ℕ) (script : Script) (answer : ℕ) → Underway h n script → is_return (next_act script) ≡ true
     → IsAnswer (next_act script) answer
     → after_answer script answer ≡ stop
-in_hand_over h n script answer hand ends is_answer =
-    stop_of (after_answer script answer) (∥∥₁_elim hand (Bool-set _ _) (over h n script answer ends is_answer))
+underway_over h n script answer underway ends is_answer =
+    stop_of (after_answer script answer) (∥∥₁_elim underway (Bool-set _ _) (over h n script answer ends is_answer))
