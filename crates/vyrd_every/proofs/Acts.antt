@@ -15,7 +15,7 @@ use Rattle.vyrd_memory.specs.Scripts.{Script, stop, step, perform, returns}
 use Rattle.vyrd_memory.specs.Soundness.{Situation, holds, after_act}
 use Rattle.vyrd_multiset.specs.Laws.Sound.{gone}
 use Rattle.vyrd_every.specs.Structures.{Structure}
-use Rattle.vyrd_every.specs.Hands.{Hand, Access, written, shown_after, pending_after, called_after}
+use Rattle.vyrd_every.specs.Locals.{Locals, Access, written, shown_after, pending_after, called_after}
 use Rattle.vyrd_every.specs.Others.{Rely, Guarantee}
 use Rattle.vyrd_every.specs.RightScripts.{Commits, Leads, Answers, Reaches, ActsRight, DoesRight}
 
@@ -24,7 +24,7 @@ pub never : {b : Bool} → b ≡ false → b ≡ true → ⊥
 never e f = cc
 
 -- an act that changes nothing that the log shows, nor what is reserved
-pub quiet : (S : Structure) (s : Situation) (k : Hand) (shown : Memory) (act : Act) (rest : Script) (next : Hand) → shown_after s k shown act ≡ shown
+pub quiet : (S : Structure) (s : Situation) (k : Locals) (shown : Memory) (act : Act) (rest : Script) (next : Locals) → shown_after s k shown act ≡ shown
     → next.owned ≡ k.owned → Reaches S s act
     → ((state : Amounts) → S.Represents shown state → Leads S k act rest (shown_after s k shown act) state)
     → next.pending ≡ pending_after act k.pending → next.called ≡ called_after act k.called → Answers S k shown act next
@@ -43,20 +43,20 @@ quiet S s k shown act rest next same own reaches leads pending called answers = 
   answers = answers;
 }
 
-pub load_right : (S : Structure) (s : Situation) (k : Hand) (shown : Memory) (cell : ℕ) (rest : ℕ → Script) → Access S s cell → s.in_block ≡ false
+pub load_right : (S : Structure) (s : Situation) (k : Locals) (shown : Memory) (cell : ℕ) (rest : ℕ → Script) → Access S s cell → s.in_block ≡ false
     → ((now : Memory) → Rely S s k shown now → DoesRight S s k now (rest (shown cell)))
     → DoesRight S s k shown (step (Load cell) rest)
 load_right S s k shown cell rest access out later =
     (k, quiet S s k shown (Load cell) (rest 0) k refl refl (access, out) (λ state m. m) refl refl refl, later)
 
-pub take_right : (S : Structure) (s : Situation) (k : Hand) (shown : Memory) (lock : ℕ) (later : Script)
+pub take_right : (S : Structure) (s : Situation) (k : Locals) (shown : Memory) (lock : ℕ) (later : Script)
     → ((held : ℕ) → holds s held ≡ true → held < lock)
     → ((now : Memory) → Rely S (after_act s (Take lock)) k shown now → DoesRight S (after_act s (Take lock)) k now later)
     → DoesRight S s k shown (perform (Take lock) later)
 take_right S s k shown lock later above rest =
     (k, quiet S s k shown (Take lock) later k refl refl above (λ state m. m) refl refl refl, rest)
 
-pub give_right : (S : Structure) (s : Situation) (k : Hand) (shown : Memory) (lock : ℕ) (later : Script) → s.in_block ≡ false
+pub give_right : (S : Structure) (s : Situation) (k : Locals) (shown : Memory) (lock : ℕ) (later : Script) → s.in_block ≡ false
     → ((now : Memory) → Rely S (after_act s (Give lock)) k shown now → DoesRight S (after_act s (Give lock)) k now later)
     → DoesRight S s k shown (perform (Give lock) later)
 give_right S s k shown lock later out rest =
@@ -69,12 +69,12 @@ at locks committed in_block called = record { locks = locks; called = Some calle
 pub holds_first : (lock : ℕ) (locks : List ℕ) (committed in_block : Bool) (called : Called) → holds (at (lock ∷ locks) committed in_block called) lock ≡ true
 holds_first lock locks committed in_block called = ap (λ b. b || list_any (λ held. held == lock) locks) (same_number lock)
 
--- the hand with no slot reserved
-abbrev pub without_slots : Hand → List (ℕ × ℕ) → Hand
+-- the locals with no slot reserved
+abbrev pub without_slots : Locals → List (ℕ × ℕ) → Locals
 without_slots k pending = record { owned = λ slot. false; pending = pending; called = k.called; answered = k.answered }
 
 -- the return, where nothing is reserved
-pub returns_right : (S : Structure) (k : Hand) (shown : Memory) (committed : Bool) (called : Called) (reply : ℕ) → ((i : ℕ) → k.owned i ≡ false)
+pub returns_right : (S : Structure) (k : Locals) (shown : Memory) (committed : Bool) (called : Called) (reply : ℕ) → ((i : ℕ) → k.owned i ≡ false)
     → ((c : Called) → k.called ≡ Some c → is_observer c.method ≡ true → k.answered ≡ Some reply)
     → DoesRight S (at [] committed false called) k shown (returns reply)
 returns_right S k shown committed called reply none answer = (
@@ -83,11 +83,11 @@ returns_right S k shown committed called reply none answer = (
   λ now rely. record { rests = refl; owned = none; called = refl },
 )
   where
-    over : Hand
+    over : Locals
     over = record { owned = k.owned; pending = k.pending; called = None; answered = None }
 
 -- the call's method is no observer's
-pub mutates : (k : Hand) (called : Called) (reply : ℕ) → k.called ≡ Some called → is_observer called.method ≡ false
+pub mutates : (k : Locals) (called : Called) (reply : ℕ) → k.called ≡ Some called → is_observer called.method ≡ false
     → (c : Called) → k.called ≡ Some c → is_observer c.method ≡ true → k.answered ≡ Some reply
 mutates k called reply is mutator c is' observes =
     let same : called ≡ c = some_same called c (sym is ∙ is') in
@@ -97,7 +97,7 @@ mutates k called reply is mutator c is' observes =
     some_same x y e = cc
 
 -- a commit outside a block
-pub lone_commit_right : (S : Structure) (locks : List ℕ) (k : Hand) (shown : Memory) (called : Called) (later : Script)
+pub lone_commit_right : (S : Structure) (locks : List ℕ) (k : Locals) (shown : Memory) (called : Called) (later : Script)
     → ((state : Amounts) → S.Represents shown state → Commits k S later shown state)
     → ((now : Memory) → Rely S (at locks true false called) k shown now → DoesRight S (at locks true false called) k now later)
     → DoesRight S (at locks false false called) k shown (perform (Mark Commit) later)
@@ -105,7 +105,7 @@ lone_commit_right S locks k shown called later leads rest =
     (k, quiet S (at locks false false called) k shown (Mark Commit) later k refl refl tt leads refl refl refl, rest)
 
 -- a block is opened
-pub open_right : (S : Structure) (locks : List ℕ) (k : Hand) (shown : Memory) (called : Called) (later : Script)
+pub open_right : (S : Structure) (locks : List ℕ) (k : Locals) (shown : Memory) (called : Called) (later : Script)
     → ((now : Memory) → Rely S (at locks false true called) (record { owned = k.owned; pending = []; called = k.called; answered = k.answered }) shown now
     → DoesRight S (at locks false true called) (record { owned = k.owned; pending = []; called = k.called; answered = k.answered }) now later)
     → DoesRight S (at locks false false called) k shown (perform (Mark BlockOpen) later)
@@ -117,7 +117,7 @@ open_right S locks k shown called later rest = (
 )
 
 -- a store in a block
-pub block_store_right : (S : Structure) (locks : List ℕ) (k : Hand) (shown : Memory) (called : Called) (cell value : ℕ) (later : Script)
+pub block_store_right : (S : Structure) (locks : List ℕ) (k : Locals) (shown : Memory) (called : Called) (cell value : ℕ) (later : Script)
     → Access S (at locks false true called) cell
     → ((now : Memory)
     → Rely S (at locks false true called) (record { owned = k.owned; pending = (cell, value) ∷ k.pending; called = k.called; answered = k.answered }) shown now
@@ -132,7 +132,7 @@ block_store_right S locks k shown called cell value later access rest = (
 )
 
 -- a block commits, and its slots are reserved no more
-pub commit_right : (S : Structure) (locks : List ℕ) (k : Hand) (shown : Memory) (called : Called) (later : Script)
+pub commit_right : (S : Structure) (locks : List ℕ) (k : Locals) (shown : Memory) (called : Called) (later : Script)
     → Guarantee S (at locks false true called) k shown (written k.pending shown)
     → ((state : Amounts) → S.Represents shown state → Commits k S later (written k.pending shown) state)
     → ((now : Memory) → Rely S (at locks true false called) (without_slots k k.pending) (written k.pending shown) now
@@ -154,7 +154,7 @@ commit_right S locks k shown called later guarantee leads rest = (
 )
 
 -- a block is closed without a commit, and what it wrote shows the same state
-pub close_right : (S : Structure) (locks : List ℕ) (k : Hand) (shown : Memory) (called : Called) (later : Script)
+pub close_right : (S : Structure) (locks : List ℕ) (k : Locals) (shown : Memory) (called : Called) (later : Script)
     → Guarantee S (at locks false true called) k shown (written k.pending shown)
     → ((state : Amounts) → S.Represents shown state → S.Represents (written k.pending shown) state)
     → ((now : Memory) → Rely S (at locks false false called) (without_slots k k.pending) (written k.pending shown) now
@@ -176,7 +176,7 @@ close_right S locks k shown called later guarantee leads rest = (
 )
 
 -- an observer has its answer when it gives its last lock back
-pub answer_right : (S : Structure) (k : Hand) (shown : Memory) (lock : ℕ) (called : Called) (reply : ℕ) → ((i : ℕ) → k.owned i ≡ false)
+pub answer_right : (S : Structure) (k : Locals) (shown : Memory) (lock : ℕ) (called : Called) (reply : ℕ) → ((i : ℕ) → k.owned i ≡ false)
     → k.called ≡ Some called → ((state : Amounts) → S.Represents shown state → answer_in state called.method called.args ≡ reply)
     → DoesRight S (at (lock ∷ []) false false called) k shown (perform (Give lock) (returns reply))
 answer_right S k shown lock called reply none is seen = (
@@ -188,5 +188,5 @@ answer_right S k shown lock called reply none is seen = (
       (returns_right S answered then_ false called reply none (λ c is' observes. refl)),
 )
   where
-    answered : Hand
+    answered : Locals
     answered = record { owned = k.owned; pending = k.pending; called = k.called; answered = Some reply }

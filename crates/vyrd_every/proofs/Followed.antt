@@ -11,7 +11,7 @@ use Rattle.vyrd_memory.specs.Alone.{Memory}
 use Rattle.vyrd_memory.specs.Scripts.{Script, stop, step, followed_by, operations}
 use Rattle.vyrd_memory.specs.Soundness.{Situation, at_rest, just_called, after_act}
 use Rattle.vyrd_every.specs.Structures.{Structure}
-use Rattle.vyrd_every.specs.Hands.{Hand, shown_after, answer_at, Rests}
+use Rattle.vyrd_every.specs.Locals.{Locals, shown_after, answer_at, Rests}
 use Rattle.vyrd_every.specs.RightScripts.{WillReturn, Commits, Leads, ActsRight, DoesRight, IsRight}
 use Rattle.vyrd_every.proofs.Acts.{quiet}
 
@@ -31,7 +31,7 @@ follows_return reply (step (Mark BlockOpen) rest) later returns_ = λ answer is.
 follows_return reply (step (Mark BlockClose) rest) later returns_ = λ answer is. follows_return reply (rest answer) later (returns_ answer is)
 follows_return reply (step (Mark BlockCommit) rest) later returns_ = λ answer is. follows_return reply (rest answer) later (returns_ answer is)
 
-follows_commit : (S : Structure) (k : Hand) (rest later : Script) (now : Memory) (state : Amounts) → Commits k S rest now state
+follows_commit : (S : Structure) (k : Locals) (rest later : Script) (now : Memory) (state : Amounts) → Commits k S rest now state
     → Commits k S (followed_by rest later) now state
 follows_commit S k rest later now state c = record {
   called = c.called;
@@ -43,7 +43,7 @@ follows_commit S k rest later now state c = record {
   means = c.means;
 }
 
-follows_leads : (S : Structure) (k : Hand) (act : Act) (rest later : Script) (now : Memory) (state : Amounts) → Leads S k act rest now state
+follows_leads : (S : Structure) (k : Locals) (act : Act) (rest later : Script) (now : Memory) (state : Amounts) → Leads S k act rest now state
     → Leads S k act (followed_by rest later) now state
 follows_leads S k (Load cell) rest later now state leads = leads
 follows_leads S k (Store cell value) rest later now state leads = leads
@@ -58,7 +58,7 @@ follows_leads S k (Mark BlockOpen) rest later now state leads = leads
 follows_leads S k (Mark BlockClose) rest later now state leads = leads
 follows_leads S k (Mark BlockCommit) rest later now state leads = follows_commit S k rest later now state leads
 
-follows_does : (S : Structure) (s : Situation) (k : Hand) (shown : Memory) (act : Act) (rest later : Script) (next : Hand)
+follows_does : (S : Structure) (s : Situation) (k : Locals) (shown : Memory) (act : Act) (rest later : Script) (next : Locals)
     → ActsRight S s k shown act rest next → ActsRight S s k shown act (followed_by rest later) next
 follows_does S s k shown act rest later next does = record {
   reaches = does.reaches;
@@ -72,8 +72,8 @@ follows_does S s k shown act rest later next does = record {
 }
 
 -- one script after the other
-followed_right : (S : Structure) (s : Situation) (k : Hand) (shown : Memory) (script later : Script)
-    → ((k' : Hand) (now : Memory) → Rests at_rest k' → DoesRight S at_rest k' now later)
+followed_right : (S : Structure) (s : Situation) (k : Locals) (shown : Memory) (script later : Script)
+    → ((k' : Locals) (now : Memory) → Rests at_rest k' → DoesRight S at_rest k' now later)
     → DoesRight S s k shown script → DoesRight S s k shown (followed_by script later)
 followed_right S s k shown stop later then_ right =
     subst (λ s. DoesRight S s k shown later) (sym right.rests) (then_ k shown (record { rests = refl; owned = right.owned; called = right.called }))
@@ -83,8 +83,8 @@ followed_right S s k shown (step act rest) later then_ right = (
   λ now rely. followed_right S (after_act s act) right.0 now (rest (answer_at shown act)) later then_ (right.2 now rely),
 )
 
--- operations one after the other do right, where nothing is in hand
-pub operations_right : (S : Structure) (procedure : Op → Script) (ops : List Op) (k : Hand) (shown : Memory)
+-- operations one after the other do right, where the caller is at rest
+pub operations_right : (S : Structure) (procedure : Op → Script) (ops : List Op) (k : Locals) (shown : Memory)
     → ((op : Op) → is_callable S.header op ≡ true → IsRight S procedure op)
     → are_callable S.header ops ≡ true → Rests at_rest k → DoesRight S at_rest k shown (operations procedure ops)
 operations_right S procedure [] k shown each callable rests = rests
@@ -99,5 +99,5 @@ operations_right S procedure (op ∷ ops) k shown each callable rests = (
       (each op (first_true (is_callable S.header op) (are_callable S.header ops) callable) begun now rests.owned refl),
 )
   where
-    begun : Hand
+    begun : Locals
     begun = record { owned = k.owned; pending = k.pending; called = Some (record { method = op.method; args = op.args }); answered = None }

@@ -27,7 +27,7 @@ use Rattle.vyrd_memory.proofs.Situations.{act_of_event}
 use Rattle.vyrd_memory.proofs.KeptRules.{OnlyRaced}
 use Rattle.vyrd_memory.proofs.RaceLaws.{none_any}
 use Rattle.vyrd_every.specs.Structures.{Structure, shown_by}
-use Rattle.vyrd_every.specs.Hands.{Hand, written, shown_after, pending_after, called_after}
+use Rattle.vyrd_every.specs.Locals.{Locals, written, shown_after, pending_after, called_after}
 use Rattle.vyrd_every.specs.RightScripts.{Reaches}
 use Rattle.vyrd_every.proofs.Acts.{never}
 
@@ -50,7 +50,7 @@ more ((word, value) ∷ writes) others =
     (λ i w. one_more word value (writes ++ others) w i) ∙ ap (λ m. with_cell m word value) (more writes others)
 
 -- what the log shows after one more event of the caller
-pub shown_step : (S : Structure) (c : ℕ) (did : Did) (s : Situation) (k : Hand) (log : List Entry) → has_block c log ≡ s.in_block
+pub shown_step : (S : Structure) (c : ℕ) (did : Did) (s : Situation) (k : Locals) (log : List Entry) → has_block c log ≡ s.in_block
     → k.pending ≡ block_writes c log → Reaches S s (act_of_event did)
     → shown_by (cons_option (logged c did) log) ≡ shown_after s k (shown_by log) (act_of_event did)
 shown_step S c (Read cell value) s k log block pending reaches = refl

@@ -32,7 +32,7 @@ use Rattle.vyrd_memory.proofs.Agreements.{Agrees, agrees}
 use Rattle.vyrd_memory.proofs.KeptRules.{write_kept, mark_kept}
 use Rattle.vyrd_memory.proofs.LegalRuns.{IsRun}
 use Rattle.vyrd_every.specs.Structures.{Structure, Fits, shown_by}
-use Rattle.vyrd_every.specs.Hands.{Hand, Access, shown_after, called_after, answer_at}
+use Rattle.vyrd_every.specs.Locals.{Locals, Access, shown_after, called_after, answer_at}
 use Rattle.vyrd_every.specs.RightScripts.{WillReturn, Commits, Sees, Answers, Reaches, ActsRight}
 use Rattle.vyrd_every.specs.Between.{log_in, OfCaller, has_answer, Invariant}
 use Rattle.vyrd_every.proofs.Acts.{never}
@@ -63,9 +63,9 @@ Returning c _ log passed state = Unit {0}
 
 -- what one more event makes of it all
 pub record Next (S : Structure) (scripts : List Script) (earlier : List Stamped) (number c : ℕ) (did : Did) (passed : List Amounts) (state : Amounts) : Type 0 where
-  pub hands : ℕ → Hand
+  pub locals : ℕ → Locals
   pub next : Amounts
-  pub holds : Invariant S scripts (record { number = number; caller = c; did = did } ∷ earlier) hands (passed_after did passed state) next
+  pub holds : Invariant S scripts (record { number = number; caller = c; did = did } ∷ earlier) locals (passed_after did passed state) next
   pub leading : Leading c did (log_in earlier) (after_answer (left_after (script_of scripts c) (part_of c earlier)) 0) state next
   pub returning : Returning c did (log_in earlier) passed state
 
@@ -92,10 +92,10 @@ keeps_in h scripts earlier d sound run low =
     sound_keeps h (script_of scripts d) (part_of d earlier) (sound.sound d low) (run.plays d) (are_answers (cells_of h) earlier d run.legal)
 
 -- a word whose guard the caller holds isn't held by another caller's block
-free_word : (S : Structure) (scripts : List Script) (earlier : List Stamped) (hands : ℕ → Hand) (passed : List Amounts) (state : Amounts) (c d cell : ℕ)
-    → Fits S → AreSoundScripts S.header scripts → IsRun S.header scripts earlier → Invariant S scripts earlier hands passed state
+free_word : (S : Structure) (scripts : List Script) (earlier : List Stamped) (locals : ℕ → Locals) (passed : List Amounts) (state : Amounts) (c d cell : ℕ)
+    → Fits S → AreSoundScripts S.header scripts → IsRun S.header scripts earlier → Invariant S scripts earlier locals passed state
     → c < S.header.callers → d < S.header.callers → (d == c) ≡ false → Access S (situation_after (part_of c earlier)) cell → holds_word d cell (log_in earlier) ≡ false
-free_word S scripts earlier hands passed state c d cell is sound run holds low_c low_d apart access = by_test (holds_word d cell (log_in earlier)) refl
+free_word S scripts earlier locals passed state c d cell is sound run holds low_c low_d apart access = by_test (holds_word d cell (log_in earlier)) refl
   where
     by_test : (b : Bool) → holds_word d cell (log_in earlier) ≡ b → b ≡ false
     by_test true e =
@@ -106,21 +106,21 @@ free_word S scripts earlier hands passed state c d cell is sound run holds low_c
     by_test false e = refl
 
 -- what a load finds is what the log shows
-found_in : (S : Structure) (scripts : List Script) (earlier : List Stamped) (hands : ℕ → Hand) (passed : List Amounts) (state : Amounts) (c : ℕ) (did : Did)
-    → Fits S → AreSoundScripts S.header scripts → IsRun S.header scripts earlier → Invariant S scripts earlier hands passed state → c < S.header.callers
+found_in : (S : Structure) (scripts : List Script) (earlier : List Stamped) (locals : ℕ → Locals) (passed : List Amounts) (state : Amounts) (c : ℕ) (did : Did)
+    → Fits S → AreSoundScripts S.header scripts → IsRun S.header scripts earlier → Invariant S scripts earlier locals passed state → c < S.header.callers
     → may_do (cells_of S.header) earlier c did ≡ true → Agrees c (situation_after (part_of c earlier)) (log_in earlier)
     → Reaches S (situation_after (part_of c earlier)) (act_of_event did) → answer_of did ≡ answer_at (shown_by (log_in earlier)) (act_of_event did)
-found_in S scripts earlier hands passed state c (Read cell value) is sound run holds low may agree reaches =
+found_in S scripts earlier locals passed state c (Read cell value) is sound run holds low may agree reaches =
     same_of value (value_in earlier cell) (second_true (is_plain (cells_of S.header) cell) (value == value_in earlier cell) may)
     ∙ raw_is_shown S earlier cell is run.legal holds.kept reaches.0.low
     (λ d low_d. by_same d c
     (λ same. subst (λ x. holds_word x cell (log_in earlier) ≡ false) (sym same)
     (ap (λ b. b && wrote c cell (log_in earlier)) (agree.in_block ∙ reaches.1)))
-    (λ apart. free_word S scripts earlier hands passed state c d cell is sound run holds low low_d apart reaches.0))
-found_in S scripts earlier hands passed state c (Wrote cell value) is sound run holds low may agree reaches = refl
-found_in S scripts earlier hands passed state c (Took lock) is sound run holds low may agree reaches = refl
-found_in S scripts earlier hands passed state c (Gave lock) is sound run holds low may agree reaches = refl
-found_in S scripts earlier hands passed state c (Marked kind) is sound run holds low may agree reaches = refl
+    (λ apart. free_word S scripts earlier locals passed state c d cell is sound run holds low low_d apart reaches.0))
+found_in S scripts earlier locals passed state c (Wrote cell value) is sound run holds low may agree reaches = refl
+found_in S scripts earlier locals passed state c (Took lock) is sound run holds low may agree reaches = refl
+found_in S scripts earlier locals passed state c (Gave lock) is sound run holds low may agree reaches = refl
+found_in S scripts earlier locals passed state c (Marked kind) is sound run holds low may agree reaches = refl
 
 no_write : (S : Structure) (s : Situation) (kind : Kind) → Reaches S s (Mark kind) → IsNoWrite kind
 no_write S s (Call method args) reaches = tt
@@ -132,28 +132,28 @@ no_write S s BlockClose reaches = tt
 no_write S s BlockCommit reaches = tt
 
 -- the log stays well formed
-kept_step : (S : Structure) (scripts : List Script) (earlier : List Stamped) (hands : ℕ → Hand) (passed : List Amounts) (state : Amounts) (c : ℕ) (did : Did)
-    → Fits S → AreSoundScripts S.header scripts → IsRun S.header scripts earlier → Invariant S scripts earlier hands passed state → c < S.header.callers
+kept_step : (S : Structure) (scripts : List Script) (earlier : List Stamped) (locals : ℕ → Locals) (passed : List Amounts) (state : Amounts) (c : ℕ) (did : Did)
+    → Fits S → AreSoundScripts S.header scripts → IsRun S.header scripts earlier → Invariant S scripts earlier locals passed state → c < S.header.callers
     → may_act S.header (situation_after (part_of c earlier)) (act_of_event did) ≡ true → Agrees c (situation_after (part_of c earlier)) (log_in earlier)
     → Reaches S (situation_after (part_of c earlier)) (act_of_event did) → WellFormed S.header (cons_option (logged c did) (log_in earlier))
-kept_step S scripts earlier hands passed state c (Read cell value) is sound run holds low may agree reaches = holds.kept
-kept_step S scripts earlier hands passed state c (Took lock) is sound run holds low may agree reaches = holds.kept
-kept_step S scripts earlier hands passed state c (Gave lock) is sound run holds low may agree reaches = holds.kept
-kept_step S scripts earlier hands passed state c (Wrote cell value) is sound run holds low may agree reaches = (
+kept_step S scripts earlier locals passed state c (Read cell value) is sound run holds low may agree reaches = holds.kept
+kept_step S scripts earlier locals passed state c (Took lock) is sound run holds low may agree reaches = holds.kept
+kept_step S scripts earlier locals passed state c (Gave lock) is sound run holds low may agree reaches = holds.kept
+kept_step S scripts earlier locals passed state c (Wrote cell value) is sound run holds low may agree reaches = (
   write_unraced S.header c cell value (log_in earlier) is.version holds.kept
       (held_by_none S.header c cell (log_in earlier) (λ d low_d apart.
-      free_word S scripts earlier hands passed state c d cell is sound run holds low low_d apart reaches))
+      free_word S scripts earlier locals passed state c d cell is sound run holds low low_d apart reaches))
       (write_kept S.header c cell value (situation_after (part_of c earlier)) (log_in earlier) low may agree),
   holds.kept,
 )
-kept_step S scripts earlier hands passed state c (Marked kind) is sound run holds low may agree reaches = (
+kept_step S scripts earlier locals passed state c (Marked kind) is sound run holds low may agree reaches = (
   mark_unraced S.header c kind (log_in earlier) (no_write S (situation_after (part_of c earlier)) kind reaches)
       (mark_kept S.header c kind (situation_after (part_of c earlier)) (log_in earlier) low may agree),
   holds.kept,
 )
 
 -- the state after the event
-commit_leads : (S : Structure) (k : Hand) (c : ℕ) (log : List Entry) (rest : Script) (now : Memory) (state : Amounts) → k.called ≡ open_call c log
+commit_leads : (S : Structure) (k : Locals) (c : ℕ) (log : List Entry) (rest : Script) (now : Memory) (state : Amounts) → k.called ≡ open_call c log
     → Commits k S rest now state → (next : Amounts) × S.Represents now next × Committing c log rest state next
 commit_leads S k c log rest now state called commits = (
   commits.next,
@@ -161,7 +161,7 @@ commit_leads S k c log rest now state called commits = (
   record { called = commits.called; is_called = sym called ∙ commits.is_called; reply = commits.reply; returns = commits.returns; allowed = commits.allowed },
 )
 
-event_leads : (S : Structure) (s : Situation) (k next : Hand) (c : ℕ) (did : Did) (log : List Entry) (shown : Memory) (rest : Script) (state : Amounts)
+event_leads : (S : Structure) (s : Situation) (k next : Locals) (c : ℕ) (did : Did) (log : List Entry) (shown : Memory) (rest : Script) (state : Amounts)
     → k.called ≡ open_call c log → ActsRight S s k shown (act_of_event did) rest next → S.Represents shown state
     → (after : Amounts) × S.Represents (shown_after s k shown (act_of_event did)) after × Leading c did log rest state after
 event_leads S s k next c (Read cell value) log shown rest state called does m = (state, does.leads state m, refl)
@@ -195,8 +195,8 @@ path_grows c (Marked BlockOpen) log rest passed state next leading = path_same p
 path_grows c (Marked BlockClose) log rest passed state next leading = path_same passed state next leading
 path_grows c (Marked BlockCommit) log rest passed state next leading = refl
 
--- what a hand knows of the answer, with these states since the call
-abbrev pub SeenBy : Hand → ℕ → List Entry → List Amounts → Type 0
+-- what a caller knows of the answer, with these states since the call
+abbrev pub SeenBy : Locals → ℕ → List Entry → List Amounts → Type 0
 SeenBy k c log states = (called : Called) → k.called ≡ Some called → (reply : ℕ) → k.answered ≡ Some reply
     → has_answer states (commit_count (entries_before_call c log)) called reply ≡ true
 
@@ -210,14 +210,14 @@ pub no_reply : (o : Option ℕ) (reply : ℕ) → o ≡ None → o ≡ Some repl
 no_reply o reply e f = cc
 
 -- an event that is no call of the caller and finds no answer
-pub seen_quiet : (c : ℕ) (did : Did) (k next : Hand) (log : List Entry) (states more : List Amounts) → calls_now did ≡ false → next.called ≡ k.called
+pub seen_quiet : (c : ℕ) (did : Did) (k next : Locals) (log : List Entry) (states more : List Amounts) → calls_now did ≡ false → next.called ≡ k.called
     → next.answered ≡ k.answered → SeenBy k c log states → SeenBy next c (cons_option (logged c did) log) (states ++ more)
 seen_quiet c did k next log states more none same_call same_answer seen called is reply answer =
     answer_more states more (commit_count (entries_before_call c (cons_option (logged c did) log))) called reply
     (ap (λ es. has_answer states (commit_count es) called reply) (call_own c did log none)
     ∙ seen called (sym same_call ∙ is) reply (sym same_answer ∙ answer))
 
-seen_own : (S : Structure) (c : ℕ) (did : Did) (k next : Hand) (log : List Entry) (shown : Memory) (passed more : List Amounts) (state : Amounts)
+seen_own : (S : Structure) (c : ℕ) (did : Did) (k next : Locals) (log : List Entry) (shown : Memory) (passed more : List Amounts) (state : Amounts)
     → Answers S k shown (act_of_event did) next → next.called ≡ called_after (act_of_event did) k.called → S.Represents shown state
     → length passed ≡ commit_count log → SeenBy k c log (passed ++ state ∷ [])
     → SeenBy next c (cons_option (logged c did) log) ((passed ++ state ∷ []) ++ more)
@@ -254,14 +254,14 @@ seen_own S c (Marked BlockCommit) k next log shown passed more state answers cal
     seen_quiet c (Marked BlockCommit) k next log (passed ++ state ∷ []) more refl called answers seen
 
 -- another caller's event
-pub seen_other : (c d : ℕ) (did : Did) (k : Hand) (log : List Entry) (states more : List Amounts) → (c == d) ≡ false → SeenBy k d log states
+pub seen_other : (c d : ℕ) (did : Did) (k : Locals) (log : List Entry) (states more : List Amounts) → (c == d) ≡ false → SeenBy k d log states
     → SeenBy k d (cons_option (logged c did) log) (states ++ more)
 seen_other c d did k log states more apart seen called is reply answer =
     answer_more states more (commit_count (entries_before_call d (cons_option (logged c did) log))) called reply
     (ap (λ es. has_answer states (commit_count es) called reply) (call_other c d did log apart) ∙ seen called is reply answer)
 
 -- an observer returns what it has seen
-event_returns : (S : Structure) (c : ℕ) (did : Did) (k next : Hand) (log : List Entry) (shown : Memory) (passed : List Amounts) (state : Amounts)
+event_returns : (S : Structure) (c : ℕ) (did : Did) (k next : Locals) (log : List Entry) (shown : Memory) (passed : List Amounts) (state : Amounts)
     → Answers S k shown (act_of_event did) next → k.called ≡ open_call c log → SeenBy k c log (passed ++ state ∷ []) → Returning c did log passed state
 event_returns S c (Marked (Return reply)) k next log shown passed state answers called seen = λ its is observes.
     seen its (called ∙ is) reply (answers.1 its (called ∙ is) observes)
@@ -277,19 +277,19 @@ event_returns S c (Marked BlockClose) k next log shown passed state answers call
 event_returns S c (Marked BlockCommit) k next log shown passed state answers called seen = tt
 
 -- one more event keeps it all
-pub next_event : (S : Structure) (scripts : List Script) (earlier : List Stamped) (number c : ℕ) (did : Did) (hands : ℕ → Hand) (passed : List Amounts) (state : Amounts)
+pub next_event : (S : Structure) (scripts : List Script) (earlier : List Stamped) (number c : ℕ) (did : Did) (locals : ℕ → Locals) (passed : List Amounts) (state : Amounts)
     → Fits S → AreSoundScripts S.header scripts → IsRun S.header scripts (record { number = number; caller = c; did = did } ∷ earlier)
-    → Invariant S scripts earlier hands passed state → Next S scripts earlier number c did passed state
-next_event S scripts earlier number c did hands passed state is sound run holds = record {
-  hands = now_hands;
+    → Invariant S scripts earlier locals passed state → Next S scripts earlier number c did passed state
+next_event S scripts earlier number c did locals passed state is sound run holds = record {
+  locals = now_locals;
   next = after.0;
   holds = record {
-    kept = kept_step S scripts earlier hands passed state c did is sound before holds low may agree own.does.reaches;
+    kept = kept_step S scripts earlier locals passed state c did is sound before holds low may agree own.does.reaches;
     each = λ d low_d. by_same c d
-        (λ same. subst (λ x. OfCaller S (script_of scripts x) (part_of x (e ∷ earlier)) log x (now_hands x)) same own_now)
-        (λ other. subst (λ p. OfCaller S (script_of scripts d) p log d (now_hands d)) (sym (part_other number c d did earlier other))
-        (subst (λ k. OfCaller S (script_of scripts d) (part_of d earlier) log d k) (sym (ap (λ b. cond b own.next (hands d)) other))
-        (other_step S (script_of scripts d) (part_of d earlier) (log_in earlier) c d did s (hands c) (hands d) (holds.each d low_d) other own.shows
+        (λ same. subst (λ x. OfCaller S (script_of scripts x) (part_of x (e ∷ earlier)) log x (now_locals x)) same own_now)
+        (λ other. subst (λ p. OfCaller S (script_of scripts d) p log d (now_locals d)) (sym (part_other number c d did earlier other))
+        (subst (λ k. OfCaller S (script_of scripts d) (part_of d earlier) log d k) (sym (ap (λ b. cond b own.next (locals d)) other))
+        (other_step S (script_of scripts d) (part_of d earlier) (log_in earlier) c d did s (locals c) (locals d) (holds.each d low_d) other own.shows
         own.does.guarantee
         (λ cell access_c access_d. never other (subst (λ x. (c == x) ≡ true)
         (one_holder S c d earlier cell is before.legal (keeps_in S.header scripts earlier c sound before low)
@@ -303,7 +303,7 @@ next_event S scripts earlier number c did hands passed state is sound run holds 
         (seen_by d low_d (c == d) refl called is_called reply answer);
   };
   leading = after.2;
-  returning = event_returns S c did (hands c) own.next (log_in earlier) (shown_by (log_in earlier)) passed state own.does.answers mine.called
+  returning = event_returns S c did (locals c) own.next (log_in earlier) (shown_by (log_in earlier)) passed state own.does.answers mine.called
       (holds.seen c low);
 }
   where
@@ -325,7 +325,7 @@ next_event S scripts earlier number c did hands passed state is sound run holds 
     low : c < S.header.callers
     low = caller_low (cells_of S.header) earlier e run.legal.0
 
-    mine : OfCaller S (script_of scripts c) (part_of c earlier) (log_in earlier) c (hands c)
+    mine : OfCaller S (script_of scripts c) (part_of c earlier) (log_in earlier) c (locals c)
     mine = holds.each c low
 
     keeps : KeepsTo S.header (did ∷ part_of c earlier)
@@ -343,27 +343,27 @@ next_event S scripts earlier number c did hands passed state is sound run holds 
     plays : Plays (script_of scripts c) (did ∷ part_of c earlier)
     plays = subst (Plays (script_of scripts c)) (part_own number c did earlier) (run.plays c)
 
-    own : OwnStep S (script_of scripts c) (part_of c earlier) (log_in earlier) c did (hands c)
-    own = own_step S (script_of scripts c) (part_of c earlier) (log_in earlier) c did (hands c) mine agree agree_now may plays.0
-        (found_in S scripts earlier hands passed state c did is sound before holds low (does (cells_of S.header) earlier e run.legal.0) agree)
+    own : OwnStep S (script_of scripts c) (part_of c earlier) (log_in earlier) c did (locals c)
+    own = own_step S (script_of scripts c) (part_of c earlier) (log_in earlier) c did (locals c) mine agree agree_now may plays.0
+        (found_in S scripts earlier locals passed state c did is sound before holds low (does (cells_of S.header) earlier e run.legal.0) agree)
 
-    now_hands : ℕ → Hand
-    now_hands d = cond (c == d) own.next (hands d)
+    now_locals : ℕ → Locals
+    now_locals d = cond (c == d) own.next (locals d)
 
-    own_now : OfCaller S (script_of scripts c) (part_of c (e ∷ earlier)) log c (now_hands c)
-    own_now = subst (λ p. OfCaller S (script_of scripts c) p log c (now_hands c)) (sym (part_own number c did earlier))
-        (subst (λ k. OfCaller S (script_of scripts c) (did ∷ part_of c earlier) log c k) (sym (ap (λ b. cond b own.next (hands c)) (same_number c))) own.one)
+    own_now : OfCaller S (script_of scripts c) (part_of c (e ∷ earlier)) log c (now_locals c)
+    own_now = subst (λ p. OfCaller S (script_of scripts c) p log c (now_locals c)) (sym (part_own number c did earlier))
+        (subst (λ k. OfCaller S (script_of scripts c) (did ∷ part_of c earlier) log c k) (sym (ap (λ b. cond b own.next (locals c)) (same_number c))) own.one)
 
-    after : (next : Amounts) × S.Represents (shown_after s (hands c) (shown_by (log_in earlier)) (act_of_event did)) next
+    after : (next : Amounts) × S.Represents (shown_after s (locals c) (shown_by (log_in earlier)) (act_of_event did)) next
         × Leading c did (log_in earlier) left state next
-    after = event_leads S s (hands c) own.next c did (log_in earlier) (shown_by (log_in earlier)) left state mine.called own.does holds.means
+    after = event_leads S s (locals c) own.next c did (log_in earlier) (shown_by (log_in earlier)) left state mine.called own.does holds.means
 
-    separate : (d : ℕ) → d < S.header.callers → (c == d) ≡ false → (slot : ℕ) → own.next.owned slot ≡ true → (hands d).owned slot ≡ true → ⊥
-    separate d low_d other = still_apart S s (hands c) own.next (hands d) (shown_by (log_in earlier)) (act_of_event did) left own.does
+    separate : (d : ℕ) → d < S.header.callers → (c == d) ≡ false → (slot : ℕ) → own.next.owned slot ≡ true → (locals d).owned slot ≡ true → ⊥
+    separate d low_d other = still_apart S s (locals c) own.next (locals d) (shown_by (log_in earlier)) (act_of_event did) left own.does
         (holds.apart c d low low_d other) (holds.each d low_d).reserved
 
     two_apart : (a b : ℕ) → a < S.header.callers → b < S.header.callers → (a == b) ≡ false → (slot : ℕ) → (x : Bool) → (c == a) ≡ x → (y : Bool) → (c == b) ≡ y
-        → (cond x own.next (hands a)).owned slot ≡ true → (cond y own.next (hands b)).owned slot ≡ true → ⊥
+        → (cond x own.next (locals a)).owned slot ≡ true → (cond y own.next (locals b)).owned slot ≡ true → ⊥
     two_apart a b low_a low_b other slot true f true g mine its =
         never other (subst (λ z. (a == z) ≡ true) (sym (same_of c a f) ∙ same_of c b g) (same_number a))
     two_apart a b low_a low_b other slot true f false g mine its = separate b low_b g slot mine its
@@ -373,8 +373,8 @@ next_event S scripts earlier number c did hands passed state is sound run holds 
     grown : List Amounts
     grown = cond (commits_now did) (after.0 ∷ []) []
 
-    seen_by : (d : ℕ) → d < S.header.callers → (x : Bool) → (c == d) ≡ x → SeenBy (cond x own.next (hands d)) d log ((passed ++ state ∷ []) ++ grown)
+    seen_by : (d : ℕ) → d < S.header.callers → (x : Bool) → (c == d) ≡ x → SeenBy (cond x own.next (locals d)) d log ((passed ++ state ∷ []) ++ grown)
     seen_by d low_d true f = subst (λ z. SeenBy own.next z log ((passed ++ state ∷ []) ++ grown)) (same_of c d f)
-        (seen_own S c did (hands c) own.next (log_in earlier) (shown_by (log_in earlier)) passed grown state own.does.answers own.does.called holds.means
+        (seen_own S c did (locals c) own.next (log_in earlier) (shown_by (log_in earlier)) passed grown state own.does.answers own.does.called holds.means
         holds.count (holds.seen c low))
-    seen_by d low_d false f = seen_other c d did (hands d) (log_in earlier) (passed ++ state ∷ []) grown f (holds.seen d low_d)
+    seen_by d low_d false f = seen_other c d did (locals d) (log_in earlier) (passed ++ state ∷ []) grown f (holds.seen d low_d)

@@ -20,7 +20,7 @@ use Rattle.vyrd_memory.specs.Soundness.{Situation, holds, observes, may_act, aft
 use Rattle.vyrd_memory.proofs.Situations.{act_of_event, situation_after, event_act}
 use Rattle.vyrd_memory.proofs.Agreements.{Agrees, four_true}
 use Rattle.vyrd_every.specs.Structures.{Structure, shown_by}
-use Rattle.vyrd_every.specs.Hands.{Hand, Access, shown_after, pending_after, called_after, answer_at}
+use Rattle.vyrd_every.specs.Locals.{Locals, Access, shown_after, pending_after, called_after, answer_at}
 use Rattle.vyrd_every.specs.Others.{Rely, Guarantee}
 use Rattle.vyrd_every.specs.RightScripts.{Reaches, ActsRight, DoesRight}
 use Rattle.vyrd_every.specs.Between.{OfCaller}
@@ -29,13 +29,13 @@ use Rattle.vyrd_every.proofs.Acts.{never}
 use Rattle.vyrd_every.proofs.Logs.{shown_step, pending_step, pending_other, called_step, called_other, word_other}
 
 -- what an event of a script that does right does
-pub record Stepped (S : Structure) (s : Situation) (k : Hand) (shown : Memory) (did : Did) (script : Script) : Type 0 where
-  pub next : Hand
+pub record Stepped (S : Structure) (s : Situation) (k : Locals) (shown : Memory) (did : Did) (script : Script) : Type 0 where
+  pub next : Locals
   pub does : ActsRight S s k shown (act_of_event did) (after_answer script 0) next
   pub later : (now : Memory) → Rely S (after_act s (act_of_event did)) next (shown_after s k shown (act_of_event did)) now
       → DoesRight S (after_act s (act_of_event did)) next now (after_answer script (answer_at shown (act_of_event did)))
 
-pub stepped : (S : Structure) (s : Situation) (k : Hand) (shown : Memory) (did : Did) (script : Script) → DoesRight S s k shown script
+pub stepped : (S : Structure) (s : Situation) (k : Locals) (shown : Memory) (did : Did) (script : Script) → DoesRight S s k shown script
     → event_of (next_act script) (answer_of did) ≡ Some did → Stepped S s k shown did script
 stepped S s k shown did stop right e = cc
 stepped S s k shown did (step act rest) right e =
@@ -43,7 +43,7 @@ stepped S s k shown did (step act rest) right e =
     record { next = end.0; does = end.1; later = end.2 }
   where
     Of : Act → Type 0
-    Of a = (next : Hand) × ActsRight S s k shown a (rest 0) next
+    Of a = (next : Locals) × ActsRight S s k shown a (rest 0) next
         × ((now : Memory) → Rely S (after_act s a) next (shown_after s k shown a) now → DoesRight S (after_act s a) next now (rest (answer_at shown a)))
 
 -- a word that the caller's block has written after its own event
@@ -88,13 +88,13 @@ covers_step S c (Marked BlockCommit) s log a b may reaches covers w e =
     absurd (never b.in_block (holds_parts (has_block c (entry c BlockCommit ∷ log)) (wrote c w (entry c BlockCommit ∷ log)) e).0)
 
 -- the caller's own event
-pub record OwnStep (S : Structure) (script : Script) (part : List Did) (log : List Entry) (c : ℕ) (did : Did) (k : Hand) : Type 0 where
-  pub next : Hand
+pub record OwnStep (S : Structure) (script : Script) (part : List Did) (log : List Entry) (c : ℕ) (did : Did) (k : Locals) : Type 0 where
+  pub next : Locals
   pub does : ActsRight S (situation_after part) k (shown_by log) (act_of_event did) (after_answer (left_after script part) 0) next
   pub shows : shown_by (cons_option (logged c did) log) ≡ shown_after (situation_after part) k (shown_by log) (act_of_event did)
   pub one : OfCaller S script (did ∷ part) (cons_option (logged c did) log) c next
 
-pub own_step : (S : Structure) (script : Script) (part : List Did) (log : List Entry) (c : ℕ) (did : Did) (k : Hand) → OfCaller S script part log c k
+pub own_step : (S : Structure) (script : Script) (part : List Did) (log : List Entry) (c : ℕ) (did : Did) (k : Locals) → OfCaller S script part log c k
     → Agrees c (situation_after part) log → Agrees c (after_act (situation_after part) (act_of_event did)) (cons_option (logged c did) log)
     → may_act S.header (situation_after part) (act_of_event did) ≡ true
     → event_of (next_act (left_after script part)) (answer_of did) ≡ Some did
@@ -129,7 +129,7 @@ own_step S script part log c did k one agrees agrees' may plays found = record {
     by_owned slot mine false e = (end.does.fresh slot mine e).1
 
 -- another caller's event
-pub other_step : (S : Structure) (script : Script) (part : List Did) (log : List Entry) (c d : ℕ) (did : Did) (s : Situation) (k kd : Hand) → OfCaller S script part log d kd
+pub other_step : (S : Structure) (script : Script) (part : List Did) (log : List Entry) (c d : ℕ) (did : Did) (s : Situation) (k kd : Locals) → OfCaller S script part log d kd
     → (c == d) ≡ false → shown_by (cons_option (logged c did) log) ≡ shown_after s k (shown_by log) (act_of_event did)
     → Guarantee S s k (shown_by log) (shown_after s k (shown_by log) (act_of_event did))
     → ((cell : ℕ) → Access S s cell → Access S (situation_after part) cell → ⊥)
@@ -161,7 +161,7 @@ other_step S script part log c d did s k kd one apart shows guarantee alone sepa
     }
 
 -- no slot is reserved by two
-pub still_apart : (S : Structure) (s : Situation) (k next kd : Hand) (shown : Memory) (act : Act) (rest : Script) → ActsRight S s k shown act rest next
+pub still_apart : (S : Structure) (s : Situation) (k next kd : Locals) (shown : Memory) (act : Act) (rest : Script) → ActsRight S s k shown act rest next
     → ((slot : ℕ) → k.owned slot ≡ true → kd.owned slot ≡ true → ⊥)
     → ((slot : ℕ) → kd.owned slot ≡ true → S.Reserved shown slot)
     → (slot : ℕ) → next.owned slot ≡ true → kd.owned slot ≡ true → ⊥

@@ -13,7 +13,7 @@ use Rattle.vyrd_memory.proofs.Situations.{situation_after, KeepsTo}
 use Rattle.vyrd_memory.proofs.LegalEvents.{AreLegal, does}
 use Rattle.vyrd_memory.proofs.HeldLocks.{held_is}
 use Rattle.vyrd_every.specs.Structures.{Structure, Fits, shown_by}
-use Rattle.vyrd_every.specs.Hands.{Access}
+use Rattle.vyrd_every.specs.Locals.{Access}
 use Rattle.vyrd_every.specs.Between.{log_in}
 
 pub legal_too : (cells : Cells) (earlier : List Stamped) → AreLegal cells earlier → Legal cells earlier

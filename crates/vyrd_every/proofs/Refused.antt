@@ -22,16 +22,16 @@ use Rattle.vyrd_tree.specs.Cells.{node_cell, root_cell, root_lock}
 use Rattle.vyrd_tree.specs.Cells as cells
 use Rattle.vyrd_tree.specs.Contents.{level_at}
 use Rattle.vyrd_every.specs.Guarded.{multiset, cache, buffers}
-use Rattle.vyrd_every.specs.Hands.{Hand}
+use Rattle.vyrd_every.specs.Locals.{Locals}
 use Rattle.vyrd_every.specs.RightScripts.{DoesRight, IsRight}
 use Rattle.vyrd_every.specs.Trees.Shapes.{Shape}
-use Rattle.vyrd_every.specs.Trees.Hands.{TreeHand, MayLoad, InNode, MayStore}
+use Rattle.vyrd_every.specs.Trees.Locals.{TreeLocals, MayLoad, InNode, MayStore}
 use Rattle.vyrd_every.specs.Trees.RightScripts.{TreeRight}
 use Rattle.vyrd_every.proofs.Relies.{rely_same}
 use Rattle.vyrd_every.proofs.Acts.{never}
 
--- the hand of a caller that has just called
-abbrev calling : Method → Args → Hand
+-- the locals of a caller that has just called
+abbrev calling : Method → Args → Locals
 calling method args = record { owned = λ slot. false; pending = []; called = Some (record { method = method; args = args }); answered = None }
 
 pub no_lock : (h : Header) (args : Args) → IsRight (multiset h) (multiset_procedure h Broken) (record { method = MsInsert; args = args }) → ⊥
@@ -85,13 +85,13 @@ no_source_lock h args apart right =
     second = after_act between (Take (texts.lock_of h args.a))
 
 -- a lock that isn't above one that is held
-pub not_above : (h : Header) (s : Situation) (k : Hand) (shown : Memory) (lock held : ℕ) (later : Script) → holds s held ≡ true → lock ≤ held
+pub not_above : (h : Header) (s : Situation) (k : Locals) (shown : Memory) (lock held : ℕ) (later : Script) → holds s held ≡ true → lock ≤ held
     → DoesRight (multiset h) s k shown (perform (Take lock) later) → ⊥
 not_above h s k shown lock held later is low right = let above : held < lock = right.1.reaches held is in omega (arith, above, low)
 
 -- Words of different nodes, and of nodes and others, have different numbers. So the node is the one whose word is loaded, and
 -- its lock isn't held.
-pub no_node_lock : (h : Header) (s : Situation) (k : TreeHand) (g : Shape) (m : Memory) (node place : ℕ) (rest : ℕ → Script) → node < h.size
+pub no_node_lock : (h : Header) (s : Situation) (k : TreeLocals) (g : Shape) (m : Memory) (node place : ℕ) (rest : ℕ → Script) → node < h.size
     → place < 12 → place ≢ 0 → holds s (cells.lock_of h node) ≡ false → TreeRight h s k g m (step (Load (node_cell node place)) rest) → ⊥
 no_node_lock h s k g m node place rest fits low some free right = by_word right.2.reaches.0
   where
@@ -108,7 +108,7 @@ no_node_lock h s k g m node place rest fits low some free right = by_word right.
     by_word (inr (inr is)) = let at = is.0 in omega (arith, at, low, fits)
 
 -- the root's word is no node's, and not the count of nodes in use
-pub no_root_lock : (h : Header) (s : Situation) (k : TreeHand) (g : Shape) (m : Memory) (root : ℕ) (later : Script) → k.fresh ≡ None
+pub no_root_lock : (h : Header) (s : Situation) (k : TreeLocals) (g : Shape) (m : Memory) (root : ℕ) (later : Script) → k.fresh ≡ None
     → holds s (root_lock h) ≡ false → TreeRight h s k g m (perform (Store (root_cell h) root) later) → ⊥
 no_root_lock h s k g m root later none free right = by_block right.2.reaches
   where

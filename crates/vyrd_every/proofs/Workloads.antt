@@ -36,7 +36,7 @@ use Rattle.vyrd_work.proofs.ScriptLaws.{ops_are_few, ops_are_callable}
 use Rattle.vyrd_work.proofs.SoundScripts.{script_at, scripts_sound}
 use Rattle.vyrd_every.specs.Schedules.{IsCorrect, has_few_events, IsCorrectWithFewEvents, IsSchedule}
 use Rattle.vyrd_every.specs.Structures.{Structure}
-use Rattle.vyrd_every.specs.Hands.{empty_hand}
+use Rattle.vyrd_every.specs.Locals.{empty_locals}
 use Rattle.vyrd_every.specs.RightScripts.{DoesRight, IsRight, AreRight}
 use Rattle.vyrd_every.specs.Guarded.{multiset, cache, buffers}
 use Rattle.vyrd_every.proofs.Followed.{operations_right}
@@ -62,10 +62,10 @@ use Rattle.vyrd_buffers.specs.Procedures.{buffers_procedure}
 script_right : (S : Structure) (w : Workload) (procedure : Op → Script) (c : ℕ) (now : Memory)
     → procedure_in w.header.subject w.header w.variant ≡ procedure → c < w.header.callers
     → are_callable S.header (ops_of c w.ops) ≡ true → ((op : Op) → is_callable S.header op ≡ true → IsRight S procedure op)
-    → DoesRight S at_rest empty_hand now (script_of (work_scripts w) c)
+    → DoesRight S at_rest empty_locals now (script_of (work_scripts w) c)
 script_right S w procedure c now same low callable each =
-    subst (DoesRight S at_rest empty_hand now) (sym its)
-    (operations_right S procedure (ops_of c w.ops) empty_hand now each callable (record { rests = refl; owned = λ slot. refl; called = refl }))
+    subst (DoesRight S at_rest empty_locals now) (sym its)
+    (operations_right S procedure (ops_of c w.ops) empty_locals now each callable (record { rests = refl; owned = λ slot. refl; called = refl }))
   where
     its : script_of (work_scripts w) c ≡ operations procedure (ops_of c w.ops)
     its =

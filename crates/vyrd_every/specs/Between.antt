@@ -16,7 +16,7 @@ use Rattle.vyrd_memory.specs.Scripts.{Script, left_after}
 use Rattle.vyrd_memory.specs.Turns.{part_of, script_of}
 use Rattle.vyrd_memory.proofs.Situations.{situation_after}
 use Rattle.vyrd_every.specs.Structures.{Structure, shown_by}
-use Rattle.vyrd_every.specs.Hands.{Hand, Access}
+use Rattle.vyrd_every.specs.Locals.{Locals, Access}
 use Rattle.vyrd_every.specs.Others.{Rely}
 use Rattle.vyrd_every.specs.RightScripts.{DoesRight}
 
@@ -29,9 +29,9 @@ abbrev pub has_answer : List Amounts → ℕ → Called → ℕ → Bool
 has_answer states n called reply = list_any (λ state. answer_in state called.method called.args == reply) (drop n states)
 
 -- What holds of one caller, after its part of the history: what is left of its script does right,
--- whatever the others do next; its hand is what the log says of it; its open block has written only words
+-- whatever the others do next; its locals are what the log says of it; its open block has written only words
 -- whose lock it holds; and the slots that it has reserved are so in the memory.
-pub record OfCaller (S : Structure) (script : Script) (part : List Did) (log : List Entry) (c : ℕ) (k : Hand) : Type 0 where
+pub record OfCaller (S : Structure) (script : Script) (part : List Did) (log : List Entry) (c : ℕ) (k : Locals) : Type 0 where
   pub right : (now : Memory) → Rely S (situation_after part) k (shown_by log) now
       → DoesRight S (situation_after part) k now (left_after script part)
   pub pending : k.pending ≡ block_writes c log
@@ -39,18 +39,18 @@ pub record OfCaller (S : Structure) (script : Script) (part : List Did) (log : L
   pub covers : (w : ℕ) → holds_word c w log ≡ true → Access S (situation_after part) w
   pub reserved : (slot : ℕ) → k.owned slot ≡ true → S.Reserved (shown_by log) slot
 
--- The log so far is well formed; the above holds of each caller, with the hand that it has; no slot is
+-- The log so far is well formed; the above holds of each caller, with its locals; no slot is
 -- reserved by two callers; the memory represents the state, and that state was led to by as many commits
 -- as the log has; and an observer that has its answer found it in one of the states since its call.
-pub record Invariant (S : Structure) (scripts : List Script) (earlier : List Stamped) (hands : ℕ → Hand)
+pub record Invariant (S : Structure) (scripts : List Script) (earlier : List Stamped) (locals : ℕ → Locals)
     (passed : List Amounts) (state : Amounts) : Type 0 where
   pub kept : WellFormed S.header (log_in earlier)
   pub each : (c : ℕ) → c < S.header.callers
-      → OfCaller S (script_of scripts c) (part_of c earlier) (log_in earlier) c (hands c)
+      → OfCaller S (script_of scripts c) (part_of c earlier) (log_in earlier) c (locals c)
   pub apart : (c d : ℕ) → c < S.header.callers → d < S.header.callers → (c == d) ≡ false
-      → (slot : ℕ) → (hands c).owned slot ≡ true → (hands d).owned slot ≡ true → ⊥
+      → (slot : ℕ) → (locals c).owned slot ≡ true → (locals d).owned slot ≡ true → ⊥
   pub means : S.Represents (shown_by (log_in earlier)) state
   pub count : length passed ≡ commit_count (log_in earlier)
-  pub seen : (c : ℕ) → c < S.header.callers → (called : Called) → (hands c).called ≡ Some called
-      → (reply : ℕ) → (hands c).answered ≡ Some reply
+  pub seen : (c : ℕ) → c < S.header.callers → (called : Called) → (locals c).called ≡ Some called
+      → (reply : ℕ) → (locals c).answered ≡ Some reply
       → has_answer (passed ++ state ∷ []) (commit_count (entries_before_call c (log_in earlier))) called reply ≡ true

@@ -3,7 +3,7 @@ pub mod Schedules
 -- How it is proved, in the order in which it reads best:
 pub mod Structures
 pub mod Guarded
-pub mod Hands
+pub mod Locals
 pub mod Others
 pub mod RightScripts
 pub mod Between

@@ -15,7 +15,7 @@ use Rattle.vyrd_memory.specs.Soundness.{Situation, holds, at_rest, just_called, 
 use Rattle.vyrd_memory.specs.Turns.{script_of}
 use Rattle.vyrd_memory.specs.Runs.{AreSoundScripts}
 use Rattle.vyrd_every.specs.Structures.{Structure, Fits}
-use Rattle.vyrd_every.specs.Hands.{Hand, empty_hand, Rests, Access, shown_after, pending_after, called_after, answer_at}
+use Rattle.vyrd_every.specs.Locals.{Locals, empty_locals, Rests, Access, shown_after, pending_after, called_after, answer_at}
 use Rattle.vyrd_every.specs.Others.{Rely, Guarantee}
 
 -- What an act may reach. A load or a store reaches words whose lock is held; a load not within a block,
@@ -38,7 +38,7 @@ WillReturn reply (step act rest) = (answer : ℕ) → IsAnswer act answer → Wi
 
 -- A commit leads from this state to another one: by the specification, with the reply that the script
 -- will return, and the memory after the commit represents it.
-pub record Commits (k : Hand) (S : Structure) (rest : Script) (now : Memory) (state : Amounts) : Type 0 where
+pub record Commits (k : Locals) (S : Structure) (rest : Script) (now : Memory) (state : Amounts) : Type 0 where
   pub called : Called
   pub is_called : k.called ≡ Some called
   pub reply : ℕ
@@ -48,13 +48,13 @@ pub record Commits (k : Hand) (S : Structure) (rest : Script) (now : Memory) (st
   pub means : S.Represents now next
 
 -- a commit leads to the next state, and after any other act the memory represents the state as before
-abbrev pub Leads : Structure → Hand → Act → Script → Memory → Amounts → Type 0
+abbrev pub Leads : Structure → Locals → Act → Script → Memory → Amounts → Type 0
 Leads S k (Mark Commit) rest now state = Commits k S rest now state
 Leads S k (Mark BlockCommit) rest now state = Commits k S rest now state
 Leads S k _ rest now state = S.Represents now state
 
 -- an observer has its answer now: it is the answer in each state for which the memory may stand
-pub record Sees (S : Structure) (k next : Hand) (shown : Memory) : Type 0 where
+pub record Sees (S : Structure) (k next : Locals) (shown : Memory) : Type 0 where
   pub called : Called
   pub is_called : k.called ≡ Some called
   pub reply : ℕ
@@ -63,7 +63,7 @@ pub record Sees (S : Structure) (k next : Hand) (shown : Memory) : Type 0 where
 
 -- An observer may find its answer when it gives a lock back. It keeps it until it returns, and returns no
 -- other. A call begins without one.
-abbrev pub Answers : Structure → Hand → Memory → Act → Hand → Type 0
+abbrev pub Answers : Structure → Locals → Memory → Act → Locals → Type 0
 Answers S k shown (Give lock) next = (next.answered ≡ k.answered) ⊎ Sees S k next shown
 Answers S k shown (Mark (Call method args)) next = next.answered ≡ None
 Answers S k shown (Mark (Return reply)) next = (next.answered ≡ None)
@@ -71,9 +71,9 @@ Answers S k shown (Mark (Return reply)) next = (next.answered ≡ None)
 Answers S k shown _ next = next.answered ≡ k.answered
 
 -- An act does right: it reaches what it may, gives the others what it guarantees, keeps the slots that it
--- has reserved or reserves free ones, and leads to the right state. The next hand is what the caller has
--- in hand then.
-pub record ActsRight (S : Structure) (s : Situation) (k : Hand) (shown : Memory) (act : Act) (rest : Script) (next : Hand) : Type 0 where
+-- has reserved or reserves free ones, and leads to the right state. The next locals are those that the
+-- caller has then.
+pub record ActsRight (S : Structure) (s : Situation) (k : Locals) (shown : Memory) (act : Act) (rest : Script) (next : Locals) : Type 0 where
   pub reaches : Reaches S s act
   pub guarantee : Guarantee S s k shown (shown_after s k shown act)
   pub kept : (slot : ℕ) → next.owned slot ≡ true → k.owned slot ≡ true
@@ -87,16 +87,16 @@ pub record ActsRight (S : Structure) (s : Situation) (k : Hand) (shown : Memory)
 
 -- A script does right from here on: its next act does, and whatever the others make of the memory then,
 -- so does the rest. At its end the caller is at rest.
-abbrev pub DoesRight : Structure → Situation → Hand → Memory → Script → Type 0
+abbrev pub DoesRight : Structure → Situation → Locals → Memory → Script → Type 0
 DoesRight S s k shown stop = Rests s k
-DoesRight S s k shown (step act rest) = (next : Hand) × ActsRight S s k shown act (rest 0) next
+DoesRight S s k shown (step act rest) = (next : Locals) × ActsRight S s k shown act (rest 0) next
     × ((now : Memory) → Rely S (after_act s act) next (shown_after s k shown act) now
     → DoesRight S (after_act s act) next now (rest (answer_at shown act)))
 
 -- the procedure of an operation does right, where it was just called and nothing is reserved, from any
 -- memory on
 abbrev pub IsRight : Structure → (Op → Script) → Op → Type 0
-IsRight S procedure op = (k : Hand) (shown : Memory) → ((slot : ℕ) → k.owned slot ≡ false)
+IsRight S procedure op = (k : Locals) (shown : Memory) → ((slot : ℕ) → k.owned slot ≡ false)
     → k.called ≡ Some (record { method = op.method; args = op.args })
     → DoesRight S (just_called op.method) k shown (procedure op)
 
@@ -104,4 +104,4 @@ IsRight S procedure op = (k : Hand) (shown : Memory) → ((slot : ℕ) → k.own
 pub record AreRight (S : Structure) (scripts : List Script) : Type 0 where
   pub fits : Fits S
   pub sound : AreSoundScripts S.header scripts
-  pub right : (c : ℕ) → c < S.header.callers → (now : Memory) → DoesRight S at_rest empty_hand now (script_of scripts c)
+  pub right : (c : ℕ) → c < S.header.callers → (now : Memory) → DoesRight S at_rest empty_locals now (script_of scripts c)

@@ -3,12 +3,12 @@
 -- for good.
 --
 -- In the order in which it reads best: the tree in the memory (Shapes), what it shows (States), what a
--- caller has in hand and which words it may reach (Hands), the memory that callers see (Seen), what they
+-- caller's locals say and which words it may reach (Locals), the memory that callers see (Seen), what they
 -- leave to one another (Others), scripts that do right, whatever the others do (RightScripts), and
 -- what holds between any two events (Between). Where they start stands in Starts.
 pub mod Shapes
 pub mod States
-pub mod Hands
+pub mod Locals
 pub mod Seen
 pub mod Others
 pub mod RightScripts

@@ -2,7 +2,7 @@
 //!
 //! Each caller does right as far as the others leave alone what it relies on (`tree_operations_do_right`),
 //! and an act that does right leaves that alone for each other caller (`tree_acts_are_relied_on`,
-//! `tree_hands_stay_right`). So every schedule is accepted, as `laws` says.
+//! `tree_locals_stay_right`). So every schedule is accepted, as `laws` says.
 
 ghost use Rattle.std.specs.Prelude.{◌≡◌, ℕ, ◌<◌, true, false, List, []};
 ghost use Rattle.vyrd_base.specs.declared.header.Header.{Header};
@@ -25,7 +25,7 @@ ghost use Rattle.vyrd_work.specs.WorkScripts.{work_scripts};
 ghost use Rattle.vyrd_every.specs.Structures.{shown_by};
 ghost use Rattle.vyrd_every.specs.Trees.Shapes.{Shape, IsLinked};
 ghost use Rattle.vyrd_every.specs.Trees.States.{ShowsState};
-ghost use Rattle.vyrd_every.specs.Trees.Hands.{TreeHand, empty_tree_hand, Owns, AreApart};
+ghost use Rattle.vyrd_every.specs.Trees.Locals.{TreeLocals, empty_tree_locals, Owns, AreApart};
 ghost use Rattle.vyrd_every.specs.Trees.Seen.{seen_after};
 ghost use Rattle.vyrd_every.specs.Trees.Others.{TreeRely};
 ghost use Rattle.vyrd_every.specs.Trees.RightScripts.{TreeDoes, TreeRight};
@@ -51,35 +51,35 @@ pub fn linked_trees_show_the_view()
 pub fn tree_operations_do_right()
     ensures { (w : Workload) (c : ℕ) (g : Shape) (m : Memory) → KeepsLimits w → IsCorrectTree w →
         c < w.header.callers → IsLinked w.header.size g m →
-        TreeRight w.header at_rest empty_tree_hand g m (script_of (work_scripts w) c) }
+        TreeRight w.header at_rest empty_tree_locals g m (script_of (work_scripts w) c) }
 {}
 
 /// An act that does right is within what each other caller relies on: one that holds other locks, whose
-/// hand is right and shares no node with that of the act's caller, and that sees the root that the log
+/// locals are right and share no node with those of the act's caller, and that sees the root that the log
 /// shows where it holds the root's lock and its own block isn't seen. One such act after another is
 /// within it too.
 pub fn tree_acts_are_relied_on()
-    ensures relied { (h : Header) (s its : Situation) (k other : TreeHand) (g : Shape) (m : Memory) (act : Act)
-        (rest : Script) (next : TreeHand) (grown : Shape) → IsLinked h.size g m →
+    ensures relied { (h : Header) (s its : Situation) (k other : TreeLocals) (g : Shape) (m : Memory) (act : Act)
+        (rest : Script) (next : TreeLocals) (grown : Shape) → IsLinked h.size g m →
         TreeDoes h s k g m act rest next grown →
         Owns h other g m → AreApart k other → ((lock : ℕ) → holds its lock ≡ true → holds s lock ≡ false) →
         (holds its (root_lock h) ≡ true → other.out ≡ false → g.top ≡ level_at m (root_in h.size m)) →
         TreeRely h its other g m grown (seen_after h s k m act) }
-    ensures one_after_another { (h : Header) (s : Situation) (k : TreeHand) (first second third : Shape)
+    ensures one_after_another { (h : Header) (s : Situation) (k : TreeLocals) (first second third : Shape)
         (a b c : Memory) → TreeRely h s k first a second b → TreeRely h s k second b third c →
         TreeRely h s k first a third c }
 {}
 
-/// After an act that does right the hands of its caller and of any other one share no node still. Its
-/// own hand is right, and any other one stays right.
-pub fn tree_hands_stay_right()
-    ensures apart { (h : Header) (s : Situation) (k other : TreeHand) (g : Shape) (m : Memory) (act : Act)
-        (rest : Script) (next : TreeHand) (grown : Shape) → TreeDoes h s k g m act rest next grown →
+/// After an act that does right the locals of its caller and of any other one share no node still. Its
+/// own locals are right, and those of any other one stay right.
+pub fn tree_locals_stay_right()
+    ensures apart { (h : Header) (s : Situation) (k other : TreeLocals) (g : Shape) (m : Memory) (act : Act)
+        (rest : Script) (next : TreeLocals) (grown : Shape) → TreeDoes h s k g m act rest next grown →
         Owns h other g m → AreApart k other → AreApart next other }
-    ensures own { (h : Header) (s : Situation) (k : TreeHand) (g : Shape) (m : Memory) (act : Act)
-        (rest : Script) (next : TreeHand) (grown : Shape) → TreeDoes h s k g m act rest next grown →
+    ensures own { (h : Header) (s : Situation) (k : TreeLocals) (g : Shape) (m : Memory) (act : Act)
+        (rest : Script) (next : TreeLocals) (grown : Shape) → TreeDoes h s k g m act rest next grown →
         Owns h next grown (seen_after h s k m act) }
-    ensures other { (h : Header) (its : Situation) (other : TreeHand) (g : Shape) (m : Memory)
+    ensures other { (h : Header) (its : Situation) (other : TreeLocals) (g : Shape) (m : Memory)
         (later : Shape) (now : Memory) →
         Owns h other g m → TreeRely h its other g m later now → Owns h other later now }
 {}

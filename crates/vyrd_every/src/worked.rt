@@ -14,10 +14,10 @@ ghost use Rattle.vyrd_cache.specs.Procedures.{cache_procedure};
 ghost use Rattle.vyrd_buffers.specs.Procedures.{buffers_procedure};
 ghost use Rattle.vyrd_tree.specs.Cells.{node_cell, root_cell, lock_of, root_lock};
 ghost use Rattle.vyrd_every.specs.Guarded.{multiset, cache, buffers};
-ghost use Rattle.vyrd_every.specs.Hands.{Hand};
+ghost use Rattle.vyrd_every.specs.Locals.{Locals};
 ghost use Rattle.vyrd_every.specs.RightScripts.{DoesRight, IsRight};
 ghost use Rattle.vyrd_every.specs.Trees.Shapes.{Shape};
-ghost use Rattle.vyrd_every.specs.Trees.Hands.{TreeHand};
+ghost use Rattle.vyrd_every.specs.Trees.Locals.{TreeLocals};
 ghost use Rattle.vyrd_every.specs.Trees.RightScripts.{TreeRight};
 
 /// A slot that is looked for without its bucket's lock: the broken insert doesn't do right.
@@ -41,21 +41,21 @@ pub fn characters_loaded_without_the_lock()
 
 /// A lock that is taken below one that is held, whatever else the caller does.
 pub fn lock_taken_below_another()
-    ensures { (h : Header) (s : Situation) (k : Hand) (shown : Memory) (lock held : ℕ) (later : Script) →
+    ensures { (h : Header) (s : Situation) (k : Locals) (shown : Memory) (lock held : ℕ) (later : Script) →
         holds s held ≡ true → lock ≤ held → DoesRight (multiset h) s k shown (perform (Take lock) later) → ⊥ }
 {}
 
 /// A word of a tree's node, other than its level, that is loaded without the node's lock, whatever the
 /// caller does then.
 pub fn node_loaded_without_its_lock()
-    ensures { (h : Header) (s : Situation) (k : TreeHand) (g : Shape) (m : Memory) (node place : ℕ)
+    ensures { (h : Header) (s : Situation) (k : TreeLocals) (g : Shape) (m : Memory) (node place : ℕ)
         (rest : ℕ → Script) → node < h.size → place < 12 → place ≢ 0 → holds s (lock_of h node) ≡ false →
         TreeRight h s k g m (step (Load (node_cell node place)) rest) → ⊥ }
 {}
 
 /// A root's word that is stored without its lock.
 pub fn root_stored_without_its_lock()
-    ensures { (h : Header) (s : Situation) (k : TreeHand) (g : Shape) (m : Memory) (root : ℕ) (later : Script) →
+    ensures { (h : Header) (s : Situation) (k : TreeLocals) (g : Shape) (m : Memory) (root : ℕ) (later : Script) →
         k.fresh ≡ None → holds s (root_lock h) ≡ false →
         TreeRight h s k g m (perform (Store (root_cell h) root) later) → ⊥ }
 {}

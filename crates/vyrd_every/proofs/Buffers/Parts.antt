@@ -19,15 +19,15 @@ use Rattle.vyrd_buffers.specs.Cells.{character_cell, lock_of, lock, unlock, lock
 use Rattle.vyrd_buffers.specs.Procedures.{commit_count, load_from, store_from, read_from, unlock_both}
 use Rattle.vyrd_buffers.specs.Laws.Alone.Stores.{loaded}
 use Rattle.vyrd_multiset.specs.Laws.Sound.{gone}
-use Rattle.vyrd_every.specs.Hands.{Hand, written}
+use Rattle.vyrd_every.specs.Locals.{Locals, written}
 use Rattle.vyrd_every.specs.Others.{Guarantee}
 use Rattle.vyrd_every.specs.RightScripts.{WillReturn, DoesRight}
 use Rattle.vyrd_every.specs.Guarded.{buffers}
 use Rattle.vyrd_every.proofs.Acts.{never, at, without_slots, load_right, take_right, give_right, returns_right, mutates, lone_commit_right, open_right, block_store_right, commit_right}
 use Rattle.vyrd_every.proofs.Buffers.Texts.{IsHeld, word_access, Stays, stays_so, stays_same, stays_more, stays_character, writes_of, written_is, after_block, block_leaves}
 
--- what the hand has in a block
-abbrev pub writing : Hand → List (ℕ × ℕ) → Hand
+-- the caller's locals in a block
+abbrev pub writing : Locals → List (ℕ × ℕ) → Locals
 writing k pending = record { owned = k.owned; pending = pending; called = k.called; answered = k.answered }
 
 -- the last lock that was taken is held, and those before it
@@ -45,7 +45,7 @@ held_still h locks lock b held = record { low = held.low; held = either (lock ==
     either false y e = e
 
 -- a word of a buffer is loaded, and has afterwards what was found
-pub word_right : (h : Header) (locks : List ℕ) (called : Called) (k : Hand) (before : Memory) (b cell : ℕ) (rest : ℕ → Script)
+pub word_right : (h : Header) (locks : List ℕ) (called : Called) (k : Locals) (before : Memory) (b cell : ℕ) (rest : ℕ → Script)
     → IsHeld h locks b → 8 * b ≤ cell → cell < 8 * b + 8
     → ((now : Memory) → Stays h locks before now → DoesRight (buffers h) (at locks false false called) k now (rest (now cell)))
     → DoesRight (buffers h) (at locks false false called) k before (step (Load cell) rest)
@@ -56,7 +56,7 @@ word_right h locks called k before b cell rest held from to later =
     subst (λ value. DoesRight (buffers h) (at locks false false called) k now (rest value)) (stays.word b cell held from to) (later now stays))
 
 -- so are characters of a buffer
-pub load_from_right : (h : Header) (locks : List ℕ) (called : Called) (k : Hand) (before : Memory) (b left i : ℕ) (found : List ℕ) (later : List ℕ → Script)
+pub load_from_right : (h : Header) (locks : List ℕ) (called : Called) (k : Locals) (before : Memory) (b left i : ℕ) (found : List ℕ) (later : List ℕ → Script)
     → IsHeld h locks b → i + left ≤ 7
     → ((now : Memory) → Stays h locks before now → DoesRight (buffers h) (at locks false false called) k now (later (found ++ loaded now b left i)))
     → DoesRight (buffers h) (at locks false false called) k before (load_from left b i found later)
@@ -73,7 +73,7 @@ load_from_right h locks called k before b (suc left) i found later held few rest
     (rest now (stays_more h locks before mid now first second))))
 
 -- A read loads the characters that are left, and returns the text that they make behind those that it has.
-pub read_from_right : (h : Header) (locks : List ℕ) (called : Called) (k : Hand) (before : Memory) (b left i n text : ℕ) → IsHeld h locks b
+pub read_from_right : (h : Header) (locks : List ℕ) (called : Called) (k : Locals) (before : Memory) (b left i n text : ℕ) → IsHeld h locks b
     → i + left ≡ n → n ≤ 7 → text ≡ text_of (λ j. before (character_cell b j) % 255) i
     → ((now : Memory) → Stays h locks before now
     → DoesRight (buffers h) (at locks false false called) k now (unlock h b (returns (text_of (λ j. now (character_cell b j) % 255) n))))
@@ -100,7 +100,7 @@ read_from_right h locks called k before b (suc left) i n text held all few is la
         ∙ ap (text_of (λ j. mid (character_cell b j) % 255)) (sym (add-one i))
 
 -- what is stored as characters of a buffer in a block shows when the block ends
-store_from_right : (h : Header) (locks : List ℕ) (called : Called) (k : Hand) (before : Memory) (characters : List ℕ) (b i : ℕ) (later : Script)
+store_from_right : (h : Header) (locks : List ℕ) (called : Called) (k : Locals) (before : Memory) (characters : List ℕ) (b i : ℕ) (later : Script)
     → IsHeld h locks b → i + length characters ≤ 7
     → ((now : Memory) → Stays h locks before now
     → DoesRight (buffers h) (at locks false true called) (writing k (writes_of characters b i k.pending)) now later)
@@ -118,7 +118,7 @@ store_from_right h locks called k before (character ∷ characters) b i later he
 -- what follows a commit with this reply: it returns that, and gives the locks back before
 pub record Finishes (h : Header) (locks : List ℕ) (called : Called) (reply : ℕ) (later : Script) : Type 0 where
   pub will : WillReturn reply later
-  pub ends : (k : Hand) (now : Memory) → ((i : ℕ) → k.owned i ≡ false) → k.called ≡ Some called
+  pub ends : (k : Locals) (now : Memory) → ((i : ℕ) → k.owned i ≡ false) → k.called ≡ Some called
       → DoesRight (buffers h) (at locks true false called) k now later
 
 -- what a commit with this reply has to lead to
@@ -127,7 +127,7 @@ LeadsTo h called reply now after = (before : Amounts) → Represents h now befor
     → (next : Amounts) × (next_state called.method called.args reply before ≡ Some next) × Represents h after next
 
 -- a commit that changes nothing
-pub only_commit_right : (h : Header) (locks : List ℕ) (called : Called) (k : Hand) (now : Memory) (reply : ℕ) (later : Script)
+pub only_commit_right : (h : Header) (locks : List ℕ) (called : Called) (k : Locals) (now : Memory) (reply : ℕ) (later : Script)
     → ((i : ℕ) → k.owned i ≡ false) → k.called ≡ Some called → Finishes h locks called reply later → LeadsTo h called reply now now
     → DoesRight (buffers h) (at locks false false called) k now (perform (Mark Commit) later)
 only_commit_right h locks called k now reply later none is finishes leads =
@@ -138,7 +138,7 @@ only_commit_right h locks called k now reply later none is finishes leads =
     (λ last rely. finishes.ends k last none is)
 
 -- A block that commits stores characters of a buffer from character i on, and then its count.
-pub block_right : (h : Header) (locks : List ℕ) (called : Called) (k : Hand) (before : Memory) (characters : List ℕ) (b i count reply : ℕ) (later : Script)
+pub block_right : (h : Header) (locks : List ℕ) (called : Called) (k : Locals) (before : Memory) (characters : List ℕ) (b i count reply : ℕ) (later : Script)
     → IsHeld h locks b → i + length characters ≤ 7 → k.called ≡ Some called → Finishes h locks called reply later
     → ((now : Memory) → Stays h locks before now → LeadsTo h called reply now (after_block characters b i count now))
     → DoesRight (buffers h) (at locks false false called) k before (perform (Mark BlockOpen) (store_from characters b i (commit_count b count later)))
@@ -206,14 +206,14 @@ unlock_two_right h called first second reply mutator apart = record {
 }
 
 -- one lock is taken
-pub lock_right : (h : Header) (called : Called) (k : Hand) (before : Memory) (b : ℕ) (later : Script) → b < h.size
+pub lock_right : (h : Header) (called : Called) (k : Locals) (before : Memory) (b : ℕ) (later : Script) → b < h.size
     → ((now : Memory) → IsHeld h (lock_of h b ∷ []) b → DoesRight (buffers h) (at (lock_of h b ∷ []) false false called) k now later)
     → DoesRight (buffers h) (at [] false false called) k before (lock h b later)
 lock_right h called k before b later low rest =
     take_right (buffers h) (at [] false false called) k before (lock_of h b) later (λ held e. cc) (λ now rely. rest now (held_last h [] b low))
 
 -- Both are taken, the lower one first, if they are two. What follows does right with the locks that are held then.
-pub lock_both_right : (h : Header) (called : Called) (k : Hand) (before : Memory) (first second : ℕ) (later : Script) → first ≤ second → second < h.size
+pub lock_both_right : (h : Header) (called : Called) (k : Locals) (before : Memory) (first second : ℕ) (later : Script) → first ≤ second → second < h.size
     → is_observer called.method ≡ false
     → ((locks : List ℕ) (now : Memory) → IsHeld h locks first → IsHeld h locks second
     → ((reply : ℕ) → Finishes h locks called reply (unlock_both h first second (returns reply)))

@@ -15,7 +15,7 @@ use Rattle.vyrd_buffers.specs.Laws.Alone.Changes.{Leaves, sound_at, shown_at}
 use Rattle.vyrd_buffers.specs.Laws.Alone.Texts.{length_shown, room_for, room_for_one, cut_sound, cut_shown, uncut_shown}
 use Rattle.vyrd_buffers.specs.Laws.Alone.Stores.{with_characters, with_characters-other, with_appended, with_appended-other, with_count-other, with_count-is}
 use Rattle.vyrd_buffers.specs.Laws.Alone.Done.{changed, appended}
-use Rattle.vyrd_every.specs.Hands.{Hand, Access, written}
+use Rattle.vyrd_every.specs.Locals.{Locals, Access, written}
 use Rattle.vyrd_every.specs.Others.{Rely}
 use Rattle.vyrd_every.specs.Guarded.{buffers}
 use Rattle.vyrd_every.proofs.Acts.{at}
@@ -39,7 +39,7 @@ word_access h locks committed in_block called b cell held from to =
 pub record Stays (h : Header) (locks : List ℕ) (before now : Memory) : Type 0 where
   pub word : (b cell : ℕ) → IsHeld h locks b → 8 * b ≤ cell → cell < 8 * b + 8 → now cell ≡ before cell
 
-pub stays_so : (h : Header) (locks : List ℕ) (committed in_block : Bool) (called : Called) (k : Hand) (before now : Memory)
+pub stays_so : (h : Header) (locks : List ℕ) (committed in_block : Bool) (called : Called) (k : Locals) (before now : Memory)
     → Rely (buffers h) (at locks committed in_block called) k before now → Stays h locks before now
 stays_so h locks committed in_block called k before now rely = record {
   word = λ b cell held from to. rely.held cell (word_access h locks committed in_block called b cell held from to);

@@ -30,7 +30,7 @@ use Rattle.vyrd_buffers.specs.Laws.Alone.Changes.{count_at_most, sound_at, shown
 use Rattle.vyrd_buffers.specs.Laws.Alone.Texts.{characters_in, character_in, one_text}
 use Rattle.vyrd_buffers.specs.Laws.Alone.Stores.{loaded, loaded-length, loaded-at}
 use Rattle.vyrd_buffers.specs.Laws.Alone.Done.{full_allowed, room_allowed}
-use Rattle.vyrd_every.specs.Hands.{Hand}
+use Rattle.vyrd_every.specs.Locals.{Locals}
 use Rattle.vyrd_every.specs.RightScripts.{DoesRight, IsRight}
 use Rattle.vyrd_every.specs.Guarded.{buffers}
 use Rattle.vyrd_every.proofs.Acts.{at, answer_right}
@@ -40,7 +40,7 @@ use Rattle.vyrd_every.proofs.Buffers.Parts.{word_right, load_from_right, read_fr
 use Rattle.vyrd_every.proofs.Buffers.Parts.{block_right, unlock_right, lock_right, lock_both_right}
 
 -- an append of one character
-append_right : (h : Header) (k : Hand) (before : Memory) (args : Args) → h.subject ≡ Buffers → args.a < h.size → args.b < 255 → ((i : ℕ) → k.owned i ≡ false)
+append_right : (h : Header) (k : Locals) (before : Memory) (args : Args) → h.subject ≡ Buffers → args.a < h.size → args.b < 255 → ((i : ℕ) → k.owned i ≡ false)
     → k.called ≡ Some (record { method = BuAppend; args = args })
     → DoesRight (buffers h) (at [] false false (record { method = BuAppend; args = args })) k before (append h args.a args.b)
 append_right h k before args is low small none called_is =
@@ -106,7 +106,7 @@ count_now h locks before now state b is stays held s =
     (count_at_most (buffer_of now b) (sound_at h now state b is s held.low))
 
 -- an append of another buffer's characters, with the locks of both
-append_all_right : (h : Header) (locks : List ℕ) (k : Hand) (now : Memory) (args : Args) (first second : ℕ) → h.subject ≡ Buffers
+append_all_right : (h : Header) (locks : List ℕ) (k : Locals) (now : Memory) (args : Args) (first second : ℕ) → h.subject ≡ Buffers
     → IsHeld h locks args.a → IsHeld h locks args.b → ((i : ℕ) → k.owned i ≡ false) → k.called ≡ Some (record { method = BuAppendFrom; args = args })
     → ((reply : ℕ) → Finishes h locks (record { method = BuAppendFrom; args = args }) reply (unlock_both h first second (returns reply)))
     → DoesRight (buffers h) (at locks false false (record { method = BuAppendFrom; args = args })) k now
@@ -171,7 +171,7 @@ append_all_right h locks k now args first second is held_a held_b none called_is
         only_commit_right h locks called k now 0 (unlock_both h first second (returns 0)) none called_is (finishes 0)
         (λ state s. (state, full_allowed state args.a (amount_of state args.b) (room_is now state (stays_same h locks now) s ∙ e), s))
 
-append_from_right : (h : Header) (k : Hand) (before : Memory) (args : Args) → h.subject ≡ Buffers → args.a < h.size → args.b < h.size
+append_from_right : (h : Header) (k : Locals) (before : Memory) (args : Args) → h.subject ≡ Buffers → args.a < h.size → args.b < h.size
     → ((i : ℕ) → k.owned i ≡ false) → k.called ≡ Some (record { method = BuAppendFrom; args = args })
     → DoesRight (buffers h) (at [] false false (record { method = BuAppendFrom; args = args })) k before (append_from h Correct args.a args.b)
 append_from_right h k before args is low_a low_b none called_is =
@@ -200,7 +200,7 @@ append_from_right h k before args is low_a low_b none called_is =
     rest count more = append_all h first second args.a args.b (min count 7) (min more 7)
 
 -- a cut
-cut_right : (h : Header) (k : Hand) (before : Memory) (args : Args) → h.subject ≡ Buffers → args.a < h.size → ((i : ℕ) → k.owned i ≡ false)
+cut_right : (h : Header) (k : Locals) (before : Memory) (args : Args) → h.subject ≡ Buffers → args.a < h.size → ((i : ℕ) → k.owned i ≡ false)
     → k.called ≡ Some (record { method = BuCut; args = args })
     → DoesRight (buffers h) (at [] false false (record { method = BuCut; args = args })) k before (cut h args.a args.b)
 cut_right h k before args is low none called_is =
@@ -240,7 +240,7 @@ cut_right h k before args is low none called_is =
         ))
 
 -- a length, and a read, have their answers when they give the lock back
-length_right : (h : Header) (k : Hand) (before : Memory) (args : Args) → h.subject ≡ Buffers → args.a < h.size → ((i : ℕ) → k.owned i ≡ false)
+length_right : (h : Header) (k : Locals) (before : Memory) (args : Args) → h.subject ≡ Buffers → args.a < h.size → ((i : ℕ) → k.owned i ≡ false)
     → k.called ≡ Some (record { method = BuLength; args = args })
     → DoesRight (buffers h) (at [] false false (record { method = BuLength; args = args })) k before (length_of h args.a)
 length_right h k before args is low none called_is =
@@ -255,7 +255,7 @@ length_right h k before args is low none called_is =
     called : Called
     called = record { method = BuLength; args = args }
 
-read_right : (h : Header) (k : Hand) (before : Memory) (args : Args) → h.subject ≡ Buffers → args.a < h.size → ((i : ℕ) → k.owned i ≡ false)
+read_right : (h : Header) (k : Locals) (before : Memory) (args : Args) → h.subject ≡ Buffers → args.a < h.size → ((i : ℕ) → k.owned i ≡ false)
     → k.called ≡ Some (record { method = BuRead; args = args })
     → DoesRight (buffers h) (at [] false false (record { method = BuRead; args = args })) k before (read h args.a)
 read_right h k before args is low none called_is =
@@ -286,7 +286,7 @@ read_right h k before args is low none called_is =
         ∙ ap (text_of (λ j. last (character_cell args.a j) % 255)) (count_now h locks now last state args.a is stays held s)
 
 -- the procedure of each operation
-procedure_right : (h : Header) (k : Hand) (before : Memory) (method : Method) (args : Args) → h.subject ≡ Buffers → subject_of method ≡ Buffers
+procedure_right : (h : Header) (k : Locals) (before : Memory) (method : Method) (args : Args) → h.subject ≡ Buffers → subject_of method ≡ Buffers
     → are_args h.size method args ≡ true → ((i : ℕ) → k.owned i ≡ false)
     → k.called ≡ Some (record { method = method; args = args })
     → DoesRight (buffers h) (just_called method) k before (procedure_of h Correct method args)

@@ -13,7 +13,7 @@ use Rattle.vyrd_cache.specs.Cells.{lock_of}
 use Rattle.vyrd_cache.specs.Contents.{chunk_of, shown}
 use Rattle.vyrd_cache.specs.Laws.Alone.Changes.{same_chunk, Leaves, changed_chunk, kept_chunk}
 use Rattle.vyrd_cache.specs.Laws.Alone.Stores.{with_cached, with_stored, with_state}
-use Rattle.vyrd_every.specs.Hands.{Hand, Access}
+use Rattle.vyrd_every.specs.Locals.{Locals, Access}
 use Rattle.vyrd_every.specs.Others.{Rely}
 use Rattle.vyrd_every.specs.Guarded.{cache}
 
@@ -26,7 +26,7 @@ chunk_access h s n cell low held from to = record {
 }
 
 -- they stay as they are
-pub chunk_stays : (h : Header) (s : Situation) (k : Hand) (before now : Memory) (n : ℕ) → n < h.size → holds s (lock_of h n) ≡ true
+pub chunk_stays : (h : Header) (s : Situation) (k : Locals) (before now : Memory) (n : ℕ) → n < h.size → holds s (lock_of h n) ≡ true
     → Rely (cache h) s k before now → chunk_of now n ≡ chunk_of before n
 chunk_stays h s k before now n low held rely =
     same_chunk (chunk_of now n) (chunk_of before n)

@@ -36,7 +36,7 @@ use Rattle.vyrd_cache.specs.Laws.Alone.Pairs.{small, dirty_sound, fetched_sound,
 use Rattle.vyrd_cache.specs.Laws.Alone.Pairs.{evicted_sound, forgotten_sound, shown_dirty}
 use Rattle.vyrd_cache.specs.Laws.Alone.Pairs.{shown_absent, shown_cached, shown_clean, joined_small}
 use Rattle.vyrd_multiset.specs.Laws.Sound.{gone}
-use Rattle.vyrd_every.specs.Hands.{Hand, Access}
+use Rattle.vyrd_every.specs.Locals.{Locals, Access}
 use Rattle.vyrd_every.specs.Others.{Rely, Guarantee}
 use Rattle.vyrd_every.specs.RightScripts.{DoesRight, IsRight}
 use Rattle.vyrd_every.specs.Guarded.{cache}
@@ -56,13 +56,13 @@ access_in : (h : Header) (n cell : ℕ) (committed in_block : Bool) (called : Ca
 access_in h n cell committed in_block called low from to =
     chunk_access h (locked h n committed in_block called) n cell low (has_lock h n committed in_block called) from to
 
-stays_in : (h : Header) (n : ℕ) (committed in_block : Bool) (called : Called) (k : Hand) (before now : Memory) → n < h.size
+stays_in : (h : Header) (n : ℕ) (committed in_block : Bool) (called : Called) (k : Locals) (before now : Memory) → n < h.size
     → Rely (cache h) (locked h n committed in_block called) k before now → chunk_of now n ≡ chunk_of before n
 stays_in h n committed in_block called k before now low rely =
     chunk_stays h (locked h n committed in_block called) k before now n low (has_lock h n committed in_block called) rely
 
 -- a load of a word of the chunk finds what it has afterwards too
-look_right : (h : Header) (n cell : ℕ) (called : Called) (k : Hand) (before : Memory) (rest : ℕ → Script) → n < h.size → 5 * n ≤ cell → cell < 5 * n + 5
+look_right : (h : Header) (n cell : ℕ) (called : Called) (k : Locals) (before : Memory) (rest : ℕ → Script) → n < h.size → 5 * n ≤ cell → cell < 5 * n + 5
     → ((now : Memory) → chunk_of now n ≡ chunk_of before n → DoesRight (cache h) (locked h n false false called) k now (rest (now cell)))
     → DoesRight (cache h) (locked h n false false called) k before (step (Load cell) rest)
 look_right h n cell called k before rest low from to later =
@@ -72,7 +72,7 @@ look_right h n cell called k before rest low from to later =
     (later now (stays_in h n false false called k before now low rely)))
 
 -- both halves of a pair are loaded
-look_twice : (h : Header) (n a b : ℕ) (called : Called) (k : Hand) (before : Memory) (rest : ℕ → ℕ → Script) → n < h.size
+look_twice : (h : Header) (n a b : ℕ) (called : Called) (k : Locals) (before : Memory) (rest : ℕ → ℕ → Script) → n < h.size
     → 5 * n ≤ a → a < 5 * n + 5 → 5 * n ≤ b → b < 5 * n + 5
     → ((now : Memory) → chunk_of now n ≡ chunk_of before n → DoesRight (cache h) (locked h n false false called) k now (rest (now a) (now b)))
     → DoesRight (cache h) (locked h n false false called) k before (step (Load a) (λ low. step (Load b) (λ high. rest low high)))
@@ -89,14 +89,14 @@ look_twice h n a b called k before rest low from_a to_a from_b to_b later =
     (later now (stays_in h n false false called k before now low both)))))
 
 -- the lock is taken
-enter_right : (h : Header) (n : ℕ) (called : Called) (k : Hand) (before : Memory) (rest : Script)
+enter_right : (h : Header) (n : ℕ) (called : Called) (k : Locals) (before : Memory) (rest : Script)
     → ((now : Memory) → DoesRight (cache h) (locked h n false false called) k now rest)
     → DoesRight (cache h) (at [] false false called) k before (lock h n rest)
 enter_right h n called k before rest later =
     take_right (cache h) (at [] false false called) k before (lock_of h n) rest (λ held e. cc) (λ now rely. later now)
 
 -- the lock is given back after the commit
-leave_right : (h : Header) (n : ℕ) (called : Called) (k : Hand) (now : Memory) → ((i : ℕ) → k.owned i ≡ false) → k.called ≡ Some called
+leave_right : (h : Header) (n : ℕ) (called : Called) (k : Locals) (now : Memory) → ((i : ℕ) → k.owned i ≡ false) → k.called ≡ Some called
     → is_observer called.method ≡ false
     → DoesRight (cache h) (locked h n true false called) k now (in_order (Give (lock_of h n) ∷ Mark (Return 1) ∷ []))
 leave_right h n called k now none is mutator =
@@ -104,12 +104,12 @@ leave_right h n called k now none is mutator =
     (λ last rely. subst (λ locks. DoesRight (cache h) (at locks true false called) k last (returns 1)) (sym (gone (lock_of h n) []))
     (returns_right (cache h) k last true called 1 none (mutates k called 1 is mutator)))
 
--- what the hand has in a block
-abbrev writing : Hand → List (ℕ × ℕ) → Hand
+-- the caller's locals in a block
+abbrev writing : Locals → List (ℕ × ℕ) → Locals
 writing k pending = record { owned = k.owned; pending = pending; called = k.called; answered = k.answered }
 
 -- stores into a chunk leave other chunks alone
-leaves_alone : (h : Header) (n a x b y z : ℕ) (called : Called) (k : Hand) (memory : Memory) → n < h.size → 5 * n ≤ a → a < 5 * n + 5 → 5 * n ≤ b → b < 5 * n + 5
+leaves_alone : (h : Header) (n a x b y z : ℕ) (called : Called) (k : Locals) (memory : Memory) → n < h.size → 5 * n ≤ a → a < 5 * n + 5 → 5 * n ≤ b → b < 5 * n + 5
     → Guarantee (cache h) (locked h n false true called) k memory (thrice memory a x b y (5 * n) z)
 leaves_alone h n a x b y z called k memory low from_a to_a from_b to_b = record {
   others = λ cell below free. thrice-other memory a x b y (5 * n) z cell
@@ -124,7 +124,7 @@ leaves_alone h n a x b y z called k memory low from_a to_a from_b to_b = record 
         never free (subst (λ c. holds (locked h n false true called) (lock_of h (c / 5)) ≡ true) (sym same) access.held)
 
 -- a block that stores a pair and a state, up to its end
-stored_right : (h : Header) (n a x b y z : ℕ) (called : Called) (k : Hand) (before : Memory) (later : Script) → n < h.size
+stored_right : (h : Header) (n a x b y z : ℕ) (called : Called) (k : Locals) (before : Memory) (later : Script) → n < h.size
     → 5 * n ≤ a → a < 5 * n + 5 → 5 * n ≤ b → b < 5 * n + 5
     → ((now : Memory) → chunk_of now n ≡ chunk_of before n
     → DoesRight (cache h) (locked h n false true called) (writing k ((5 * n, z) ∷ (b, y) ∷ (a, x) ∷ [])) now later)
@@ -153,7 +153,7 @@ LeadsTo h called now after = (before : Amounts) → Represents h now before
     → (next : Amounts) × (next_state called.method called.args 1 before ≡ Some next) × Represents h after next
 
 -- such a block that commits, and the return
-committed_right : (h : Header) (n a x b y z : ℕ) (called : Called) (k : Hand) (before : Memory) → n < h.size
+committed_right : (h : Header) (n a x b y z : ℕ) (called : Called) (k : Locals) (before : Memory) → n < h.size
     → 5 * n ≤ a → a < 5 * n + 5 → 5 * n ≤ b → b < 5 * n + 5 → k.called ≡ Some called → is_observer called.method ≡ false
     → ((now : Memory) → chunk_of now n ≡ chunk_of before n → LeadsTo h called now (thrice now a x b y (5 * n) z))
     → DoesRight (cache h) (locked h n false false called) k before
@@ -172,7 +172,7 @@ committed_right h n a x b y z called k before low from_a to_a from_b to_b is mut
     pending = (5 * n, z) ∷ (b, y) ∷ (a, x) ∷ []
 
 -- a write
-write_right : (h : Header) (k : Hand) (before : Memory) (args : Args) → h.subject ≡ Cache → args.a < h.size → are_small args ≡ true
+write_right : (h : Header) (k : Locals) (before : Memory) (args : Args) → h.subject ≡ Cache → args.a < h.size → are_small args ≡ true
     → k.called ≡ Some (record { method = CaWrite; args = args })
     → DoesRight (cache h) (at [] false false (record { method = CaWrite; args = args })) k before (write h Correct args.a args.b args.c)
 write_right h k before args is low few called_is =
@@ -201,7 +201,7 @@ write_right h k before args is low few called_is =
     c_small = second_true _ (nat_lt args.c (2 ^ 32)) few
 
 -- nothing is changed
-only_commit_right : (h : Header) (n : ℕ) (called : Called) (k : Hand) (now : Memory) → ((i : ℕ) → k.owned i ≡ false) → k.called ≡ Some called
+only_commit_right : (h : Header) (n : ℕ) (called : Called) (k : Locals) (now : Memory) → ((i : ℕ) → k.owned i ≡ false) → k.called ≡ Some called
     → is_observer called.method ≡ false → ((state : Amounts) → next_state called.method called.args 1 state ≡ Some state)
     → DoesRight (cache h) (locked h n false false called) k now (only_commit h n)
 only_commit_right h n called k now none is mutator same =
@@ -218,7 +218,7 @@ only_commit_right h n called k now none is mutator same =
     (λ last rely. leave_right h n called k last none is mutator)
 
 -- a dirty chunk's pair is put into the store, and the chunk shows the same pair after it
-put_stored_right : (h : Header) (n left : ℕ) (called : Called) (k : Hand) (before : Memory) → h.subject ≡ Cache → n < h.size → k.called ≡ Some called
+put_stored_right : (h : Header) (n left : ℕ) (called : Called) (k : Locals) (before : Memory) → h.subject ≡ Cache → n < h.size → k.called ≡ Some called
     → is_observer called.method ≡ false → ((state : Amounts) → next_state called.method called.args 1 state ≡ Some state)
     → (before (5 * n) == 2) ≡ true
     → ((c : Chunk) → is_sound_chunk c ≡ true → is_sound_chunk (with_stored left c.cached_lo c.cached_hi c) ≡ true)
@@ -245,7 +245,7 @@ put_stored_right h n left called k before is low called_is mutator stays dirty s
     )))
 
 -- the chunk, which is clean, is forgotten
-forget_right : (h : Header) (n : ℕ) (called : Called) (k : Hand) (before : Memory) → h.subject ≡ Cache → n < h.size → k.called ≡ Some called
+forget_right : (h : Header) (n : ℕ) (called : Called) (k : Locals) (before : Memory) → h.subject ≡ Cache → n < h.size → k.called ≡ Some called
     → is_observer called.method ≡ false → ((state : Amounts) → next_state called.method called.args 1 state ≡ Some state)
     → (before (5 * n) == 2) ≡ false → (before (5 * n) == 0) ≡ false
     → DoesRight (cache h) (locked h n false false called) k before (forget h n)
@@ -285,7 +285,7 @@ forget_right h n called k before is low called_is mutator stays other there =
     }
 
 -- a flush
-flush_right : (h : Header) (k : Hand) (before : Memory) (args : Args) → h.subject ≡ Cache → args.a < h.size → ((i : ℕ) → k.owned i ≡ false)
+flush_right : (h : Header) (k : Locals) (before : Memory) (args : Args) → h.subject ≡ Cache → args.a < h.size → ((i : ℕ) → k.owned i ≡ false)
     → k.called ≡ Some (record { method = CaFlush; args = args })
     → DoesRight (cache h) (at [] false false (record { method = CaFlush; args = args })) k before (flush h args.a)
 flush_right h k before args is low none called_is =
@@ -304,7 +304,7 @@ flush_right h k before args is low none called_is =
     by_state now false other = only_commit_right h args.a called k now none called_is refl (λ state. refl)
 
 -- an evict
-evict_right : (h : Header) (k : Hand) (before : Memory) (args : Args) → h.subject ≡ Cache → args.a < h.size → ((i : ℕ) → k.owned i ≡ false)
+evict_right : (h : Header) (k : Locals) (before : Memory) (args : Args) → h.subject ≡ Cache → args.a < h.size → ((i : ℕ) → k.owned i ≡ false)
     → k.called ≡ Some (record { method = CaEvict; args = args })
     → DoesRight (cache h) (at [] false false (record { method = CaEvict; args = args })) k before (evict h args.a)
 evict_right h k before args is low none called_is =
@@ -326,7 +326,7 @@ evict_right h k before args is low none called_is =
     by_state now false other false there = forget_right h args.a called k now is low called_is refl (λ state. refl) other there
 
 -- a read has its answer when it gives its lock back
-answer_cached_right : (h : Header) (k : Hand) (before : Memory) (args : Args) → h.subject ≡ Cache → args.a < h.size → ((i : ℕ) → k.owned i ≡ false)
+answer_cached_right : (h : Header) (k : Locals) (before : Memory) (args : Args) → h.subject ≡ Cache → args.a < h.size → ((i : ℕ) → k.owned i ≡ false)
     → k.called ≡ Some (record { method = CaRead; args = args }) → (before (5 * args.a) == 0) ≡ false
     → DoesRight (cache h) (locked h args.a false false (record { method = CaRead; args = args })) k before (answer_cached h args.a)
 answer_cached_right h k before args is low none called_is there =
@@ -346,7 +346,7 @@ answer_cached_right h k before args is low none called_is there =
     called = record { method = CaRead; args = args }
 
 -- an absent chunk is fetched first, which changes nothing that it shows
-fetch_right : (h : Header) (k : Hand) (before : Memory) (args : Args) → h.subject ≡ Cache → args.a < h.size → ((i : ℕ) → k.owned i ≡ false)
+fetch_right : (h : Header) (k : Locals) (before : Memory) (args : Args) → h.subject ≡ Cache → args.a < h.size → ((i : ℕ) → k.owned i ≡ false)
     → k.called ≡ Some (record { method = CaRead; args = args }) → (before (5 * args.a) == 0) ≡ true
     → DoesRight (cache h) (locked h args.a false false (record { method = CaRead; args = args })) k before (fetch h args.a)
 fetch_right h k before args is low none called_is absent =
@@ -399,7 +399,7 @@ fetch_right h k before args is low none called_is absent =
             → chunk_of (thrice then_ (5 * n + 1) x (5 * n + 2) y (5 * n) 1) n ≡ with_cached 1 x y (chunk_of now n)
         chunk_is then_ same = after_cached then_ n 1 x y ∙ ap (with_cached 1 x y) same
 
-read_right : (h : Header) (k : Hand) (before : Memory) (args : Args) → h.subject ≡ Cache → args.a < h.size → ((i : ℕ) → k.owned i ≡ false)
+read_right : (h : Header) (k : Locals) (before : Memory) (args : Args) → h.subject ≡ Cache → args.a < h.size → ((i : ℕ) → k.owned i ≡ false)
     → k.called ≡ Some (record { method = CaRead; args = args })
     → DoesRight (cache h) (at [] false false (record { method = CaRead; args = args })) k before (read h args.a)
 read_right h k before args is low none called_is =
@@ -416,7 +416,7 @@ read_right h k before args is low none called_is =
     by_state now false there = answer_cached_right h k now args is low none called_is there
 
 -- the procedure of each operation
-procedure_right : (h : Header) (k : Hand) (before : Memory) (method : Method) (args : Args) → h.subject ≡ Cache → subject_of method ≡ Cache
+procedure_right : (h : Header) (k : Locals) (before : Memory) (method : Method) (args : Args) → h.subject ≡ Cache → subject_of method ≡ Cache
     → args.a < h.size → are_small args ≡ true → ((i : ℕ) → k.owned i ≡ false)
     → k.called ≡ Some (record { method = method; args = args })
     → DoesRight (cache h) (just_called method) k before (procedure_of h Correct method args)

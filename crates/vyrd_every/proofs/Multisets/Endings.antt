@@ -17,7 +17,7 @@ use Rattle.vyrd_multiset.specs.Cells.{bucket_of, lock_of, unlock}
 use Rattle.vyrd_multiset.specs.Procedures.{commit_state, undo, validate_both, unlock_both}
 use Rattle.vyrd_multiset.specs.Contents.{IsMultiset}
 use Rattle.vyrd_multiset.specs.Laws.Alone.Changes.{left_invalid, made_valid}
-use Rattle.vyrd_every.specs.Hands.{Hand, Access}
+use Rattle.vyrd_every.specs.Locals.{Locals, Access}
 use Rattle.vyrd_every.specs.Others.{Guarantee}
 use Rattle.vyrd_every.specs.RightScripts.{WillReturn, DoesRight}
 use Rattle.vyrd_every.specs.Guarded.{multiset}
@@ -25,7 +25,7 @@ use Rattle.vyrd_every.proofs.Acts.{never, lone_commit_right, at, holds_first, wi
 use Rattle.vyrd_every.proofs.Multisets.Parts.{one_two, state_access, value_access, take_right, give_last, store_right, Keeps, keeps_rely}
 
 -- commit and return 0
-pub gives_up_right : (h : Header) (k : Hand) (shown : Memory) (called : Called) → ((i : ℕ) → k.owned i ≡ false) → k.called ≡ Some called
+pub gives_up_right : (h : Header) (k : Locals) (shown : Memory) (called : Called) → ((i : ℕ) → k.owned i ≡ false) → k.called ≡ Some called
     → is_observer called.method ≡ false
     → ((state : Amounts) → next_state called.method called.args 0 state ≡ Some state)
     → DoesRight (multiset h) (at [] false false called) k shown gives_up
@@ -35,7 +35,7 @@ gives_up_right h k shown called none is mutator stays =
     (λ now rely. returns_right (multiset h) k now true called 0 none (mutates k called 0 is mutator))
 
 -- a change of one slot's state leaves alone what it has to
-changes_one : (h : Header) (s : Situation) (k : Hand) (shown : Memory) (slot state : ℕ) → Access (multiset h) s (2 * slot) → (shown (2 * slot) ≡ 1 → k.owned slot ≡ true)
+changes_one : (h : Header) (s : Situation) (k : Locals) (shown : Memory) (slot state : ℕ) → Access (multiset h) s (2 * slot) → (shown (2 * slot) ≡ 1 → k.owned slot ≡ true)
     → Guarantee (multiset h) s k shown (with_cell shown (2 * slot) state)
 changes_one h s k shown slot state access mine = record {
   others = λ cell low free. other_cell shown (2 * slot) state cell (λ same. never free (subst (λ x. holds s (lock_of h (x / 8)) ≡ true) (sym same) access.held));
@@ -45,7 +45,7 @@ changes_one h s k shown slot state access mine = record {
 }
 
 -- in a block that commits a slot gets its state
-pub commit_state_right : (h : Header) (k : Hand) (shown : Memory) (called : Called) (bucket slot state : ℕ) → slot < 4 * h.size → slot / 4 ≡ bucket
+pub commit_state_right : (h : Header) (k : Locals) (shown : Memory) (called : Called) (bucket slot state : ℕ) → slot < 4 * h.size → slot / 4 ≡ bucket
     → k.called ≡ Some called → is_observer called.method ≡ false
     → (shown (2 * slot) ≡ 1 → k.owned slot ≡ true)
     → ((now : Memory) → now (2 * slot) ≡ shown (2 * slot) → now (2 * slot + 1) ≡ shown (2 * slot + 1) → (before : Amounts) → IsMultiset h now before
@@ -68,7 +68,7 @@ commit_state_right h k shown called bucket slot state low of is mutator mine lea
     (λ d keeps. returns_right (multiset h) (without_slots k ((2 * slot, state) ∷ [])) d true called 1 (λ i. refl)
     (mutates (without_slots k ((2 * slot, state) ∷ [])) called 1 is mutator)))))
   where
-    without : Hand → List (ℕ × ℕ) → Hand
+    without : Locals → List (ℕ × ℕ) → Locals
     without k pending = record { owned = k.owned; pending = pending; called = k.called; answered = k.answered }
 
     inside : Situation
@@ -84,7 +84,7 @@ commit_state_right h k shown called bucket slot state low of is mutator mine lea
     access_value = value_access h inside slot low held
 
 -- the slot that was reserved is freed, and the insert gives up
-pub undo_right : (h : Header) (k : Hand) (shown : Memory) (called : Called) (x slot : ℕ) → slot < 4 * h.size → slot / 4 ≡ bucket_of h x
+pub undo_right : (h : Header) (k : Locals) (shown : Memory) (called : Called) (x slot : ℕ) → slot < 4 * h.size → slot / 4 ≡ bucket_of h x
     → k.owned slot ≡ true → shown (2 * slot) ≡ 1 → k.called ≡ Some called → is_observer called.method ≡ false
     → ((state : Amounts) → next_state called.method called.args 0 state ≡ Some state)
     → DoesRight (multiset h) (at [] false false called) k shown (undo h x slot)
@@ -102,7 +102,7 @@ undo_right h k shown called x slot low of mine one is mutator stays =
     (λ then_ rely'. give_last h freed then_ (bucket_of h x) false called gives_up
     (λ last keeps. gives_up_right h freed last called (λ i. refl) is mutator stays)))
   where
-    freed : Hand
+    freed : Locals
     freed = without_slots k ((2 * slot, 0) ∷ k.pending)
 
     inside : Situation
@@ -115,7 +115,7 @@ undo_right h k shown called x slot low of mine one is mutator stays =
     zero_two n e f = omega (arith, e, f)
 
 -- two slots that were reserved for the values of a pair
-pub record AreReserved (h : Header) (k : Hand) (shown : Memory) (args : Args) (slot_x slot_y : ℕ) : Type 0 where
+pub record AreReserved (h : Header) (k : Locals) (shown : Memory) (args : Args) (slot_x slot_y : ℕ) : Type 0 where
   pub low_x : slot_x < 4 * h.size
   pub low_y : slot_y < 4 * h.size
   pub of_x : slot_x / 4 ≡ bucket_of h args.a
@@ -129,7 +129,7 @@ pub record AreReserved (h : Header) (k : Hand) (shown : Memory) (args : Args) (s
   pub apart : slot_x ≢ slot_y
 
 -- they are so still, whatever others do
-pub still_reserved : (h : Header) (k k' : Hand) (shown now : Memory) (args : Args) (slot_x slot_y : ℕ) → AreReserved h k shown args slot_x slot_y
+pub still_reserved : (h : Header) (k k' : Locals) (shown now : Memory) (args : Args) (slot_x slot_y : ℕ) → AreReserved h k shown args slot_x slot_y
     → k'.owned ≡ k.owned → Keeps k shown now → AreReserved h k' now args slot_x slot_y
 still_reserved h k k' shown now args slot_x slot_y r same keeps = record {
   low_x = r.low_x;
@@ -150,7 +150,7 @@ abbrev pub pair_of : Args → Called
 pair_of args = record { method = MsInsertPair; args = args }
 
 -- both slots become valid in a block that commits
-pair_leads : (h : Header) (k : Hand) (shown : Memory) (args : Args) (slot_x slot_y : ℕ) (before : Amounts) → AreReserved h k shown args slot_x slot_y
+pair_leads : (h : Header) (k : Locals) (shown : Memory) (args : Args) (slot_x slot_y : ℕ) (before : Amounts) → AreReserved h k shown args slot_x slot_y
     → IsMultiset h shown before
     → IsMultiset h (with_cell (with_cell shown (2 * slot_x) 2) (2 * slot_y) 2) (plus_amount (plus_amount before args.a 1) args.b 1)
 pair_leads h k shown args slot_x slot_y before r m =
@@ -173,7 +173,7 @@ pair_leads h k shown args slot_x slot_y before r m =
         (other_cell shown (2 * slot_x) 2 (2 * slot_x + 1) (λ e. omega (arith, e)) ∙ r.has_x)
         r.of_x
 
-pair_leaves : (h : Header) (s : Situation) (k : Hand) (shown : Memory) (slot_x slot_y : ℕ) → Access (multiset h) s (2 * slot_x) → Access (multiset h) s (2 * slot_y)
+pair_leaves : (h : Header) (s : Situation) (k : Locals) (shown : Memory) (slot_x slot_y : ℕ) → Access (multiset h) s (2 * slot_x) → Access (multiset h) s (2 * slot_y)
     → k.owned slot_x ≡ true → k.owned slot_y ≡ true
     → Guarantee (multiset h) s k shown (with_cell (with_cell shown (2 * slot_x) 2) (2 * slot_y) 2)
 pair_leaves h s k shown slot_x slot_y access_x access_y mine_x mine_y = record {
@@ -193,7 +193,7 @@ pair_leaves h s k shown slot_x slot_y access_x access_y mine_x mine_y = record {
     outside : (cell word : ℕ) → holds s (lock_of h (cell / 8)) ≡ false → Access (multiset h) s word → cell ≢ word
     outside cell word free access = λ same. never free (subst (λ x. holds s (lock_of h (x / 8)) ≡ true) (sym same) access.held)
 
-pub validate_both_right : (h : Header) (locks : List ℕ) (k : Hand) (shown : Memory) (args : Args) (first second slot_x slot_y : ℕ)
+pub validate_both_right : (h : Header) (locks : List ℕ) (k : Locals) (shown : Memory) (args : Args) (first second slot_x slot_y : ℕ)
     → AreReserved h k shown args slot_x slot_y → k.called ≡ Some (pair_of args)
     → Access (multiset h) (at locks false true (pair_of args)) (2 * slot_x) → Access (multiset h) (at locks false true (pair_of args)) (2 * slot_y)
     → WillReturn 1 (unlock_both h first second)
@@ -234,11 +234,11 @@ validate_both_right h locks k shown args first second slot_x slot_y r is access_
     later : Script
     later = perform (Mark BlockCommit) (unlock_both h first second)
 
-    with_writes : List (ℕ × ℕ) → Hand
+    with_writes : List (ℕ × ℕ) → Locals
     with_writes pending = record { owned = k.owned; pending = pending; called = k.called; answered = k.answered }
 
     inside : Situation
     inside = at locks false true (pair_of args)
 
-    keeps_own : (k k' : Hand) (shown now : Memory) → k'.owned ≡ k.owned → Keeps k' shown now → Keeps k shown now
+    keeps_own : (k k' : Locals) (shown now : Memory) → k'.owned ≡ k.owned → Keeps k' shown now → Keeps k shown now
     keeps_own k k' shown now same keeps = record { slots = λ i mine one. keeps.slots i (ap (λ o. o i) same ∙ mine) one }

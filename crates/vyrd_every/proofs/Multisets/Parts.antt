@@ -17,7 +17,7 @@ use Rattle.vyrd_multiset.specs.Laws.Sound.{gone}
 use Rattle.vyrd_multiset.specs.Contents.{IsMultiset}
 use Rattle.vyrd_multiset.specs.Laws.Alone.Changes.{left_invalid}
 use Rattle.vyrd_every.specs.Guarded.{zero_one, multiset}
-use Rattle.vyrd_every.specs.Hands.{Hand, Access, shown_after}
+use Rattle.vyrd_every.specs.Locals.{Locals, Access, shown_after}
 use Rattle.vyrd_every.specs.Others.{Rely, Guarantee}
 use Rattle.vyrd_every.specs.RightScripts.{DoesRight}
 use Rattle.vyrd_every.proofs.Acts.{never, load_right, take_right as take, give_right as give, at, holds_first}
@@ -39,19 +39,19 @@ value_access h s j low held = record {
   held = let e : j / 4 ≡ (2 * j + 1) / 8 = omega arith in subst (λ b. holds s (lock_of h b) ≡ true) e held;
 }
 
-pub take_right : (h : Header) (s : Situation) (k : Hand) (shown : Memory) (bucket : ℕ) (later : Script)
+pub take_right : (h : Header) (s : Situation) (k : Locals) (shown : Memory) (bucket : ℕ) (later : Script)
     → ((held : ℕ) → holds s held ≡ true → held < lock_of h bucket)
     → ((now : Memory) → Rely (multiset h) (after_act s (Take (lock_of h bucket))) k shown now → DoesRight (multiset h) (after_act s (Take (lock_of h bucket))) k now later)
     → DoesRight (multiset h) s k shown (lock h bucket later)
 take_right h s k shown bucket later above rest = take (multiset h) s k shown (lock_of h bucket) later above rest
 
-pub give_right : (h : Header) (s : Situation) (k : Hand) (shown : Memory) (bucket : ℕ) (later : Script) → s.in_block ≡ false
+pub give_right : (h : Header) (s : Situation) (k : Locals) (shown : Memory) (bucket : ℕ) (later : Script) → s.in_block ≡ false
     → ((now : Memory) → Rely (multiset h) (after_act s (Give (lock_of h bucket))) k shown now → DoesRight (multiset h) (after_act s (Give (lock_of h bucket))) k now later)
     → DoesRight (multiset h) s k shown (unlock h bucket later)
 give_right h s k shown bucket later out rest = give (multiset h) s k shown (lock_of h bucket) later out rest
 
 -- a store outside a block, to one of the two words of a slot
-pub store_right : (h : Header) (s : Situation) (k next : Hand) (shown : Memory) (cell value j : ℕ) (later : Script) → s.in_block ≡ false → Access (multiset h) s cell
+pub store_right : (h : Header) (s : Situation) (k next : Locals) (shown : Memory) (cell value j : ℕ) (later : Script) → s.in_block ≡ false → Access (multiset h) s cell
     → (cell ≡ 2 * j) ⊎ (cell ≡ 2 * j + 1)
     → (shown (2 * j) ≡ 1 → k.owned j ≡ true)
     → ((i : ℕ) → next.owned i ≡ true → k.owned i ≡ true → shown (2 * i) ≡ 1 → with_cell shown cell value (2 * i) ≡ 1)
@@ -95,13 +95,13 @@ store_right h s k next shown cell value j later out access is mine kept fresh me
             (other_cell shown cell value (2 * i) (λ f. omega (arith, e, f)), other_cell shown cell value (2 * i + 1) (λ f. not_j (omega (arith, e, f))))
 
 -- what is said of slots that were reserved holds of them still
-pub record Keeps (k : Hand) (shown now : Memory) : Type 0 where
+pub record Keeps (k : Locals) (shown now : Memory) : Type 0 where
   pub slots : (i : ℕ) → k.owned i ≡ true → shown (2 * i) ≡ 1 → (now (2 * i) ≡ 1) × (now (2 * i + 1) ≡ shown (2 * i + 1))
 
-pub keeps_rely : (h : Header) (s : Situation) (k : Hand) (shown now : Memory) → Rely (multiset h) s k shown now → Keeps k shown now
+pub keeps_rely : (h : Header) (s : Situation) (k : Locals) (shown now : Memory) → Rely (multiset h) s k shown now → Keeps k shown now
 keeps_rely h s k shown now rely = record { slots = λ i mine one. ((rely.owned i mine).0 ∙ one, (rely.owned i mine).1) }
 
-pub keeps_more : (k : Hand) (a b c : Memory) → Keeps k a b → Keeps k b c → Keeps k a c
+pub keeps_more : (k : Locals) (a b c : Memory) → Keeps k a b → Keeps k b c → Keeps k a c
 keeps_more k a b c first second = record {
   slots = λ i mine one.
       let at_b = first.slots i mine one in
@@ -109,21 +109,21 @@ keeps_more k a b c first second = record {
       (at_c.0, at_c.1 ∙ at_b.1);
 }
 
--- the hand with one more slot that is reserved, whatever was written for it
-abbrev pub with_slot : Hand → ℕ → List (ℕ × ℕ) → Hand
+-- the locals with one more slot that is reserved, whatever was written for it
+abbrev pub with_slot : Locals → ℕ → List (ℕ × ℕ) → Locals
 with_slot k j pending = record { owned = λ i. cond (i == j) true (k.owned i); pending = pending; called = k.called; answered = k.answered }
 
-pub has_slot : (k : Hand) (j : ℕ) (pending : List (ℕ × ℕ)) → (with_slot k j pending).owned j ≡ true
+pub has_slot : (k : Locals) (j : ℕ) (pending : List (ℕ × ℕ)) → (with_slot k j pending).owned j ≡ true
 has_slot k j pending = ap (λ b. cond b true (k.owned j)) (same_number j)
 
-pub had_slot : (k : Hand) (j i : ℕ) (pending : List (ℕ × ℕ)) → k.owned i ≡ true → (with_slot k j pending).owned i ≡ true
+pub had_slot : (k : Locals) (j i : ℕ) (pending : List (ℕ × ℕ)) → k.owned i ≡ true → (with_slot k j pending).owned i ≡ true
 had_slot k j i pending mine = by_test (i == j)
   where
     by_test : (b : Bool) → cond b true (k.owned i) ≡ true
     by_test true = refl
     by_test false = mine
 
-new_slot : (k : Hand) (j i : ℕ) (pending : List (ℕ × ℕ)) → (with_slot k j pending).owned i ≡ true → k.owned i ≡ false → i ≡ j
+new_slot : (k : Locals) (j i : ℕ) (pending : List (ℕ × ℕ)) → (with_slot k j pending).owned i ≡ true → k.owned i ≡ false → i ≡ j
 new_slot k j i pending mine wasnt = by_test (i == j) refl mine
   where
     by_test : (b : Bool) → (i == j) ≡ b → cond b true (k.owned i) ≡ true → i ≡ j
@@ -131,7 +131,7 @@ new_slot k j i pending mine wasnt = by_test (i == j) refl mine
     by_test false e m = absurd (never wasnt m)
 
 -- the value of a free slot is stored, and the slot reserved
-reserve_right : (h : Header) (s : Situation) (k : Hand) (shown : Memory) (j value : ℕ) (later : Script) → s.in_block ≡ false → j < 4 * h.size
+reserve_right : (h : Header) (s : Situation) (k : Locals) (shown : Memory) (j value : ℕ) (later : Script) → s.in_block ≡ false → j < 4 * h.size
     → holds s (lock_of h (j / 4)) ≡ true → shown (2 * j) ≡ 0
     → ((now : Memory) → now (2 * j) ≡ 1 → now (2 * j + 1) ≡ value → Keeps k shown now → (pending : List (ℕ × ℕ)) → DoesRight (multiset h) s (with_slot k j pending) now later)
     → DoesRight (multiset h) s k shown (reserve j value later)
@@ -150,7 +150,7 @@ reserve_right h s k shown j value later out low held free rest =
     invalid_zero : (n : ℕ) → n ≡ 0 → n ≢ 2
     invalid_zero n e f = omega (arith, e, f)
 
-    filled : Hand
+    filled : Locals
     filled = record { owned = k.owned; pending = (2 * j + 1, value) ∷ k.pending; called = k.called; answered = k.answered }
 
     second : (now : Memory) → Rely (multiset h) s filled (with_cell shown (2 * j + 1) value) now → DoesRight (multiset h) s filled now (perform (Store (2 * j) 1) later)
@@ -206,7 +206,7 @@ held_next h s slot left each = record {
 }
 
 -- a free slot is found among these and reserved, or there is none
-pub find_from_right : (h : Header) (s : Situation) (k : Hand) (shown : Memory) (left slot value : ℕ) (found : Option ℕ → Script) → s.in_block ≡ false
+pub find_from_right : (h : Header) (s : Situation) (k : Locals) (shown : Memory) (left slot value : ℕ) (found : Option ℕ → Script) → s.in_block ≡ false
     → AreHeld h s slot left
     → ((j : ℕ) → slot ≤ j → j < slot + left → (now : Memory) → now (2 * j) ≡ 1 → now (2 * j + 1) ≡ value → Keeps k shown now
     → ((i : ℕ) → k.owned i ≡ true → shown (2 * i) ≡ 1 → i ≢ j) → (pending : List (ℕ × ℕ)) → DoesRight (multiset h) s (with_slot k j pending) now (found (Some j)))
@@ -240,7 +240,7 @@ find_from_right h s k shown (suc left) slot value found out each some none =
     by_state now rely more false e = more
 
 -- the one lock is given back
-pub give_last : (h : Header) (k : Hand) (shown : Memory) (bucket : ℕ) (committed : Bool) (called : Called) (later : Script)
+pub give_last : (h : Header) (k : Locals) (shown : Memory) (bucket : ℕ) (committed : Bool) (called : Called) (later : Script)
     → ((now : Memory) → Keeps k shown now → DoesRight (multiset h) (at [] committed false called) k now later)
     → DoesRight (multiset h) (at (lock_of h bucket ∷ []) committed false called) k shown (unlock h bucket later)
 give_last h k shown bucket committed called later rest =
@@ -259,7 +259,7 @@ bucket_slots h bucket committed in_block called locks low = record {
       (holds_first (lock_of h bucket) locks committed in_block called);
 }
 
-pub find_right : (h : Header) (k : Hand) (shown : Memory) (value : ℕ) (called : Called) (found : Option ℕ → Script) → bucket_of h value < h.size
+pub find_right : (h : Header) (k : Locals) (shown : Memory) (value : ℕ) (called : Called) (found : Option ℕ → Script) → bucket_of h value < h.size
     → ((j : ℕ) → j < 4 * h.size → j / 4 ≡ bucket_of h value → (now : Memory) → now (2 * j) ≡ 1 → now (2 * j + 1) ≡ value → Keeps k shown now
     → ((i : ℕ) → k.owned i ≡ true → shown (2 * i) ≡ 1 → i ≢ j) → (pending : List (ℕ × ℕ))
     → DoesRight (multiset h) (at [] false false called) (with_slot k j pending) now (found (Some j)))
@@ -291,7 +291,7 @@ find_right h k shown value called found low some none =
     (λ end kept. none end (keeps_more k shown last end (keeps_more k shown now last first keeps) kept))))
 
 -- the rest of a search does right, if what follows it does
-abbrev On : Header → Situation → Hand → ℕ → ℕ → ℕ → (Option ℕ → Script) → Memory → Type 0
+abbrev On : Header → Situation → Locals → ℕ → ℕ → ℕ → (Option ℕ → Script) → Memory → Type 0
 On h s k left slot value ended shown =
     ((j : ℕ) → slot + 1 ≤ j → j < slot + 1 + left → (now : Memory) → Rely (multiset h) s k shown now → now (2 * j) ≡ 2 → now (2 * j + 1) ≡ value
     → DoesRight (multiset h) s k now (ended (Some j)))
@@ -300,7 +300,7 @@ On h s k left slot value ended shown =
     → DoesRight (multiset h) s k shown (search_from left (slot + 1) value ended)
 
 -- a search ends at a valid slot with the value, or no slot from this one on is one
-pub search_from_right : (h : Header) (s : Situation) (k : Hand) (shown : Memory) (left slot value : ℕ) (ended : Option ℕ → Script) → s.in_block ≡ false
+pub search_from_right : (h : Header) (s : Situation) (k : Locals) (shown : Memory) (left slot value : ℕ) (ended : Option ℕ → Script) → s.in_block ≡ false
     → AreHeld h s slot left
     → ((j : ℕ) → slot ≤ j → j < slot + left → (now : Memory) → Rely (multiset h) s k shown now → now (2 * j) ≡ 2 → now (2 * j + 1) ≡ value
     → DoesRight (multiset h) s k now (ended (Some j)))

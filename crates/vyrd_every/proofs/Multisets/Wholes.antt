@@ -28,7 +28,7 @@ use Rattle.vyrd_multiset.specs.Procedures.{looked_up, procedure_of, multiset_pro
 use Rattle.vyrd_multiset.specs.Contents.{IsMultiset}
 use Rattle.vyrd_multiset.specs.Laws.Alone.Changes.{made_valid, made_free, is_there, isnt_there}
 use Rattle.vyrd_multiset.specs.Laws.Sound.{bucket_low, gone}
-use Rattle.vyrd_every.specs.Hands.{Hand, Access}
+use Rattle.vyrd_every.specs.Locals.{Locals, Access}
 use Rattle.vyrd_every.specs.RightScripts.{WillReturn, DoesRight, IsRight}
 use Rattle.vyrd_every.specs.Guarded.{multiset}
 use Rattle.vyrd_every.proofs.Acts.{at, holds_first, without_slots, returns_right, mutates, answer_right, lone_commit_right}
@@ -36,12 +36,12 @@ use Rattle.vyrd_every.proofs.Multisets.Parts.{one_two, state_access, take_right,
 use Rattle.vyrd_every.proofs.Multisets.Endings.{gives_up_right, commit_state_right, undo_right, AreReserved, still_reserved, pair_of, validate_both_right}
 
 -- the locks of two buckets are given back
-unlock_one : (h : Header) (k : Hand) (shown : Memory) (called : Called) (bucket : ℕ) → ((i : ℕ) → k.owned i ≡ false) → k.called ≡ Some called
+unlock_one : (h : Header) (k : Locals) (shown : Memory) (called : Called) (bucket : ℕ) → ((i : ℕ) → k.owned i ≡ false) → k.called ≡ Some called
     → is_observer called.method ≡ false → DoesRight (multiset h) (at (lock_of h bucket ∷ []) true false called) k shown (unlock h bucket (returns 1))
 unlock_one h k shown called bucket none is mutator =
     give_last h k shown bucket true called (returns 1) (λ now keeps. returns_right (multiset h) k now true called 1 none (mutates k called 1 is mutator))
 
-unlock_two : (h : Header) (k : Hand) (shown : Memory) (called : Called) (first second : ℕ) → (lock_of h first == lock_of h second) ≡ false
+unlock_two : (h : Header) (k : Locals) (shown : Memory) (called : Called) (first second : ℕ) → (lock_of h first == lock_of h second) ≡ false
     → ((i : ℕ) → k.owned i ≡ false) → k.called ≡ Some called → is_observer called.method ≡ false
     → DoesRight (multiset h) (at (lock_of h second ∷ lock_of h first ∷ []) true false called) k shown (unlock h second (unlock h first (returns 1)))
 unlock_two h k shown called first second apart none is mutator =
@@ -51,7 +51,7 @@ unlock_two h k shown called first second apart none is mutator =
     (unlock_one h k now called first none is mutator))
 
 -- both slots become valid under the locks of their buckets, of which the lower one is locked first
-commit_both_right : (h : Header) (k : Hand) (shown : Memory) (args : Args) (first second slot_x slot_y : ℕ) → AreReserved h k shown args slot_x slot_y
+commit_both_right : (h : Header) (k : Locals) (shown : Memory) (args : Args) (first second slot_x slot_y : ℕ) → AreReserved h k shown args slot_x slot_y
     → k.called ≡ Some (pair_of args) → first ≤ second
     → (slot_x / 4 ≡ first) ⊎ (slot_x / 4 ≡ second) → (slot_y / 4 ≡ first) ⊎ (slot_y / 4 ≡ second)
     → DoesRight (multiset h) (at [] false false (pair_of args)) k shown (commit_both h first second slot_x slot_y)
@@ -128,7 +128,7 @@ commit_both_right h k shown args first second slot_x slot_y r is order of_x of_y
         (isnt_same (lock_of h first) (lock_of h second) (λ same. apart_of first second e (omega (arith, same)))) (λ i. refl) is refl)))
 
 -- an insert makes the slot that it found valid
-insert_right : (h : Header) (k : Hand) (shown : Memory) (args : Args) → ((i : ℕ) → k.owned i ≡ false)
+insert_right : (h : Header) (k : Locals) (shown : Memory) (args : Args) → ((i : ℕ) → k.owned i ≡ false)
     → k.called ≡ Some (record { method = MsInsert; args = args })
     → DoesRight (multiset h) (at [] false false (record { method = MsInsert; args = args })) k shown (find h Correct args.a (inserted h args.a))
 insert_right h k shown args none is =
@@ -155,7 +155,7 @@ insert_right h k shown args none is =
     called = record { method = MsInsert; args = args }
 
 -- where both slots for a pair were found, they are made valid
-pair_found_right : (h : Header) (k : Hand) (shown : Memory) (args : Args) (slot_x slot_y : ℕ) → AreReserved h k shown args slot_x slot_y
+pair_found_right : (h : Header) (k : Locals) (shown : Memory) (args : Args) (slot_x slot_y : ℕ) → AreReserved h k shown args slot_x slot_y
     → k.called ≡ Some (pair_of args)
     → DoesRight (multiset h) (at [] false false (pair_of args)) k shown (second_found h Correct args.a args.b slot_x (Some slot_y))
 pair_found_right h k shown args slot_x slot_y r is =
@@ -196,7 +196,7 @@ pair_found_right h k shown args slot_x slot_y r is =
         by_order true f = inr (greater_too n p q e (at_most_of p q f))
         by_order false f = let low : q < p = above_of p q f in inl (lesser_too n p q e (omega (arith, low)))
 
-insert_pair_right : (h : Header) (k : Hand) (shown : Memory) (args : Args) → ((i : ℕ) → k.owned i ≡ false) → k.called ≡ Some (pair_of args)
+insert_pair_right : (h : Header) (k : Locals) (shown : Memory) (args : Args) → ((i : ℕ) → k.owned i ≡ false) → k.called ≡ Some (pair_of args)
     → DoesRight (multiset h) (at [] false false (pair_of args)) k shown (find h Correct args.a (first_found h Correct args.a args.b))
 insert_pair_right h k shown args none is =
     find_right h k shown args.a (pair_of args) (first_found h Correct args.a args.b) (bucket_low h args.a)
@@ -232,7 +232,7 @@ isnt_there_test : (n : ℕ) → n ≡ 0 → not (n == 0) ≡ false
 isnt_there_test n none = grind (arith, nat_tests)
 
 -- a search under the lock of the bucket
-search_right : (h : Header) (k : Hand) (shown : Memory) (called : Called) (x : ℕ) (ended : Option ℕ → Script)
+search_right : (h : Header) (k : Locals) (shown : Memory) (called : Called) (x : ℕ) (ended : Option ℕ → Script)
     → ((j : ℕ) → j < 4 * h.size → j / 4 ≡ bucket_of h x → (now : Memory) → now (2 * j) ≡ 2 → now (2 * j + 1) ≡ x
     → DoesRight (multiset h) (at (lock_of h (bucket_of h x) ∷ []) false false called) k now (ended (Some j)))
     → ((now : Memory) → ((j : ℕ) → 4 * bucket_of h x ≤ j → j < 4 * bucket_of h x + 4 → now (2 * j) ≡ 2 → now (2 * j + 1) ≡ x → ⊥)
@@ -247,7 +247,7 @@ search_right h k shown called x ended some none =
     (λ j from to last rely' valid has. some j (omega (arith, from, to, bucket_low h x)) (omega (arith, from, to)) last valid has)
     (λ last rely' nowhere. none last nowhere))
 
-delete_right : (h : Header) (k : Hand) (shown : Memory) (args : Args) → ((i : ℕ) → k.owned i ≡ false)
+delete_right : (h : Header) (k : Locals) (shown : Memory) (args : Args) → ((i : ℕ) → k.owned i ≡ false)
     → k.called ≡ Some (record { method = MsDelete; args = args })
     → DoesRight (multiset h) (at [] false false (record { method = MsDelete; args = args })) k shown (search_in h args.a (deleted h args.a))
 delete_right h k shown args none is =
@@ -290,7 +290,7 @@ delete_right h k shown args none is =
         (λ last keeps. returns_right (multiset h) k last true called 0 none (mutates k called 0 is refl)))
 
 -- a lookup has its answer when it gives the lock back
-lookup_right : (h : Header) (k : Hand) (shown : Memory) (args : Args) → ((i : ℕ) → k.owned i ≡ false)
+lookup_right : (h : Header) (k : Locals) (shown : Memory) (args : Args) → ((i : ℕ) → k.owned i ≡ false)
     → k.called ≡ Some (record { method = MsLookup; args = args })
     → DoesRight (multiset h) (at [] false false (record { method = MsLookup; args = args })) k shown (search_in h args.a (looked_up h args.a))
 lookup_right h k shown args none is =
@@ -308,7 +308,7 @@ lookup_right h k shown args none is =
     sees now reply seen = answer_right (multiset h) k now (lock_of h (bucket_of h args.a)) called reply none is seen
 
 -- the procedure of each operation
-procedure_right : (h : Header) (k : Hand) (shown : Memory) (method : Method) (args : Args) → subject_of method ≡ Multiset → ((i : ℕ) → k.owned i ≡ false)
+procedure_right : (h : Header) (k : Locals) (shown : Memory) (method : Method) (args : Args) → subject_of method ≡ Multiset → ((i : ℕ) → k.owned i ≡ false)
     → k.called ≡ Some (record { method = method; args = args })
     → DoesRight (multiset h) (just_called method) k shown (procedure_of h Correct method args)
 procedure_right h k shown MsInsert args of none is = insert_right h k shown args none is

@@ -20,26 +20,26 @@ use Rattle.vyrd_tree.specs.Laws.Alone.EntriesStaySound.{length_join}
 use Rattle.vyrd_tree.specs.Laws.Alone.Changes.{entries_alike, Rewritten}
 use Rattle.vyrd_tree.specs.Laws.Alone.Played.{Written, front_stands}
 use Rattle.vyrd_every.proofs.Acts.{never}
-use Rattle.vyrd_every.specs.Hands.{written}
+use Rattle.vyrd_every.specs.Locals.{written}
 use Rattle.vyrd_every.specs.Trees.Shapes.{Shape, HasEntries, IsLinked, Hangs}
 use Rattle.vyrd_every.specs.Trees.States.{ShowsState}
 use Rattle.vyrd_every.specs.Trees.Others.{Grows}
-use Rattle.vyrd_every.specs.Trees.Hands.{TreeHand}
+use Rattle.vyrd_every.specs.Trees.Locals.{TreeLocals}
 use Rattle.vyrd_every.specs.Trees.Others.{TreeRely, TreeLeaves}
 use Rattle.vyrd_every.specs.Trees.RightScripts.{TreeRight}
-use Rattle.vyrd_every.proofs.Trees.Parts.{HandStands, hand_stays, tree_rely_more, Changeless, changeless}
+use Rattle.vyrd_every.proofs.Trees.Parts.{OwnsUnseen, unseen_stays, tree_rely_more, Changeless, changeless}
 use Rattle.vyrd_every.proofs.Trees.Walks.{AtNode}
 use Rattle.vyrd_every.proofs.Trees.Kept.{StaysShaped, stays_shaped, linked_low, other_word, rewritten_grows, rewritten_linked, rewritten_hangs, same_or}
 
--- the hand with these writes in an open block
-abbrev pub with_pending : TreeHand → List (ℕ × ℕ) → TreeHand
+-- the locals with these writes in an open block
+abbrev pub with_pending : TreeLocals → List (ℕ × ℕ) → TreeLocals
 with_pending k ws = record { fresh = k.fresh; hanging = k.hanging; pending = ws; out = false; called = k.called; answered = k.answered }
 
-pub hand_with : (h : Header) (k : TreeHand) (ws : List (ℕ × ℕ)) (g : Shape) (m : Memory) → HandStands h k g m → HandStands h (with_pending k ws) g m
-hand_with h k ws g m hand = record { fresh = hand.fresh; hanging = hand.hanging; quiet = refl }
+pub unseen_with : (h : Header) (k : TreeLocals) (ws : List (ℕ × ℕ)) (g : Shape) (m : Memory) → OwnsUnseen h k g m → OwnsUnseen h (with_pending k ws) g m
+unseen_with h k ws g m unseen = record { fresh = unseen.fresh; hanging = unseen.hanging; quiet = refl }
 
 -- what is relied upon doesn't depend on the writes, nor on whether a block is open
-pub rely_with : (h : Header) (locks : List ℕ) (method : Method) (committed a b : Bool) (k : TreeHand) (ws : List (ℕ × ℕ)) (g g' : Shape) (m m' : Memory)
+pub rely_with : (h : Header) (locks : List ℕ) (method : Method) (committed a b : Bool) (k : TreeLocals) (ws : List (ℕ × ℕ)) (g g' : Shape) (m m' : Memory)
     → TreeRely h (holding locks method committed a) (with_pending k ws) g m g' m' → TreeRely h (holding locks method committed b) k g m g' m'
 rely_with h locks method committed a b k ws g g' m m' r = record {
   grows = r.grows;
@@ -53,13 +53,13 @@ rely_with h locks method committed a b k ws g g' m m' r = record {
   calm = λ held out. r.calm held refl;
 }
 
-pub tree_open : (h : Header) (locks : List ℕ) (method : Method) (committed : Bool) (k : TreeHand) (g : Shape) (m : Memory) (later : Script) → IsLinked h.size g m
-    → HandStands h k g m
+pub tree_open : (h : Header) (locks : List ℕ) (method : Method) (committed : Bool) (k : TreeLocals) (g : Shape) (m : Memory) (later : Script) → IsLinked h.size g m
+    → OwnsUnseen h k g m
     → ((g' : Shape) → (m' : Memory) → TreeRely h (holding locks method committed true) (with_pending k []) g m g' m'
     → TreeRight h (holding locks method committed true) (with_pending k []) g' m' later)
     → TreeRight h (holding locks method committed false) k g m (perform (Mark BlockOpen) later)
-tree_open h locks method committed k g m later tree hand rest =
-    let c : Changeless h (holding locks method committed false) k g m = changeless h (holding locks method committed false) k g m hand in (
+tree_open h locks method committed k g m later tree unseen rest =
+    let c : Changeless h (holding locks method committed false) k g m = changeless h (holding locks method committed false) k g m unseen in (
       with_pending k [],
       g,
       record {
@@ -68,7 +68,7 @@ tree_open h locks method committed k g m later tree hand rest =
         leaves = c.leaves;
         tree = tree;
         top = λ quiet is quiet'. is;
-        closed = λ out quiet. absurd (never hand.quiet out);
+        closed = λ out quiet. absurd (never unseen.quiet out);
         alone = λ out. cc;
         ahead = λ quiet out. cc;
         wrote = λ quiet out. cc;
@@ -86,12 +86,12 @@ tree_open h locks method committed k g m later tree hand rest =
 
 -- In an open block of the caller, with the lock of node n held since memory m: what comes next does right, with these writes so
 -- far.
-abbrev pub InBlock : Header → Method → Bool → TreeHand → Shape → Memory → ℕ → List (ℕ × ℕ) → Script → Type 0
+abbrev pub InBlock : Header → Method → Bool → TreeLocals → Shape → Memory → ℕ → List (ℕ × ℕ) → Script → Type 0
 InBlock h method committed k g m n ws script = (g' : Shape) (m' : Memory) → TreeRely h (holding (lock_of h n ∷ []) method committed false) k g m g' m'
     → TreeRight h (holding (lock_of h n ∷ []) method committed true) (with_pending k ws) g' m' script
 
 -- a word of the node, other than its level, is stored in the block
-pub store_in_node : (h : Header) (method : Method) (committed : Bool) (k : TreeHand) (g : Shape) (m : Memory) (n place value : ℕ) (ws : List (ℕ × ℕ))
+pub store_in_node : (h : Header) (method : Method) (committed : Bool) (k : TreeLocals) (g : Shape) (m : Memory) (n place value : ℕ) (ws : List (ℕ × ℕ))
     (later : Script) → IsLinked h.size g m → AtNode h (holding (lock_of h n ∷ []) method committed false) k g m n → level_at m n ≤ g.top
     → place < 12 → place ≢ 0
     → InBlock h method committed k g m n ((12 * n + place, value) ∷ ws) later
@@ -143,7 +143,7 @@ store_in_node h method committed k g m n place value ws later tree at high low s
     linked' = rely.grows.linked n at.linked
 
     c : Changeless h inside (with_pending k ws) g' m'
-    c = changeless h inside (with_pending k ws) g' m' (hand_with h k ws g' m' (hand_stays h s k g m g' m' at.hand rely))
+    c = changeless h inside (with_pending k ws) g' m' (unseen_with h k ws g' m' (unseen_stays h s k g m g' m' at.unseen rely))
 
     not_root : (12 * n + place == root_cell h) ≡ false
     not_root = isnt_same (12 * n + place) (root_cell h) (λ e. (let lt = linked_low h.size g m tree n at.linked in omega (arith, low, e)))
@@ -156,7 +156,7 @@ abbrev pub entry_writes : ℕ → ℕ → Entries → List (ℕ × ℕ) → List
 entry_writes n place [] ws = ws
 entry_writes n place ((key, value) ∷ xs) ws = entry_writes n (place + 1) xs ((12 * n + (8 + place), value) ∷ (12 * n + (4 + place), key) ∷ ws)
 
-pub store_entries : (h : Header) (method : Method) (committed : Bool) (k : TreeHand) (g : Shape) (m : Memory) (n place : ℕ) (xs : Entries) (ws : List (ℕ × ℕ))
+pub store_entries : (h : Header) (method : Method) (committed : Bool) (k : TreeLocals) (g : Shape) (m : Memory) (n place : ℕ) (xs : Entries) (ws : List (ℕ × ℕ))
     (later : Script) → IsLinked h.size g m → AtNode h (holding (lock_of h n ∷ []) method committed false) k g m n → level_at m n ≤ g.top
     → place + length xs ≤ 4
     → InBlock h method committed k g m n (entry_writes n place xs ws) later
@@ -247,7 +247,7 @@ node_rewritten size m n many front back xs fits before few = record {
     not_entry cell (inr le) j low = (omega (arith, le, low), omega (arith, le, low))
 
 -- the node's words are as they were when its lock was taken
-pub entries_kept : (h : Header) (s : Situation) (k : TreeHand) (g : Shape) (m : Memory) (n : ℕ) (g' : Shape) (m' : Memory) → IsLinked h.size g m
+pub entries_kept : (h : Header) (s : Situation) (k : TreeLocals) (g : Shape) (m : Memory) (n : ℕ) (g' : Shape) (m' : Memory) → IsLinked h.size g m
     → AtNode h s k g m n → TreeRely h s k g m g' m' → entries_at m' n ≡ entries_at m n
 entries_kept h s k g m n g' m' tree at rely =
     ap (entries_from m' n 0) (rely.held n 1 at.linked at.held (omega arith)) ∙ entries_alike m m' n 0 (count_at m n)
@@ -255,18 +255,18 @@ entries_kept h s k g m n g' m' tree at rely =
     (rely.held n (4 + j) at.linked at.held (omega arith), rely.held n (8 + j) at.linked at.held (omega arith))))
 
 -- What a block does that gives a node other entries, which lead to no node that hangs for another caller.
-pub record Rewrites (h : Header) (s : Situation) (k : TreeHand) (g : Shape) (m m' : Memory) : Type 0 where
+pub record Rewrites (h : Header) (s : Situation) (k : TreeLocals) (g : Shape) (m m' : Memory) : Type 0 where
   pub grows : Grows g m g m'
   pub leaves : TreeLeaves h s k g m g m'
   pub tree : IsLinked h.size g m'
   pub top : g.top ≡ level_at m (root_in h.size m) → g.top ≡ level_at m' (root_in h.size m')
   pub taken : (x : ℕ) → k.fresh ≡ Some x → (g.linked x ≡ false) × (x ≤ last_in h.size m') × ((k.fresh ≡ Some x) ⊎ (last_in h.size m < x))
 
-pub rewrites : (h : Header) (s : Situation) (k : TreeHand) (g : Shape) (m m' : Memory) (n : ℕ) (xs : Entries) → IsLinked h.size g m → HandStands h k g m
+pub rewrites : (h : Header) (s : Situation) (k : TreeLocals) (g : Shape) (m m' : Memory) (n : ℕ) (xs : Entries) → IsLinked h.size g m → OwnsUnseen h k g m
     → g.linked n ≡ true → holds s (lock_of h n) ≡ true → Rewritten h.size m m' n xs → HasEntries g m (level_at m n) (g.low n) (bound_at m n) xs
     → ((x : ℕ) → g.linked x ≡ true → k.hanging ≢ Some x → Hangs g m x → level_at m n ≢ 0 → AllByRecursion (λ entry. entry.1 ≢ x) xs)
     → Rewrites h s k g m m'
-rewrites h s k g m m' n xs tree hand linked held r es off = record {
+rewrites h s k g m m' n xs tree unseen linked held r es off = record {
   grows = rewritten_grows h.size g m m' n xs tree linked r;
   leaves = record {
     others = λ a place of_a free low. other_word h.size m m' n xs r a place (linked_low h.size g m tree a of_a) low (apart a free (same_or a n));
@@ -278,7 +278,7 @@ rewrites h s k g m m' n xs tree hand linked held r es off = record {
   };
   tree = rewritten_linked h.size g m m' n xs tree linked r es;
   top = λ is. is ∙ sym (ap (level_at m') shape.root_is ∙ shape.level_is (root_in h.size m) (linked_low h.size g m tree (root_in h.size m) tree.root_linked));
-  taken = λ x mine. let t = hand.fresh x mine in (t.0, (let le = t.1 in let same = shape.last_is in omega arith), inl mine);
+  taken = λ x mine. let t = unseen.fresh x mine in (t.0, (let le = t.1 in let same = shape.last_is in omega arith), inl mine);
 }
   where
     shape : StaysShaped h.size m m'

@@ -6,13 +6,13 @@ use Rattle.vyrd_memory.specs.Soundness.{Situation, holds}
 use Rattle.vyrd_tree.specs.Cells.{root_cell, used_cell, lock_of, root_lock}
 use Rattle.vyrd_tree.specs.Contents.{level_at, root_in}
 use Rattle.vyrd_every.specs.Trees.Shapes.{Shape, IsLinked}
-use Rattle.vyrd_every.specs.Trees.Hands.{TreeHand, Owns, AreApart, IsWordOf, MayLoad, InNode, MayStore}
+use Rattle.vyrd_every.specs.Trees.Locals.{TreeLocals, Owns, AreApart, IsWordOf, MayLoad, InNode, MayStore}
 use Rattle.vyrd_every.specs.Trees.Between.{MayHold}
 use Rattle.vyrd_every.proofs.Acts.{never}
 use Rattle.vyrd_every.proofs.Trees.Kept.{linked_low}
 
--- two callers, each with what it has in hand
-pub record AreTwo (h : Header) (s its : Situation) (k other : TreeHand) (g : Shape) (m : Memory) : Type 0 where
+-- two callers, each with its locals
+pub record AreTwo (h : Header) (s its : Situation) (k other : TreeLocals) (g : Shape) (m : Memory) : Type 0 where
   pub tree : IsLinked h.size g m
   pub own : Owns h k g m
   pub its_own : Owns h other g m
@@ -28,11 +28,11 @@ one_node a i b j e low_i low_j = omega (arith, e, low_i, low_j)
 one_place : (a i b j : ℕ) → 12 * a + i ≡ 12 * b + j → i < 12 → j < 12 → i ≡ j
 one_place a i b j e low_i low_j = omega (arith, e, low_i, low_j)
 
-fresh_low : (h : Header) (k : TreeHand) (g : Shape) (m : Memory) (n : ℕ) → IsLinked h.size g m → Owns h k g m → k.fresh ≡ Some n → n < h.size
+fresh_low : (h : Header) (k : TreeLocals) (g : Shape) (m : Memory) (n : ℕ) → IsLinked h.size g m → Owns h k g m → k.fresh ≡ Some n → n < h.size
 fresh_low h k g m n tree own mine = (let le = (own.fresh n mine).1 in let fits = tree.last_low in omega (arith, le, fits))
 
 -- the node of a word that a block may have written
-in_node_low : (h : Header) (s : Situation) (k : TreeHand) (g : Shape) (m : Memory) (cell : ℕ) → IsLinked h.size g m → Owns h k g m
+in_node_low : (h : Header) (s : Situation) (k : TreeLocals) (g : Shape) (m : Memory) (cell : ℕ) → IsLinked h.size g m → Owns h k g m
     → (i : InNode h s k g m cell) → i.node < h.size
 in_node_low h s k g m cell tree own i = by_may i.may
   where
@@ -42,7 +42,7 @@ in_node_low h s k g m cell tree own i = by_may i.may
     by_may (inr linked) = linked_low h.size g m tree i.node linked.0
 
 -- so neither the root's word nor the count of nodes in use is one
-pub not_the_root : (h : Header) (s : Situation) (k : TreeHand) (g : Shape) (m : Memory) (cell : ℕ) → IsLinked h.size g m → Owns h k g m
+pub not_the_root : (h : Header) (s : Situation) (k : TreeLocals) (g : Shape) (m : Memory) (cell : ℕ) → IsLinked h.size g m → Owns h k g m
     → InNode h s k g m cell → cell ≡ root_cell h → ⊥
 not_the_root h s k g m cell tree own i at =
     let low : i.node < h.size = in_node_low h s k g m cell tree own i in
@@ -51,7 +51,7 @@ not_the_root h s k g m cell tree own i at =
     let e : cell ≡ 12 * h.size = at in
     omega (arith, low, is, small, e)
 
-not_the_count : (h : Header) (s : Situation) (k : TreeHand) (g : Shape) (m : Memory) (cell : ℕ) → IsLinked h.size g m → Owns h k g m
+not_the_count : (h : Header) (s : Situation) (k : TreeLocals) (g : Shape) (m : Memory) (cell : ℕ) → IsLinked h.size g m → Owns h k g m
     → InNode h s k g m cell → cell ≡ used_cell h → ⊥
 not_the_count h s k g m cell tree own i at =
     let low : i.node < h.size = in_node_low h s k g m cell tree own i in
@@ -61,14 +61,14 @@ not_the_count h s k g m cell tree own i at =
     omega (arith, low, is, small, e)
 
 -- two words of nodes, the second in another caller's block
-two_nodes : (h : Header) (s its : Situation) (k other : TreeHand) (g : Shape) (m : Memory) (cell : ℕ) → AreTwo h s its k other g m
+two_nodes : (h : Header) (s its : Situation) (k other : TreeLocals) (g : Shape) (m : Memory) (cell : ℕ) → AreTwo h s its k other g m
     → InNode h s k g m cell → InNode h its other g m cell → ⊥
 two_nodes h s its k other g m cell two i j = by_may i.may j.may
   where
     same : i.node ≡ j.node
     same = one_node i.node i.place j.node j.place (sym i.is ∙ j.is) i.low j.low
 
-    Mine : Situation → TreeHand → ℕ → ℕ → Type 0
+    Mine : Situation → TreeLocals → ℕ → ℕ → Type 0
     Mine s k node place = (k.fresh ≡ Some node) ⊎ ((g.linked node ≡ true) × (holds s (lock_of h node) ≡ true) × (place ≢ 0) × (level_at m node ≤ g.top))
 
     by_may : Mine s k i.node i.place → Mine its other j.node j.place → ⊥
@@ -78,7 +78,7 @@ two_nodes h s its k other g m cell two i j = by_may i.may j.may
     by_may (inr mine) (inr theirs) = never (two.locks (lock_of h j.node) theirs.1) (sym (ap (λ n. holds s (lock_of h n)) same) ∙ mine.1)
 
 -- a word of the new root isn't in another caller's node
-new_root : (h : Header) (s its : Situation) (k other : TreeHand) (g : Shape) (m : Memory) (cell : ℕ) → AreTwo h s its k other g m → other.out ≡ true
+new_root : (h : Header) (s its : Situation) (k other : TreeLocals) (g : Shape) (m : Memory) (cell : ℕ) → AreTwo h s its k other g m → other.out ≡ true
     → InNode h s k g m cell → IsWordOf (root_in h.size m) cell → ⊥
 new_root h s its k other g m cell two out i word = by_may i.may
   where
@@ -94,7 +94,7 @@ new_root h s its k other g m cell two out i word = by_may i.may
         omega (arith, high, above, at)
 
 -- what a caller may store
-pub no_clash : (h : Header) (s its : Situation) (k other : TreeHand) (g : Shape) (m : Memory) (cell : ℕ) → AreTwo h s its k other g m
+pub no_clash : (h : Header) (s its : Situation) (k other : TreeLocals) (g : Shape) (m : Memory) (cell : ℕ) → AreTwo h s its k other g m
     → MayStore h s k g m cell → MayHold h its other g m cell → ⊥
 no_clash h s its k other g m cell two (inl inside) hold = by_word inside.2 hold
   where
@@ -123,7 +123,7 @@ no_clash h s its k other g m cell two (inr outside) (inr out) = by_out out.1
         omega (arith, a, b, small, low)
 
 -- what a caller may load, where the other's writes aren't seen yet
-pub no_clash_load : (h : Header) (s its : Situation) (k other : TreeHand) (g : Shape) (m : Memory) (cell : ℕ) → AreTwo h s its k other g m
+pub no_clash_load : (h : Header) (s its : Situation) (k other : TreeLocals) (g : Shape) (m : Memory) (cell : ℕ) → AreTwo h s its k other g m
     → MayLoad h s g cell → InNode h its other g m cell → ⊥
 no_clash_load h s its k other g m cell two (inl of_node) j = by_may of_node.may j.may
   where

@@ -32,17 +32,17 @@ use Rattle.vyrd_tree.specs.Laws.Alone.EntriesStaySound.{halves}
 use Rattle.vyrd_tree.specs.Laws.Alone.Tested.{length-entries}
 use Rattle.vyrd_tree.specs.Laws.Alone.WalkArrives.{loaded_at}
 use Rattle.vyrd_tree.specs.Laws.Alone.Done.{changed_inside}
-use Rattle.vyrd_every.specs.Hands.{written}
+use Rattle.vyrd_every.specs.Locals.{written}
 use Rattle.vyrd_every.specs.RightScripts.{WillReturn}
 use Rattle.vyrd_every.specs.Trees.Shapes.{Shape, HasEntries, IsLinked, Hangs}
-use Rattle.vyrd_every.specs.Trees.Hands.{TreeHand}
+use Rattle.vyrd_every.specs.Trees.Locals.{TreeLocals}
 use Rattle.vyrd_every.specs.Trees.Others.{TreeRely}
 use Rattle.vyrd_every.specs.Trees.RightScripts.{TreeRight}
-use Rattle.vyrd_every.proofs.Trees.Parts.{HandStands, hand_stays, tree_give_last}
+use Rattle.vyrd_every.proofs.Trees.Parts.{OwnsUnseen, unseen_stays, tree_give_last}
 use Rattle.vyrd_every.proofs.Trees.Walks.{AtNode}
 use Rattle.vyrd_every.proofs.Trees.Order.{one_cover_in}
 use Rattle.vyrd_every.proofs.Trees.Kept.{coded, code, linked_low}
-use Rattle.vyrd_every.proofs.Trees.Blocks.{with_pending, hand_with, rely_with, tree_open, InBlock, entries_kept}
+use Rattle.vyrd_every.proofs.Trees.Blocks.{with_pending, unseen_with, rely_with, tree_open, InBlock, entries_kept}
 use Rattle.vyrd_every.proofs.Trees.Leafs.{IsIn, still_in, absent_in, not_there, IsBare, nothing_right}
 use Rattle.vyrd_every.proofs.Trees.Inserts.{FullRight}
 use Rattle.vyrd_every.proofs.Trees.Splits.{with_node, IsSplitAt, split_state}
@@ -52,7 +52,7 @@ use Rattle.vyrd_every.proofs.Acts.{never}
 use Rattle.vyrd_tree.specs.Laws.Alone.SplitKeepsTree.{new_low}
 
 -- where an ascent is: a linked node hangs, whose level and low are these
-pub record Ascending (k : TreeHand) (g : Shape) (m : Memory) (called : Called) (level key node : ℕ) : Type 0 where
+pub record Ascending (k : TreeLocals) (g : Shape) (m : Memory) (called : Called) (level key node : ℕ) : Type 0 where
   pub called_is : k.called ≡ Some called
   pub fresh : k.fresh ≡ None
   pub hanging : k.hanging ≡ Some node
@@ -61,7 +61,7 @@ pub record Ascending (k : TreeHand) (g : Shape) (m : Memory) (called : Called) (
 
 -- an ascent of an insert does right, and the insert returns 1 after it
 pub record AscentRight (h : Header) (args : Args) : Type 0 where
-  pub right : (k : TreeHand) (g : Shape) (m : Memory) (level key node : ℕ) → IsLinked h.size g m → HandStands h k g m
+  pub right : (k : TreeLocals) (g : Shape) (m : Memory) (level key node : ℕ) → IsLinked h.size g m → OwnsUnseen h k g m
       → Ascending k g m (record { method = TrInsert; args = args }) level key node
       → TreeRight h (holding [] TrInsert true false) k g m (ascend h Correct 16 level key node (returns 1))
   pub returns_one : (level key node : ℕ) → WillReturn 1 (ascend h Correct 16 level key node (returns 1))
@@ -76,7 +76,7 @@ three_two (a ∷ b ∷ c ∷ d ∷ e ∷ []) len = (refl, refl)
 three_two (a ∷ b ∷ c ∷ d ∷ e ∷ f ∷ more) len = absurd (omega (arith, len))
 
 -- the node is loaded the same as long as its lock is held
-pub loaded_same : (h : Header) (s : Situation) (k : TreeHand) (g : Shape) (m : Memory) (n : ℕ) (g' : Shape) (m' : Memory) → IsLinked h.size g m → AtNode h s k g m n
+pub loaded_same : (h : Header) (s : Situation) (k : TreeLocals) (g : Shape) (m : Memory) (n : ℕ) (g' : Shape) (m' : Memory) → IsLinked h.size g m → AtNode h s k g m n
     → TreeRely h s k g m g' m' → loaded_at m' n ≡ loaded_at m n
 loaded_same h s k g m n g' m' tree at rely =
     ap (λ l. put l (bound_at m' n) (right_at m' n) (entries_at m' n)) (rely.held n 0 at.linked at.held (omega arith))
@@ -87,11 +87,11 @@ loaded_same h s k g m n g' m' tree at rely =
     put : ℕ → ℕ → ℕ → Entries → Arrived
     put l b r xs = record { node = n; level = l; bound = b; right = r; entries = xs }
 
-pub full_right : (h : Header) (args : Args) (k : TreeHand) (g : Shape) (m : Memory) → args.a < 2 ^ 32 → args.b < 2 ^ 32
+pub full_right : (h : Header) (args : Args) (k : TreeLocals) (g : Shape) (m : Memory) → args.a < 2 ^ 32 → args.b < 2 ^ 32
     → IsBare k (record { method = TrInsert; args = args }) → AscentRight h args → FullRight h args k g m
 full_right h args k g m small_key small bare ascent n a x begun at is full apart =
-    unused_right h TrInsert false (lock_of h n) k a x (changes_nothing h n) splitting below begun.tree at.hand bare.fresh
-    (λ b y r. nothing_right h called k b y n r.tree (hand_stays h s k a x b y at.hand r) bare refl (λ state shows. refl))
+    unused_right h TrInsert false (lock_of h n) k a x (changes_nothing h n) splitting below begun.tree at.unseen bare.fresh
+    (λ b y r. nothing_right h called k b y n r.tree (unseen_stays h s k a x b y at.unseen r) bare refl (λ state shows. refl))
     some_right
   where
     called : Called
@@ -109,18 +109,18 @@ full_right h args k g m small_key small bare ascent n a x begun at is full apart
     below : lock_of h n < used_lock h
     below = (let fits = linked_low h.size a x begun.tree n at.linked in omega arith)
 
-    some_right : (u : ℕ) (ws : List (ℕ × ℕ)) (b : Shape) (y : Memory) → TreeRely h s k a x b y → HandStands h (with_fresh k u ws) b y
+    some_right : (u : ℕ) (ws : List (ℕ × ℕ)) (b : Shape) (y : Memory) → TreeRely h s k a x b y → OwnsUnseen h (with_fresh k u ws) b y
         → TreeRight h s (with_fresh k u ws) b y (splitting u)
-    some_right u ws b y r hand =
+    some_right u ws b y r unseen =
         subst (λ arrived. TreeRight h s k' b y (split_entry h arrived args.a args.b u BlockCommit (after (split_key arrived args.a args.b) u)))
         (loaded_same h s k a x n b y begun.tree at r)
         (with_place place.0 place.1 place.2)
       where
-        k' : TreeHand
+        k' : TreeLocals
         k' = with_fresh k u ws
 
         at' : AtNode h s k' b y n
-        at' = record { linked = r.grows.linked n at.linked; held = at.held; out = refl; hand = hand }
+        at' = record { linked = r.grows.linked n at.linked; held = at.held; out = refl; unseen = unseen }
 
         same : entries_at y n ≡ entries_at x n
         same = entries_kept h s k a x n b y begun.tree at r
@@ -138,10 +138,10 @@ full_right h args k g m small_key small bare ascent n a x begun at is full apart
         low_level = (let leaf = is'.level_is in omega arith)
 
         u_low : u < h.size
-        u_low = (let fit = (hand.fresh u refl).1 in let last = r.tree.last_low in omega arith)
+        u_low = (let fit = (unseen.fresh u refl).1 in let last = r.tree.last_low in omega arith)
 
         not_n : u ≢ n
-        not_n e = never (hand.fresh u refl).0 (ap b.linked e ∙ at'.linked)
+        not_n e = never (unseen.fresh u refl).0 (ap b.linked e ∙ at'.linked)
 
         with_place : (front back : Entries) → IsBetween args.a (entries_at y n) front back
             → TreeRight h s k' b y (split_entry h (loaded_at y n) args.a args.b u BlockCommit (after (split_key (loaded_at y n) args.a args.b) u))
@@ -152,7 +152,7 @@ full_right h args k g m small_key small bare ascent n a x begun at is full apart
             (subst (λ xs. TreeRight h s k' b y (perform (Mark BlockOpen) (split (loaded_at y n) (length front) xs u
             (perform (Mark BlockCommit) (unlock_node h n (after (first_key (upper_half xs)) u))))))
             (sym (with_entry_is (entries_at y n) front back args.a args.b parts))
-            (tree_open h (lock_of h n ∷ []) TrInsert false k' b y (split (loaded_at y n) (length front) five u closing) r.tree hand
+            (tree_open h (lock_of h n ∷ []) TrInsert false k' b y (split (loaded_at y n) (length front) five u closing) r.tree unseen
             (λ c z r'. block c z (rely_with h (lock_of h n ∷ []) TrInsert false true false k' [] b c y z r'))))
           where
             five : Entries
@@ -199,7 +199,7 @@ full_right h args k g m small_key small bare ascent n a x begun at is full apart
 
             close : InBlock h TrInsert false k' b y n (split_writes n u (level_at y n) (bound_at y n) (right_at y n) (length front) (front ++ (args.a, args.b) ∷ back)) closing
             close c z r' = (
-              hung_hand,
+              hung_locals,
               with_node c u (first_key (upper_half (front ++ (args.a, args.b) ∷ back))),
               record {
                 reaches = tt;
@@ -214,7 +214,7 @@ full_right h args k g m small_key small bare ascent n a x begun at is full apart
                 within = λ inside goes same. cc;
                 taken = λ v mine. cc;
                 hung = λ v mine. subst (λ v. ((with_node c u key).linked v ≡ true) × Hangs (with_node c u key) end v × ((k.hanging ≡ Some v) ⊎ (c.linked v ≡ false)))
-                    (some_same u v mine) (w.hangs.0, w.hangs.1, inr (hand_c.fresh u refl).0);
+                    (some_same u v mine) (w.hangs.0, w.hangs.1, inr (unseen_c.fresh u refl).0);
                 leads = λ state shows. record {
                   called = called;
                   is_called = bare.called_is;
@@ -223,7 +223,7 @@ full_right h args k g m small_key small bare ascent n a x begun at is full apart
                   next = with_amount state args.a (2 ^ 32 + args.b);
                   allowed = ap (λ b. then_some (not b) (with_amount state args.a (2 ^ 32 + args.b))) (not_there state args.a
                       (absent_in h.size c z state n args.a r'.tree shows is_c (subst (Each (λ v. v.0 ≢ args.a)) (sym same_c) apart')));
-                  means = split_state h.size c z end n u (front ++ (args.a, args.b) ∷ back) r'.tree is_c.linked (hand_c.fresh u refl).0 (hand_c.fresh u refl).1 sp ha
+                  means = split_state h.size c z end n u (front ++ (args.a, args.b) ∷ back) r'.tree is_c.linked (unseen_c.fresh u refl).0 (unseen_c.fresh u refl).1 sp ha
                       state (with_amount state args.a (2 ^ 32 + args.b)) (IsAmounts-with_amount state args.a (2 ^ 32 + args.b) shows.formed) shows
                       (λ leaf q over. changed_inside state args.a (2 ^ 32 + args.b) q (entries_at z n) (front ++ (args.a, args.b) ∷ back) gives_it
                       (λ other. gives_others q other ∙ ap (gives q) (sym same_c)) (shows.shows q n is_c.linked is_c.level_is over))
@@ -237,11 +237,11 @@ full_right h args k g m small_key small bare ascent n a x begun at is full apart
                 called = refl;
                 answers = refl;
               },
-              λ d v r''. tree_give_last h TrInsert true hung_hand d v (lock_of h n) (after key u) r''.tree
-                  (hand_stays h (holding (lock_of h n ∷ []) TrInsert true false) hung_hand (with_node c u key) end d v hand_after r'')
-                  (λ e t r3. ascent.right hung_hand e t 0 key u r3.tree
-                  (hand_stays h (holding [] TrInsert true false) hung_hand d v e t
-                  (hand_stays h (holding (lock_of h n ∷ []) TrInsert true false) hung_hand (with_node c u key) end d v hand_after r'') r3)
+              λ d v r''. tree_give_last h TrInsert true hung_locals d v (lock_of h n) (after key u) r''.tree
+                  (unseen_stays h (holding (lock_of h n ∷ []) TrInsert true false) hung_locals (with_node c u key) end d v unseen_after r'')
+                  (λ e t r3. ascent.right hung_locals e t 0 key u r3.tree
+                  (unseen_stays h (holding [] TrInsert true false) hung_locals d v e t
+                  (unseen_stays h (holding (lock_of h n ∷ []) TrInsert true false) hung_locals (with_node c u key) end d v unseen_after r'') r3)
                   (record {
                     called_is = bare.called_is;
                     fresh = refl;
@@ -252,8 +252,8 @@ full_right h args k g m small_key small bare ascent n a x begun at is full apart
                   })),
             )
               where
-                hung_hand : TreeHand
-                hung_hand = record {
+                hung_locals : TreeLocals
+                hung_locals = record {
                   fresh = None;
                   hanging = Some u;
                   pending = split_writes n u (level_at y n) (bound_at y n) (right_at y n) (length front) (front ++ (args.a, args.b) ∷ back);
@@ -271,8 +271,8 @@ full_right h args k g m small_key small bare ascent n a x begun at is full apart
                 inside : Situation
                 inside = holding (lock_of h n ∷ []) TrInsert false true
 
-                hand_c : HandStands h (with_pending k' writes) c z
-                hand_c = hand_with h k' writes c z (hand_stays h s k' b y c z hand r')
+                unseen_c : OwnsUnseen h (with_pending k' writes) c z
+                unseen_c = unseen_with h k' writes c z (unseen_stays h s k' b y c z unseen r')
 
                 is_c : IsIn c z 0 n args.a
                 is_c = still_in h s k' b y c z 0 n args.a is' at'.held r'
@@ -299,11 +299,11 @@ full_right h args k g m small_key small bare ascent n a x begun at is full apart
                     (written (split_writes n u (level_at y n) (bound_at y n) (right_at y n) (length front) (front ++ (args.a, args.b) ∷ back)) z) u
                 w = splits h inside (with_pending k' writes) c z
                     (written (split_writes n u (level_at y n) (bound_at y n) (right_at y n) (length front) (front ++ (args.a, args.b) ∷ back)) z) n u
-                    (front ++ (args.a, args.b) ∷ back) r'.tree hand_c is_c.linked at'.held refl sp ha (λ v of_v other hangs some. absurd (some is_c.level_is))
+                    (front ++ (args.a, args.b) ∷ back) r'.tree unseen_c is_c.linked at'.held refl sp ha (λ v of_v other hangs some. absurd (some is_c.level_is))
 
-                hand_after : HandStands h hung_hand (with_node c u (first_key (upper_half (front ++ (args.a, args.b) ∷ back))))
+                unseen_after : OwnsUnseen h hung_locals (with_node c u (first_key (upper_half (front ++ (args.a, args.b) ∷ back))))
                     (written (split_writes n u (level_at y n) (bound_at y n) (right_at y n) (length front) (front ++ (args.a, args.b) ∷ back)) z)
-                hand_after = record {
+                unseen_after = record {
                   fresh = λ v mine. cc;
                   hanging = λ v mine. subst (λ v. ((with_node c u key).linked v ≡ true) × Hangs (with_node c u key) end v) (some_same u v mine) w.hangs;
                   quiet = refl;

@@ -35,13 +35,13 @@ use Rattle.vyrd_tree.specs.Laws.Alone.EntriesStaySound.{with_entry_is, place_bel
 use Rattle.vyrd_tree.specs.Laws.Alone.Tested.{length-entries}
 use Rattle.vyrd_tree.specs.Laws.Alone.Changes.{entries_alike, Rewritten}
 use Rattle.vyrd_tree.specs.Laws.Alone.WalkArrives.{loaded_at}
-use Rattle.vyrd_every.specs.Hands.{written}
+use Rattle.vyrd_every.specs.Locals.{written}
 use Rattle.vyrd_every.specs.Trees.Shapes.{Shape, HasEntries, IsLinked}
 use Rattle.vyrd_every.specs.Trees.States.{ShowsState}
-use Rattle.vyrd_every.specs.Trees.Hands.{TreeHand}
+use Rattle.vyrd_every.specs.Trees.Locals.{TreeLocals}
 use Rattle.vyrd_every.specs.Trees.Others.{TreeRely}
 use Rattle.vyrd_every.specs.Trees.RightScripts.{TreeRight, TreeCommits}
-use Rattle.vyrd_every.proofs.Trees.Parts.{HandStands, hand_stays, tree_rely_more}
+use Rattle.vyrd_every.proofs.Trees.Parts.{OwnsUnseen, unseen_stays, tree_rely_more}
 use Rattle.vyrd_every.proofs.Trees.Walks.{AtNode, Onward, Arrives}
 use Rattle.vyrd_every.proofs.Trees.Kept.{coded, code, uncode, linked_low}
 use Rattle.vyrd_every.proofs.Trees.Blocks.{with_pending, rely_with, tree_open, store_in_node, node_writes, entries_kept}
@@ -101,7 +101,7 @@ value_stored m node place (suc many) v (x ∷ front) entry back fits e =
         ap (λ a. (a, b) ∷ xs) e ∙ ap (λ b. (key_at m node place, b) ∷ xs) f ∙ ap (λ y. y ∷ xs) head ∙ ap (λ xs. x ∷ xs) g
 
 -- what an insert does in a full leaf of its key, where the key isn't there
-abbrev pub FullRight : Header → Args → TreeHand → Shape → Memory → Type 0
+abbrev pub FullRight : Header → Args → TreeLocals → Shape → Memory → Type 0
 FullRight h args k g m = (n : ℕ) (a : Shape) (x : Memory) → TreeRely h (holding [] TrInsert false false) k g m a x
     → AtNode h (holding (lock_of h n ∷ []) TrInsert false false) k a x n → IsIn a x 0 n args.a → length (entries_at x n) ≡ 4
     → Each (λ entry. entry.0 ≢ args.a) (entries_at x n)
@@ -109,11 +109,11 @@ FullRight h args k g m = (n : ℕ) (a : Shape) (x : Memory) → TreeRely h (hold
     split_entry h (loaded_at x n) args.a args.b new BlockCommit (ascend h Correct 16 0 (split_key (loaded_at x n) args.a args.b) new (returns 1))))
 
 -- an insert, where it does right in a full leaf
-pub insert_right : (h : Header) (args : Args) (k : TreeHand) (g : Shape) (m : Memory) → args.a < 2 ^ 32 → args.b < 2 ^ 32 → IsLinked h.size g m → HandStands h k g m
+pub insert_right : (h : Header) (args : Args) (k : TreeLocals) (g : Shape) (m : Memory) → args.a < 2 ^ 32 → args.b < 2 ^ 32 → IsLinked h.size g m → OwnsUnseen h k g m
     → IsBare k (record { method = TrInsert; args = args }) → FullRight h args k g m
     → TreeRight h (holding [] TrInsert false false) k g m (insert_entry h Correct args.a args.b)
-insert_right h args k g m small_key small tree hand bare full =
-    walk_down_right h TrInsert false args.a k g m gives_up (λ at. insert_in h Correct args.a args.b at (place_of args.a at.entries)) tree hand arrives
+insert_right h args k g m small_key small tree unseen bare full =
+    walk_down_right h TrInsert false args.a k g m gives_up (λ at. insert_in h Correct args.a args.b at (place_of args.a at.entries)) tree unseen arrives
   where
     called : Called
     called = record { method = TrInsert; args = args }
@@ -133,9 +133,9 @@ insert_right h args k g m small_key small tree hand bare full =
         few : count_at x n ≤ 4
         few = begun.tree.few n at.linked
 
-        done : (reply : ℕ) (ws : List (ℕ × ℕ)) (b : Shape) (y : Memory) → IsLinked h.size b y → HandStands h (with_pending k ws) b y
+        done : (reply : ℕ) (ws : List (ℕ × ℕ)) (b : Shape) (y : Memory) → IsLinked h.size b y → OwnsUnseen h (with_pending k ws) b y
             → TreeRight h (holding [] TrInsert true false) (with_pending k ws) b y (returns reply)
-        done reply ws b y t hand' = tree_returns h (with_pending k ws) b y true called reply t hand'
+        done reply ws b y t unseen' = tree_returns h (with_pending k ws) b y true called reply t unseen'
             (record { fresh = bare.fresh; hanging = bare.hanging; called_is = bare.called_is })
             (tree_mutates (with_pending k ws) called reply bare.called_is refl)
 
@@ -144,7 +144,7 @@ insert_right h args k g m small_key small tree hand bare full =
         replaced i front entry back len around =
             subst (λ i. Onward h s k a x (replace_value h n i args.b)) len
             (λ b y r.
-            tree_open h (lock_of h n ∷ []) TrInsert false k b y (perform (Store (value_cell n (length front)) args.b) closing) r.tree (hand_stays h s k a x b y at.hand r)
+            tree_open h (lock_of h n ∷ []) TrInsert false k b y (perform (Store (value_cell n (length front)) args.b) closing) r.tree (unseen_stays h s k a x b y at.unseen r)
             (λ c z r'. store_in_node h TrInsert false k a x n (8 + length front) args.b [] closing begun.tree at low_level (omega (arith, place)) (λ e. omega (arith, e))
             (commit_block h called k a x n (front ++ (entry.0, args.b) ∷ back) ws (returns 2) begun.tree at leaf rewritten right commits (done 2 ws))
             c z (tree_rely_more h s k a b c x y z r (rely_with h (lock_of h n ∷ []) TrInsert false true false k [] b c y z r'))))

@@ -16,7 +16,7 @@ use Rattle.vyrd_memory.proofs.Situations.{situation_after}
 use Rattle.vyrd_memory.proofs.LegalRuns.{IsRun}
 use Rattle.vyrd_every.specs.Structures.{shown_by}
 use Rattle.vyrd_every.specs.Trees.Shapes.{Shape, IsLinked}
-use Rattle.vyrd_every.specs.Trees.Hands.{TreeHand, empty_tree_hand}
+use Rattle.vyrd_every.specs.Trees.Locals.{TreeLocals, empty_tree_locals}
 use Rattle.vyrd_every.specs.Trees.RightScripts.{TreeReaches, TreeRight}
 use Rattle.vyrd_every.specs.Trees.Between.{TreeInvariant}
 use Rattle.vyrd_every.specs.Trees.Starts.{first_shape}
@@ -32,11 +32,11 @@ pub record AreTreesRight (h : Header) (scripts : List Script) : Type 0 where
   pub subject : h.subject ≡ Tree
   pub some : 0 < h.size
   pub sound : AreSoundScripts h scripts
-  pub right : (c : ℕ) → c < h.callers → (g : Shape) (m : Memory) → IsLinked h.size g m → TreeRight h at_rest empty_tree_hand g m (script_of scripts c)
+  pub right : (c : ℕ) → c < h.callers → (g : Shape) (m : Memory) → IsLinked h.size g m → TreeRight h at_rest empty_tree_locals g m (script_of scripts c)
 
 -- nothing was done yet
 tree_begins : (h : Header) (scripts : List Script) → AreTreesRight h scripts
-    → TreeInvariant h scripts [] (λ c. empty_tree_hand) first_shape (shown_by []) [] start
+    → TreeInvariant h scripts [] (λ c. empty_tree_locals) first_shape (shown_by []) [] start
 tree_begins h scripts are = record {
   kept = tt;
   tree = starts_linked h.size are.some;
@@ -56,12 +56,12 @@ tree_begins h scripts are = record {
   seen = λ c low called is reply answer. cc;
 }
 
-takes_higher : (h : Header) (s : Situation) (k : TreeHand) (g : Shape) (m : Memory) (script : Script) (lock : ℕ) → TreeRight h s k g m script
+takes_higher : (h : Header) (s : Situation) (k : TreeLocals) (g : Shape) (m : Memory) (script : Script) (lock : ℕ) → TreeRight h s k g m script
     → next_act script ≡ Take lock → (held : ℕ) → holds s held ≡ true → held < lock
 takes_higher h s k g m stop lock right e = cc
 takes_higher h s k g m (step act rest) lock right e = subst (TreeReaches h s k g m) e right.2.reaches
 
-done_holds : (h : Header) (s : Situation) (k : TreeHand) (g : Shape) (m : Memory) (script : Script) (lock : ℕ) → TreeRight h s k g m script
+done_holds : (h : Header) (s : Situation) (k : TreeLocals) (g : Shape) (m : Memory) (script : Script) (lock : ℕ) → TreeRight h s k g m script
     → is_done (next_act script) ≡ true → holds s lock ≡ false
 done_holds h s k g m stop lock right e = ap (λ s. holds s lock) right.rests
 done_holds h s k g m (step act rest) lock right e = absurd (undone act right.2.reaches e)
@@ -77,11 +77,11 @@ done_holds h s k g m (step act rest) lock right e = absurd (undone act right.2.r
 pub tree_keeping : (h : Header) (scripts : List Script) → AreTreesRight h scripts → Keeping h scripts
 tree_keeping h scripts are = record {
   sound = are.sound;
-  Holds = λ earlier passed state. (hands : ℕ → TreeHand) × (g : Shape) × (m : Memory) × TreeInvariant h scripts earlier hands g m passed state;
-  begins = (λ c. empty_tree_hand, first_shape, shown_by [], tree_begins h scripts are);
+  Holds = λ earlier passed state. (locals : ℕ → TreeLocals) × (g : Shape) × (m : Memory) × TreeInvariant h scripts earlier locals g m passed state;
+  begins = (λ c. empty_tree_locals, first_shape, shown_by [], tree_begins h scripts are);
   goes_on = λ earlier number c did passed state run inv.
       let next = tree_next_event h scripts earlier number c did inv.0 inv.1 inv.2 passed state are.version are.sound run inv.3 in
-      record { next = next.next; holds_now = (next.hands, next.g, next.m, next.holds); leading = next.leading; returning = next.returning };
+      record { next = next.next; holds_now = (next.locals, next.g, next.m, next.holds); leading = next.leading; returning = next.returning };
   kept = λ earlier passed state inv. inv.3.kept;
   count = λ earlier passed state inv. inv.3.count;
   view = λ earlier passed state run inv. view_between h scripts earlier inv.0 inv.1 inv.2 passed state are.subject are.sound run inv.3;
@@ -94,8 +94,8 @@ tree_keeping h scripts are = record {
 }
   where
     right : (earlier : List Stamped) (passed : List Amounts) (state : Amounts) → IsRun h scripts earlier
-        → (hands : ℕ → TreeHand) (g : Shape) (m : Memory) → TreeInvariant h scripts earlier hands g m passed state
-        → (c : ℕ) → c < h.callers → TreeRight h (situation_after (part_of c earlier)) (hands c) g m (left_after (script_of scripts c) (part_of c earlier))
-    right earlier passed state run hands g m inv c low =
-        (inv.each c low).right g m (rely_none h (situation_after (part_of c earlier)) (hands c) g m inv.tree
-        (tree_calm h scripts earlier hands g m passed state are.sound run inv c low))
+        → (locals : ℕ → TreeLocals) (g : Shape) (m : Memory) → TreeInvariant h scripts earlier locals g m passed state
+        → (c : ℕ) → c < h.callers → TreeRight h (situation_after (part_of c earlier)) (locals c) g m (left_after (script_of scripts c) (part_of c earlier))
+    right earlier passed state run locals g m inv c low =
+        (inv.each c low).right g m (rely_none h (situation_after (part_of c earlier)) (locals c) g m inv.tree
+        (tree_calm h scripts earlier locals g m passed state are.sound run inv c low))

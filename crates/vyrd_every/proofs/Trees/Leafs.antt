@@ -36,17 +36,17 @@ use Rattle.vyrd_tree.specs.Laws.Alone.Changes.{Rewritten}
 use Rattle.vyrd_tree.specs.Laws.Alone.WalkArrives.{loaded_at}
 use Rattle.vyrd_tree.specs.Laws.Alone.Done.{changed_inside}
 use Rattle.vyrd_every.proofs.Acts.{never}
-use Rattle.vyrd_every.specs.Hands.{written}
+use Rattle.vyrd_every.specs.Locals.{written}
 use Rattle.vyrd_every.specs.Trees.Shapes.{Shape, HasEntries, IsLinked}
 use Rattle.vyrd_every.specs.Trees.States.{ShowsState}
-use Rattle.vyrd_every.specs.Trees.Hands.{TreeHand}
+use Rattle.vyrd_every.specs.Trees.Locals.{TreeLocals}
 use Rattle.vyrd_every.specs.Trees.Others.{TreeRely}
 use Rattle.vyrd_every.specs.Trees.RightScripts.{TreeRight, TreeCommits}
-use Rattle.vyrd_every.proofs.Trees.Parts.{HandStands, hand_stays, tree_rely_more, tree_load, tree_give_last, Changeless, changeless}
+use Rattle.vyrd_every.proofs.Trees.Parts.{OwnsUnseen, unseen_stays, tree_rely_more, tree_load, tree_give_last, Changeless, changeless}
 use Rattle.vyrd_every.proofs.Trees.Walks.{AtNode, Onward, Arrives, walk_right}
 use Rattle.vyrd_every.proofs.Trees.Order.{one_cover_in}
 use Rattle.vyrd_every.proofs.Trees.Kept.{code, uncode, linked_low, rewritten_hangs, rewritten_state, coded}
-use Rattle.vyrd_every.proofs.Trees.Blocks.{with_pending, hand_with, rely_with, tree_open, InBlock, store_in_node, store_entries, entry_writes, node_writes, node_rewritten, entries_kept, Rewrites, rewrites}
+use Rattle.vyrd_every.proofs.Trees.Blocks.{with_pending, unseen_with, rely_with, tree_open, InBlock, store_in_node, store_entries, entry_writes, node_writes, node_rewritten, entries_kept, Rewrites, rewrites}
 
 -- a node that has the key in its range, on a level
 pub record IsIn (g : Shape) (m : Memory) (level n key : ℕ) : Type 0 where
@@ -54,7 +54,7 @@ pub record IsIn (g : Shape) (m : Memory) (level n key : ℕ) : Type 0 where
   pub level_is : level_at m n ≡ level
   pub covers : Covers m g.low n key
 
-pub still_in : (h : Header) (s : Situation) (k : TreeHand) (g : Shape) (m : Memory) (g' : Shape) (m' : Memory) (level n key : ℕ) → IsIn g m level n key
+pub still_in : (h : Header) (s : Situation) (k : TreeLocals) (g : Shape) (m : Memory) (g' : Shape) (m' : Memory) (level n key : ℕ) → IsIn g m level n key
     → holds s (lock_of h n) ≡ true → TreeRely h s k g m g' m' → IsIn g' m' level n key
 still_in h s k g m g' m' level n key is held rely = record {
   linked = rely.grows.linked n is.linked;
@@ -103,17 +103,17 @@ there s x some = ap not (isnt_same (amount_of s x) 0 some)
 pub not_there : (s : Amounts) (x : ℕ) → amount_of s x ≡ 0 → is_present s x ≡ false
 not_there s x none = ap (λ n. not (n == 0)) none
 
--- the hand of an operation that has nothing but its call
-pub record IsBare (k : TreeHand) (called : Called) : Type 0 where
+-- the locals of an operation that has nothing but its call
+pub record IsBare (k : TreeLocals) (called : Called) : Type 0 where
   pub fresh : k.fresh ≡ None
   pub hanging : k.hanging ≡ None
   pub called_is : k.called ≡ Some called
 
 -- the return
-pub tree_returns : (h : Header) (k : TreeHand) (g : Shape) (m : Memory) (committed : Bool) (called : Called) (reply : ℕ) → IsLinked h.size g m
-    → HandStands h k g m → IsBare k called → ((c : Called) → k.called ≡ Some c → is_observer c.method ≡ true → k.answered ≡ Some reply)
+pub tree_returns : (h : Header) (k : TreeLocals) (g : Shape) (m : Memory) (committed : Bool) (called : Called) (reply : ℕ) → IsLinked h.size g m
+    → OwnsUnseen h k g m → IsBare k called → ((c : Called) → k.called ≡ Some c → is_observer c.method ≡ true → k.answered ≡ Some reply)
     → TreeRight h (holding [] called.method committed false) k g m (returns reply)
-tree_returns h k g m committed called reply tree hand bare answer = (
+tree_returns h k g m committed called reply tree unseen bare answer = (
   over,
   g,
   record {
@@ -135,21 +135,21 @@ tree_returns h k g m committed called reply tree hand bare answer = (
     called = refl;
     answers = (refl, answer);
   },
-  λ g' m' rely. record { rests = refl; fresh = bare.fresh; hanging = bare.hanging; called = refl; quiet = hand.quiet },
+  λ g' m' rely. record { rests = refl; fresh = bare.fresh; hanging = bare.hanging; called = refl; quiet = unseen.quiet },
 )
   where
-    over : TreeHand
+    over : TreeLocals
     over = record { fresh = k.fresh; hanging = k.hanging; pending = k.pending; out = k.out; called = None; answered = None }
 
     c : Changeless h (holding [] called.method committed false) k g m
-    c = changeless h (holding [] called.method committed false) k g m hand
+    c = changeless h (holding [] called.method committed false) k g m unseen
 
     or_false : (b : Bool) → b ≡ (b || false)
     or_false true = refl
     or_false false = refl
 
 -- a mutator returns whatever it has answered
-pub tree_mutates : (k : TreeHand) (called : Called) (reply : ℕ) → k.called ≡ Some called → is_observer called.method ≡ false
+pub tree_mutates : (k : TreeLocals) (called : Called) (reply : ℕ) → k.called ≡ Some called → is_observer called.method ≡ false
     → (c : Called) → k.called ≡ Some c → is_observer c.method ≡ true → k.answered ≡ Some reply
 tree_mutates k called reply is mutator c is' observes =
     let same : called ≡ c = some_same called c (sym is ∙ is') in
@@ -159,11 +159,11 @@ tree_mutates k called reply is mutator c is' observes =
     some_same x y e = cc
 
 -- with the leaf's lock held: commit, unlock it, and return 0
-pub nothing_right : (h : Header) (called : Called) (k : TreeHand) (g : Shape) (m : Memory) (n : ℕ) → IsLinked h.size g m
-    → HandStands h k g m → IsBare k called → is_observer called.method ≡ false
+pub nothing_right : (h : Header) (called : Called) (k : TreeLocals) (g : Shape) (m : Memory) (n : ℕ) → IsLinked h.size g m
+    → OwnsUnseen h k g m → IsBare k called → is_observer called.method ≡ false
     → ((state : Amounts) → ShowsState g m state → next_state called.method called.args 0 state ≡ Some state)
     → TreeRight h (holding (lock_of h n ∷ []) called.method false false) k g m (changes_nothing h n)
-nothing_right h called k g m n tree hand bare mutator stays = (
+nothing_right h called k g m n tree unseen bare mutator stays = (
   k,
   g,
   record {
@@ -194,22 +194,22 @@ nothing_right h called k g m n tree hand bare mutator stays = (
     answers = refl;
   },
   λ g' m' rely. tree_give_last h called.method true k g' m' (lock_of h n) (returns 0) rely.tree
-      (hand_stays h (holding (lock_of h n ∷ []) called.method true false) k g m g' m' hand rely)
+      (unseen_stays h (holding (lock_of h n ∷ []) called.method true false) k g m g' m' unseen rely)
       (λ g'' m'' rely'. tree_returns h k g'' m'' true called 0 rely'.tree
-      (hand_stays h (holding [] called.method true false) k g' m' g'' m''
-      (hand_stays h (holding (lock_of h n ∷ []) called.method true false) k g m g' m' hand rely) rely')
+      (unseen_stays h (holding [] called.method true false) k g' m' g'' m''
+      (unseen_stays h (holding (lock_of h n ∷ []) called.method true false) k g m g' m' unseen rely) rely')
       bare (tree_mutates k called 0 bare.called_is mutator)),
 )
   where
     c : Changeless h (holding (lock_of h n ∷ []) called.method false false) k g m
-    c = changeless h (holding (lock_of h n ∷ []) called.method false false) k g m hand
+    c = changeless h (holding (lock_of h n ∷ []) called.method false false) k g m unseen
 
     or_false : (b : Bool) → b ≡ (b || false)
     or_false true = refl
     or_false false = refl
 
 -- A block with these writes gives the leaf other entries and commits, and the leaf is unlocked.
-pub commit_block : (h : Header) (called : Called) (k : TreeHand) (g : Shape) (m : Memory) (n : ℕ) (new : Entries) (ws : List (ℕ × ℕ)) (later : Script)
+pub commit_block : (h : Header) (called : Called) (k : TreeLocals) (g : Shape) (m : Memory) (n : ℕ) (new : Entries) (ws : List (ℕ × ℕ)) (later : Script)
     → IsLinked h.size g m → AtNode h (holding (lock_of h n ∷ []) called.method false false) k g m n → level_at m n ≡ 0
     → ((g' : Shape) (m' : Memory) → TreeRely h (holding (lock_of h n ∷ []) called.method false false) k g m g' m'
     → Rewritten h.size m' (written ws m') n new)
@@ -218,7 +218,7 @@ pub commit_block : (h : Header) (called : Called) (k : TreeHand) (g : Shape) (m 
     → ((g' : Shape) (m' : Memory) → TreeRely h (holding (lock_of h n ∷ []) called.method false false) k g m g' m'
     → (state : Amounts) → ShowsState g' m' state → Rewritten h.size m' (written ws m') n new
     → TreeCommits (with_pending k ws) (unlock_node h n later) g' (written ws m') state)
-    → ((g' : Shape) (m' : Memory) → IsLinked h.size g' m' → HandStands h (with_pending k ws) g' m'
+    → ((g' : Shape) (m' : Memory) → IsLinked h.size g' m' → OwnsUnseen h (with_pending k ws) g' m'
     → TreeRight h (holding [] called.method true false) (with_pending k ws) g' m' later)
     → InBlock h called.method false k g m n ws (perform (Mark BlockCommit) (unlock_node h n later))
 commit_block h called k g m n new ws later tree at leaf rewritten right commits rest a x r = (
@@ -236,7 +236,7 @@ commit_block h called k g m n new ws later tree at leaf rewritten right commits 
     wrote = λ quiet out. cc;
     within = λ inside goes same. (refl, refl);
     taken = w.taken;
-    hung = λ y mine. let was = hand.hanging y mine in
+    hung = λ y mine. let was = unseen.hanging y mine in
         (was.0, rewritten_hangs h.size a x (written ws x) n new y r.tree linked rw was.1 (λ some. absurd (some leaf_here)), inl mine);
     leads = λ state shows. commits a x r state shows rw;
     pending = refl;
@@ -245,9 +245,9 @@ commit_block h called k g m n new ws later tree at leaf rewritten right commits 
     answers = refl;
   },
   λ b y r'. tree_give_last h called.method true (with_pending k ws) b y (lock_of h n) later r'.tree
-      (hand_stays h (holding (lock_of h n ∷ []) called.method true false) (with_pending k ws) a (written ws x) b y hand_after r')
-      (λ c z r''. rest c z r''.tree (hand_stays h (holding [] called.method true false) (with_pending k ws) b y c z
-      (hand_stays h (holding (lock_of h n ∷ []) called.method true false) (with_pending k ws) a (written ws x) b y hand_after r') r'')),
+      (unseen_stays h (holding (lock_of h n ∷ []) called.method true false) (with_pending k ws) a (written ws x) b y unseen_after r')
+      (λ c z r''. rest c z r''.tree (unseen_stays h (holding [] called.method true false) (with_pending k ws) b y c z
+      (unseen_stays h (holding (lock_of h n ∷ []) called.method true false) (with_pending k ws) a (written ws x) b y unseen_after r') r'')),
 )
   where
     s : Situation
@@ -262,26 +262,26 @@ commit_block h called k g m n new ws later tree at leaf rewritten right commits 
     leaf_here : level_at x n ≡ 0
     leaf_here = r.grows.level n at.linked ∙ leaf
 
-    hand : HandStands h (with_pending k ws) a x
-    hand = hand_with h k ws a x (hand_stays h s k g m a x at.hand r)
+    unseen : OwnsUnseen h (with_pending k ws) a x
+    unseen = unseen_with h k ws a x (unseen_stays h s k g m a x at.unseen r)
 
     rw : Rewritten h.size x (written ws x) n new
     rw = rewritten a x r
 
     w : Rewrites h inside (with_pending k ws) a x (written ws x)
-    w = rewrites h inside (with_pending k ws) a x (written ws x) n new r.tree hand linked at.held rw
+    w = rewrites h inside (with_pending k ws) a x (written ws x) n new r.tree unseen linked at.held rw
         (right a x r) (λ y of_y other hangs some. absurd (some leaf_here))
 
-    hand_after : HandStands h (with_pending k ws) a (written ws x)
-    hand_after = record {
+    unseen_after : OwnsUnseen h (with_pending k ws) a (written ws x)
+    unseen_after = record {
       fresh = λ y mine. let t = w.taken y mine in (t.0, t.1);
-      hanging = λ y mine. let was = hand.hanging y mine in
+      hanging = λ y mine. let was = unseen.hanging y mine in
           (was.0, rewritten_hangs h.size a x (written ws x) n new y r.tree linked rw was.1 (λ some. absurd (some leaf_here)));
       quiet = refl;
     }
 
 -- The leaf gets other entries in a block that commits, and is unlocked.
-pub rewrite_right : (h : Header) (called : Called) (k : TreeHand) (g : Shape) (m : Memory) (n : ℕ) (front back xs : Entries) (later : Script)
+pub rewrite_right : (h : Header) (called : Called) (k : TreeLocals) (g : Shape) (m : Memory) (n : ℕ) (front back xs : Entries) (later : Script)
     → IsLinked h.size g m → AtNode h (holding (lock_of h n ∷ []) called.method false false) k g m n → level_at m n ≡ 0
     → entries_at m n ≡ front ++ back → length (front ++ xs) ≤ 4
     → ((g' : Shape) (m' : Memory) → TreeRely h (holding (lock_of h n ∷ []) called.method false false) k g m g' m'
@@ -289,13 +289,13 @@ pub rewrite_right : (h : Header) (called : Called) (k : TreeHand) (g : Shape) (m
     → ((g' : Shape) (m' : Memory) → TreeRely h (holding (lock_of h n ∷ []) called.method false false) k g m g' m'
     → (state : Amounts) → ShowsState g' m' state → Rewritten h.size m' (written (node_writes n front xs) m') n (front ++ xs)
     → TreeCommits (with_pending k (node_writes n front xs)) (unlock_node h n later) g' (written (node_writes n front xs) m') state)
-    → ((g' : Shape) (m' : Memory) → IsLinked h.size g' m' → HandStands h (with_pending k (node_writes n front xs)) g' m'
+    → ((g' : Shape) (m' : Memory) → IsLinked h.size g' m' → OwnsUnseen h (with_pending k (node_writes n front xs)) g' m'
     → TreeRight h (holding [] called.method true false) (with_pending k (node_writes n front xs)) g' m' later)
     → Onward h (holding (lock_of h n ∷ []) called.method false false) k g m (rewrite h n (length front) (front ++ xs) BlockCommit later)
 rewrite_right h called k g m n front back xs later tree at leaf before few right commits rest g' m' rely =
     subst (λ ys. TreeRight h s k g' m' (perform (Mark BlockOpen) (write_entries n (length front) ys counted)))
     (sym (drop_front front xs))
-    (tree_open h (lock_of h n ∷ []) called.method false k g' m' (write_entries n (length front) xs counted) rely.tree (hand_stays h s k g m g' m' at.hand rely)
+    (tree_open h (lock_of h n ∷ []) called.method false k g' m' (write_entries n (length front) xs counted) rely.tree (unseen_stays h s k g m g' m' at.unseen rely)
     (λ g'' m'' rely'. block g'' m'' (tree_rely_more h s k g g' g'' m m' m'' rely
     (rely_with h (lock_of h n ∷ []) called.method false true false k [] g' g'' m' m'' rely'))))
   where
@@ -323,12 +323,12 @@ rewrite_right h called k g m n front back xs later tree at leaf before few right
         (entries_kept h s k g m n a x tree at r ∙ before) few) right commits rest))
 
 -- From the root to the leaf of the key: an operation's walk is never lost.
-pub walk_down_right : (h : Header) (method : Method) (committed : Bool) (key : ℕ) (k : TreeHand) (g : Shape) (m : Memory) (lost : Script) (arrived : Arrived → Script)
-    → IsLinked h.size g m → HandStands h k g m → Arrives h method committed k g m key 0 arrived
+pub walk_down_right : (h : Header) (method : Method) (committed : Bool) (key : ℕ) (k : TreeLocals) (g : Shape) (m : Memory) (lost : Script) (arrived : Arrived → Script)
+    → IsLinked h.size g m → OwnsUnseen h k g m → Arrives h method committed k g m key 0 arrived
     → TreeRight h (holding [] method committed false) k g m (walk_down h Correct key lost arrived)
-walk_down_right h method committed key k g m lost arrived tree hand there =
-    tree_load h (holding [] method committed false) k g m (root_cell h) (λ root. walk_from h Correct key 0 h.size root lost arrived) tree hand (inr (inl refl)) refl
-    (λ g' m' rely. walk_right h method committed key 0 k g m lost arrived hand there h.size (root_in h.size m) (λ x. false) g' m' rely (record {
+walk_down_right h method committed key k g m lost arrived tree unseen there =
+    tree_load h (holding [] method committed false) k g m (root_cell h) (λ root. walk_from h Correct key 0 h.size root lost arrived) tree unseen (inr (inl refl)) refl
+    (λ g' m' rely. walk_right h method committed key 0 k g m lost arrived unseen there h.size (root_in h.size m) (λ x. false) g' m' rely (record {
       linked = rely.grows.linked (root_in h.size m) tree.root_linked;
       from = (let low = rely.grows.low (root_in h.size m) tree.root_linked in let first = tree.root_first in omega arith);
       high = omega arith;
@@ -345,11 +345,11 @@ value_is xs front back entry e = ap (λ ys. value_in ys (length front)) e ∙ at
     at (x ∷ front) = at front
 
 -- a lookup
-pub lookup_right : (h : Header) (args : Args) (k : TreeHand) (g : Shape) (m : Memory) → IsLinked h.size g m → HandStands h k g m
+pub lookup_right : (h : Header) (args : Args) (k : TreeLocals) (g : Shape) (m : Memory) → IsLinked h.size g m → OwnsUnseen h k g m
     → IsBare k (record { method = TrLookup; args = args })
     → TreeRight h (holding [] TrLookup false false) k g m (lookup h Correct args.a)
-lookup_right h args k g m tree hand bare =
-    walk_down_right h TrLookup false args.a k g m (returns 0) (λ at. look_in h at (place_of args.a at.entries)) tree hand arrives
+lookup_right h args k g m tree unseen bare =
+    walk_down_right h TrLookup false args.a k g m (returns 0) (λ at. look_in h at (place_of args.a at.entries)) tree unseen arrives
   where
     called : Called
     called = record { method = TrLookup; args = args }
@@ -395,7 +395,7 @@ lookup_right h args k g m tree hand bare =
         reply : ℕ
         reply = reply_of (entries_at x n) (place_of args.a (entries_at x n))
 
-        answered : TreeHand
+        answered : TreeLocals
         answered = record {
           fresh = k.fresh;
           hanging = k.hanging;
@@ -405,11 +405,11 @@ lookup_right h args k g m tree hand bare =
           answered = Some (reply_of (entries_at x n) (place_of args.a (entries_at x n)));
         }
 
-        hand' : HandStands h k b y
-        hand' = hand_stays h s k a x b y at.hand r
+        unseen' : OwnsUnseen h k b y
+        unseen' = unseen_stays h s k a x b y at.unseen r
 
         c : Changeless h s k b y
-        c = changeless h s k b y hand'
+        c = changeless h s k b y unseen'
 
         or_false : (b : Bool) → b ≡ (b || false)
         or_false true = refl
@@ -446,15 +446,15 @@ lookup_right h args k g m tree hand bare =
 
         later : Later []
         later g' now r' = tree_returns h answered g' now false called reply r'.tree
-            (hand_stays h free answered b y g' now (record { fresh = hand'.fresh; hanging = hand'.hanging; quiet = hand'.quiet }) r')
+            (unseen_stays h free answered b y g' now (record { fresh = unseen'.fresh; hanging = unseen'.hanging; quiet = unseen'.quiet }) r')
             (record { fresh = bare.fresh; hanging = bare.hanging; called_is = bare.called_is }) (λ c is observes. refl)
 
 -- a delete
-pub delete_right : (h : Header) (args : Args) (k : TreeHand) (g : Shape) (m : Memory) → IsLinked h.size g m → HandStands h k g m
+pub delete_right : (h : Header) (args : Args) (k : TreeLocals) (g : Shape) (m : Memory) → IsLinked h.size g m → OwnsUnseen h k g m
     → IsBare k (record { method = TrDelete; args = args })
     → TreeRight h (holding [] TrDelete false false) k g m (delete h Correct args.a)
-delete_right h args k g m tree hand bare =
-    walk_down_right h TrDelete false args.a k g m gives_up (λ at. delete_in h at (place_of args.a at.entries)) tree hand arrives
+delete_right h args k g m tree unseen bare =
+    walk_down_right h TrDelete false args.a k g m gives_up (λ at. delete_in h at (place_of args.a at.entries)) tree unseen arrives
   where
     called : Called
     called = record { method = TrDelete; args = args }
@@ -485,7 +485,7 @@ delete_right h args k g m tree hand bare =
                   (still_in h s k a x b y 0 n args.a is at.held r) rw (gives-append args.a front back ∙ plus one.0 one.1)
                   (λ q apart. others q apart ∙ ap (gives q) (sym (entries_kept h s k a x n b y begun.tree at r)));
             })
-            (λ b y t hand'. tree_returns h (with_pending k (node_writes n front back)) b y true called 1 t hand'
+            (λ b y t unseen'. tree_returns h (with_pending k (node_writes n front back)) b y true called 1 t unseen'
             (record { fresh = bare.fresh; hanging = bare.hanging; called_is = bare.called_is })
             (tree_mutates (with_pending k (node_writes n front back)) called 1 bare.called_is refl))))
           where
@@ -543,7 +543,7 @@ delete_right h args k g m tree hand bare =
             → Onward h s k a x (delete_in h (loaded_at x n) (place_of args.a (entries_at x n)))
         by_place None e =
             subst (λ o. Onward h s k a x (delete_in h (loaded_at x n) o)) (sym e)
-            (λ b y r. nothing_right h called k b y n r.tree (hand_stays h s k a x b y at.hand r) bare refl
+            (λ b y r. nothing_right h called k b y n r.tree (unseen_stays h s k a x b y at.unseen r) bare refl
             (λ state shows. ap (λ b. then_some (not b) state) (not_there state args.a
             (absent_in h.size b y state n args.a r.tree shows (still_in h s k a x b y 0 n args.a is at.held r)
             (subst (Each (λ z. z.0 ≢ args.a)) (sym (entries_kept h s k a x n b y begun.tree at r)) (not_found args.a (entries_at x n) e))))))

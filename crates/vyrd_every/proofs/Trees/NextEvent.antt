@@ -34,11 +34,11 @@ use Rattle.vyrd_memory.proofs.LegalRuns.{IsRun}
 use Rattle.vyrd_tree.specs.Cells.{root_lock}
 use Rattle.vyrd_tree.specs.Contents.{level_at, root_in}
 use Rattle.vyrd_every.specs.Structures.{shown_by}
-use Rattle.vyrd_every.specs.Hands.{Hand, written, answer_at, called_after}
+use Rattle.vyrd_every.specs.Locals.{Locals, written, answer_at, called_after}
 use Rattle.vyrd_every.specs.Between.{log_in, has_answer}
 use Rattle.vyrd_every.specs.Trees.Shapes.{Shape}
 use Rattle.vyrd_every.specs.Trees.States.{ShowsState}
-use Rattle.vyrd_every.specs.Trees.Hands.{TreeHand, AreApart, MayLoad, MayStore}
+use Rattle.vyrd_every.specs.Trees.Locals.{TreeLocals, AreApart, MayLoad, MayStore}
 use Rattle.vyrd_every.specs.Trees.Seen.{seen_after}
 use Rattle.vyrd_every.specs.Trees.Others.{TreeRely}
 use Rattle.vyrd_every.specs.Trees.RightScripts.{TreeReaches, TreeCommits, TreeSees, TreeAnswers, TreeDoes}
@@ -53,7 +53,7 @@ use Rattle.vyrd_every.proofs.Trees.Written.{given_by, written_at, not_written, s
 use Rattle.vyrd_every.proofs.Trees.Clashes.{AreTwo, no_clash, no_clash_load}
 use Rattle.vyrd_every.proofs.Trees.Locks.{held_by_one}
 use Rattle.vyrd_every.proofs.Trees.Ones.{TreeOwnStep, tree_own_step, tree_other_step}
-use Rattle.vyrd_every.proofs.Trees.Ties.{may_store, with_hand, hand_own, hand_other, ties_step}
+use Rattle.vyrd_every.proofs.Trees.Ties.{may_store, with_locals, unseen_own, unseen_other, ties_step}
 
 -- a word that no open block has written, and one that a block has written
 free_value : (h : Header) (earlier : List Stamped) (w : ℕ) → AreLegal (cells_of h) earlier → WellFormed h (log_in earlier) → w < plain_words h
@@ -70,12 +70,12 @@ held_value h earlier w c pending legal kept low low_c holding is =
     ∙ ap (λ o. unwrap_or o (shown_by (log_in earlier) w)) ((well_formed_sound h w (log_in earlier) kept).held c low_c holding)
     ∙ last_is_value (cells_of h) w earlier low (legal_too (cells_of h) earlier legal))
 
--- the caller's hand, as the log sees it
-abbrev plain : TreeHand → Hand
+-- the caller's locals, as the log sees them
+abbrev plain : TreeLocals → Locals
 plain k = record { owned = λ slot. false; pending = k.pending; called = k.called; answered = k.answered }
 
 -- what is left to show of one more event
-commit_leads : (k : TreeHand) (c : ℕ) (log : List Entry) (rest : Script) (g : Shape) (m : Memory) (state : Amounts) → k.called ≡ open_call c log
+commit_leads : (k : TreeLocals) (c : ℕ) (log : List Entry) (rest : Script) (g : Shape) (m : Memory) (state : Amounts) → k.called ≡ open_call c log
     → TreeCommits k rest g m state → (next : Amounts) × ShowsState g m next × Committing c log rest state next
 commit_leads k c log rest g m state called commits = (
   commits.next,
@@ -83,7 +83,7 @@ commit_leads k c log rest g m state called commits = (
   record { called = commits.called; is_called = sym called ∙ commits.is_called; reply = commits.reply; returns = commits.returns; allowed = commits.allowed },
 )
 
-event_leads : (h : Header) (s : Situation) (k next : TreeHand) (c : ℕ) (did : Did) (log : List Entry) (g : Shape) (m : Memory) (g' : Shape) (rest : Script)
+event_leads : (h : Header) (s : Situation) (k next : TreeLocals) (c : ℕ) (did : Did) (log : List Entry) (g : Shape) (m : Memory) (g' : Shape) (rest : Script)
     (state : Amounts) → k.called ≡ open_call c log → TreeDoes h s k g m (act_of_event did) rest next g' → ShowsState g m state
     → (after : Amounts) × ShowsState g' (seen_after h s k m (act_of_event did)) after × Leading c did log rest state after
 event_leads h s k next c (Read cell value) log g m g' rest state called does shows = (state, does.leads state shows, refl)
@@ -99,7 +99,7 @@ event_leads h s k next c (Marked BlockClose) log g m g' rest state called does s
 event_leads h s k next c (Marked BlockCommit) log g m g' rest state called does shows =
     commit_leads k c log rest g' (seen_after h s k m (Mark BlockCommit)) state called (does.leads state shows)
 
-seen_own : (c : ℕ) (did : Did) (k next : TreeHand) (log : List Entry) (g : Shape) (m : Memory) (passed more : List Amounts) (state : Amounts)
+seen_own : (c : ℕ) (did : Did) (k next : TreeLocals) (log : List Entry) (g : Shape) (m : Memory) (passed more : List Amounts) (state : Amounts)
     → TreeAnswers k g m (act_of_event did) next → next.called ≡ called_after (act_of_event did) k.called → ShowsState g m state
     → length passed ≡ commit_count log → SeenBy (plain k) c log (passed ++ state ∷ [])
     → SeenBy (plain next) c (cons_option (logged c did) log) ((passed ++ state ∷ []) ++ more)
@@ -135,7 +135,7 @@ seen_own c (Marked BlockClose) k next log g m passed more state answers called s
 seen_own c (Marked BlockCommit) k next log g m passed more state answers called shows count seen =
     seen_quiet c (Marked BlockCommit) (plain k) (plain next) log (passed ++ state ∷ []) more refl called answers seen
 
-event_returns : (c : ℕ) (did : Did) (k next : TreeHand) (log : List Entry) (g : Shape) (m : Memory) (passed : List Amounts) (state : Amounts)
+event_returns : (c : ℕ) (did : Did) (k next : TreeLocals) (log : List Entry) (g : Shape) (m : Memory) (passed : List Amounts) (state : Amounts)
     → TreeAnswers k g m (act_of_event did) next → k.called ≡ open_call c log → SeenBy (plain k) c log (passed ++ state ∷ [])
     → Returning c did log passed state
 event_returns c (Marked (Return reply)) k next log g m passed state answers called seen = λ its is observes.
@@ -151,7 +151,7 @@ event_returns c (Marked BlockOpen) k next log g m passed state answers called se
 event_returns c (Marked BlockClose) k next log g m passed state answers called seen = tt
 event_returns c (Marked BlockCommit) k next log g m passed state answers called seen = tt
 
-no_write : (h : Header) (s : Situation) (k : TreeHand) (g : Shape) (m : Memory) (kind : Kind) → TreeReaches h s k g m (Mark kind) → IsNoWrite kind
+no_write : (h : Header) (s : Situation) (k : TreeLocals) (g : Shape) (m : Memory) (kind : Kind) → TreeReaches h s k g m (Mark kind) → IsNoWrite kind
 no_write h s k g m (Call method args) reaches = tt
 no_write h s k g m (Return reply) reaches = tt
 no_write h s k g m (Write word value) reaches = reaches
@@ -170,32 +170,32 @@ apart_too a b e = by_test (b == a) refl
 -- what one more event makes of it all
 pub record TreeNext (h : Header) (scripts : List Script) (earlier : List Stamped) (number c : ℕ) (did : Did) (passed : List Amounts) (state : Amounts)
     : Type 0 where
-  pub hands : ℕ → TreeHand
+  pub locals : ℕ → TreeLocals
   pub g : Shape
   pub m : Memory
   pub next : Amounts
-  pub holds : TreeInvariant h scripts (record { number = number; caller = c; did = did } ∷ earlier) hands g m (passed_after did passed state) next
+  pub holds : TreeInvariant h scripts (record { number = number; caller = c; did = did } ∷ earlier) locals g m (passed_after did passed state) next
   pub leading : Leading c did (log_in earlier) (after_answer (left_after (script_of scripts c) (part_of c earlier)) 0) state next
   pub returning : Returning c did (log_in earlier) passed state
 
 -- whoever holds the root's lock sees the root that the log shows, but the caller whose block is seen
-pub tree_calm : (h : Header) (scripts : List Script) (earlier : List Stamped) (hands : ℕ → TreeHand) (g : Shape) (m : Memory) (passed : List Amounts)
-    (state : Amounts) → AreSoundScripts h scripts → IsRun h scripts earlier → TreeInvariant h scripts earlier hands g m passed state
-    → (d : ℕ) → d < h.callers → holds (situation_after (part_of d earlier)) (root_lock h) ≡ true → (hands d).out ≡ false
+pub tree_calm : (h : Header) (scripts : List Script) (earlier : List Stamped) (locals : ℕ → TreeLocals) (g : Shape) (m : Memory) (passed : List Amounts)
+    (state : Amounts) → AreSoundScripts h scripts → IsRun h scripts earlier → TreeInvariant h scripts earlier locals g m passed state
+    → (d : ℕ) → d < h.callers → holds (situation_after (part_of d earlier)) (root_lock h) ≡ true → (locals d).out ≡ false
     → g.top ≡ level_at m (root_in h.size m)
-tree_calm h scripts earlier hands g m passed state sound run inv d low_d held quiet = by_ties inv.ties
+tree_calm h scripts earlier locals g m passed state sound run inv d low_d held quiet = by_ties inv.ties
   where
-    by_ties : NoneOut h hands g m (shown_by (log_in earlier)) ⊎ OneOut h hands m (shown_by (log_in earlier)) → g.top ≡ level_at m (root_in h.size m)
+    by_ties : NoneOut h locals g m (shown_by (log_in earlier)) ⊎ OneOut h locals m (shown_by (log_in earlier)) → g.top ≡ level_at m (root_in h.size m)
     by_ties (inl n) = n.calm
     by_ties (inr o) = by_same o.who d
-        (λ same. absurd (never quiet (subst (λ x. (hands x).out ≡ true) same o.out)))
+        (λ same. absurd (never quiet (subst (λ x. (locals x).out ≡ true) same o.out)))
         (λ other. absurd (never (held_by_one h o.who d earlier (root_lock h) run.legal (keeps_in h scripts earlier o.who sound run o.low)
         (keeps_in h scripts earlier d sound run low_d) other held) ((inv.each o.who o.low).alone o.out).0))
 
 -- one more event, of caller c
-module _ (h : Header) (scripts : List Script) (earlier : List Stamped) (number c : ℕ) (did : Did) (hands : ℕ → TreeHand) (g : Shape) (m : Memory)
+module _ (h : Header) (scripts : List Script) (earlier : List Stamped) (number c : ℕ) (did : Did) (locals : ℕ → TreeLocals) (g : Shape) (m : Memory)
     (passed : List Amounts) (state : Amounts) (version : h.version ≡ 1) (sound : AreSoundScripts h scripts)
-    (run : IsRun h scripts (record { number = number; caller = c; did = did } ∷ earlier)) (inv : TreeInvariant h scripts earlier hands g m passed state) where
+    (run : IsRun h scripts (record { number = number; caller = c; did = did } ∷ earlier)) (inv : TreeInvariant h scripts earlier locals g m passed state) where
   abbrev e : Stamped
   e = record { number = number; caller = c; did = did }
 
@@ -233,7 +233,7 @@ module _ (h : Header) (scripts : List Script) (earlier : List Stamped) (number c
   locks a d lock low_a low_d other held =
       held_by_one h a d earlier lock before.legal (keeps_in h scripts earlier a sound before low_a) (keeps_in h scripts earlier d sound before low_d) other held
 
-  two : (d : ℕ) → d < h.callers → (c == d) ≡ false → AreTwo h (situation c) (situation d) (hands c) (hands d) g m
+  two : (d : ℕ) → d < h.callers → (c == d) ≡ false → AreTwo h (situation c) (situation d) (locals c) (locals d) g m
   two d low_d other = record {
     tree = inv.tree;
     own = (inv.each c low).owns;
@@ -244,8 +244,8 @@ module _ (h : Header) (scripts : List Script) (earlier : List Stamped) (number c
     ahead = (inv.each d low_d).ahead;
   }
 
-  calm : (d : ℕ) → d < h.callers → holds (situation d) (root_lock h) ≡ true → (hands d).out ≡ false → g.top ≡ level_at m (root_in h.size m)
-  calm d low_d = tree_calm h scripts earlier hands g m passed state sound before inv d low_d
+  calm : (d : ℕ) → d < h.callers → holds (situation d) (root_lock h) ≡ true → (locals d).out ≡ false → g.top ≡ level_at m (root_in h.size m)
+  calm d low_d = tree_calm h scripts earlier locals g m passed state sound before inv d low_d
 
   -- a load finds what callers see
   found_word : (cell : ℕ) → cell < plain_words h → MayLoad h (situation c) g cell → (situation c).in_block ≡ false → value_in earlier cell ≡ m cell
@@ -254,39 +254,39 @@ module _ (h : Header) (scripts : List Script) (earlier : List Stamped) (number c
       own_free : holds_word c cell (log_in earlier) ≡ false
       own_free = ap (λ b. b && wrote c cell (log_in earlier)) ((agree c low).in_block ∙ outside)
 
-      free : (d : ℕ) → d < h.callers → (hands d).out ≡ false → holds_word d cell (log_in earlier) ≡ false
+      free : (d : ℕ) → d < h.callers → (locals d).out ≡ false → holds_word d cell (log_in earlier) ≡ false
       free d low_d quiet = by_same c d
           (λ same. subst (λ x. holds_word x cell (log_in earlier) ≡ false) same own_free)
           (λ other. by_test other (holds_word d cell (log_in earlier)) refl)
         where
-          by_hold : (c == d) ≡ false → MayHold h (situation d) (hands d) g m cell → ⊥
-          by_hold other (inl hold) = no_clash_load h (situation c) (situation d) (hands c) (hands d) g m cell (two d low_d other) may hold.1
+          by_hold : (c == d) ≡ false → MayHold h (situation d) (locals d) g m cell → ⊥
+          by_hold other (inl hold) = no_clash_load h (situation c) (situation d) (locals c) (locals d) g m cell (two d low_d other) may hold.1
           by_hold other (inr out) = never quiet out.0
 
           by_test : (c == d) ≡ false → (b : Bool) → holds_word d cell (log_in earlier) ≡ b → b ≡ false
           by_test other false f = refl
           by_test other true f = absurd (by_hold other ((inv.each d low_d).covers cell f))
 
-      by_held : (o : OneOut h hands m (shown_by (log_in earlier))) → (b : Bool) → holds_word o.who cell (log_in earlier) ≡ b
-          → value_in earlier cell ≡ written (hands o.who).pending (shown_by (log_in earlier)) cell
-      by_held o true f = held_value h earlier cell o.who (hands o.who).pending before.legal inv.kept fits o.low f (inv.each o.who o.low).pending
+      by_held : (o : OneOut h locals m (shown_by (log_in earlier))) → (b : Bool) → holds_word o.who cell (log_in earlier) ≡ b
+          → value_in earlier cell ≡ written (locals o.who).pending (shown_by (log_in earlier)) cell
+      by_held o true f = held_value h earlier cell o.who (locals o.who).pending before.legal inv.kept fits o.low f (inv.each o.who o.low).pending
       by_held o false f =
           free_value h earlier cell before.legal inv.kept fits
           (λ d low_d. by_same o.who d (λ same. subst (λ x. holds_word x cell (log_in earlier) ≡ false) same f) (λ other. free d low_d (o.others d low_d other)))
-          ∙ sym (not_written (hands o.who).pending (shown_by (log_in earlier)) cell
+          ∙ sym (not_written (locals o.who).pending (shown_by (log_in earlier)) cell
           (ap (λ ws. is_some (given_by cell ws)) (inv.each o.who o.low).pending ∙ sym (wrote_is o.who cell (log_in earlier) inside) ∙ sym (ap (λ b. b && wrote o.who cell (log_in earlier)) inside) ∙ f))
         where
           inside : has_block o.who (log_in earlier) ≡ true
           inside = (agree o.who o.low).in_block ∙ ((inv.each o.who o.low).alone o.out).1
 
-      by_ties : NoneOut h hands g m (shown_by (log_in earlier)) ⊎ OneOut h hands m (shown_by (log_in earlier)) → value_in earlier cell ≡ m cell
+      by_ties : NoneOut h locals g m (shown_by (log_in earlier)) ⊎ OneOut h locals m (shown_by (log_in earlier)) → value_in earlier cell ≡ m cell
       by_ties (inl n) = free_value h earlier cell before.legal inv.kept fits (λ d low_d. free d low_d (n.quiet d low_d)) ∙ sym (ap (λ f. f cell) n.same)
       by_ties (inr o) = by_held o (holds_word o.who cell (log_in earlier)) refl ∙ sym (ap (λ f. f cell) o.same)
 
-  found : TreeReaches h (situation c) (hands c) g m (act_of_event did) → answer_of did ≡ answer_at m (act_of_event did)
+  found : TreeReaches h (situation c) (locals c) g m (act_of_event did) → answer_of did ≡ answer_at m (act_of_event did)
   found = by_did did (does (cells_of h) earlier e run.legal.0)
     where
-      by_did : (x : Did) → may_do (cells_of h) earlier c x ≡ true → TreeReaches h (situation c) (hands c) g m (act_of_event x)
+      by_did : (x : Did) → may_do (cells_of h) earlier c x ≡ true → TreeReaches h (situation c) (locals c) g m (act_of_event x)
           → answer_of x ≡ answer_at m (act_of_event x)
       by_did (Read cell value) allowed reaches =
           same_of value (value_in earlier cell) (second_true (is_plain (cells_of h) cell) (value == value_in earlier cell) allowed)
@@ -298,18 +298,18 @@ module _ (h : Header) (scripts : List Script) (earlier : List Stamped) (number c
       by_did (Marked kind) allowed reaches = refl
 
   -- the log stays well formed
-  kept_now : TreeReaches h (situation c) (hands c) g m (act_of_event did) → WellFormed h log
+  kept_now : TreeReaches h (situation c) (locals c) g m (act_of_event did) → WellFormed h log
   kept_now = by_did did may
     where
-      free : (cell d : ℕ) → MayStore h (situation c) (hands c) g m cell → d < h.callers → (d == c) ≡ false → holds_word d cell (log_in earlier) ≡ false
+      free : (cell d : ℕ) → MayStore h (situation c) (locals c) g m cell → d < h.callers → (d == c) ≡ false → holds_word d cell (log_in earlier) ≡ false
       free cell d stores low_d other = by_test (holds_word d cell (log_in earlier)) refl
         where
           by_test : (b : Bool) → holds_word d cell (log_in earlier) ≡ b → b ≡ false
           by_test false f = refl
-          by_test true f = absurd (no_clash h (situation c) (situation d) (hands c) (hands d) g m cell (two d low_d (apart_too d c other)) stores
+          by_test true f = absurd (no_clash h (situation c) (situation d) (locals c) (locals d) g m cell (two d low_d (apart_too d c other)) stores
               ((inv.each d low_d).covers cell f))
 
-      by_did : (x : Did) → may_act h (situation c) (act_of_event x) ≡ true → TreeReaches h (situation c) (hands c) g m (act_of_event x)
+      by_did : (x : Did) → may_act h (situation c) (act_of_event x) ≡ true → TreeReaches h (situation c) (locals c) g m (act_of_event x)
           → WellFormed h (cons_option (logged c x) (log_in earlier))
       by_did (Read cell value) allowed reaches = inv.kept
       by_did (Took lock) allowed reaches = inv.kept
@@ -321,98 +321,98 @@ module _ (h : Header) (scripts : List Script) (earlier : List Stamped) (number c
         inv.kept,
       )
       by_did (Marked kind) allowed reaches = (
-        mark_unraced h c kind (log_in earlier) (no_write h (situation c) (hands c) g m kind reaches)
+        mark_unraced h c kind (log_in earlier) (no_write h (situation c) (locals c) g m kind reaches)
             (mark_kept h c kind (situation c) (log_in earlier) low allowed (agree c low)),
         inv.kept,
       )
 
   -- the caller's own act
-  own : TreeOwnStep h (script_of scripts c) (part_of c earlier) (log_in earlier) c did (hands c) g m
-  own = tree_own_step h (script_of scripts c) (part_of c earlier) (log_in earlier) c did (hands c) g m (inv.each c low) inv.tree (calm c low) (agree c low)
+  own : TreeOwnStep h (script_of scripts c) (part_of c earlier) (log_in earlier) c did (locals c) g m
+  own = tree_own_step h (script_of scripts c) (part_of c earlier) (log_in earlier) c did (locals c) g m (inv.each c low) inv.tree (calm c low) (agree c low)
       agree_now may plays.0 found
 
   abbrev m' : Memory
-  m' = seen_after h (situation c) (hands c) m (act_of_event did)
+  m' = seen_after h (situation c) (locals c) m (act_of_event did)
 
-  abbrev now_hands : ℕ → TreeHand
-  now_hands = with_hand hands c own.next
+  abbrev now_locals : ℕ → TreeLocals
+  now_locals = with_locals locals c own.next
 
   after : (next : Amounts) × ShowsState own.grown m' next × Leading c did (log_in earlier) left state next
-  after = event_leads h (situation c) (hands c) own.next c did (log_in earlier) g m own.grown left state (inv.each c low).called own.does inv.shows
+  after = event_leads h (situation c) (locals c) own.next c did (log_in earlier) g m own.grown left state (inv.each c low).called own.does inv.shows
 
   -- it is within what each other caller relies on
-  rely_of : (d : ℕ) → d < h.callers → (c == d) ≡ false → TreeRely h (situation d) (hands d) g m own.grown m'
+  rely_of : (d : ℕ) → d < h.callers → (c == d) ≡ false → TreeRely h (situation d) (locals d) g m own.grown m'
   rely_of d low_d other =
-      others_rely h (situation c) (situation d) (hands c) (hands d) g m (act_of_event did) left own.next own.grown inv.tree own.does (inv.each d low_d).owns
+      others_rely h (situation c) (situation d) (locals c) (locals d) g m (act_of_event did) left own.next own.grown inv.tree own.does (inv.each d low_d).owns
       (inv.apart c d low low_d other) (λ lock held. locks c d lock low low_d other held) (calm d low_d)
 
-  own_now : OfTreeCaller h (script_of scripts c) (part_of c (e ∷ earlier)) log c (now_hands c) own.grown m'
-  own_now = subst (λ p. OfTreeCaller h (script_of scripts c) p log c (now_hands c) own.grown m') (sym (part_own number c did earlier))
-      (subst (λ k. OfTreeCaller h (script_of scripts c) (did ∷ part_of c earlier) log c k own.grown m') (sym (hand_own hands c own.next)) own.one)
+  own_now : OfTreeCaller h (script_of scripts c) (part_of c (e ∷ earlier)) log c (now_locals c) own.grown m'
+  own_now = subst (λ p. OfTreeCaller h (script_of scripts c) p log c (now_locals c) own.grown m') (sym (part_own number c did earlier))
+      (subst (λ k. OfTreeCaller h (script_of scripts c) (did ∷ part_of c earlier) log c k own.grown m') (sym (unseen_own locals c own.next)) own.one)
 
-  each_now : (d : ℕ) → d < h.callers → OfTreeCaller h (script_of scripts d) (part_of d (e ∷ earlier)) log d (now_hands d) own.grown m'
+  each_now : (d : ℕ) → d < h.callers → OfTreeCaller h (script_of scripts d) (part_of d (e ∷ earlier)) log d (now_locals d) own.grown m'
   each_now d low_d = by_same c d
-      (λ same. subst (λ x. OfTreeCaller h (script_of scripts x) (part_of x (e ∷ earlier)) log x (now_hands x) own.grown m') same own_now)
-      (λ other. subst (λ p. OfTreeCaller h (script_of scripts d) p log d (now_hands d) own.grown m') (sym (part_other number c d did earlier other))
-      (subst (λ k. OfTreeCaller h (script_of scripts d) (part_of d earlier) log d k own.grown m') (sym (hand_other hands c d own.next other))
-      (tree_other_step h (script_of scripts d) (part_of d earlier) (log_in earlier) c d did (hands d) g m own.grown m' (inv.each d low_d) inv.tree other
+      (λ same. subst (λ x. OfTreeCaller h (script_of scripts x) (part_of x (e ∷ earlier)) log x (now_locals x) own.grown m') same own_now)
+      (λ other. subst (λ p. OfTreeCaller h (script_of scripts d) p log d (now_locals d) own.grown m') (sym (part_other number c d did earlier other))
+      (subst (λ k. OfTreeCaller h (script_of scripts d) (part_of d earlier) log d k own.grown m') (sym (unseen_other locals c d own.next other))
+      (tree_other_step h (script_of scripts d) (part_of d earlier) (log_in earlier) c d did (locals d) g m own.grown m' (inv.each d low_d) inv.tree other
       (rely_of d low_d other))))
 
-  apart_now : (a b : ℕ) → a < h.callers → b < h.callers → (a == b) ≡ false → AreApart (now_hands a) (now_hands b)
+  apart_now : (a b : ℕ) → a < h.callers → b < h.callers → (a == b) ≡ false → AreApart (now_locals a) (now_locals b)
   apart_now a b low_a low_b other = by_tests (c == a) refl (c == b) refl
     where
-      flip : (k its : TreeHand) → AreApart k its → AreApart its k
+      flip : (k its : TreeLocals) → AreApart k its → AreApart its k
       flip k its apart = record { fresh = λ n mine theirs. apart.fresh n theirs mine; hanging = λ n mine theirs. apart.hanging n theirs mine }
 
-      from : (d : ℕ) → d < h.callers → (c == d) ≡ false → AreApart own.next (hands d)
-      from d low_d apart = still_apart_from h (situation c) (hands c) (hands d) g m (act_of_event did) left own.next own.grown own.does (inv.each d low_d).owns
+      from : (d : ℕ) → d < h.callers → (c == d) ≡ false → AreApart own.next (locals d)
+      from d low_d apart = still_apart_from h (situation c) (locals c) (locals d) g m (act_of_event did) left own.next own.grown own.does (inv.each d low_d).owns
           (inv.apart c d low low_d apart)
 
-      by_tests : (x : Bool) → (c == a) ≡ x → (y : Bool) → (c == b) ≡ y → AreApart (cond x own.next (hands a)) (cond y own.next (hands b))
+      by_tests : (x : Bool) → (c == a) ≡ x → (y : Bool) → (c == b) ≡ y → AreApart (cond x own.next (locals a)) (cond y own.next (locals b))
       by_tests true f true k = absurd (never other (subst (λ z. (a == z) ≡ true) (sym (same_of c a f) ∙ same_of c b k) (same_number a)))
       by_tests true f false k = from b low_b k
-      by_tests false f true k = flip own.next (hands a) (from a low_a f)
+      by_tests false f true k = flip own.next (locals a) (from a low_a f)
       by_tests false f false k = inv.apart a b low_a low_b other
 
   -- a word that an open block has written
-  held_of : (d w : ℕ) → d < h.callers → (situation d).in_block ≡ true → is_some (given_by w (hands d).pending) ≡ true → MayHold h (situation d) (hands d) g m w
+  held_of : (d w : ℕ) → d < h.callers → (situation d).in_block ≡ true → is_some (given_by w (locals d).pending) ≡ true → MayHold h (situation d) (locals d) g m w
   held_of d w low_d inside given =
       let open_ : has_block d (log_in earlier) ≡ true = (agree d low_d).in_block ∙ inside in
       (inv.each d low_d).covers w (ap (λ b. b && wrote d w (log_in earlier)) open_ ∙ wrote_is d w (log_in earlier) open_
       ∙ sym (ap (λ ws. is_some (given_by w ws)) (inv.each d low_d).pending) ∙ given)
 
-  stored : (w : ℕ) → (hands c).out ≡ false → (situation c).in_block ≡ true → is_some (given_by w (hands c).pending) ≡ true
-      → MayStore h (situation c) (hands c) g m w
+  stored : (w : ℕ) → (locals c).out ≡ false → (situation c).in_block ≡ true → is_some (given_by w (locals c).pending) ≡ true
+      → MayStore h (situation c) (locals c) g m w
   stored w quiet inside given = by_hold (held_of c w low inside given)
     where
-      by_hold : MayHold h (situation c) (hands c) g m w → MayStore h (situation c) (hands c) g m w
+      by_hold : MayHold h (situation c) (locals c) g m w → MayStore h (situation c) (locals c) g m w
       by_hold (inl hold) = inl (inside, quiet, inl hold.1)
       by_hold (inr out) = absurd (never quiet out.0)
 
-  ties_now : NoneOut h now_hands own.grown m' (shown_by log) ⊎ OneOut h now_hands m' (shown_by log)
+  ties_now : NoneOut h now_locals own.grown m' (shown_by log) ⊎ OneOut h now_locals m' (shown_by log)
   ties_now =
-      ties_step h c (situation c) hands g m (act_of_event did) left own.next own.grown (shown_by (log_in earlier)) (shown_by log) low own.does may
-      (shown_more h (situation c) (hands c) g m c did (log_in earlier) (agree c low).in_block (inv.each c low).pending own.does.reaches)
+      ties_step h c (situation c) locals g m (act_of_event did) left own.next own.grown (shown_by (log_in earlier)) (shown_by log) low own.does may
+      (shown_more h (situation c) (locals c) g m c did (log_in earlier) (agree c low).in_block (inv.each c low).pending own.does.reaches)
       (λ out. ((inv.each c low).alone out).1)
       (λ d low_d other out. locks c d (root_lock h) low low_d (apart_too d c other) ((inv.each d low_d).alone out).0)
       (λ d w low_d other out quiet given_c given_d.
-      no_clash h (situation c) (situation d) (hands c) (hands d) g m w (two d low_d (apart_too d c other))
-      (may_store h (situation c) (hands c) g m (act_of_event did) w own.does.reaches may (stored w quiet) given_c)
+      no_clash h (situation c) (situation d) (locals c) (locals d) g m w (two d low_d (apart_too d c other))
+      (may_store h (situation c) (locals c) g m (act_of_event did) w own.does.reaches may (stored w quiet) given_c)
       (held_of d w low_d ((inv.each d low_d).alone out).1 given_d))
       inv.ties
 
   grown_by : List Amounts
   grown_by = cond (commits_now did) (after.0 ∷ []) []
 
-  seen_by : (d : ℕ) → d < h.callers → (x : Bool) → (c == d) ≡ x → SeenBy (plain (cond x own.next (hands d))) d log ((passed ++ state ∷ []) ++ grown_by)
+  seen_by : (d : ℕ) → d < h.callers → (x : Bool) → (c == d) ≡ x → SeenBy (plain (cond x own.next (locals d))) d log ((passed ++ state ∷ []) ++ grown_by)
   seen_by d low_d true f = subst (λ z. SeenBy (plain own.next) z log ((passed ++ state ∷ []) ++ grown_by)) (same_of c d f)
-      (seen_own c did (hands c) own.next (log_in earlier) g m passed grown_by state own.does.answers own.does.called inv.shows inv.count (inv.seen c low))
-  seen_by d low_d false f = seen_other c d did (plain (hands d)) (log_in earlier) (passed ++ state ∷ []) grown_by f (inv.seen d low_d)
+      (seen_own c did (locals c) own.next (log_in earlier) g m passed grown_by state own.does.answers own.does.called inv.shows inv.count (inv.seen c low))
+  seen_by d low_d false f = seen_other c d did (plain (locals d)) (log_in earlier) (passed ++ state ∷ []) grown_by f (inv.seen d low_d)
 
   pub tree_next_event : TreeNext h scripts earlier number c did passed state
   unfolding grown_by
   tree_next_event = record {
-    hands = now_hands;
+    locals = now_locals;
     g = own.grown;
     m = m';
     next = after.0;
@@ -429,5 +429,5 @@ module _ (h : Header) (scripts : List Script) (earlier : List Stamped) (number c
           (seen_by d low_d (c == d) refl called is_called reply answer);
     };
     leading = after.2;
-    returning = event_returns c did (hands c) own.next (log_in earlier) g m passed state own.does.answers (inv.each c low).called (inv.seen c low);
+    returning = event_returns c did (locals c) own.next (log_in earlier) g m passed state own.does.answers (inv.each c low).called (inv.seen c low);
   }

@@ -25,9 +25,9 @@ use Rattle.vyrd_memory.proofs.Situations.{act_of_event, situation_after, event_a
 use Rattle.vyrd_memory.proofs.Agreements.{Agrees, four_true}
 use Rattle.vyrd_tree.specs.Cells.{root_cell, lock_of, root_lock}
 use Rattle.vyrd_tree.specs.Contents.{level_at, root_in}
-use Rattle.vyrd_every.specs.Hands.{written, pending_after, called_after, answer_at}
+use Rattle.vyrd_every.specs.Locals.{written, pending_after, called_after, answer_at}
 use Rattle.vyrd_every.specs.Trees.Shapes.{Shape, IsLinked}
-use Rattle.vyrd_every.specs.Trees.Hands.{TreeHand, IsWordOf, InNode, MayStore}
+use Rattle.vyrd_every.specs.Trees.Locals.{TreeLocals, IsWordOf, InNode, MayStore}
 use Rattle.vyrd_every.specs.Trees.Seen.{seen_after}
 use Rattle.vyrd_every.specs.Trees.Others.{TreeRely}
 use Rattle.vyrd_every.specs.Trees.RightScripts.{TreeReaches, TreeDoes, TreeRight}
@@ -39,7 +39,7 @@ use Rattle.vyrd_every.proofs.Trees.Others.{still_owns, owns_after}
 use Rattle.vyrd_every.proofs.Trees.Written.{given_by, all_given, when_out}
 
 -- nothing was done by others
-pub rely_none : (h : Header) (s : Situation) (k : TreeHand) (g : Shape) (m : Memory) → IsLinked h.size g m
+pub rely_none : (h : Header) (s : Situation) (k : TreeLocals) (g : Shape) (m : Memory) → IsLinked h.size g m
     → (holds s (root_lock h) ≡ true → k.out ≡ false → g.top ≡ level_at m (root_in h.size m)) → TreeRely h s k g m g m
 rely_none h s k g m tree calm = record {
   grows = grows_same g m;
@@ -54,14 +54,14 @@ rely_none h s k g m tree calm = record {
 }
 
 -- what an event of a script that does right does
-pub record TreeStepped (h : Header) (s : Situation) (k : TreeHand) (g : Shape) (m : Memory) (did : Did) (script : Script) : Type 0 where
-  pub next : TreeHand
+pub record TreeStepped (h : Header) (s : Situation) (k : TreeLocals) (g : Shape) (m : Memory) (did : Did) (script : Script) : Type 0 where
+  pub next : TreeLocals
   pub grown : Shape
   pub does : TreeDoes h s k g m (act_of_event did) (after_answer script 0) next grown
   pub later : (g' : Shape) (now : Memory) → TreeRely h (after_act s (act_of_event did)) next grown (seen_after h s k m (act_of_event did)) g' now
       → TreeRight h (after_act s (act_of_event did)) next g' now (after_answer script (answer_at m (act_of_event did)))
 
-pub tree_stepped : (h : Header) (s : Situation) (k : TreeHand) (g : Shape) (m : Memory) (did : Did) (script : Script) → TreeRight h s k g m script
+pub tree_stepped : (h : Header) (s : Situation) (k : TreeLocals) (g : Shape) (m : Memory) (did : Did) (script : Script) → TreeRight h s k g m script
     → event_of (next_act script) (answer_of did) ≡ Some did → TreeStepped h s k g m did script
 tree_stepped h s k g m did stop right e = cc
 tree_stepped h s k g m did (step act rest) right e =
@@ -69,12 +69,12 @@ tree_stepped h s k g m did (step act rest) right e =
     record { next = end.0; grown = end.1; does = end.2; later = end.3 }
   where
     Of : Act → Type 0
-    Of a = (next : TreeHand) × (grown : Shape) × TreeDoes h s k g m a (rest 0) next grown
+    Of a = (next : TreeLocals) × (grown : Shape) × TreeDoes h s k g m a (rest 0) next grown
         × ((g' : Shape) → (now : Memory) → TreeRely h (after_act s a) next grown (seen_after h s k m a) g' now
         → TreeRight h (after_act s a) next g' now (rest (answer_at m a)))
 
 -- a word that was held may be held still, where neither the shape nor the memory changes
-holds_on : (h : Header) (s s' : Situation) (k next : TreeHand) (g g' : Shape) (m : Memory) (w : ℕ)
+holds_on : (h : Header) (s s' : Situation) (k next : TreeLocals) (g g' : Shape) (m : Memory) (w : ℕ)
     → ((lock : ℕ) → holds s lock ≡ true → holds s' lock ≡ true) → g' ≡ g → next.fresh ≡ k.fresh → next.out ≡ k.out
     → MayHold h s k g m w → MayHold h s' next g' m w
 holds_on h s s' k next g g' m w more same fresh out hold = subst (λ g. MayHold h s' next g m w) (sym same) (by_out hold)
@@ -99,7 +99,7 @@ holds_on h s s' k next g g' m w more same fresh out hold = subst (λ g. MayHold 
     by_out (inr seen) = inr (out ∙ seen.0, seen.1)
 
 -- where a block's writes are seen and it goes on, its caller changes nothing
-pub still_out : (h : Header) (s : Situation) (k : TreeHand) (g : Shape) (m : Memory) (act : Act) → k.out ≡ true → s.in_block ≡ true
+pub still_out : (h : Header) (s : Situation) (k : TreeLocals) (g : Shape) (m : Memory) (act : Act) → k.out ≡ true → s.in_block ≡ true
     → TreeReaches h s k g m act → seen_after h s k m act ≡ m
 still_out h s k g m (Load cell) out inside reaches = refl
 still_out h s k g m (Take lock) out inside reaches = refl
@@ -116,7 +116,7 @@ still_out h s k g m (Mark BlockClose) out inside reaches = ap (λ b. cond b m (w
 still_out h s k g m (Mark BlockCommit) out inside reaches = ap (λ b. cond b m (written k.pending m)) out
 
 -- where its writes are seen after the act, the caller is in the block still, with the root's lock
-pub alone_after : (h : Header) (s : Situation) (k : TreeHand) (g : Shape) (m : Memory) (act : Act) (rest : Script) (next : TreeHand) (g' : Shape)
+pub alone_after : (h : Header) (s : Situation) (k : TreeLocals) (g : Shape) (m : Memory) (act : Act) (rest : Script) (next : TreeLocals) (g' : Shape)
     → TreeDoes h s k g m act rest next g' → may_act h s act ≡ true → next.out ≡ true
     → (holds (after_act s act) (root_lock h) ≡ true) × ((after_act s act).in_block ≡ true)
 alone_after h s k g m (Load cell) rest next g' does may out = does.alone out
@@ -143,7 +143,7 @@ alone_after h s k g m (Mark BlockClose) rest next g' does may out = absurd (neve
 alone_after h s k g m (Mark BlockCommit) rest next g' does may out = absurd (never does.out out)
 
 -- and the root is above the one that the log shows
-pub ahead_after : (h : Header) (s : Situation) (k : TreeHand) (g : Shape) (m : Memory) (act : Act) (rest : Script) (next : TreeHand) (g' : Shape)
+pub ahead_after : (h : Header) (s : Situation) (k : TreeLocals) (g : Shape) (m : Memory) (act : Act) (rest : Script) (next : TreeLocals) (g' : Shape)
     → TreeDoes h s k g m act rest next g' → may_act h s act ≡ true → (k.out ≡ true → g.top < level_at m (root_in h.size m)) → next.out ≡ true
     → g'.top < level_at (seen_after h s k m act) (root_in h.size (seen_after h s k m act))
 ahead_after h s k g m act rest next g' does may ahead out = by_before k.out refl
@@ -160,7 +160,7 @@ holds_parts : (a b : Bool) → (a && b) ≡ true → (a ≡ true) × (b ≡ true
 holds_parts a b e = (first_true a b e, second_true a b e)
 
 -- the caller's own store in its block
-store_holds : (h : Header) (s : Situation) (k : TreeHand) (g : Shape) (m : Memory) (cell value : ℕ) (rest : Script) (next : TreeHand) (g' : Shape)
+store_holds : (h : Header) (s : Situation) (k : TreeLocals) (g : Shape) (m : Memory) (cell value : ℕ) (rest : Script) (next : TreeLocals) (g' : Shape)
     → TreeDoes h s k g m (Store cell value) rest next g' → IsLinked h.size g m → s.in_block ≡ true
     → MayHold h s next g' (seen_after h s k m (Store cell value)) cell
 store_holds h s k g m cell value rest next g' does tree inside = by_out next.out refl
@@ -209,7 +209,7 @@ store_holds h s k g m cell value rest next g' does tree inside = by_out next.out
             by_word (inr root) = absurd (never (not_root (cell == root_cell h) refl) (ap (λ x. x == root_cell h) root.0 ∙ same_number (root_cell h)))
 
 -- a word that the caller's block has written before its own act
-earlier_holds : (h : Header) (c : ℕ) (s : Situation) (k : TreeHand) (g : Shape) (m : Memory) (act : Act) (rest : Script) (next : TreeHand) (g' : Shape)
+earlier_holds : (h : Header) (c : ℕ) (s : Situation) (k : TreeLocals) (g : Shape) (m : Memory) (act : Act) (rest : Script) (next : TreeLocals) (g' : Shape)
     (log : List Entry) (w : ℕ)
     → TreeDoes h s k g m act rest next g' → may_act h s act ≡ true → k.pending ≡ block_writes c log → has_block c log ≡ s.in_block → s.in_block ≡ true
     → (after_act s act).in_block ≡ true → ((lock : ℕ) → holds s lock ≡ true → holds (after_act s act) lock ≡ true)
@@ -236,7 +236,7 @@ earlier_holds h c s k g m act rest next g' log w does may pending agree inside g
     by_out false e true f =
         inr (f, inr (all_given (IsWordOf (root_in h.size (seen_after h s k m act))) k.pending w (does.wrote e f) given))
 
-tree_covers : (h : Header) (c : ℕ) (did : Did) (s : Situation) (k : TreeHand) (g : Shape) (m : Memory) (rest : Script) (next : TreeHand) (g' : Shape)
+tree_covers : (h : Header) (c : ℕ) (did : Did) (s : Situation) (k : TreeLocals) (g : Shape) (m : Memory) (rest : Script) (next : TreeLocals) (g' : Shape)
     (log : List Entry) → Agrees c s log → Agrees c (after_act s (act_of_event did)) (cons_option (logged c did) log)
     → may_act h s (act_of_event did) ≡ true → TreeDoes h s k g m (act_of_event did) rest next g' → IsLinked h.size g m → k.pending ≡ block_writes c log
     → ((w : ℕ) → holds_word c w log ≡ true → MayHold h s k g m w)
@@ -302,14 +302,14 @@ tree_covers h c (Marked BlockCommit) s k g m rest next g' log a b may does tree 
     absurd (never b.in_block (holds_parts (has_block c (entry c BlockCommit ∷ log)) (wrote c w (entry c BlockCommit ∷ log)) e).0)
 
 -- the caller's own event
-pub record TreeOwnStep (h : Header) (script : Script) (part : List Did) (log : List Entry) (c : ℕ) (did : Did) (k : TreeHand) (g : Shape) (m : Memory)
+pub record TreeOwnStep (h : Header) (script : Script) (part : List Did) (log : List Entry) (c : ℕ) (did : Did) (k : TreeLocals) (g : Shape) (m : Memory)
     : Type 0 where
-  pub next : TreeHand
+  pub next : TreeLocals
   pub grown : Shape
   pub does : TreeDoes h (situation_after part) k g m (act_of_event did) (after_answer (left_after script part) 0) next grown
   pub one : OfTreeCaller h script (did ∷ part) (cons_option (logged c did) log) c next grown (seen_after h (situation_after part) k m (act_of_event did))
 
-pub tree_own_step : (h : Header) (script : Script) (part : List Did) (log : List Entry) (c : ℕ) (did : Did) (k : TreeHand) (g : Shape) (m : Memory)
+pub tree_own_step : (h : Header) (script : Script) (part : List Did) (log : List Entry) (c : ℕ) (did : Did) (k : TreeLocals) (g : Shape) (m : Memory)
     → OfTreeCaller h script part log c k g m → IsLinked h.size g m
     → (holds (situation_after part) (root_lock h) ≡ true → k.out ≡ false → g.top ≡ level_at m (root_in h.size m))
     → Agrees c (situation_after part) log → Agrees c (after_act (situation_after part) (act_of_event did)) (cons_option (logged c did) log)
@@ -341,7 +341,7 @@ tree_own_step h script part log c did k g m one tree calm agrees agrees' may pla
     end = tree_stepped h s k g m did (left_after script part) (one.right g m (rely_none h s k g m tree calm)) plays
 
 -- another caller's event
-pub tree_other_step : (h : Header) (script : Script) (part : List Did) (log : List Entry) (c d : ℕ) (did : Did) (k : TreeHand) (g : Shape) (m : Memory)
+pub tree_other_step : (h : Header) (script : Script) (part : List Did) (log : List Entry) (c d : ℕ) (did : Did) (k : TreeLocals) (g : Shape) (m : Memory)
     (g' : Shape) (m' : Memory) → OfTreeCaller h script part log d k g m → IsLinked h.size g m → (c == d) ≡ false
     → TreeRely h (situation_after part) k g m g' m'
     → OfTreeCaller h script part (cons_option (logged c did) log) d k g' m'

@@ -9,13 +9,13 @@ use Rattle.vyrd_tree.specs.Cells.{lock_of, root_lock, used_lock}
 use Rattle.vyrd_tree.specs.Contents.{level_at, last_in, root_in}
 use Rattle.vyrd_every.proofs.Acts.{never}
 use Rattle.vyrd_every.specs.Trees.Shapes.{Shape, IsLinked}
-use Rattle.vyrd_every.specs.Trees.Hands.{TreeHand, Owns, AreApart}
+use Rattle.vyrd_every.specs.Trees.Locals.{TreeLocals, Owns, AreApart}
 use Rattle.vyrd_every.specs.Trees.Seen.{seen_after}
 use Rattle.vyrd_every.specs.Trees.Others.{TreeRely}
 use Rattle.vyrd_every.specs.Trees.RightScripts.{TreeDoes}
 
 -- The act of one caller, for another one. No lock is held by both.
-pub others_rely : (h : Header) (s its : Situation) (k other : TreeHand) (g : Shape) (m : Memory) (act : Act) (rest : Script) (next : TreeHand) (g' : Shape)
+pub others_rely : (h : Header) (s its : Situation) (k other : TreeLocals) (g : Shape) (m : Memory) (act : Act) (rest : Script) (next : TreeLocals) (g' : Shape)
     → IsLinked h.size g m → TreeDoes h s k g m act rest next g' → Owns h other g m → AreApart k other
     → ((lock : ℕ) → holds its lock ≡ true → holds s lock ≡ false)
     → (holds its (root_lock h) ≡ true → other.out ≡ false → g.top ≡ level_at m (root_in h.size m))
@@ -33,8 +33,8 @@ others_rely h s its k other g m act rest next g' tree does owns apart alone calm
       same.1 ∙ calm held quiet ∙ sym (ap (level_at (seen_after h s k m act)) same.0 ∙ does.grows.level (root_in h.size m) tree.root_linked);
 }
 
--- after it the hands are apart still
-pub still_apart_from : (h : Header) (s : Situation) (k other : TreeHand) (g : Shape) (m : Memory) (act : Act) (rest : Script) (next : TreeHand) (g' : Shape)
+-- after it the locals are apart still
+pub still_apart_from : (h : Header) (s : Situation) (k other : TreeLocals) (g : Shape) (m : Memory) (act : Act) (rest : Script) (next : TreeLocals) (g' : Shape)
     → TreeDoes h s k g m act rest next g' → Owns h other g m → AreApart k other → AreApart next other
 still_apart_from h s k other g m act rest next g' does owns apart = record {
   fresh = λ n mine its. by_taken n mine (does.taken n its).2;
@@ -49,16 +49,16 @@ still_apart_from h s k other g m act rest next g' does owns apart = record {
     by_hung n mine (inl was) = apart.hanging n mine was
     by_hung n mine (inr new) = never new (owns.hanging n mine).0
 
--- after it the other's hand says the same
-pub still_owns : (h : Header) (its : Situation) (other : TreeHand) (g : Shape) (m : Memory) (g' : Shape) (m' : Memory) → Owns h other g m → TreeRely h its other g m g' m'
+-- after it the other's locals say the same
+pub still_owns : (h : Header) (its : Situation) (other : TreeLocals) (g : Shape) (m : Memory) (g' : Shape) (m' : Memory) → Owns h other g m → TreeRely h its other g m g' m'
     → Owns h other g' m'
 still_owns h its other g m g' m' owns rely = record {
   fresh = λ n mine. (rely.fresh n mine ∙ (owns.fresh n mine).0, rely.used n mine (owns.fresh n mine).1);
   hanging = λ n mine. (rely.grows.linked n (owns.hanging n mine).0, rely.hanging n mine (owns.hanging n mine).1);
 }
 
--- and the caller's own hand says what it should
-pub owns_after : (h : Header) (s : Situation) (k : TreeHand) (g : Shape) (m : Memory) (act : Act) (rest : Script) (next : TreeHand) (g' : Shape)
+-- and the caller's own locals say what they should
+pub owns_after : (h : Header) (s : Situation) (k : TreeLocals) (g : Shape) (m : Memory) (act : Act) (rest : Script) (next : TreeLocals) (g' : Shape)
     → TreeDoes h s k g m act rest next g' → Owns h next g' (seen_after h s k m act)
 owns_after h s k g m act rest next g' does = record {
   fresh = λ n mine. let t = does.taken n mine in (t.0, t.1);

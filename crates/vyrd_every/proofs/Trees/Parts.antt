@@ -14,22 +14,23 @@ use Rattle.vyrd_multiset.specs.Laws.Sound.{gone}
 use Rattle.vyrd_every.proofs.Acts.{never}
 use Rattle.vyrd_every.specs.Trees.Shapes.{Shape, IsLinked, Hangs}
 use Rattle.vyrd_every.specs.Trees.Others.{Grows}
-use Rattle.vyrd_every.specs.Trees.Hands.{TreeHand, MayLoad}
+use Rattle.vyrd_every.specs.Trees.Locals.{TreeLocals, MayLoad}
 use Rattle.vyrd_every.specs.Trees.Others.{TreeRely, TreeLeaves}
 use Rattle.vyrd_every.specs.Trees.RightScripts.{TreeRight}
 
--- what holds of a hand between two acts of its caller, but while a new root is seen before its block is closed
-pub record HandStands (h : Header) (k : TreeHand) (g : Shape) (m : Memory) : Type 0 where
+-- What a caller's locals say between two of its acts, but while a new root is seen before its block is closed: they own what
+-- they name, and no write of an open block is seen.
+pub record OwnsUnseen (h : Header) (k : TreeLocals) (g : Shape) (m : Memory) : Type 0 where
   pub fresh : (n : ℕ) → k.fresh ≡ Some n → (g.linked n ≡ false) × (n ≤ last_in h.size m)
   pub hanging : (n : ℕ) → k.hanging ≡ Some n → (g.linked n ≡ true) × Hangs g m n
   pub quiet : k.out ≡ false
 
-pub hand_stays : (h : Header) (s : Situation) (k : TreeHand) (g : Shape) (m : Memory) (g' : Shape) (m' : Memory) → HandStands h k g m
-    → TreeRely h s k g m g' m' → HandStands h k g' m'
-hand_stays h s k g m g' m' hand rely = record {
-  fresh = λ n mine. let was = hand.fresh n mine in (rely.fresh n mine ∙ was.0, rely.used n mine was.1);
-  hanging = λ n mine. let was = hand.hanging n mine in (rely.grows.linked n was.0, rely.hanging n mine was.1);
-  quiet = hand.quiet;
+pub unseen_stays : (h : Header) (s : Situation) (k : TreeLocals) (g : Shape) (m : Memory) (g' : Shape) (m' : Memory) → OwnsUnseen h k g m
+    → TreeRely h s k g m g' m' → OwnsUnseen h k g' m'
+unseen_stays h s k g m g' m' unseen rely = record {
+  fresh = λ n mine. let was = unseen.fresh n mine in (rely.fresh n mine ∙ was.0, rely.used n mine was.1);
+  hanging = λ n mine. let was = unseen.hanging n mine in (rely.grows.linked n was.0, rely.hanging n mine was.1);
+  quiet = unseen.quiet;
 }
 
 pub grows_same : (g : Shape) (m : Memory) → Grows g m g m
@@ -44,7 +45,7 @@ grows_more a b c x y z one two = record {
 }
 
 -- the others do one thing after the other
-pub tree_rely_more : (h : Header) (s : Situation) (k : TreeHand) (a b c : Shape) (x y z : Memory) → TreeRely h s k a x b y → TreeRely h s k b y c z
+pub tree_rely_more : (h : Header) (s : Situation) (k : TreeLocals) (a b c : Shape) (x y z : Memory) → TreeRely h s k a x b y → TreeRely h s k b y c z
     → TreeRely h s k a x c z
 tree_rely_more h s k a b c x y z one two = record {
   grows = grows_more a b c x y z one.grows two.grows;
@@ -59,7 +60,7 @@ tree_rely_more h s k a b c x y z one two = record {
 }
 
 -- with fewer locks held, less is relied upon
-pub tree_rely_less : (h : Header) (s s' : Situation) (k : TreeHand) (a b : Shape) (x y : Memory) → ((lock : ℕ) → holds s' lock ≡ true → holds s lock ≡ true)
+pub tree_rely_less : (h : Header) (s s' : Situation) (k : TreeLocals) (a b : Shape) (x y : Memory) → ((lock : ℕ) → holds s' lock ≡ true → holds s lock ≡ true)
     → TreeRely h s k a x b y → TreeRely h s' k a x b y
 tree_rely_less h s s' k a b x y fewer r = record {
   grows = r.grows;
@@ -73,7 +74,7 @@ tree_rely_less h s s' k a b x y fewer r = record {
   calm = λ held out. r.calm (fewer (root_lock h) held) out;
 }
 
-leaves_same : (h : Header) (s : Situation) (k : TreeHand) (g : Shape) (m : Memory) → TreeLeaves h s k g m g m
+leaves_same : (h : Header) (s : Situation) (k : TreeLocals) (g : Shape) (m : Memory) → TreeLeaves h s k g m g m
 leaves_same h s k g m = record {
   others = λ n place linked free low. refl;
   unlinked = λ n un other. un;
@@ -84,7 +85,7 @@ leaves_same h s k g m = record {
 }
 
 -- what an act does that changes nothing
-pub record Changeless (h : Header) (s : Situation) (k : TreeHand) (g : Shape) (m : Memory) : Type 0 where
+pub record Changeless (h : Header) (s : Situation) (k : TreeLocals) (g : Shape) (m : Memory) : Type 0 where
   pub grows : Grows g m g m
   pub leaves : TreeLeaves h s k g m g m
   pub taken : (n : ℕ) → k.fresh ≡ Some n → (g.linked n ≡ false) × (n ≤ last_in h.size m) × ((k.fresh ≡ Some n) ⊎ (last_in h.size m < n))
@@ -93,23 +94,23 @@ pub record Changeless (h : Header) (s : Situation) (k : TreeHand) (g : Shape) (m
   pub closed : k.out ≡ true → k.out ≡ false → g.top ≡ level_at m (root_in h.size m)
   pub top : k.out ≡ false → g.top ≡ level_at m (root_in h.size m) → k.out ≡ false → g.top ≡ level_at m (root_in h.size m)
 
-pub changeless : (h : Header) (s : Situation) (k : TreeHand) (g : Shape) (m : Memory) → HandStands h k g m → Changeless h s k g m
-changeless h s k g m hand = record {
+pub changeless : (h : Header) (s : Situation) (k : TreeLocals) (g : Shape) (m : Memory) → OwnsUnseen h k g m → Changeless h s k g m
+changeless h s k g m unseen = record {
   grows = grows_same g m;
   leaves = leaves_same h s k g m;
-  taken = λ n mine. let has = hand.fresh n mine in (has.0, has.1, inl mine);
-  hung = λ n mine. let has = hand.hanging n mine in (has.0, has.1, inl mine);
-  alone = λ out. absurd (never hand.quiet out);
+  taken = λ n mine. let has = unseen.fresh n mine in (has.0, has.1, inl mine);
+  hung = λ n mine. let has = unseen.hanging n mine in (has.0, has.1, inl mine);
+  alone = λ out. absurd (never unseen.quiet out);
   closed = λ out quiet. absurd (never quiet out);
   top = λ out is quiet. is;
 }
 
-pub tree_load : (h : Header) (s : Situation) (k : TreeHand) (g : Shape) (m : Memory) (cell : ℕ) (rest : ℕ → Script) → IsLinked h.size g m → HandStands h k g m
+pub tree_load : (h : Header) (s : Situation) (k : TreeLocals) (g : Shape) (m : Memory) (cell : ℕ) (rest : ℕ → Script) → IsLinked h.size g m → OwnsUnseen h k g m
     → MayLoad h s g cell → s.in_block ≡ false
     → ((g' : Shape) → (now : Memory) → TreeRely h s k g m g' now → TreeRight h s k g' now (rest (m cell)))
     → TreeRight h s k g m (step (Load cell) rest)
-tree_load h s k g m cell rest tree hand may out later =
-    let c : Changeless h s k g m = changeless h s k g m hand in (
+tree_load h s k g m cell rest tree unseen may out later =
+    let c : Changeless h s k g m = changeless h s k g m unseen in (
       k,
       g,
       record {
@@ -138,12 +139,12 @@ tree_load h s k g m cell rest tree hand may out later =
     or_false true = refl
     or_false false = refl
 
-pub tree_take : (h : Header) (s : Situation) (k : TreeHand) (g : Shape) (m : Memory) (lock : ℕ) (rest : Script) → IsLinked h.size g m → HandStands h k g m
+pub tree_take : (h : Header) (s : Situation) (k : TreeLocals) (g : Shape) (m : Memory) (lock : ℕ) (rest : Script) → IsLinked h.size g m → OwnsUnseen h k g m
     → ((held : ℕ) → holds s held ≡ true → held < lock)
     → ((g' : Shape) → (now : Memory) → TreeRely h (after_act s (Take lock)) k g m g' now → TreeRight h (after_act s (Take lock)) k g' now rest)
     → TreeRight h s k g m (perform (Take lock) rest)
-tree_take h s k g m lock rest tree hand above later =
-    let c : Changeless h s k g m = changeless h s k g m hand in (
+tree_take h s k g m lock rest tree unseen above later =
+    let c : Changeless h s k g m = changeless h s k g m unseen in (
       k,
       g,
       record {
@@ -172,12 +173,12 @@ tree_take h s k g m lock rest tree hand above later =
     or_false true = refl
     or_false false = refl
 
-pub tree_give : (h : Header) (s : Situation) (k : TreeHand) (g : Shape) (m : Memory) (lock : ℕ) (rest : Script) → IsLinked h.size g m → HandStands h k g m
+pub tree_give : (h : Header) (s : Situation) (k : TreeLocals) (g : Shape) (m : Memory) (lock : ℕ) (rest : Script) → IsLinked h.size g m → OwnsUnseen h k g m
     → s.in_block ≡ false
     → ((g' : Shape) → (now : Memory) → TreeRely h (after_act s (Give lock)) k g m g' now → TreeRight h (after_act s (Give lock)) k g' now rest)
     → TreeRight h s k g m (perform (Give lock) rest)
-tree_give h s k g m lock rest tree hand out later =
-    let c : Changeless h s k g m = changeless h s k g m hand in (
+tree_give h s k g m lock rest tree unseen out later =
+    let c : Changeless h s k g m = changeless h s k g m unseen in (
       k,
       g,
       record {
@@ -207,12 +208,12 @@ tree_give h s k g m lock rest tree hand out later =
     or_false false = refl
 
 -- the only lock is given back
-pub tree_give_last : (h : Header) (method : Method) (committed : Bool) (k : TreeHand) (g : Shape) (m : Memory) (lock : ℕ) (rest : Script) → IsLinked h.size g m
-    → HandStands h k g m
+pub tree_give_last : (h : Header) (method : Method) (committed : Bool) (k : TreeLocals) (g : Shape) (m : Memory) (lock : ℕ) (rest : Script) → IsLinked h.size g m
+    → OwnsUnseen h k g m
     → ((g' : Shape) → (now : Memory) → TreeRely h (holding [] method committed false) k g m g' now → TreeRight h (holding [] method committed false) k g' now rest)
     → TreeRight h (holding (lock ∷ []) method committed false) k g m (perform (Give lock) rest)
-tree_give_last h method committed k g m lock rest tree hand later =
-    tree_give h (holding (lock ∷ []) method committed false) k g m lock rest tree hand refl
+tree_give_last h method committed k g m lock rest tree unseen later =
+    tree_give h (holding (lock ∷ []) method committed false) k g m lock rest tree unseen refl
     (subst Later (sym (gone lock [])) later)
   where
     Later : List ℕ → Type 0

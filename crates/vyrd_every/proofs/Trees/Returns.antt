@@ -20,9 +20,9 @@ use Rattle.vyrd_tree.specs.Procedures.{insert_entry}
 use Rattle.vyrd_tree.specs.Laws.Sound.Acts.{holding}
 use Rattle.vyrd_every.specs.RightScripts.{WillReturn}
 use Rattle.vyrd_every.specs.Trees.Shapes.{Shape, IsLinked}
-use Rattle.vyrd_every.specs.Trees.Hands.{TreeHand}
+use Rattle.vyrd_every.specs.Trees.Locals.{TreeLocals}
 use Rattle.vyrd_every.specs.Trees.RightScripts.{TreeRight}
-use Rattle.vyrd_every.proofs.Trees.Parts.{HandStands}
+use Rattle.vyrd_every.proofs.Trees.Parts.{OwnsUnseen}
 use Rattle.vyrd_every.proofs.Trees.Leafs.{IsBare}
 use Rattle.vyrd_every.proofs.Trees.Inserts.{insert_right}
 use Rattle.vyrd_every.proofs.Trees.Fulls.{AscentRight, full_right}
@@ -111,7 +111,7 @@ ascent_right h args = record {
 }
 
 -- every insert does right, whatever the others do
-pub every_insert : (h : Header) (args : Args) (k : TreeHand) (g : Shape) (m : Memory) → args.a < 2 ^ 32 → args.b < 2 ^ 32 → IsLinked h.size g m → HandStands h k g m
+pub every_insert : (h : Header) (args : Args) (k : TreeLocals) (g : Shape) (m : Memory) → args.a < 2 ^ 32 → args.b < 2 ^ 32 → IsLinked h.size g m → OwnsUnseen h k g m
     → IsBare k (insert_of args) → TreeRight h (holding [] TrInsert false false) k g m (insert_entry h Correct args.a args.b)
-every_insert h args k g m small_key small tree hand bare =
-    insert_right h args k g m small_key small tree hand bare (full_right h args k g m small_key small bare (ascent_right h args))
+every_insert h args k g m small_key small tree unseen bare =
+    insert_right h args k g m small_key small tree unseen bare (full_right h args k g m small_key small bare (ascent_right h args))

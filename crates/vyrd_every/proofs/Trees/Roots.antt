@@ -23,16 +23,16 @@ use Rattle.vyrd_tree.specs.Laws.Alone.Changes.{entries_alike}
 use Rattle.vyrd_tree.specs.Laws.Alone.SplitKeepsTree.{new_low, old_low, off_words}
 use Rattle.vyrd_tree.specs.Laws.Alone.SplitWrites.{NodeWritten}
 use Rattle.vyrd_every.proofs.Acts.{never}
-use Rattle.vyrd_every.specs.Hands.{written}
+use Rattle.vyrd_every.specs.Locals.{written}
 use Rattle.vyrd_every.specs.Trees.Shapes.{Shape, HasEntries, LeadsRight, HasNeighbour, IsLinked, Hangs}
 use Rattle.vyrd_every.specs.Trees.States.{ShowsState}
 use Rattle.vyrd_every.specs.Trees.Others.{Grows}
-use Rattle.vyrd_every.specs.Trees.Hands.{TreeHand, IsWordOf}
+use Rattle.vyrd_every.specs.Trees.Locals.{TreeLocals, IsWordOf}
 use Rattle.vyrd_every.specs.Trees.Others.{TreeRely, TreeLeaves}
 use Rattle.vyrd_every.specs.Trees.RightScripts.{TreeRight}
-use Rattle.vyrd_every.proofs.Trees.Parts.{HandStands, hand_stays, tree_rely_more, Changeless, changeless}
+use Rattle.vyrd_every.proofs.Trees.Parts.{OwnsUnseen, unseen_stays, tree_rely_more, Changeless, changeless}
 use Rattle.vyrd_every.proofs.Trees.Kept.{entries_grow, linked_low}
-use Rattle.vyrd_every.proofs.Trees.Blocks.{with_pending, hand_with, rely_with, tree_open}
+use Rattle.vyrd_every.proofs.Trees.Blocks.{with_pending, unseen_with, rely_with, tree_open}
 use Rattle.vyrd_every.proofs.Trees.Splits.{with_node}
 use Rattle.vyrd_every.proofs.Trees.Unused.{with_fresh, unused_right}
 use Rattle.vyrd_every.proofs.Trees.SplitBlocks.{new_writes, new_stands}
@@ -251,14 +251,14 @@ top_linked size g m t = record {
 }
 
 -- In an open block of the caller, with this lock held since memory m: what comes next does right, with these writes so far.
-abbrev pub Inside : Header → TreeHand → Shape → Memory → ℕ → List (ℕ × ℕ) → Script → Type 0
+abbrev pub Inside : Header → TreeLocals → Shape → Memory → ℕ → List (ℕ × ℕ) → Script → Type 0
 Inside h k g m lock ws script = (g' : Shape) (m' : Memory) → TreeRely h (holding (lock ∷ []) TrInsert true false) k g m g' m'
     → TreeRight h (holding (lock ∷ []) TrInsert true true) (with_pending k ws) g' m' script
 
-pub store_word : (h : Header) (k : TreeHand) (g : Shape) (m : Memory) (lock u place value : ℕ) (ws : List (ℕ × ℕ)) (later : Script) → HandStands h k g m
+pub store_word : (h : Header) (k : TreeLocals) (g : Shape) (m : Memory) (lock u place value : ℕ) (ws : List (ℕ × ℕ)) (later : Script) → OwnsUnseen h k g m
     → k.fresh ≡ Some u → u < h.size → place < 12
     → Inside h k g m lock ((12 * u + place, value) ∷ ws) later → Inside h k g m lock ws (perform (Store (12 * u + place) value) later)
-store_word h k g m lock u place value ws later hand mine fits low rest g' m' rely = (
+store_word h k g m lock u place value ws later unseen mine fits low rest g' m' rely = (
   with_pending k ((12 * u + place, value) ∷ ws),
   g',
   record {
@@ -292,7 +292,7 @@ store_word h k g m lock u place value ws later hand mine fits low rest g' m' rel
     inside = holding (lock ∷ []) TrInsert true true
 
     c : Changeless h inside (with_pending k ws) g' m'
-    c = changeless h inside (with_pending k ws) g' m' (hand_with h k ws g' m' (hand_stays h s k g m g' m' hand rely))
+    c = changeless h inside (with_pending k ws) g' m' (unseen_with h k ws g' m' (unseen_stays h s k g m g' m' unseen rely))
 
     not_root : (12 * u + place == root_cell h) ≡ false
     not_root = isnt_same (12 * u + place) (root_cell h) (λ e. omega (arith, low, e, fits))
@@ -341,12 +341,12 @@ growth_right h args = record { right = grow }
     root_held : holds (holding (root_lock h ∷ []) TrInsert true true) (root_lock h) ≡ true
     root_held = ap (λ b. b || false) (same_number (root_lock h))
 
-    grow : (k : TreeHand) (g : Shape) (m : Memory) (level key node root : ℕ) → IsLinked h.size g m → HandStands h k g m
+    grow : (k : TreeLocals) (g : Shape) (m : Memory) (level key node root : ℕ) → IsLinked h.size g m → OwnsUnseen h k g m
         → Ascending k g m (insert_of args) level key node → m (root_cell h) ≡ root → level_at m root ≡ level → g.top ≡ level_at m (root_in h.size m)
         → TreeRight h s k g m (grow_root h level key node root (returns 1))
-    grow k g m level key node root tree hand up is level_is calm =
-        unused_right h TrInsert true (root_lock h) k g m (unlock_root h (returns 1)) growing (omega arith) tree hand up.fresh
-        (λ b y r. unlocked_end h args k b y (root_lock h) r.tree (hand_stays h s k g m b y hand r) up.called_is)
+    grow k g m level key node root tree unseen up is level_is calm =
+        unused_right h TrInsert true (root_lock h) k g m (unlock_root h (returns 1)) growing (omega arith) tree unseen up.fresh
+        (λ b y r. unlocked_end h args k b y (root_lock h) r.tree (unseen_stays h s k g m b y unseen r) up.called_is)
         some_right g m (record {
           grows = record { linked = λ n l. l; low = λ n l. refl; level = λ n l. refl; top = omega arith };
           held = λ n place linked held low. refl;
@@ -365,27 +365,27 @@ growth_right h args = record { right = grow }
         growing : ℕ → Script
         growing u = perform (Mark BlockOpen) (write_node u (level + 1) 0 0 ((0, root) ∷ (key, node) ∷ []) (closing u))
 
-        some_right : (u : ℕ) (ws : List (ℕ × ℕ)) (b : Shape) (y : Memory) → TreeRely h s k g m b y → HandStands h (with_fresh k u ws) b y
+        some_right : (u : ℕ) (ws : List (ℕ × ℕ)) (b : Shape) (y : Memory) → TreeRely h s k g m b y → OwnsUnseen h (with_fresh k u ws) b y
             → TreeRight h s (with_fresh k u ws) b y (growing u)
-        some_right u ws b y r hand' =
-            tree_open h (root_lock h ∷ []) TrInsert true k' b y (write_node u (level + 1) 0 0 ((0, root) ∷ (key, node) ∷ []) (closing u)) r.tree hand'
+        some_right u ws b y r unseen' =
+            tree_open h (root_lock h ∷ []) TrInsert true k' b y (write_node u (level + 1) 0 0 ((0, root) ∷ (key, node) ∷ []) (closing u)) r.tree unseen'
             (λ c z r'. block c z (rely_with h (root_lock h ∷ []) TrInsert true true false k' [] b c y z r'))
           where
-            k' : TreeHand
+            k' : TreeLocals
             k' = with_fresh k u ws
 
             u_low : u < h.size
-            u_low = (let fit = (hand'.fresh u refl).1 in let last = r.tree.last_low in omega arith)
+            u_low = (let fit = (unseen'.fresh u refl).1 in let last = r.tree.last_low in omega arith)
 
             writes : List (ℕ × ℕ)
             writes = new_writes u (level + 1) 0 0 ((0, root) ∷ (key, node) ∷ [])
 
             up' : Ascending k b y (insert_of args) level key node
-            up' = still_ascending h s k g m b y (insert_of args) level key node hand up r
+            up' = still_ascending h s k g m b y (insert_of args) level key node unseen up r
 
             store_root : Inside h k' b y (root_lock h) (new_writes u (level + 1) 0 0 ((0, root) ∷ (key, node) ∷ [])) (closing u)
             store_root c z r' = (
-              out_hand,
+              out_locals,
               with_node c u 0,
               record {
                 reaches = inl (refl, refl, inr (refl, root_held));
@@ -420,8 +420,8 @@ growth_right h args = record { right = grow }
               λ d v r''. closed d v r''.tree,
             )
               where
-                out_hand : TreeHand
-                out_hand = record {
+                out_locals : TreeLocals
+                out_locals = record {
                   fresh = None;
                   hanging = None;
                   pending = (root_cell h, u) ∷ new_writes u (level + 1) 0 0 ((0, root) ∷ (key, node) ∷ []);
@@ -437,17 +437,17 @@ growth_right h args = record { right = grow }
                     ≡ with_cell (written (new_writes u (level + 1) 0 0 ((0, root) ∷ (key, node) ∷ [])) z) (12 * h.size) u
                 seen = ap (λ b. cond b (written ((root_cell h, u) ∷ new_writes u (level + 1) 0 0 ((0, root) ∷ (key, node) ∷ [])) z) z) (same_number (root_cell h))
 
-                hand_c : HandStands h k' c z
-                hand_c = hand_stays h s k' b y c z hand' r'
+                unseen_c : OwnsUnseen h k' c z
+                unseen_c = unseen_stays h s k' b y c z unseen' r'
 
                 un : c.linked u ≡ false
-                un = (hand_c.fresh u refl).0
+                un = (unseen_c.fresh u refl).0
 
                 fit : u ≤ last_in h.size z
-                fit = (hand_c.fresh u refl).1
+                fit = (unseen_c.fresh u refl).1
 
                 linked : c.linked node ≡ true
-                linked = (hand_c.hanging node up.hanging).0
+                linked = (unseen_c.hanging node up.hanging).0
 
                 root_is : root_in h.size z ≡ root
                 root_is = (r'.root root_held).0 ∙ (r.root root_held).0 ∙ is
@@ -459,13 +459,13 @@ growth_right h args = record { right = grow }
                 root_level = r'.grows.level root (r.grows.linked root root_linked) ∙ r.grows.level root root_linked ∙ level_is
 
                 same_level : level_at z node ≡ level_at z (root_in h.size z)
-                same_level = r'.grows.level node (hand'.hanging node up.hanging).0 ∙ up'.level_is ∙ sym (ap (level_at z) root_is ∙ root_level)
+                same_level = r'.grows.level node (unseen'.hanging node up.hanging).0 ∙ up'.level_is ∙ sym (ap (level_at z) root_is ∙ root_level)
 
                 low_is : c.low node ≡ key
-                low_is = r'.grows.low node (hand'.hanging node up.hanging).0 ∙ up'.low_is
+                low_is = r'.grows.low node (unseen'.hanging node up.hanging).0 ∙ up'.low_is
 
                 some : key ≢ 0
-                some e = (hand_c.hanging node up.hanging).1.0 (low_is ∙ e)
+                some e = (unseen_c.hanging node up.hanging).1.0 (low_is ∙ e)
 
                 gr : IsGrownAt h.size z (with_cell (written (new_writes u (level + 1) 0 0 ((0, root) ∷ (key, node) ∷ [])) z) (12 * h.size) u) u key node
                 gr = grown_stands h.size z u level key node root u_low root_is root_level
@@ -489,9 +489,9 @@ growth_right h args = record { right = grow }
                     word_of place low = record { place = place; low = low; is = refl }
 
                 closed : (d : Shape) (v : Memory) → IsLinked h.size d v
-                    → TreeRight h inside out_hand d v (perform (Mark BlockClose) (unlock_root h (returns 1)))
+                    → TreeRight h inside out_locals d v (perform (Mark BlockClose) (unlock_root h (returns 1)))
                 closed d v t = (
-                  done_hand,
+                  done_locals,
                   with_top d (level_at v (root_in h.size v)),
                   record {
                     reaches = tt;
@@ -519,13 +519,13 @@ growth_right h args = record { right = grow }
                     called = refl;
                     answers = refl;
                   },
-                  λ e x r3. unlocked_end h args done_hand e x (root_lock h) r3.tree
-                      (hand_stays h s done_hand (with_top d (level_at v (root_in h.size v))) v e x (record { fresh = λ x mine. cc; hanging = λ x mine. cc; quiet = refl }) r3)
+                  λ e x r3. unlocked_end h args done_locals e x (root_lock h) r3.tree
+                      (unseen_stays h s done_locals (with_top d (level_at v (root_in h.size v))) v e x (record { fresh = λ x mine. cc; hanging = λ x mine. cc; quiet = refl }) r3)
                       up.called_is,
                 )
                   where
-                    done_hand : TreeHand
-                    done_hand = record {
+                    done_locals : TreeLocals
+                    done_locals = record {
                       fresh = None;
                       hanging = None;
                       pending = (root_cell h, u) ∷ new_writes u (level + 1) 0 0 ((0, root) ∷ (key, node) ∷ []);
@@ -536,11 +536,11 @@ growth_right h args = record { right = grow }
 
             block : Inside h k' b y (root_lock h) [] (write_node u (level + 1) 0 0 ((0, root) ∷ (key, node) ∷ []) (closing u))
             block =
-                store_word h k' b y (root_lock h) u 0 (level + 1) [] _ hand' refl u_low (omega arith)
-                (store_word h k' b y (root_lock h) u 1 2 _ _ hand' refl u_low (omega arith)
-                (store_word h k' b y (root_lock h) u 2 0 _ _ hand' refl u_low (omega arith)
-                (store_word h k' b y (root_lock h) u 3 0 _ _ hand' refl u_low (omega arith)
-                (store_word h k' b y (root_lock h) u 4 0 _ _ hand' refl u_low (omega arith)
-                (store_word h k' b y (root_lock h) u 8 root _ _ hand' refl u_low (omega arith)
-                (store_word h k' b y (root_lock h) u 5 key _ _ hand' refl u_low (omega arith)
-                (store_word h k' b y (root_lock h) u 9 node _ _ hand' refl u_low (omega arith) store_root)))))))
+                store_word h k' b y (root_lock h) u 0 (level + 1) [] _ unseen' refl u_low (omega arith)
+                (store_word h k' b y (root_lock h) u 1 2 _ _ unseen' refl u_low (omega arith)
+                (store_word h k' b y (root_lock h) u 2 0 _ _ unseen' refl u_low (omega arith)
+                (store_word h k' b y (root_lock h) u 3 0 _ _ unseen' refl u_low (omega arith)
+                (store_word h k' b y (root_lock h) u 4 0 _ _ unseen' refl u_low (omega arith)
+                (store_word h k' b y (root_lock h) u 8 root _ _ unseen' refl u_low (omega arith)
+                (store_word h k' b y (root_lock h) u 5 key _ _ unseen' refl u_low (omega arith)
+                (store_word h k' b y (root_lock h) u 9 node _ _ unseen' refl u_low (omega arith) store_root)))))))

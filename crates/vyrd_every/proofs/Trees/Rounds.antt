@@ -22,10 +22,10 @@ use Rattle.vyrd_tree.specs.Contents.{level_at, count_at, root_in, entries_at}
 use Rattle.vyrd_tree.specs.Laws.Alone.Tested.{length-entries}
 use Rattle.vyrd_tree.specs.Laws.Alone.WalkArrives.{loaded_at}
 use Rattle.vyrd_every.specs.Trees.Shapes.{Shape, IsLinked}
-use Rattle.vyrd_every.specs.Trees.Hands.{TreeHand}
+use Rattle.vyrd_every.specs.Trees.Locals.{TreeLocals}
 use Rattle.vyrd_every.specs.Trees.Others.{TreeRely}
 use Rattle.vyrd_every.specs.Trees.RightScripts.{TreeRight}
-use Rattle.vyrd_every.proofs.Trees.Parts.{HandStands, hand_stays, tree_load, tree_take, tree_give_last}
+use Rattle.vyrd_every.proofs.Trees.Parts.{OwnsUnseen, unseen_stays, tree_load, tree_take, tree_give_last}
 use Rattle.vyrd_every.proofs.Trees.Walks.{Onward, walk_right}
 use Rattle.vyrd_every.proofs.Trees.Kept.{linked_low}
 use Rattle.vyrd_every.proofs.Trees.Fulls.{Ascending}
@@ -39,12 +39,12 @@ isnt_le a b lt = grind (arith, nat_tests)
 
 -- With the root's lock held, where the root is on the level of the node that hangs: a new root does right.
 pub record GrowthRight (h : Header) (args : Args) : Type 0 where
-  pub right : (k : TreeHand) (g : Shape) (m : Memory) (level key node root : ℕ) → IsLinked h.size g m → HandStands h k g m
+  pub right : (k : TreeLocals) (g : Shape) (m : Memory) (level key node root : ℕ) → IsLinked h.size g m → OwnsUnseen h k g m
       → Ascending k g m (insert_of args) level key node → m (root_cell h) ≡ root → level_at m root ≡ level → g.top ≡ level_at m (root_in h.size m)
       → TreeRight h (holding (root_lock h ∷ []) TrInsert true false) k g m (grow_root h level key node root (returns 1))
 
 -- where the walk of a round has arrived
-arrived_right : (h : Header) (args : Args) (k : TreeHand) (g : Shape) (m : Memory) (level key node n : ℕ) (next : ℕ → ℕ → ℕ → Script)
+arrived_right : (h : Header) (args : Args) (k : TreeLocals) (g : Shape) (m : Memory) (level key node n : ℕ) (next : ℕ → ℕ → ℕ → Script)
     → Above h args k g m level key node n → RoundsRight h args next
     → Onward h (holding (lock_of h n ∷ []) TrInsert true false) k g m (add_child h level key node (loaded_at m n) (returns 1) next)
 arrived_right h args k g m level key node n next ab rounds =
@@ -73,17 +73,17 @@ round_right : (h : Header) (args : Args) (next : ℕ → ℕ → ℕ → Script)
     → RoundsRight h args (λ level key node. ascend_once h Correct level key node (returns 1) next)
 round_right h args next growth rounds = record { right = begin }
   where
-    begin : (k : TreeHand) (g : Shape) (m : Memory) (level key node : ℕ) → IsLinked h.size g m → HandStands h k g m
+    begin : (k : TreeLocals) (g : Shape) (m : Memory) (level key node : ℕ) → IsLinked h.size g m → OwnsUnseen h k g m
         → Ascending k g m (insert_of args) level key node
         → TreeRight h (holding [] TrInsert true false) k g m (ascend_once h Correct level key node (returns 1) next)
-    begin k g m level key node tree hand up =
-        tree_take h free k g m (root_lock h) under tree hand (λ held e. cc)
+    begin k g m level key node tree unseen up =
+        tree_take h free k g m (root_lock h) under tree unseen (λ held e. cc)
         (λ a x r.
-        let hand_a = hand_stays h s k g m a x hand r in
-        let up_a = still_ascending h s k g m a x (insert_of args) level key node hand up r in
-        tree_load h s k a x (root_cell h) by_root r.tree hand_a (inr (inl refl)) refl
-        (λ b y r'. rooted b y (x (root_cell h)) r'.tree (hand_stays h s k a x b y hand_a r')
-        (still_ascending h s k a x b y (insert_of args) level key node hand_a up_a r') (r'.root root_held).0))
+        let unseen_a = unseen_stays h s k g m a x unseen r in
+        let up_a = still_ascending h s k g m a x (insert_of args) level key node unseen up r in
+        tree_load h s k a x (root_cell h) by_root r.tree unseen_a (inr (inl refl)) refl
+        (λ b y r'. rooted b y (x (root_cell h)) r'.tree (unseen_stays h s k a x b y unseen_a r')
+        (still_ascending h s k a x b y (insert_of args) level key node unseen_a up_a r') (r'.root root_held).0))
       where
         free : Situation
         free = holding [] TrInsert true false
@@ -106,24 +106,24 @@ round_right h args next growth rounds = record { right = begin }
         under : Script
         under = step (Load (root_cell h)) by_root
 
-        rooted : (b : Shape) (y : Memory) (root : ℕ) → IsLinked h.size b y → HandStands h k b y → Ascending k b y (insert_of args) level key node
+        rooted : (b : Shape) (y : Memory) (root : ℕ) → IsLinked h.size b y → OwnsUnseen h k b y → Ascending k b y (insert_of args) level key node
             → y (root_cell h) ≡ root → TreeRight h s k b y (by_root root)
-        rooted b y root tree hand up is =
+        rooted b y root tree unseen up is =
             subst (λ t. TreeRight h s k b y (cond t (step (Load (level_cell root)) (by_top root)) (unlock_root h (returns 1))))
             (sym (is_below root h.size (linked_low h.size b y tree root linked)))
-            (tree_load h s k b y (level_cell root) (by_top root) tree hand
+            (tree_load h s k b y (level_cell root) (by_top root) tree unseen
             (inl (record { node = root; place = 0; is = refl; low = omega arith; linked = linked; may = inr refl })) refl
-            (λ c z r. topped c z (level_at y root) r.tree (hand_stays h s k b y c z hand r)
-            (still_ascending h s k b y c z (insert_of args) level key node hand up r)
-            ((r.root root_held).0 ∙ is) (r.grows.level root linked) (r.calm root_held hand.quiet)))
+            (λ c z r. topped c z (level_at y root) r.tree (unseen_stays h s k b y c z unseen r)
+            (still_ascending h s k b y c z (insert_of args) level key node unseen up r)
+            ((r.root root_held).0 ∙ is) (r.grows.level root linked) (r.calm root_held unseen.quiet)))
           where
             linked : b.linked root ≡ true
             linked = ap b.linked (sym is) ∙ tree.root_linked
 
-            topped : (c : Shape) (z : Memory) (top : ℕ) → IsLinked h.size c z → HandStands h k c z → Ascending k c z (insert_of args) level key node
+            topped : (c : Shape) (z : Memory) (top : ℕ) → IsLinked h.size c z → OwnsUnseen h k c z → Ascending k c z (insert_of args) level key node
                 → z (root_cell h) ≡ root → level_at z root ≡ top → c.top ≡ level_at z (root_in h.size z)
                 → TreeRight h s k c z (by_top root top)
-            topped c z top tree hand up is top_is calm = by_level (le_or top level)
+            topped c z top tree unseen up is top_is calm = by_level (le_or top level)
               where
                 Goal : Bool → Type 0
                 Goal low = TreeRight h s k c z (cond low (grow_root h level key node root (returns 1)) (unlock_root h (walk root)))
@@ -136,18 +136,18 @@ round_right h args next growth rounds = record { right = begin }
 
                 by_level : (top ≤ level) ⊎ (level < top) → Goal (nat_le top level)
                 by_level (inl low) = subst Goal (sym (is_le top level low))
-                    (growth.right k c z level key node root tree hand up is
-                    (let high = tree.highest node (hand.hanging node up.hanging).0 in let at = up.level_is in omega (arith, low, root_level, top_is, high, at)) calm)
+                    (growth.right k c z level key node root tree unseen up is
+                    (let high = tree.highest node (unseen.hanging node up.hanging).0 in let at = up.level_is in omega (arith, low, root_level, top_is, high, at)) calm)
                 by_level (inr above) = subst Goal (sym (isnt_le top level above))
-                    (tree_give_last h TrInsert true k c z (root_lock h) (walk root) tree hand
+                    (tree_give_last h TrInsert true k c z (root_lock h) (walk root) tree unseen
                     (λ d w r. walk_right h TrInsert true key (level + 1) k d w (returns 1) (λ at. add_child h level key node at (returns 1) next)
-                    (hand_stays h free k c z d w hand r)
+                    (unseen_stays h free k c z d w unseen r)
                     (λ n e v r' at level_is over. arrived_right h args k e v level key node n next (record {
                       tree = r'.tree;
                       at = at;
                       is = record { linked = at.linked; level_is = level_is; covers = over };
-                      up = still_ascending h free k d w e v (insert_of args) level key node (hand_stays h free k c z d w hand r)
-                          (still_ascending h free k c z d w (insert_of args) level key node hand up r) r';
+                      up = still_ascending h free k d w e v (insert_of args) level key node (unseen_stays h free k c z d w unseen r)
+                          (still_ascending h free k c z d w (insert_of args) level key node unseen up r) r';
                       low_level = (let one = r.grows.top in let two = r'.grows.top in omega (arith, level_is, above, root_level, calm, one, two));
                     }) rounds)
                     h.size root (λ x. false) d w (same d w r) (record {
@@ -174,6 +174,6 @@ round_right h args next growth rounds = record { right = begin }
 -- an ascent with this many rounds left
 pub rounds_right : (h : Header) (args : Args) → GrowthRight h args → (left : ℕ)
     → RoundsRight h args (λ level key node. ascend h Correct left level key node (returns 1))
-rounds_right h args growth zero = record { right = λ k g m level key node tree hand up. ended_right h args k g m tree hand up.called_is }
+rounds_right h args growth zero = record { right = λ k g m level key node tree unseen up. ended_right h args k g m tree unseen up.called_is }
 rounds_right h args growth (suc left) =
     round_right h args (λ level key node. ascend h Correct left level key node (returns 1)) growth (rounds_right h args growth left)

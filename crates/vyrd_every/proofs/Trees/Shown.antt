@@ -32,7 +32,7 @@ use Rattle.vyrd_every.specs.Structures.{shown_by}
 use Rattle.vyrd_every.specs.Between.{log_in}
 use Rattle.vyrd_every.specs.Trees.Shapes.{Shape, IsLinked}
 use Rattle.vyrd_every.specs.Trees.States.{ShowsState}
-use Rattle.vyrd_every.specs.Trees.Hands.{TreeHand, IsWordOf}
+use Rattle.vyrd_every.specs.Trees.Locals.{TreeLocals, IsWordOf}
 use Rattle.vyrd_every.specs.Trees.Between.{MayHold, NoneOut, OneOut, TreeInvariant}
 use Rattle.vyrd_every.proofs.Acts.{never}
 use Rattle.vyrd_every.proofs.NextEvent.{keeps_in}
@@ -146,24 +146,24 @@ view_from h g m log state is t st leaves =
         ∙ leaf_gives h.size g words linked q c.node c.linked c.level_is c.covers ∙ sym (shows.shows q c.node c.linked c.level_is c.covers)
 
 -- between any two events the state is the view of the log's words
-pub view_between : (h : Header) (scripts : List Script) (earlier : List Stamped) (hands : ℕ → TreeHand) (g : Shape) (m : Memory) (passed : List Amounts)
-    (state : Amounts) → h.subject ≡ Tree → AreSoundScripts h scripts → IsRun h scripts earlier → TreeInvariant h scripts earlier hands g m passed state
+pub view_between : (h : Header) (scripts : List Script) (earlier : List Stamped) (locals : ℕ → TreeLocals) (g : Shape) (m : Memory) (passed : List Amounts)
+    (state : Amounts) → h.subject ≡ Tree → AreSoundScripts h scripts → IsRun h scripts earlier → TreeInvariant h scripts earlier locals g m passed state
     → view_of_words h (old_words_after h (log_in earlier)) ≡ state
-view_between h scripts earlier hands g m passed state is sound run inv =
+view_between h scripts earlier locals g m passed state is sound run inv =
     view_from h g m (log_in earlier) state is inv.tree inv.shows (λ n i of_n leaf low. by_ties n i of_n leaf low inv.ties)
   where
     by_ties : (n i : ℕ) → g.linked n ≡ true → level_at m n ≡ 0 → i < 12
-        → NoneOut h hands g m (shown_by (log_in earlier)) ⊎ OneOut h hands m (shown_by (log_in earlier))
+        → NoneOut h locals g m (shown_by (log_in earlier)) ⊎ OneOut h locals m (shown_by (log_in earlier))
         → shown_by (log_in earlier) (12 * n + i) ≡ m (12 * n + i)
     by_ties n i of_n leaf low (inl none) = sym (ap (λ f. f (12 * n + i)) none.same)
     by_ties n i of_n leaf low (inr o) =
         sym (ap (λ f. f (12 * n + i)) o.same
-        ∙ not_written (hands o.who).pending (shown_by (log_in earlier)) (12 * n + i) (by_given (is_some (given_by (12 * n + i) (hands o.who).pending)) refl))
+        ∙ not_written (locals o.who).pending (shown_by (log_in earlier)) (12 * n + i) (by_given (is_some (given_by (12 * n + i) (locals o.who).pending)) refl))
       where
         inside : has_block o.who (log_in earlier) ≡ true
         inside = (agrees h o.who earlier (keeps_in h scripts earlier o.who sound run o.low)).in_block ∙ ((inv.each o.who o.low).alone o.out).1
 
-        not_held : MayHold h (situation_after (part_of o.who earlier)) (hands o.who) g m (12 * n + i) → ⊥
+        not_held : MayHold h (situation_after (part_of o.who earlier)) (locals o.who) g m (12 * n + i) → ⊥
         not_held (inl quiet) = never quiet.0 o.out
         not_held (inr out) = by_word out.1
           where
@@ -180,7 +180,7 @@ view_between h scripts earlier hands g m passed state is sound run inv =
                 let level : level_at m n ≡ level_at m (root_in h.size m) = ap (level_at m) same in
                 omega (arith, above, level, leaf)
 
-        by_given : (b : Bool) → is_some (given_by (12 * n + i) (hands o.who).pending) ≡ b → b ≡ false
+        by_given : (b : Bool) → is_some (given_by (12 * n + i) (locals o.who).pending) ≡ b → b ≡ false
         by_given false f = refl
         by_given true f = absurd (not_held ((inv.each o.who o.low).covers (12 * n + i)
             (ap (λ b. b && wrote o.who (12 * n + i) (log_in earlier)) inside ∙ wrote_is o.who (12 * n + i) (log_in earlier) inside

@@ -25,16 +25,16 @@ use Rattle.vyrd_tree.specs.Laws.Alone.SplitKeepsTree.{old_low, off_words}
 use Rattle.vyrd_tree.specs.Laws.Alone.SplitWrites.{NodeWritten}
 use Rattle.vyrd_tree.specs.Laws.Alone.WalkArrives.{loaded_at}
 use Rattle.vyrd_every.proofs.Acts.{never}
-use Rattle.vyrd_every.specs.Hands.{written}
+use Rattle.vyrd_every.specs.Locals.{written}
 use Rattle.vyrd_every.specs.Trees.Shapes.{Shape, IsLinked, Hangs}
 use Rattle.vyrd_every.specs.Trees.States.{ShowsState}
 use Rattle.vyrd_every.specs.Trees.Others.{Grows}
-use Rattle.vyrd_every.specs.Trees.Hands.{TreeHand}
+use Rattle.vyrd_every.specs.Trees.Locals.{TreeLocals}
 use Rattle.vyrd_every.specs.Trees.Others.{TreeRely, TreeLeaves}
-use Rattle.vyrd_every.proofs.Trees.Parts.{HandStands, hand_stays, tree_rely_more, Changeless, changeless}
+use Rattle.vyrd_every.proofs.Trees.Parts.{OwnsUnseen, unseen_stays, tree_rely_more, Changeless, changeless}
 use Rattle.vyrd_every.proofs.Trees.Walks.{AtNode}
 use Rattle.vyrd_every.proofs.Trees.Kept.{coded, linked_low}
-use Rattle.vyrd_every.proofs.Trees.Blocks.{with_pending, hand_with, rely_with, InBlock, store_in_node, entry_writes, store_entries, entries_stand}
+use Rattle.vyrd_every.proofs.Trees.Blocks.{with_pending, unseen_with, rely_with, InBlock, store_in_node, entry_writes, store_entries, entries_stand}
 use Rattle.vyrd_every.proofs.Trees.Splits.{with_node, IsSplitAt, split_grows, split_linked, split_top, split_unnamed, split_hangs_new}
 
 -- the writes of a new node with two entries, the newest first
@@ -249,7 +249,7 @@ split_stands size m n u level bound right front back entry n_low u_low other lev
         by_place (inr none) = written_nowhere m₂ m₃ n (length front) (length pre) kept none w'
 
 -- a word of the node that was taken is stored in the block
-pub store_in_fresh : (h : Header) (method : Method) (committed : Bool) (k : TreeHand) (g : Shape) (m : Memory) (n u place value : ℕ) (ws : List (ℕ × ℕ))
+pub store_in_fresh : (h : Header) (method : Method) (committed : Bool) (k : TreeLocals) (g : Shape) (m : Memory) (n u place value : ℕ) (ws : List (ℕ × ℕ))
     (later : Script) → AtNode h (holding (lock_of h n ∷ []) method committed false) k g m n → k.fresh ≡ Some u → u < h.size → place < 12
     → InBlock h method committed k g m n ((12 * u + place, value) ∷ ws) later
     → InBlock h method committed k g m n ws (perform (Store (12 * u + place) value) later)
@@ -287,7 +287,7 @@ store_in_fresh h method committed k g m n u place value ws later at mine fits lo
     inside = holding (lock_of h n ∷ []) method committed true
 
     c : Changeless h inside (with_pending k ws) g' m'
-    c = changeless h inside (with_pending k ws) g' m' (hand_with h k ws g' m' (hand_stays h s k g m g' m' at.hand rely))
+    c = changeless h inside (with_pending k ws) g' m' (unseen_with h k ws g' m' (unseen_stays h s k g m g' m' at.unseen rely))
 
     not_root : (12 * u + place == root_cell h) ≡ false
     not_root = isnt_same (12 * u + place) (root_cell h) (λ e. omega (arith, low, e, fits))
@@ -295,7 +295,7 @@ store_in_fresh h method committed k g m n u place value ws later at mine fits lo
     same : cond (12 * u + place == root_cell h) (written ((12 * u + place, value) ∷ ws) m') m' ≡ m'
     same = ap (λ b. cond b (written ((12 * u + place, value) ∷ ws) m') m') not_root
 
-pub store_fresh_entries : (h : Header) (method : Method) (committed : Bool) (k : TreeHand) (g : Shape) (m : Memory) (n u place : ℕ) (xs : Entries)
+pub store_fresh_entries : (h : Header) (method : Method) (committed : Bool) (k : TreeLocals) (g : Shape) (m : Memory) (n u place : ℕ) (xs : Entries)
     (ws : List (ℕ × ℕ)) (later : Script) → AtNode h (holding (lock_of h n ∷ []) method committed false) k g m n → k.fresh ≡ Some u → u < h.size
     → place + length xs ≤ 4
     → InBlock h method committed k g m n (entry_writes u place xs ws) later
@@ -310,7 +310,7 @@ store_fresh_entries h method committed k g m n u place ((key, value) ∷ xs) ws 
     (omega (arith, fits)) rest))
 
 -- the stores of a split
-pub split_stores : (h : Header) (method : Method) (committed : Bool) (k : TreeHand) (g : Shape) (m : Memory) (n u : ℕ) (front back : Entries) (entry : ℕ × ℕ)
+pub split_stores : (h : Header) (method : Method) (committed : Bool) (k : TreeLocals) (g : Shape) (m : Memory) (n u : ℕ) (front back : Entries) (entry : ℕ × ℕ)
     (later : Script) → IsLinked h.size g m → AtNode h (holding (lock_of h n ∷ []) method committed false) k g m n → level_at m n ≤ g.top
     → k.fresh ≡ Some u → u < h.size
     → length front + length back ≡ 4
@@ -333,20 +333,20 @@ split_stores h method committed k g m n u front back entry later tree at high mi
     five = front ++ entry ∷ back
 
 -- what the close of a split does
-pub record Splits (h : Header) (s : Situation) (k : TreeHand) (g : Shape) (m : Memory) (g' : Shape) (m' : Memory) (u : ℕ) : Type 0 where
+pub record Splits (h : Header) (s : Situation) (k : TreeLocals) (g : Shape) (m : Memory) (g' : Shape) (m' : Memory) (u : ℕ) : Type 0 where
   pub grows : Grows g m g' m'
   pub leaves : TreeLeaves h s k g m g' m'
   pub tree : IsLinked h.size g' m'
   pub top : g.top ≡ level_at m (root_in h.size m) → g'.top ≡ level_at m' (root_in h.size m')
   pub hangs : (g'.linked u ≡ true) × Hangs g' m' u
 
-pub splits : (h : Header) (s : Situation) (k : TreeHand) (g : Shape) (m m' : Memory) (n u : ℕ) (five : Entries) → IsLinked h.size g m → HandStands h k g m
+pub splits : (h : Header) (s : Situation) (k : TreeLocals) (g : Shape) (m m' : Memory) (n u : ℕ) (five : Entries) → IsLinked h.size g m → OwnsUnseen h k g m
     → g.linked n ≡ true → holds s (lock_of h n) ≡ true → k.fresh ≡ Some u
     → IsSplitAt h.size m m' n u (lower_half five) (upper_half five) (first_key (upper_half five))
     → AreHalves h.size (coded g m (level_at m n)) g.low (level_at m n) (g.low n) (bound_at m n) five
     → ((x : ℕ) → g.linked x ≡ true → k.hanging ≢ Some x → Hangs g m x → level_at m n ≢ 0 → Each (λ entry. entry.1 ≢ x) five)
     → Splits h s k g m (with_node g u (first_key (upper_half five))) m' u
-splits h s k g m m' n u five tree hand linked held mine sp ha off = record {
+splits h s k g m m' n u five tree unseen linked held mine sp ha off = record {
   grows = split_grows h.size g m m' n u five tree linked un fit sp ha;
   leaves = record {
     others = λ a place of_a free low. sp.others (12 * a + place) (let fits = linked_low h.size g m tree a of_a in omega (arith, low))
@@ -368,10 +368,10 @@ splits h s k g m m' n u five tree hand linked held mine sp ha off = record {
 }
   where
     un : g.linked u ≡ false
-    un = (hand.fresh u mine).0
+    un = (unseen.fresh u mine).0
 
     fit : u ≤ last_in h.size m
-    fit = (hand.fresh u mine).1
+    fit = (unseen.fresh u mine).1
 
     u_low : u < h.size
     u_low = (let last = tree.last_low in omega (arith, fit))

@@ -14,9 +14,9 @@ use Rattle.vyrd_memory.specs.Scripts.{Script}
 use Rattle.vyrd_memory.specs.Soundness.{Situation, holds, observes, may_act, after_act}
 use Rattle.vyrd_memory.proofs.Agreements.{four_true}
 use Rattle.vyrd_tree.specs.Cells.{root_cell, root_lock}
-use Rattle.vyrd_every.specs.Hands.{written, pending_after}
+use Rattle.vyrd_every.specs.Locals.{written, pending_after}
 use Rattle.vyrd_every.specs.Trees.Shapes.{Shape}
-use Rattle.vyrd_every.specs.Trees.Hands.{TreeHand, MayStore}
+use Rattle.vyrd_every.specs.Trees.Locals.{TreeLocals, MayStore}
 use Rattle.vyrd_every.specs.Trees.Seen.{seen_after, out_after}
 use Rattle.vyrd_every.specs.Trees.RightScripts.{TreeReaches, TreeDoes}
 use Rattle.vyrd_every.specs.Trees.Between.{NoneOut, OneOut}
@@ -41,7 +41,7 @@ no_effect s pending (Mark BlockClose) inside goes = cc
 no_effect s pending (Mark BlockCommit) inside goes = cc
 
 -- while its writes are seen, a block writes nothing more
-same_pending : (h : Header) (s : Situation) (k : TreeHand) (g : Shape) (m : Memory) (act : Act) → k.out ≡ true → s.in_block ≡ true
+same_pending : (h : Header) (s : Situation) (k : TreeLocals) (g : Shape) (m : Memory) (act : Act) → k.out ≡ true → s.in_block ≡ true
     → TreeReaches h s k g m act → out_after h s act k.out ≡ true → pending_after act k.pending ≡ k.pending
 same_pending h s k g m (Load cell) out inside reaches still = refl
 same_pending h s k g m (Store cell value) out inside (inl within) still = absurd (never within.1 out)
@@ -58,7 +58,7 @@ same_pending h s k g m (Mark BlockClose) out inside reaches still = refl
 same_pending h s k g m (Mark BlockCommit) out inside reaches still = refl
 
 -- when such a block ends, its writes take effect
-ends : (h : Header) (s : Situation) (k : TreeHand) (act : Act) → k.out ≡ true → s.in_block ≡ true → may_act h s act ≡ true
+ends : (h : Header) (s : Situation) (k : TreeLocals) (act : Act) → k.out ≡ true → s.in_block ≡ true → may_act h s act ≡ true
     → out_after h s act k.out ≡ false → takes_effect s.in_block k.pending act ≡ k.pending
 ends h s k (Load cell) out inside may over = absurd (never over (ap (λ b. b || false) out))
 ends h s k (Store cell value) out inside may over = absurd (never over (ap (λ b. b || (s.in_block && cell == root_cell h)) out))
@@ -74,7 +74,7 @@ ends h s k (Mark BlockClose) out inside may over = refl
 ends h s k (Mark BlockCommit) out inside may over = refl
 
 -- what takes effect at an act is what its caller might store
-pub may_store : (h : Header) (s : Situation) (k : TreeHand) (g : Shape) (m : Memory) (act : Act) (w : ℕ) → TreeReaches h s k g m act → may_act h s act ≡ true
+pub may_store : (h : Header) (s : Situation) (k : TreeLocals) (g : Shape) (m : Memory) (act : Act) (w : ℕ) → TreeReaches h s k g m act → may_act h s act ≡ true
     → (s.in_block ≡ true → is_some (given_by w k.pending) ≡ true → MayStore h s k g m w)
     → is_some (given_by w (takes_effect s.in_block k.pending act)) ≡ true → MayStore h s k g m w
 may_store h s k g m (Load cell) w reaches may pends given = cc
@@ -99,101 +99,101 @@ may_store h s k g m (Mark BlockClose) w reaches may pends given = pends (second_
 may_store h s k g m (Mark BlockCommit) w reaches may pends given =
     pends (four_true (is_some s.called) s.in_block (not (observes s)) (not s.committed) may).1 given
 
--- the hands after an act of caller c
-abbrev pub with_hand : (ℕ → TreeHand) → ℕ → TreeHand → ℕ → TreeHand
-with_hand hands c next d = cond (c == d) next (hands d)
+-- the locals after an act of caller c
+abbrev pub with_locals : (ℕ → TreeLocals) → ℕ → TreeLocals → ℕ → TreeLocals
+with_locals locals c next d = cond (c == d) next (locals d)
 
-pub hand_own : (hands : ℕ → TreeHand) (c : ℕ) (next : TreeHand) → with_hand hands c next c ≡ next
-hand_own hands c next = ap (λ b. cond b next (hands c)) (same_number c)
+pub unseen_own : (locals : ℕ → TreeLocals) (c : ℕ) (next : TreeLocals) → with_locals locals c next c ≡ next
+unseen_own locals c next = ap (λ b. cond b next (locals c)) (same_number c)
 
-pub hand_other : (hands : ℕ → TreeHand) (c d : ℕ) (next : TreeHand) → (c == d) ≡ false → with_hand hands c next d ≡ hands d
-hand_other hands c d next other = ap (λ b. cond b next (hands d)) other
+pub unseen_other : (locals : ℕ → TreeLocals) (c d : ℕ) (next : TreeLocals) → (c == d) ≡ false → with_locals locals c next d ≡ locals d
+unseen_other locals c d next other = ap (λ b. cond b next (locals d)) other
 
 -- what callers see after one more event
-pub ties_step : (h : Header) (c : ℕ) (s : Situation) (hands : ℕ → TreeHand) (g : Shape) (m : Memory) (act : Act) (rest : Script) (next : TreeHand) (g' : Shape)
-    (shown shown' : Memory) → c < h.callers → TreeDoes h s (hands c) g m act rest next g' → may_act h s act ≡ true
-    → shown' ≡ written (takes_effect s.in_block (hands c).pending act) shown
-    → ((hands c).out ≡ true → s.in_block ≡ true)
-    → ((d : ℕ) → d < h.callers → (d == c) ≡ false → (hands d).out ≡ true → holds s (root_lock h) ≡ false)
-    → ((d w : ℕ) → d < h.callers → (d == c) ≡ false → (hands d).out ≡ true → (hands c).out ≡ false
-    → is_some (given_by w (takes_effect s.in_block (hands c).pending act)) ≡ true → is_some (given_by w (hands d).pending) ≡ true → ⊥)
-    → NoneOut h hands g m shown ⊎ OneOut h hands m shown
-    → NoneOut h (with_hand hands c next) g' (seen_after h s (hands c) m act) shown' ⊎ OneOut h (with_hand hands c next) (seen_after h s (hands c) m act) shown'
-ties_step h c s hands g m act rest next g' shown shown' low does may shows within free apart ties = by_ties ties
+pub ties_step : (h : Header) (c : ℕ) (s : Situation) (locals : ℕ → TreeLocals) (g : Shape) (m : Memory) (act : Act) (rest : Script) (next : TreeLocals) (g' : Shape)
+    (shown shown' : Memory) → c < h.callers → TreeDoes h s (locals c) g m act rest next g' → may_act h s act ≡ true
+    → shown' ≡ written (takes_effect s.in_block (locals c).pending act) shown
+    → ((locals c).out ≡ true → s.in_block ≡ true)
+    → ((d : ℕ) → d < h.callers → (d == c) ≡ false → (locals d).out ≡ true → holds s (root_lock h) ≡ false)
+    → ((d w : ℕ) → d < h.callers → (d == c) ≡ false → (locals d).out ≡ true → (locals c).out ≡ false
+    → is_some (given_by w (takes_effect s.in_block (locals c).pending act)) ≡ true → is_some (given_by w (locals d).pending) ≡ true → ⊥)
+    → NoneOut h locals g m shown ⊎ OneOut h locals m shown
+    → NoneOut h (with_locals locals c next) g' (seen_after h s (locals c) m act) shown' ⊎ OneOut h (with_locals locals c next) (seen_after h s (locals c) m act) shown'
+ties_step h c s locals g m act rest next g' shown shown' low does may shows within free apart ties = by_ties ties
   where
     m' : Memory
-    m' = seen_after h s (hands c) m act
+    m' = seen_after h s (locals c) m act
 
     T : List (ℕ × ℕ)
-    T = takes_effect s.in_block (hands c).pending act
+    T = takes_effect s.in_block (locals c).pending act
 
     After : Type 0
-    After = NoneOut h (with_hand hands c next) g' m' shown' ⊎ OneOut h (with_hand hands c next) m' shown'
+    After = NoneOut h (with_locals locals c next) g' m' shown' ⊎ OneOut h (with_locals locals c next) m' shown'
 
-    -- which hands have no writes that are seen
-    quiet_now : next.out ≡ false → ((d : ℕ) → d < h.callers → (c == d) ≡ false → (hands d).out ≡ false) → (d : ℕ) → d < h.callers
-        → (with_hand hands c next d).out ≡ false
+    -- which locals have no writes that are seen
+    quiet_now : next.out ≡ false → ((d : ℕ) → d < h.callers → (c == d) ≡ false → (locals d).out ≡ false) → (d : ℕ) → d < h.callers
+        → (with_locals locals c next d).out ≡ false
     quiet_now f others d low_d = by_same c d
-        (λ same. subst (λ x. (with_hand hands c next x).out ≡ false) same (ap (λ (k : TreeHand). k.out) (hand_own hands c next) ∙ f))
-        (λ other. ap (λ (k : TreeHand). k.out) (hand_other hands c d next other) ∙ others d low_d other)
+        (λ same. subst (λ x. (with_locals locals c next x).out ≡ false) same (ap (λ (k : TreeLocals). k.out) (unseen_own locals c next) ∙ f))
+        (λ other. ap (λ (k : TreeLocals). k.out) (unseen_other locals c d next other) ∙ others d low_d other)
 
-    none_before : NoneOut h hands g m shown → (b : Bool) → next.out ≡ b → After
+    none_before : NoneOut h locals g m shown → (b : Bool) → next.out ≡ b → After
     none_before n false f = inl (record {
       quiet = quiet_now f (λ d low_d other. n.quiet d low_d);
-      same = seen_more h s (hands c) m act (n.quiet c low) (sym does.out ∙ f) ∙ ap (written T) n.same ∙ sym shows;
+      same = seen_more h s (locals c) m act (n.quiet c low) (sym does.out ∙ f) ∙ ap (written T) n.same ∙ sym shows;
       calm = does.top (n.quiet c low) n.calm f;
     })
     none_before n true f =
-        let o : ComesOut h s (hands c) m act = when_out h s (hands c) m act (n.quiet c low) (sym does.out ∙ f) in
+        let o : ComesOut h s (locals c) m act = when_out h s (locals c) m act (n.quiet c low) (sym does.out ∙ f) in
         inr (record {
           who = c;
           low = low;
-          out = ap (λ (k : TreeHand). k.out) (hand_own hands c next) ∙ f;
-          others = λ d low_d other. ap (λ (k : TreeHand). k.out) (hand_other hands c d next other) ∙ n.quiet d low_d;
-          same = o.seen ∙ ap (written (pending_after act (hands c).pending)) (n.same ∙ sym (shows ∙ ap (λ ws. written ws shown) o.none))
-              ∙ ap (λ ws. written ws shown') (sym (ap (λ (k : TreeHand). k.pending) (hand_own hands c next) ∙ does.pending));
+          out = ap (λ (k : TreeLocals). k.out) (unseen_own locals c next) ∙ f;
+          others = λ d low_d other. ap (λ (k : TreeLocals). k.out) (unseen_other locals c d next other) ∙ n.quiet d low_d;
+          same = o.seen ∙ ap (written (pending_after act (locals c).pending)) (n.same ∙ sym (shows ∙ ap (λ ws. written ws shown) o.none))
+              ∙ ap (λ ws. written ws shown') (sym (ap (λ (k : TreeLocals). k.pending) (unseen_own locals c next) ∙ does.pending));
         })
 
     -- the caller's own block was seen
-    own_before : OneOut h hands m shown → ((hands c).out ≡ true) → m ≡ written (hands c).pending shown
-        → ((d : ℕ) → d < h.callers → (c == d) ≡ false → (hands d).out ≡ false) → (b : Bool) → next.out ≡ b → After
+    own_before : OneOut h locals m shown → ((locals c).out ≡ true) → m ≡ written (locals c).pending shown
+        → ((d : ℕ) → d < h.callers → (c == d) ≡ false → (locals d).out ≡ false) → (b : Bool) → next.out ≡ b → After
     own_before o out same others true f =
         let inside = within out in
-        let goes = (alone_after h s (hands c) g m act rest next g' does may f).1 in
+        let goes = (alone_after h s (locals c) g m act rest next g' does may f).1 in
         inr (record {
           who = c;
           low = low;
-          out = ap (λ (k : TreeHand). k.out) (hand_own hands c next) ∙ f;
-          others = λ d low_d other. ap (λ (k : TreeHand). k.out) (hand_other hands c d next other) ∙ others d low_d other;
-          same = still_out h s (hands c) g m act out inside does.reaches ∙ same
-              ∙ ap (written (hands c).pending) (sym (shows ∙ ap (λ ws. written ws shown) (no_effect s (hands c).pending act inside goes)))
-              ∙ ap (λ ws. written ws shown') (sym (ap (λ (k : TreeHand). k.pending) (hand_own hands c next) ∙ does.pending
-              ∙ same_pending h s (hands c) g m act out inside does.reaches (sym does.out ∙ f)));
+          out = ap (λ (k : TreeLocals). k.out) (unseen_own locals c next) ∙ f;
+          others = λ d low_d other. ap (λ (k : TreeLocals). k.out) (unseen_other locals c d next other) ∙ others d low_d other;
+          same = still_out h s (locals c) g m act out inside does.reaches ∙ same
+              ∙ ap (written (locals c).pending) (sym (shows ∙ ap (λ ws. written ws shown) (no_effect s (locals c).pending act inside goes)))
+              ∙ ap (λ ws. written ws shown') (sym (ap (λ (k : TreeLocals). k.pending) (unseen_own locals c next) ∙ does.pending
+              ∙ same_pending h s (locals c) g m act out inside does.reaches (sym does.out ∙ f)));
         })
     own_before o out same others false f =
         let inside = within out in
         inl (record {
           quiet = quiet_now f others;
-          same = still_out h s (hands c) g m act out inside does.reaches ∙ same
-              ∙ sym (shows ∙ ap (λ ws. written ws shown) (ends h s (hands c) act out inside may (sym does.out ∙ f)));
+          same = still_out h s (locals c) g m act out inside does.reaches ∙ same
+              ∙ sym (shows ∙ ap (λ ws. written ws shown) (ends h s (locals c) act out inside may (sym does.out ∙ f)));
           calm = does.closed out f;
         })
 
-    other_before : (o : OneOut h hands m shown) → (o.who == c) ≡ false → (b : Bool) → next.out ≡ b → After
+    other_before : (o : OneOut h locals m shown) → (o.who == c) ≡ false → (b : Bool) → next.out ≡ b → After
     other_before o other true f = absurd (never (free o.who o.low other o.out) (does.alone f).0)
     other_before o other false f =
-        let still : with_hand hands c next o.who ≡ hands o.who = hand_other hands c o.who next (apart_too o.who c other) in
+        let still : with_locals locals c next o.who ≡ locals o.who = unseen_other locals c o.who next (apart_too o.who c other) in
         inr (record {
           who = o.who;
           low = o.low;
-          out = ap (λ (k : TreeHand). k.out) still ∙ o.out;
+          out = ap (λ (k : TreeLocals). k.out) still ∙ o.out;
           others = λ d low_d others. by_same c d
-              (λ same. subst (λ x. (with_hand hands c next x).out ≡ false) same (ap (λ (k : TreeHand). k.out) (hand_own hands c next) ∙ f))
-              (λ apart_d. ap (λ (k : TreeHand). k.out) (hand_other hands c d next apart_d) ∙ o.others d low_d others);
-          same = seen_more h s (hands c) m act (o.others c low other) (sym does.out ∙ f) ∙ ap (written T) o.same
-              ∙ either_order T (hands o.who).pending shown (λ w. apart o.who w o.low other o.out (o.others c low other))
-              ∙ ap (written (hands o.who).pending) (sym shows)
-              ∙ ap (λ ws. written ws shown') (sym (ap (λ (k : TreeHand). k.pending) still));
+              (λ same. subst (λ x. (with_locals locals c next x).out ≡ false) same (ap (λ (k : TreeLocals). k.out) (unseen_own locals c next) ∙ f))
+              (λ apart_d. ap (λ (k : TreeLocals). k.out) (unseen_other locals c d next apart_d) ∙ o.others d low_d others);
+          same = seen_more h s (locals c) m act (o.others c low other) (sym does.out ∙ f) ∙ ap (written T) o.same
+              ∙ either_order T (locals o.who).pending shown (λ w. apart o.who w o.low other o.out (o.others c low other))
+              ∙ ap (written (locals o.who).pending) (sym shows)
+              ∙ ap (λ ws. written ws shown') (sym (ap (λ (k : TreeLocals). k.pending) still));
         })
       where
         apart_too : (a b : ℕ) → (a == b) ≡ false → (b == a) ≡ false
@@ -203,13 +203,13 @@ ties_step h c s hands g m act rest next g' shown shown' low does may shows withi
             by_test false f = refl
             by_test true f = absurd (never e (ap (λ x. x == b) (sym (same_of b a f)) ∙ same_number b))
 
-    by_who : (o : OneOut h hands m shown) → (b : Bool) → (o.who == c) ≡ b → After
+    by_who : (o : OneOut h locals m shown) → (b : Bool) → (o.who == c) ≡ b → After
     by_who o true e =
         let is : o.who ≡ c = same_of o.who c e in
-        own_before o (subst (λ x. (hands x).out ≡ true) is o.out) (subst (λ x. m ≡ written (hands x).pending shown) is o.same)
+        own_before o (subst (λ x. (locals x).out ≡ true) is o.out) (subst (λ x. m ≡ written (locals x).pending shown) is o.same)
         (λ d low_d other. o.others d low_d (ap (λ x. x == d) is ∙ other)) next.out refl
     by_who o false e = other_before o e next.out refl
 
-    by_ties : NoneOut h hands g m shown ⊎ OneOut h hands m shown → After
+    by_ties : NoneOut h locals g m shown ⊎ OneOut h locals m shown → After
     by_ties (inl n) = none_before n next.out refl
     by_ties (inr o) = by_who o (o.who == c) refl

@@ -24,10 +24,10 @@ use Rattle.vyrd_every.proofs.Acts.{never}
 use Rattle.vyrd_every.specs.Trees.Shapes.{Shape, HasEntries, LeadsRight, IsLinked, Hangs}
 use Rattle.vyrd_every.specs.Trees.States.{ShowsState}
 use Rattle.vyrd_every.specs.Trees.Others.{Grows}
-use Rattle.vyrd_every.specs.Trees.Hands.{TreeHand}
+use Rattle.vyrd_every.specs.Trees.Locals.{TreeLocals}
 use Rattle.vyrd_every.specs.Trees.Others.{TreeRely}
 use Rattle.vyrd_every.specs.Trees.RightScripts.{TreeRight}
-use Rattle.vyrd_every.proofs.Trees.Parts.{HandStands, hand_stays, tree_rely_more, tree_rely_less, tree_load, tree_take, tree_give}
+use Rattle.vyrd_every.proofs.Trees.Parts.{OwnsUnseen, unseen_stays, tree_rely_more, tree_rely_less, tree_load, tree_take, tree_give}
 use Rattle.vyrd_every.proofs.Trees.Walks.{Onward}
 use Rattle.vyrd_every.proofs.Trees.Kept.{entries_grow, linked_low}
 
@@ -107,12 +107,12 @@ module _ (size : ℕ) (g : Shape) (m m' : Memory) (t : IsLinked size g m) (same 
     formed = st.formed;
   }
 
--- the hand with a node that was taken
-abbrev pub with_fresh : TreeHand → ℕ → List (ℕ × ℕ) → TreeHand
+-- the locals with a node that was taken
+abbrev pub with_fresh : TreeLocals → ℕ → List (ℕ × ℕ) → TreeLocals
 with_fresh k u ws = record { fresh = Some u; hanging = k.hanging; pending = ws; out = false; called = k.called; answered = k.answered }
 
 -- what is relied upon with a node taken is more
-pub rely_fresh : (h : Header) (s : Situation) (k : TreeHand) (u : ℕ) (ws : List (ℕ × ℕ)) (g g' : Shape) (m m' : Memory) → k.fresh ≡ None
+pub rely_fresh : (h : Header) (s : Situation) (k : TreeLocals) (u : ℕ) (ws : List (ℕ × ℕ)) (g g' : Shape) (m m' : Memory) → k.fresh ≡ None
     → TreeRely h s (with_fresh k u ws) g m g' m' → TreeRely h s k g m g' m'
 rely_fresh h s k u ws g g' m m' none r = record {
   grows = r.grows;
@@ -136,19 +136,19 @@ isnt_le : (a b : ℕ) → b < a → nat_le a b ≡ false
 isnt_le a b le = grind (arith, nat_tests)
 
 -- With one lock held: the lock of the count is taken, and either there is no node, or one is taken that wasn't linked.
-pub unused_right : (h : Header) (method : Method) (committed : Bool) (lock : ℕ) (k : TreeHand) (g : Shape) (m : Memory) (none : Script) (found : ℕ → Script)
-    → lock < used_lock h → IsLinked h.size g m → HandStands h k g m → k.fresh ≡ None
+pub unused_right : (h : Header) (method : Method) (committed : Bool) (lock : ℕ) (k : TreeLocals) (g : Shape) (m : Memory) (none : Script) (found : ℕ → Script)
+    → lock < used_lock h → IsLinked h.size g m → OwnsUnseen h k g m → k.fresh ≡ None
     → Onward h (holding (lock ∷ []) method committed false) k g m none
     → ((u : ℕ) (ws : List (ℕ × ℕ)) (g' : Shape) (m' : Memory) → TreeRely h (holding (lock ∷ []) method committed false) k g m g' m'
-    → HandStands h (with_fresh k u ws) g' m' → TreeRight h (holding (lock ∷ []) method committed false) (with_fresh k u ws) g' m' (found u))
+    → OwnsUnseen h (with_fresh k u ws) g' m' → TreeRight h (holding (lock ∷ []) method committed false) (with_fresh k u ws) g' m' (found u))
     → Onward h (holding (lock ∷ []) method committed false) k g m (with_unused h none found)
-unused_right h method committed lock k g m none found below tree hand bare at_none at_some a x begun =
-    tree_take h s k a x (used_lock h) under begun.tree (hand_stays h s k g m a x hand begun) lower
-    (λ b y r. tree_load h both k b y (used_cell h) by_used r.tree (hand_stays h both k a x b y (hand_stays h s k g m a x hand begun) r)
+unused_right h method committed lock k g m none found below tree unseen bare at_none at_some a x begun =
+    tree_take h s k a x (used_lock h) under begun.tree (unseen_stays h s k g m a x unseen begun) lower
+    (λ b y r. tree_load h both k b y (used_cell h) by_used r.tree (unseen_stays h both k a x b y (unseen_stays h s k g m a x unseen begun) r)
     (inr (inr (refl, first_held))) refl
     (λ c z r'. counted c z (last_in h.size y) (tree_rely_more h s k g a c m x z begun
     (tree_rely_less h both s k a c x z more (tree_rely_more h both k a b c x y z r r')))
-    (hand_stays h both k b y c z (hand_stays h both k a x b y (hand_stays h s k g m a x hand begun) r) r') (r'.count first_held)
+    (unseen_stays h both k b y c z (unseen_stays h both k a x b y (unseen_stays h s k g m a x unseen begun) r) r') (r'.count first_held)
     (λ held out. r'.calm (more (root_lock h) held) out)))
   where
     s : Situation
@@ -187,11 +187,11 @@ unused_right h method committed lock k g m none found below tree hand bare at_no
     released = gone (used_lock h) (lock ∷ []) ∙ ap (λ b. cond (not b) (lock ∷ []) []) not_used
 
     -- the lock of the count is given back
-    give : (k : TreeHand) (later : Script) (c : Shape) (z : Memory) → IsLinked h.size c z → HandStands h k c z
+    give : (k : TreeLocals) (later : Script) (c : Shape) (z : Memory) → IsLinked h.size c z → OwnsUnseen h k c z
         → ((d : Shape) (w : Memory) → TreeRely h s k c z d w → TreeRight h s k d w later)
         → TreeRight h both k c z (unlock_used h later)
-    give k later c z t hand' rest =
-        tree_give h both k c z (used_lock h) later t hand' refl (subst Later (sym released) rest)
+    give k later c z t unseen' rest =
+        tree_give h both k c z (used_lock h) later t unseen' refl (subst Later (sym released) rest)
       where
         Later : List ℕ → Type 0
         Later locks = (d : Shape) (w : Memory) → TreeRely h (holding locks method committed false) k c z d w
@@ -203,17 +203,17 @@ unused_right h method committed lock k g m none found below tree hand bare at_no
     some_same : (p q : ℕ) → ◌≡◌ {A = Option ℕ} (Some p) (Some q) → p ≡ q
     some_same p q e = cc
 
-    counted : (c : Shape) (z : Memory) (used : ℕ) → TreeRely h s k g m c z → HandStands h k c z → last_in h.size z ≡ used
+    counted : (c : Shape) (z : Memory) (used : ℕ) → TreeRely h s k g m c z → OwnsUnseen h k c z → last_in h.size z ≡ used
         → (holds s (root_lock h) ≡ true → k.out ≡ false → c.top ≡ level_at z (root_in h.size z))
         → TreeRight h both k c z (by_used used)
-    counted c z used r hand' is calm = by_room (le_or h.size (used + 1))
+    counted c z used r unseen' is calm = by_room (le_or h.size (used + 1))
       where
         Goal : Bool → Type 0
         Goal full = TreeRight h both k c z (cond full (unlock_used h none) (perform (Store (used_cell h) (used + 1)) (unlock_used h (found (used + 1)))))
 
         by_room : (h.size ≤ used + 1) ⊎ (used + 1 < h.size) → Goal (nat_le h.size (used + 1))
         by_room (inl full) = subst Goal (sym (is_le h.size (used + 1) full))
-            (give k none c z r.tree hand' (λ d w r'. at_none d w (tree_rely_more h s k g c d m z w r r')))
+            (give k none c z r.tree unseen' (λ d w r'. at_none d w (tree_rely_more h s k g c d m z w r r')))
         by_room (inr room) = subst Goal (sym (isnt_le h.size (used + 1) room)) (
           taken,
           c,
@@ -230,32 +230,32 @@ unused_right h method committed lock k g m none found below tree hand bare at_no
             };
             tree = nodes_linked h.size c z after r.tree same;
             top = λ quiet top quiet'. top ∙ sym (nodes_root h.size c z after r.tree same);
-            closed = λ out quiet. absurd (never hand'.quiet out);
+            closed = λ out quiet. absurd (never unseen'.quiet out);
             alone = λ out. cc;
             ahead = λ quiet out. cc;
             wrote = λ quiet out. cc;
             within = λ inside goes same. cc;
             taken = λ n mine. subst (λ n. (c.linked n ≡ false) × (n ≤ last_in h.size after) × ((k.fresh ≡ Some n) ⊎ (last_in h.size z < n)))
                 (some_same (used + 1) n mine) (fresh_now, in_use, inr (omega (arith, is)));
-            hung = λ n mine. let was = hand'.hanging n mine in (was.0, nodes_hang h.size c z after r.tree same n was.1, inl mine);
+            hung = λ n mine. let was = unseen'.hanging n mine in (was.0, nodes_hang h.size c z after r.tree same n was.1, inl mine);
             leads = λ state shows. nodes_state h.size c z after r.tree same state shows;
             pending = refl;
-            out = sym (ap (λ b. b || false) hand'.quiet);
+            out = sym (ap (λ b. b || false) unseen'.quiet);
             called = refl;
             answers = refl;
           },
-          λ d w r'. give taken (found (used + 1)) d w r'.tree (hand_stays h both taken c after d w hand_now r')
+          λ d w r'. give taken (found (used + 1)) d w r'.tree (unseen_stays h both taken c after d w unseen_now r')
               (λ e v r''. at_some (used + 1) writes e v
               (tree_rely_more h s k g c e m z v r (tree_rely_more h s k c c e z after v own
               (tree_rely_more h s k c d e after w v (rely_fresh h s k (used + 1) writes c d after w bare (tree_rely_less h both s taken c d after w more r'))
               (rely_fresh h s k (used + 1) writes d e w v bare r''))))
-              (hand_stays h s taken d w e v (hand_stays h both taken c after d w hand_now r') r'')),
+              (unseen_stays h s taken d w e v (unseen_stays h both taken c after d w unseen_now r') r'')),
         )
           where
             writes : List (ℕ × ℕ)
             writes = (used_cell h, used + 1) ∷ k.pending
 
-            taken : TreeHand
+            taken : TreeLocals
             taken = with_fresh k (used + 1) ((used_cell h, used + 1) ∷ k.pending)
 
             after : Memory
@@ -284,10 +284,10 @@ unused_right h method committed lock k g m none found below tree hand bare at_no
             not_cell : (n place : ℕ) → c.linked n ≡ true → place < 12 → 12 * n + place ≢ used_cell h
             not_cell n place linked low e = (let fits = linked_low h.size c z r.tree n linked in omega (arith, low, e))
 
-            hand_now : HandStands h (with_fresh k (used + 1) ((used_cell h, used + 1) ∷ k.pending)) c (with_cell z (used_cell h) (used + 1))
-            hand_now = record {
+            unseen_now : OwnsUnseen h (with_fresh k (used + 1) ((used_cell h, used + 1) ∷ k.pending)) c (with_cell z (used_cell h) (used + 1))
+            unseen_now = record {
               fresh = λ n mine. subst (λ n. (c.linked n ≡ false) × (n ≤ last_in h.size after)) (some_same (used + 1) n mine) (fresh_now, in_use);
-              hanging = λ n mine. let was = hand'.hanging n mine in (was.0, nodes_hang h.size c z after r.tree same n was.1);
+              hanging = λ n mine. let was = unseen'.hanging n mine in (was.0, nodes_hang h.size c z after r.tree same n was.1);
               quiet = refl;
             }
 

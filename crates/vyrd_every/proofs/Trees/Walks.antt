@@ -24,10 +24,10 @@ use Rattle.vyrd_tree.specs.Laws.Alone.Played.{child_is, any_from, begins_at, eac
 use Rattle.vyrd_tree.specs.Laws.Alone.WalkArrives.{loaded_at, past, not_past}
 use Rattle.vyrd_every.specs.Trees.Shapes.{Shape, LeadsDown, IsInner, LeadsRight, IsLinked}
 use Rattle.vyrd_every.specs.Trees.Others.{Grows}
-use Rattle.vyrd_every.specs.Trees.Hands.{TreeHand}
+use Rattle.vyrd_every.specs.Trees.Locals.{TreeLocals}
 use Rattle.vyrd_every.specs.Trees.Others.{TreeRely}
 use Rattle.vyrd_every.specs.Trees.RightScripts.{TreeRight}
-use Rattle.vyrd_every.proofs.Trees.Parts.{HandStands, hand_stays, tree_rely_more, tree_rely_less, tree_load, tree_take, tree_give_last}
+use Rattle.vyrd_every.proofs.Trees.Parts.{OwnsUnseen, unseen_stays, tree_rely_more, tree_rely_less, tree_load, tree_take, tree_give_last}
 
 -- Where a walk is: at a linked node at or below whose range the key is, and after all nodes that it has visited; and with
 -- enough visits left for all others.
@@ -116,28 +116,28 @@ some_left size g m key toward n visited fits w =
     omega arith
 
 -- A node whose lock is held, from the moment on when it was taken.
-pub record AtNode (h : Header) (s : Situation) (k : TreeHand) (g : Shape) (m : Memory) (n : ℕ) : Type 0 where
+pub record AtNode (h : Header) (s : Situation) (k : TreeLocals) (g : Shape) (m : Memory) (n : ℕ) : Type 0 where
   pub linked : g.linked n ≡ true
   pub held : holds s (lock_of h n) ≡ true
   pub out : s.in_block ≡ false
-  pub hand : HandStands h k g m
+  pub unseen : OwnsUnseen h k g m
 
 -- a word of it is loaded: it is as it was when the lock was taken
-pub load_node : (h : Header) (s : Situation) (k : TreeHand) (g : Shape) (m : Memory) (n place : ℕ) (rest : ℕ → Script) → AtNode h s k g m n → place < 12
+pub load_node : (h : Header) (s : Situation) (k : TreeLocals) (g : Shape) (m : Memory) (n place : ℕ) (rest : ℕ → Script) → AtNode h s k g m n → place < 12
     → ((g' : Shape) → (m' : Memory) → TreeRely h s k g m g' m' → TreeRight h s k g' m' (rest (m (12 * n + place))))
     → (g' : Shape) → (m' : Memory) → TreeRely h s k g m g' m' → TreeRight h s k g' m' (step (Load (12 * n + place)) rest)
 load_node h s k g m n place rest at low later g' m' rely =
-    tree_load h s k g' m' (12 * n + place) rest rely.tree (hand_stays h s k g m g' m' at.hand rely)
+    tree_load h s k g' m' (12 * n + place) rest rely.tree (unseen_stays h s k g m g' m' at.unseen rely)
     (inl (record { node = n; place = place; is = refl; low = low; linked = rely.grows.linked n at.linked; may = inl at.held })) at.out
     (λ g'' m'' rely'.
     subst (λ v. TreeRight h s k g'' m'' (rest v)) (sym (rely.held n place at.linked at.held low))
     (later g'' m'' (tree_rely_more h s k g g' g'' m m' m'' rely rely')))
 
 -- what comes next does right, however others have gone on
-abbrev pub Onward : Header → Situation → TreeHand → Shape → Memory → Script → Type 0
+abbrev pub Onward : Header → Situation → TreeLocals → Shape → Memory → Script → Type 0
 Onward h s k g m script = (g' : Shape) → (m' : Memory) → TreeRely h s k g m g' m' → TreeRight h s k g' m' script
 
-pub keys_right : (h : Header) (s : Situation) (k : TreeHand) (g : Shape) (m : Memory) (n : ℕ) → AtNode h s k g m n
+pub keys_right : (h : Header) (s : Situation) (k : TreeLocals) (g : Shape) (m : Memory) (n : ℕ) → AtNode h s k g m n
     → (many place : ℕ) (loaded : List ℕ → Script) → place + many ≤ 4
     → Onward h s k g m (loaded (map (key_at m n) (numbers_from place many)))
     → Onward h s k g m (load_keys many n place loaded)
@@ -146,7 +146,7 @@ keys_right h s k g m n at (suc many) place loaded low later =
     load_node h s k g m n (4 + place) (λ key. load_keys many n (place + 1) (λ keys. loaded (key ∷ keys))) at (omega (arith, low))
     (keys_right h s k g m n at many (place + 1) (λ keys. loaded (key_at m n place ∷ keys)) (omega (arith, low)) later)
 
-pub values_right : (h : Header) (s : Situation) (k : TreeHand) (g : Shape) (m : Memory) (n : ℕ) → AtNode h s k g m n
+pub values_right : (h : Header) (s : Situation) (k : TreeLocals) (g : Shape) (m : Memory) (n : ℕ) → AtNode h s k g m n
     → (many place : ℕ) (loaded : Entries → Script) → place + many ≤ 4
     → Onward h s k g m (loaded (entries_from m n place many))
     → Onward h s k g m (load_values (map (key_at m n) (numbers_from place many)) n place loaded)
@@ -194,7 +194,7 @@ passed h key node level many bound right lost visit arrived past above =
     cond past (unlock_node h node (visit right)) (cond above (descend h key node many lost visit) (arrive node level many bound right arrived))
 
 -- At a node, with its lock held: right, down, or there. It is never lost here.
-visit_right : (h : Header) (method : Method) (committed : Bool) (key toward : ℕ) (k : TreeHand) (g : Shape) (m : Memory) (n : ℕ) (lost : Script)
+visit_right : (h : Header) (method : Method) (committed : Bool) (key toward : ℕ) (k : TreeLocals) (g : Shape) (m : Memory) (n : ℕ) (lost : Script)
     (visit : ℕ → Script) (arrived : Arrived → Script) → IsLinked h.size g m → AtNode h (holding (lock_of h n ∷ []) method committed false) k g m n
     → g.low n ≤ key → toward ≤ level_at m n
     → ((next : ℕ) → g.linked next ≡ true → g.low next ≤ key → toward ≤ level_at m next → IsAfter m g.low n next
@@ -220,7 +220,7 @@ visit_right h method committed key toward k g m n lost visit arrived tree at fro
     -- the node is unlocked, and the next one visited
     leave : (next : ℕ) → Onward h free k g m (visit next) → Onward h s k g m (unlock_node h n (visit next))
     leave next onward g' m' rely =
-        tree_give_last h method committed k g' m' (lock_of h n) (visit next) rely.tree (hand_stays h s k g m g' m' at.hand rely)
+        tree_give_last h method committed k g' m' (lock_of h n) (visit next) rely.tree (unseen_stays h s k g m g' m' at.unseen rely)
         (λ g'' m'' rely'. onward g'' m'' (tree_rely_more h free k g g' g'' m m' m'' (tree_rely_less h s free k g g' m m' (λ lock e. cc) rely) rely'))
 
     down : toward < level_at m n → Goal false true
@@ -298,24 +298,24 @@ visit_right h method committed key toward k g m n lost visit arrived tree at fro
 
 -- Where a walk arrives: at the node of its level that has the key in its range, with the lock held and the node loaded as it
 -- is. From the walk's beginning on others have gone on.
-abbrev pub Arrives : Header → Method → Bool → TreeHand → Shape → Memory → ℕ → ℕ → (Arrived → Script) → Type 0
+abbrev pub Arrives : Header → Method → Bool → TreeLocals → Shape → Memory → ℕ → ℕ → (Arrived → Script) → Type 0
 Arrives h method committed k g m key toward arrived = (n : ℕ) (g' : Shape) (m' : Memory) → TreeRely h (holding [] method committed false) k g m g' m'
     → AtNode h (holding (lock_of h n ∷ []) method committed false) k g' m' n → level_at m' n ≡ toward → Covers m' g'.low n key
     → Onward h (holding (lock_of h n ∷ []) method committed false) k g' m' (arrived (loaded_at m' n))
 
 -- A walk with enough visits left arrives, whatever `lost` would do.
-pub walk_right : (h : Header) (method : Method) (committed : Bool) (key toward : ℕ) (k : TreeHand) (g : Shape) (m : Memory) (lost : Script)
-    (arrived : Arrived → Script) → HandStands h k g m → Arrives h method committed k g m key toward arrived
+pub walk_right : (h : Header) (method : Method) (committed : Bool) (key toward : ℕ) (k : TreeLocals) (g : Shape) (m : Memory) (lost : Script)
+    (arrived : Arrived → Script) → OwnsUnseen h k g m → Arrives h method committed k g m key toward arrived
     → (left n : ℕ) (visited : ℕ → Bool) (g' : Shape) (m' : Memory) → TreeRely h (holding [] method committed false) k g m g' m'
     → Walking h.size g' m' key toward left n visited
     → TreeRight h (holding [] method committed false) k g' m' (walk_from h Correct key toward left n lost arrived)
-walk_right h method committed key toward k g m lost arrived hand there zero n visited g' m' rely w =
+walk_right h method committed key toward k g m lost arrived unseen there zero n visited g' m' rely w =
     absurd (some_left h.size g' m' key toward n visited (fits n (rely.tree.taken n w.linked) rely.tree.last_low) w)
   where
     fits : {last : ℕ} → (n : ℕ) → n ≤ last → last < h.size → n < h.size
     fits n le lt = omega (arith, le, lt)
-walk_right h method committed key toward k g m lost arrived hand there (suc left) n visited g' m' rely w =
-    visits (walk_right h method committed key toward k g m lost arrived hand there left)
+walk_right h method committed key toward k g m lost arrived unseen there (suc left) n visited g' m' rely w =
+    visits (walk_right h method committed key toward k g m lost arrived unseen there left)
   where
     s : Situation
     s = holding (lock_of h n ∷ []) method committed false
@@ -366,7 +366,7 @@ walk_right h method committed key toward k g m lost arrived hand there (suc left
           linked = here.linked;
           held = ap (λ b. b || false) (same_number (lock_of h n));
           out = refl;
-          hand = hand_stays h free k g m a x hand begun;
+          unseen = unseen_stays h free k g m a x unseen begun;
         }
 
         same : TreeRely h s k g' m' a x → TreeRely h s k a x a x
@@ -388,4 +388,4 @@ walk_right h method committed key toward k g m lost arrived hand there (suc left
         (tree_take h free k g' m' (lock_of h n)
         (step (Load (level_cell n)) (λ level. step (Load (count_cell n)) (λ count. step (Load (bound_cell n)) (λ bound.
         step (Load (right_cell n)) (λ right. pass_on h Correct key toward n level count bound right lost visit arrived)))))
-        rely.tree (hand_stays h free k g m g' m' hand rely) (λ held e. cc) (under later))
+        rely.tree (unseen_stays h free k g m g' m' unseen rely) (λ held e. cc) (under later))

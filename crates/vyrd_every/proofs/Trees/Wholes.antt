@@ -26,39 +26,39 @@ use Rattle.vyrd_work.specs.WorkScripts.{procedure_in, ops_of, work_script, work_
 use Rattle.vyrd_work.proofs.ScriptLaws.{ops_are_callable}
 use Rattle.vyrd_work.proofs.SoundScripts.{script_at}
 use Rattle.vyrd_tree.specs.Procedures.{procedure_of, tree_procedure}
-use Rattle.vyrd_every.specs.Hands.{answer_at}
+use Rattle.vyrd_every.specs.Locals.{answer_at}
 use Rattle.vyrd_every.proofs.Acts.{never}
 use Rattle.vyrd_every.proofs.Followed.{follows_return}
 use Rattle.vyrd_every.specs.Trees.Shapes.{Shape, IsLinked}
-use Rattle.vyrd_every.specs.Trees.Hands.{TreeHand, TreeRests, empty_tree_hand}
+use Rattle.vyrd_every.specs.Trees.Locals.{TreeLocals, TreeRests, empty_tree_locals}
 use Rattle.vyrd_every.specs.Trees.Starts.{IsCorrectTree}
 use Rattle.vyrd_every.specs.Trees.Seen.{seen_after}
 use Rattle.vyrd_every.specs.Trees.RightScripts.{TreeCommits, TreeLeads, TreeDoes, TreeRight}
-use Rattle.vyrd_every.proofs.Trees.Parts.{HandStands, hand_stays, Changeless, changeless}
+use Rattle.vyrd_every.proofs.Trees.Parts.{OwnsUnseen, unseen_stays, Changeless, changeless}
 use Rattle.vyrd_every.proofs.Trees.Leafs.{IsBare, lookup_right, delete_right}
 use Rattle.vyrd_every.proofs.Trees.Returns.{every_insert}
 
-procedure_right : (h : Header) (k : TreeHand) (g : Shape) (m : Memory) (method : Method) (args : Args) → subject_of method ≡ Tree
-    → args.a < 2 ^ 32 → args.b < 2 ^ 32 → IsLinked h.size g m → HandStands h k g m → IsBare k (record { method = method; args = args })
+procedure_right : (h : Header) (k : TreeLocals) (g : Shape) (m : Memory) (method : Method) (args : Args) → subject_of method ≡ Tree
+    → args.a < 2 ^ 32 → args.b < 2 ^ 32 → IsLinked h.size g m → OwnsUnseen h k g m → IsBare k (record { method = method; args = args })
     → TreeRight h (just_called method) k g m (procedure_of h Correct method args)
-procedure_right h k g m TrInsert args of small_key small tree hand bare = every_insert h args k g m small_key small tree hand bare
-procedure_right h k g m TrDelete args of small_key small tree hand bare = delete_right h args k g m tree hand bare
-procedure_right h k g m TrLookup args of small_key small tree hand bare = lookup_right h args k g m tree hand bare
-procedure_right h k g m MsInsert args of small_key small tree hand bare = cc
-procedure_right h k g m MsInsertPair args of small_key small tree hand bare = cc
-procedure_right h k g m MsDelete args of small_key small tree hand bare = cc
-procedure_right h k g m MsLookup args of small_key small tree hand bare = cc
-procedure_right h k g m CaWrite args of small_key small tree hand bare = cc
-procedure_right h k g m CaFlush args of small_key small tree hand bare = cc
-procedure_right h k g m CaEvict args of small_key small tree hand bare = cc
-procedure_right h k g m CaRead args of small_key small tree hand bare = cc
-procedure_right h k g m BuAppend args of small_key small tree hand bare = cc
-procedure_right h k g m BuAppendFrom args of small_key small tree hand bare = cc
-procedure_right h k g m BuCut args of small_key small tree hand bare = cc
-procedure_right h k g m BuLength args of small_key small tree hand bare = cc
-procedure_right h k g m BuRead args of small_key small tree hand bare = cc
+procedure_right h k g m TrInsert args of small_key small tree unseen bare = every_insert h args k g m small_key small tree unseen bare
+procedure_right h k g m TrDelete args of small_key small tree unseen bare = delete_right h args k g m tree unseen bare
+procedure_right h k g m TrLookup args of small_key small tree unseen bare = lookup_right h args k g m tree unseen bare
+procedure_right h k g m MsInsert args of small_key small tree unseen bare = cc
+procedure_right h k g m MsInsertPair args of small_key small tree unseen bare = cc
+procedure_right h k g m MsDelete args of small_key small tree unseen bare = cc
+procedure_right h k g m MsLookup args of small_key small tree unseen bare = cc
+procedure_right h k g m CaWrite args of small_key small tree unseen bare = cc
+procedure_right h k g m CaFlush args of small_key small tree unseen bare = cc
+procedure_right h k g m CaEvict args of small_key small tree unseen bare = cc
+procedure_right h k g m CaRead args of small_key small tree unseen bare = cc
+procedure_right h k g m BuAppend args of small_key small tree unseen bare = cc
+procedure_right h k g m BuAppendFrom args of small_key small tree unseen bare = cc
+procedure_right h k g m BuCut args of small_key small tree unseen bare = cc
+procedure_right h k g m BuLength args of small_key small tree unseen bare = cc
+procedure_right h k g m BuRead args of small_key small tree unseen bare = cc
 
-follows_commit : (k : TreeHand) (rest later : Script) (g : Shape) (m : Memory) (state : Amounts) → TreeCommits k rest g m state
+follows_commit : (k : TreeLocals) (rest later : Script) (g : Shape) (m : Memory) (state : Amounts) → TreeCommits k rest g m state
     → TreeCommits k (followed_by rest later) g m state
 follows_commit k rest later g m state c = record {
   called = c.called;
@@ -70,7 +70,7 @@ follows_commit k rest later g m state c = record {
   means = c.means;
 }
 
-follows_leads : (k : TreeHand) (act : Act) (rest later : Script) (g : Shape) (m : Memory) (state : Amounts) → TreeLeads k act rest g m state
+follows_leads : (k : TreeLocals) (act : Act) (rest later : Script) (g : Shape) (m : Memory) (state : Amounts) → TreeLeads k act rest g m state
     → TreeLeads k act (followed_by rest later) g m state
 follows_leads k (Load cell) rest later g m state leads = leads
 follows_leads k (Store cell value) rest later g m state leads = leads
@@ -85,7 +85,7 @@ follows_leads k (Mark BlockOpen) rest later g m state leads = leads
 follows_leads k (Mark BlockClose) rest later g m state leads = leads
 follows_leads k (Mark BlockCommit) rest later g m state leads = follows_commit k rest later g m state leads
 
-follows_does : (h : Header) (s : Situation) (k : TreeHand) (g : Shape) (m : Memory) (act : Act) (rest later : Script) (next : TreeHand) (g' : Shape)
+follows_does : (h : Header) (s : Situation) (k : TreeLocals) (g : Shape) (m : Memory) (act : Act) (rest later : Script) (next : TreeLocals) (g' : Shape)
     → TreeDoes h s k g m act rest next g' → TreeDoes h s k g m act (followed_by rest later) next g'
 follows_does h s k g m act rest later next g' does = record {
   reaches = does.reaches;
@@ -108,8 +108,8 @@ follows_does h s k g m act rest later next g' does = record {
 }
 
 -- one script after the other
-followed_right : (h : Header) (s : Situation) (k : TreeHand) (g : Shape) (m : Memory) (script later : Script)
-    → ((k' : TreeHand) (g' : Shape) (now : Memory) → IsLinked h.size g' now → TreeRests at_rest k' → TreeRight h at_rest k' g' now later)
+followed_right : (h : Header) (s : Situation) (k : TreeLocals) (g : Shape) (m : Memory) (script later : Script)
+    → ((k' : TreeLocals) (g' : Shape) (now : Memory) → IsLinked h.size g' now → TreeRests at_rest k' → TreeRight h at_rest k' g' now later)
     → IsLinked h.size g m → TreeRight h s k g m script → TreeRight h s k g m (followed_by script later)
 followed_right h s k g m stop later then_ tree right =
     subst (λ s. TreeRight h s k g m later) (sym right.rests)
@@ -121,8 +121,8 @@ followed_right h s k g m (step act rest) later then_ tree right = (
   λ g' now rely. followed_right h (after_act s act) right.0 g' now (rest (answer_at m act)) later then_ rely.tree (right.3 g' now rely),
 )
 
--- operations one after the other do right, where nothing is in hand
-tree_operations_right : (h : Header) (ops : List Op) (k : TreeHand) (g : Shape) (m : Memory) → h.subject ≡ Tree → are_callable h ops ≡ true
+-- operations one after the other do right, where the caller is at rest
+tree_operations_right : (h : Header) (ops : List Op) (k : TreeLocals) (g : Shape) (m : Memory) → h.subject ≡ Tree → are_callable h ops ≡ true
     → IsLinked h.size g m → TreeRests at_rest k → TreeRight h at_rest k g m (operations (tree_procedure h Correct) ops)
 tree_operations_right h [] k g m is callable tree rests = rests
 tree_operations_right h (op ∷ ops) k g m is callable tree rests = (
@@ -153,7 +153,7 @@ tree_operations_right h (op ∷ ops) k g m is callable tree rests = (
       (second_true (is_callable h op) (are_callable h ops) callable) tree' rests') rely.tree
       (procedure_right h begun g' now op.method op.args (callable_method h op this ∙ is) (below_of op.args.a (2 ^ 32) small.0)
       (below_of op.args.b (2 ^ 32) small.1) rely.tree
-      (hand_stays h (just_called op.method) begun g m g' now (record { fresh = hand.fresh; hanging = hand.hanging; quiet = hand.quiet }) rely)
+      (unseen_stays h (just_called op.method) begun g m g' now (record { fresh = unseen.fresh; hanging = unseen.hanging; quiet = unseen.quiet }) rely)
       (record { fresh = rests.fresh; hanging = rests.hanging; called_is = refl })),
 )
   where
@@ -165,7 +165,7 @@ tree_operations_right h (op ∷ ops) k g m is callable tree rests = (
         let two = first_true (nat_lt op.args.a (2 ^ 32) && nat_lt op.args.b (2 ^ 32)) (nat_lt op.args.c (2 ^ 32)) (callable_small h op this) in
         (first_true (nat_lt op.args.a (2 ^ 32)) (nat_lt op.args.b (2 ^ 32)) two, second_true (nat_lt op.args.a (2 ^ 32)) (nat_lt op.args.b (2 ^ 32)) two)
 
-    begun : TreeHand
+    begun : TreeLocals
     begun = record {
       fresh = k.fresh;
       hanging = k.hanging;
@@ -178,15 +178,15 @@ tree_operations_right h (op ∷ ops) k g m is callable tree rests = (
     none_isnt : (v : ℕ) → ◌≡◌ {A = Option ℕ} None (Some v) → ⊥
     none_isnt v e = cc
 
-    hand : HandStands h k g m
-    hand = record {
+    unseen : OwnsUnseen h k g m
+    unseen = record {
       fresh = λ v mine. absurd (none_isnt v (sym rests.fresh ∙ mine));
       hanging = λ v mine. absurd (none_isnt v (sym rests.hanging ∙ mine));
       quiet = rests.quiet;
     }
 
     c : Changeless h at_rest k g m
-    c = changeless h at_rest k g m hand
+    c = changeless h at_rest k g m unseen
 
     or_false : (b : Bool) → b ≡ (b || false)
     or_false true = refl
@@ -194,10 +194,10 @@ tree_operations_right h (op ∷ ops) k g m is callable tree rests = (
 
 -- the whole script of a caller does right
 pub tree_script_right : (w : Workload) (c : ℕ) (g : Shape) (m : Memory) → KeepsLimits w → IsCorrectTree w → c < w.header.callers
-    → IsLinked w.header.size g m → TreeRight w.header at_rest empty_tree_hand g m (script_of (work_scripts w) c)
+    → IsLinked w.header.size g m → TreeRight w.header at_rest empty_tree_locals g m (script_of (work_scripts w) c)
 tree_script_right w c g m limits is low tree =
-    subst (TreeRight w.header at_rest empty_tree_hand g m) (sym its)
-    (tree_operations_right w.header (ops_of c w.ops) empty_tree_hand g m is.subject (ops_are_callable w c limits) tree
+    subst (TreeRight w.header at_rest empty_tree_locals g m) (sym its)
+    (tree_operations_right w.header (ops_of c w.ops) empty_tree_locals g m is.subject (ops_are_callable w c limits) tree
     (record { rests = refl; fresh = refl; hanging = refl; called = refl; quiet = refl }))
   where
     its : script_of (work_scripts w) c ≡ operations (tree_procedure w.header Correct) (ops_of c w.ops)

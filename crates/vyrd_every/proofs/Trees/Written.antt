@@ -23,9 +23,9 @@ use Rattle.vyrd_memory.specs.Soundness.{Situation}
 use Rattle.vyrd_memory.proofs.Situations.{act_of_event}
 use Rattle.vyrd_tree.specs.Cells.{root_cell}
 use Rattle.vyrd_every.specs.Structures.{shown_by}
-use Rattle.vyrd_every.specs.Hands.{written, pending_after}
+use Rattle.vyrd_every.specs.Locals.{written, pending_after}
 use Rattle.vyrd_every.specs.Trees.Shapes.{Shape}
-use Rattle.vyrd_every.specs.Trees.Hands.{TreeHand}
+use Rattle.vyrd_every.specs.Trees.Locals.{TreeLocals}
 use Rattle.vyrd_every.specs.Trees.Seen.{seen_after, out_after}
 use Rattle.vyrd_every.specs.Trees.RightScripts.{TreeReaches}
 use Rattle.vyrd_every.proofs.Logs.{one_more, more}
@@ -86,7 +86,7 @@ takes_effect inside pending (Mark BlockClose) = pending
 takes_effect inside pending (Mark BlockCommit) = pending
 takes_effect inside pending _ = []
 
-pub shown_more : (h : Header) (s : Situation) (k : TreeHand) (g : Shape) (m : Memory) (c : ℕ) (did : Did) (log : List Entry) → has_block c log ≡ s.in_block
+pub shown_more : (h : Header) (s : Situation) (k : TreeLocals) (g : Shape) (m : Memory) (c : ℕ) (did : Did) (log : List Entry) → has_block c log ≡ s.in_block
     → k.pending ≡ block_writes c log → TreeReaches h s k g m (act_of_event did)
     → shown_by (cons_option (logged c did) log) ≡ written (takes_effect s.in_block k.pending (act_of_event did)) (shown_by log)
 shown_more h s k g m c (Read cell value) log block pending reaches = refl
@@ -109,7 +109,7 @@ shown_more h s k g m c (Marked BlockCommit) log block pending reaches =
     more (block_writes c log) (old_effects log) ∙ ap (λ ws. written ws (shown_by log)) (sym pending)
 
 -- Callers see the same writes, where the caller's own weren't seen before and aren't after.
-pub seen_more : (h : Header) (s : Situation) (k : TreeHand) (m : Memory) (act : Act) → k.out ≡ false → out_after h s act k.out ≡ false
+pub seen_more : (h : Header) (s : Situation) (k : TreeLocals) (m : Memory) (act : Act) → k.out ≡ false → out_after h s act k.out ≡ false
     → seen_after h s k m act ≡ written (takes_effect s.in_block k.pending act) m
 seen_more h s k m (Load cell) quiet still = refl
 seen_more h s k m (Take lock) quiet still = refl
@@ -132,7 +132,7 @@ seen_more h s k m (Mark BlockClose) quiet still = ap (λ b. cond b m (written k.
 seen_more h s k m (Mark BlockCommit) quiet still = ap (λ b. cond b m (written k.pending m)) quiet
 
 -- the store from which on a block's writes are seen
-pub record ComesOut (h : Header) (s : Situation) (k : TreeHand) (m : Memory) (act : Act) : Type 0 where
+pub record ComesOut (h : Header) (s : Situation) (k : TreeLocals) (m : Memory) (act : Act) : Type 0 where
   pub value : ℕ
   pub stores : act ≡ Store (root_cell h) value
   pub inside : s.in_block ≡ true
@@ -143,7 +143,7 @@ never_out : (b : Bool) → b ≡ false → (b || false) ≡ true → ⊥
 never_out true e f = cc
 never_out false e f = cc
 
-pub when_out : (h : Header) (s : Situation) (k : TreeHand) (m : Memory) (act : Act) → k.out ≡ false → out_after h s act k.out ≡ true → ComesOut h s k m act
+pub when_out : (h : Header) (s : Situation) (k : TreeLocals) (m : Memory) (act : Act) → k.out ≡ false → out_after h s act k.out ≡ true → ComesOut h s k m act
 when_out h s k m (Load cell) quiet out = absurd (never_out k.out quiet out)
 when_out h s k m (Take lock) quiet out = absurd (never_out k.out quiet out)
 when_out h s k m (Give lock) quiet out = absurd (never_out k.out quiet out)

@@ -7,7 +7,7 @@ use Rattle.vyrd_memory.specs.Soundness.{Situation, holds}
 use Rattle.vyrd_tree.specs.Cells.{root_cell, used_cell, lock_of, root_lock, used_lock}
 use Rattle.vyrd_tree.specs.Contents.{level_at, last_in, root_in}
 use Rattle.vyrd_every.specs.Trees.Shapes.{Shape, IsLinked, Hangs}
-use Rattle.vyrd_every.specs.Trees.Hands.{TreeHand}
+use Rattle.vyrd_every.specs.Trees.Locals.{TreeLocals}
 
 -- What stays true for good, so that it outlives locks: linked nodes stay linked, with their low and their
 -- level, and the root that the log shows doesn't sink.
@@ -21,7 +21,7 @@ pub record Grows (g : Shape) (m : Memory) (g' : Shape) (m' : Memory) : Type 0 wh
 -- they are, and the root's word and the count of nodes in use under their locks. The node that it took
 -- stays its own, and the one that hangs goes on to hang. The memory holds a tree, and whoever holds the
 -- root's lock, and hasn't stored a new root in an open block, sees the root that the log shows.
-pub record TreeRely (h : Header) (s : Situation) (k : TreeHand) (g : Shape) (m : Memory)
+pub record TreeRely (h : Header) (s : Situation) (k : TreeLocals) (g : Shape) (m : Memory)
     (g' : Shape) (m' : Memory) : Type 0 where
   pub grows : Grows g m g' m'
   pub held : (n place : ℕ) → g.linked n ≡ true → holds s (lock_of h n) ≡ true → place < 12
@@ -37,7 +37,7 @@ pub record TreeRely (h : Header) (s : Situation) (k : TreeHand) (g : Shape) (m :
 -- What an act of a caller leaves alone: the words of linked nodes whose lock it doesn't hold, nodes that
 -- others have taken, those that hang for others, and the root's word and the count of nodes in use without
 -- their locks. No node in use becomes unused.
-pub record TreeLeaves (h : Header) (s : Situation) (k : TreeHand) (g : Shape) (m : Memory)
+pub record TreeLeaves (h : Header) (s : Situation) (k : TreeLocals) (g : Shape) (m : Memory)
     (g' : Shape) (m' : Memory) : Type 0 where
   pub others : (n place : ℕ) → g.linked n ≡ true → holds s (lock_of h n) ≡ false → place < 12
       → m' (12 * n + place) ≡ m (12 * n + place)

@@ -15,18 +15,18 @@ use Rattle.vyrd_memory.specs.Scripts.{Script, stop, step}
 use Rattle.vyrd_memory.specs.Soundness.{Situation, holds, after_act}
 use Rattle.vyrd_tree.specs.Cells.{root_lock}
 use Rattle.vyrd_tree.specs.Contents.{level_at, last_in, root_in}
-use Rattle.vyrd_every.specs.Hands.{answer_at, pending_after, called_after}
+use Rattle.vyrd_every.specs.Locals.{answer_at, pending_after, called_after}
 use Rattle.vyrd_every.specs.RightScripts.{WillReturn}
 use Rattle.vyrd_every.specs.Trees.Shapes.{Shape, IsLinked, Hangs}
 use Rattle.vyrd_every.specs.Trees.States.{ShowsState}
-use Rattle.vyrd_every.specs.Trees.Hands.{TreeHand, TreeRests, IsWordOf, MayLoad, MayStore}
+use Rattle.vyrd_every.specs.Trees.Locals.{TreeLocals, TreeRests, IsWordOf, MayLoad, MayStore}
 use Rattle.vyrd_every.specs.Trees.Seen.{seen_after, out_after}
 use Rattle.vyrd_every.specs.Trees.Others.{Grows, TreeRely, TreeLeaves}
 
 -- What an act may reach. A load is not within a block, where own writes are hidden. A lock is taken only
 -- above all that are held, so that no callers wait for one another in a circle. None is given back in a
 -- block.
-abbrev pub TreeReaches : Header → Situation → TreeHand → Shape → Memory → Act → Type 0
+abbrev pub TreeReaches : Header → Situation → TreeLocals → Shape → Memory → Act → Type 0
 TreeReaches h s k g m (Load cell) = MayLoad h s g cell × (s.in_block ≡ false)
 TreeReaches h s k g m (Store cell value) = MayStore h s k g m cell
 TreeReaches h s k g m (Take lock) = (held : ℕ) → holds s held ≡ true → held < lock
@@ -37,7 +37,7 @@ TreeReaches h s k g m Done = ⊥
 
 -- A commit leads from this state to another one: by the specification, with the reply that the script will
 -- return, and the memory after the commit shows it.
-pub record TreeCommits (k : TreeHand) (rest : Script) (g' : Shape) (m' : Memory) (state : Amounts) : Type 0 where
+pub record TreeCommits (k : TreeLocals) (rest : Script) (g' : Shape) (m' : Memory) (state : Amounts) : Type 0 where
   pub called : Called
   pub is_called : k.called ≡ Some called
   pub reply : ℕ
@@ -47,13 +47,13 @@ pub record TreeCommits (k : TreeHand) (rest : Script) (g' : Shape) (m' : Memory)
   pub means : ShowsState g' m' next
 
 -- a commit leads to the next state, and after any other act the memory shows the state as before
-abbrev pub TreeLeads : TreeHand → Act → Script → Shape → Memory → Amounts → Type 0
+abbrev pub TreeLeads : TreeLocals → Act → Script → Shape → Memory → Amounts → Type 0
 TreeLeads k (Mark Commit) rest g' m' state = TreeCommits k rest g' m' state
 TreeLeads k (Mark BlockCommit) rest g' m' state = TreeCommits k rest g' m' state
 TreeLeads k _ rest g' m' state = ShowsState g' m' state
 
 -- an observer has its answer now: it is the answer in each state that the memory may show
-pub record TreeSees (k next : TreeHand) (g : Shape) (m : Memory) : Type 0 where
+pub record TreeSees (k next : TreeLocals) (g : Shape) (m : Memory) : Type 0 where
   pub called : Called
   pub is_called : k.called ≡ Some called
   pub reply : ℕ
@@ -62,7 +62,7 @@ pub record TreeSees (k next : TreeHand) (g : Shape) (m : Memory) : Type 0 where
 
 -- An observer may find its answer when it gives a lock back. It keeps it until it returns, and returns no
 -- other. A call begins without one.
-abbrev pub TreeAnswers : TreeHand → Shape → Memory → Act → TreeHand → Type 0
+abbrev pub TreeAnswers : TreeLocals → Shape → Memory → Act → TreeLocals → Type 0
 TreeAnswers k g m (Give lock) next = (next.answered ≡ k.answered) ⊎ TreeSees k next g m
 TreeAnswers k g m (Mark (Call method args)) next = next.answered ≡ None
 TreeAnswers k g m (Mark (Return reply)) next = (next.answered ≡ None)
@@ -70,10 +70,10 @@ TreeAnswers k g m (Mark (Return reply)) next = (next.answered ≡ None)
 TreeAnswers k g m _ next = next.answered ≡ k.answered
 
 -- An act does right: it reaches what it may, undoes nothing that stays true for good, leaves alone what
--- others rely on, keeps the tree, and leads to the right state. The next hand is what the caller has in
--- hand then, and the next shape that of the tree.
-pub record TreeDoes (h : Header) (s : Situation) (k : TreeHand) (g : Shape) (m : Memory) (act : Act)
-    (rest : Script) (next : TreeHand) (g' : Shape) : Type 0 where
+-- others rely on, keeps the tree, and leads to the right state. The next locals are those that the caller
+-- has then, and the next shape that of the tree.
+pub record TreeDoes (h : Header) (s : Situation) (k : TreeLocals) (g : Shape) (m : Memory) (act : Act)
+    (rest : Script) (next : TreeLocals) (g' : Shape) : Type 0 where
   pub reaches : TreeReaches h s k g m act
   pub grows : Grows g m g' (seen_after h s k m act)
   pub leaves : TreeLeaves h s k g m g' (seen_after h s k m act)
@@ -111,8 +111,8 @@ pub record TreeDoes (h : Header) (s : Situation) (k : TreeHand) (g : Shape) (m :
 
 -- A script does right from here on: its next act does, and whatever the others make of the tree then, so
 -- does the rest. At its end the caller is at rest.
-abbrev pub TreeRight : Header → Situation → TreeHand → Shape → Memory → Script → Type 0
+abbrev pub TreeRight : Header → Situation → TreeLocals → Shape → Memory → Script → Type 0
 TreeRight h s k g m stop = TreeRests s k
-TreeRight h s k g m (step act rest) = (next : TreeHand) × (grown : Shape) × TreeDoes h s k g m act (rest 0) next grown
+TreeRight h s k g m (step act rest) = (next : TreeLocals) × (grown : Shape) × TreeDoes h s k g m act (rest 0) next grown
     × ((g' : Shape) → (now : Memory) → TreeRely h (after_act s act) next grown (seen_after h s k m act) g' now
     → TreeRight h (after_act s act) next g' now (rest (answer_at m act)))

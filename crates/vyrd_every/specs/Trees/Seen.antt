@@ -10,8 +10,8 @@ use Rattle.vyrd_memory.specs.declared.act.Act.TheVariants.{Store, Mark}
 use Rattle.vyrd_memory.specs.Alone.{Memory, with_cell}
 use Rattle.vyrd_memory.specs.Soundness.{Situation}
 use Rattle.vyrd_tree.specs.Cells.{root_cell}
-use Rattle.vyrd_every.specs.Hands.{written}
-use Rattle.vyrd_every.specs.Trees.Hands.{TreeHand}
+use Rattle.vyrd_every.specs.Locals.{written}
+use Rattle.vyrd_every.specs.Trees.Locals.{TreeLocals}
 
 -- whether the act is the store from which on its block's writes are seen
 abbrev pub comes_out : Header → Situation → Act → Bool
@@ -20,7 +20,7 @@ comes_out h s act = false
 
 -- What an act makes of the memory that callers see. A store outside of blocks is seen at once. The writes
 -- of a block are seen when it ends, or from the store of the root's word on.
-abbrev pub seen_after : Header → Situation → TreeHand → Memory → Act → Memory
+abbrev pub seen_after : Header → Situation → TreeLocals → Memory → Act → Memory
 seen_after h s k m (Store cell value) =
     cond s.in_block (cond (cell == root_cell h) (written ((cell, value) ∷ k.pending) m) m) (with_cell m cell value)
 seen_after h s k m (Mark BlockClose) = cond k.out m (written k.pending m)

@@ -1,4 +1,4 @@
--- What a caller of the tree has in hand, and which words it may load and store.
+-- The locals of a caller of the tree, and which words it may load and store.
 use Rattle.std.specs.Prelude.{◌≡◌, ◌≢◌, ◌⊎◌, ℕ, ◌<◌, ◌≤◌, Bool, true, false, List, [], Option, Some, None}
 use Rattle.vyrd_base.specs.declared.header.Header.{Header}
 use Rattle.vyrd_base.specs.Callers.{Called}
@@ -8,10 +8,10 @@ use Rattle.vyrd_tree.specs.Cells.{node_cell, root_cell, used_cell, lock_of, root
 use Rattle.vyrd_tree.specs.Contents.{level_at, last_in}
 use Rattle.vyrd_every.specs.Trees.Shapes.{Shape, Hangs}
 
--- What a caller has in hand beside its locks: a node that it took and hasn't linked; a linked node whose
+-- What is local to a caller beside its locks: a node that it took and hasn't linked; a linked node whose
 -- entry above only it may add; its writes since its last open, and whether callers see them already; its
 -- open call; and an observer's answer.
-pub record TreeHand : Type 0 where
+pub record TreeLocals : Type 0 where
   pub fresh : Option ℕ
   pub hanging : Option ℕ
   pub pending : List (ℕ × ℕ)
@@ -19,26 +19,26 @@ pub record TreeHand : Type 0 where
   pub called : Option Called
   pub answered : Option ℕ
 
--- the hand of a caller before its first operation
-abbrev pub empty_tree_hand : TreeHand
-empty_tree_hand = record { fresh = None; hanging = None; pending = []; out = false; called = None; answered = None }
+-- the locals of a caller before its first operation
+abbrev pub empty_tree_locals : TreeLocals
+empty_tree_locals = record { fresh = None; hanging = None; pending = []; out = false; called = None; answered = None }
 
--- nothing is in hand, and no lock is held
-pub record TreeRests (s : Situation) (k : TreeHand) : Type 0 where
+-- the caller owns no node and has no call open, and no lock is held
+pub record TreeRests (s : Situation) (k : TreeLocals) : Type 0 where
   pub rests : s ≡ at_rest
   pub fresh : k.fresh ≡ None
   pub hanging : k.hanging ≡ None
   pub called : k.called ≡ None
   pub quiet : k.out ≡ false
 
--- What a hand says of the nodes: the node that was taken is among those in use and isn't linked, and the
+-- What locals say of the nodes: the node that was taken is among those in use and isn't linked, and the
 -- other one is linked and hangs.
-pub record Owns (h : Header) (k : TreeHand) (g : Shape) (m : Memory) : Type 0 where
+pub record Owns (h : Header) (k : TreeLocals) (g : Shape) (m : Memory) : Type 0 where
   pub fresh : (n : ℕ) → k.fresh ≡ Some n → (g.linked n ≡ false) × (n ≤ last_in h.size m)
   pub hanging : (n : ℕ) → k.hanging ≡ Some n → (g.linked n ≡ true) × Hangs g m n
 
--- the hands of two callers have no node in common
-pub record AreApart (k other : TreeHand) : Type 0 where
+-- the locals of two callers have no node in common
+pub record AreApart (k other : TreeLocals) : Type 0 where
   pub fresh : (n : ℕ) → other.fresh ≡ Some n → k.fresh ≢ Some n
   pub hanging : (n : ℕ) → other.hanging ≡ Some n → k.hanging ≢ Some n
 
@@ -64,7 +64,7 @@ MayLoad h s g cell = OfNode h s g cell ⊎ (cell ≡ root_cell h) ⊎ ((cell ≡
 
 -- a word that may be stored of a node: any one of the node that was taken, and any but the level of a
 -- linked node whose lock is held and which isn't above the root that the log shows
-pub record InNode (h : Header) (s : Situation) (k : TreeHand) (g : Shape) (m : Memory) (cell : ℕ) : Type 0 where
+pub record InNode (h : Header) (s : Situation) (k : TreeLocals) (g : Shape) (m : Memory) (cell : ℕ) : Type 0 where
   pub node : ℕ
   pub place : ℕ
   pub is : cell ≡ node_cell node place
@@ -74,7 +74,7 @@ pub record InNode (h : Header) (s : Situation) (k : TreeHand) (g : Shape) (m : M
 
 -- A word that may be stored: in a block whose writes aren't seen yet, one of a node, or the root's word
 -- under its lock; and outside of blocks the count of nodes in use, under its lock.
-abbrev pub MayStore : Header → Situation → TreeHand → Shape → Memory → ℕ → Type 0
+abbrev pub MayStore : Header → Situation → TreeLocals → Shape → Memory → ℕ → Type 0
 MayStore h s k g m cell =
     ((s.in_block ≡ true) × (k.out ≡ false)
     × (InNode h s k g m cell ⊎ ((cell ≡ root_cell h) × (holds s (root_lock h) ≡ true))))

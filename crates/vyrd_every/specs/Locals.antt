@@ -1,7 +1,8 @@
--- What a caller has in hand, and what one of its acts makes of that and of the memory that the log shows.
+-- The locals of a caller, and what one of its acts makes of them and of the memory that the log shows.
 --
 -- The locks that it holds, and whether a block of its own is open, are its `Situation` already
--- (vyrd_memory/specs/Soundness). A hand is what the proof keeps beside it.
+-- (vyrd_memory/specs/Soundness). Its locals are what the proof keeps beside it:
+-- what is local to the caller, as no other one changes it.
 use Rattle.std.specs.Prelude.{◌≡◌, ℕ, ◌<◌, Bool, true, false, List, [], ◌∷◌, Option, Some, None, if◌then◌else◌}
 use Rattle.vyrd_base.specs.declared.log.Kind.TheVariants.{Call, Return, BlockClose, BlockCommit}
 use Rattle.vyrd_base.specs.Callers.{Called}
@@ -14,18 +15,18 @@ use Rattle.vyrd_every.specs.Structures.{Structure}
 
 -- the slots that the caller has reserved, what it wrote since its last open, the call of its open
 -- execution, and, for an observer that has seen enough, the answer
-pub record Hand : Type 0 where
+pub record Locals : Type 0 where
   pub owned : ℕ → Bool
   pub pending : List (ℕ × ℕ)
   pub called : Option Called
   pub answered : Option ℕ
 
--- nothing is in hand
-abbrev pub empty_hand : Hand
-empty_hand = record { owned = λ slot. false; pending = []; called = None; answered = None }
+-- the locals of a caller before its first operation
+abbrev pub empty_locals : Locals
+empty_locals = record { owned = λ slot. false; pending = []; called = None; answered = None }
 
 -- the caller is between two operations: it holds no lock, has reserved nothing, and has no call open
-pub record Rests (s : Situation) (k : Hand) : Type 0 where
+pub record Rests (s : Situation) (k : Locals) : Type 0 where
   pub rests : s ≡ at_rest
   pub owned : (slot : ℕ) → k.owned slot ≡ false
   pub called : k.called ≡ None
@@ -42,7 +43,7 @@ written (w ∷ ws) shown = with_cell (written ws shown) w.0 w.1
 
 -- What an act makes of the memory that the log shows. A store shows at once, but not in a block: its
 -- writes show when it ends.
-abbrev pub shown_after : Situation → Hand → Memory → Act → Memory
+abbrev pub shown_after : Situation → Locals → Memory → Act → Memory
 shown_after s k shown (Store cell value) = if s.in_block then shown else with_cell shown cell value
 shown_after s k shown (Mark BlockClose) = written k.pending shown
 shown_after s k shown (Mark BlockCommit) = written k.pending shown

@@ -1,5 +1,5 @@
 use Rattle.vyrd_every.proofs.Trees.Others as others
-use Rattle.vyrd_every.proofs.tree_laws.tree_hands_stay_right.Goals as goal
+use Rattle.vyrd_every.proofs.tree_laws.tree_locals_stay_right.Goals as goal
 
 pub returns-clause-apart : goal.returns-clause-apart
 returns-clause-apart c = others.still_apart_from
