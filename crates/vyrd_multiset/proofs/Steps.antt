@@ -6,7 +6,7 @@ use Rattle.vyrd_memory.specs.declared.op.Variant.{Variant}
 use Rattle.vyrd_memory.specs.Scripts.{Script, after_answer}
 use Rattle.vyrd_memory.specs.Soundness.{IsSoundSomewhere}
 use Rattle.vyrd_multiset.specs.declared.place.Place.{Place}
-use Rattle.vyrd_multiset.specs.declared.place.Look.{Look}
+use Rattle.vyrd_multiset.specs.declared.place.Cursor.{Cursor}
 use Rattle.vyrd_multiset.specs.declared.place.Finding.{Finding}
 use Rattle.vyrd_multiset.specs.declared.place.Finding.TheVariants as finding
 use Rattle.vyrd_multiset.specs.declared.task.Task.{Task}
@@ -22,19 +22,19 @@ one_fewer : (a b : ℕ) → b ≢ 0 → a ≡ b - 1 → suc a ≡ b
 one_fewer a b some e = omega arith
 
 -- the search goes on at the next slot
-pub search_next : (look : Look) (a s x : ℕ) (ended : Option ℕ → Script) → look.after ≢ 0 → a ≡ look.after - 1 → s ≡ look.slot + 1
-    → search_from (suc a) s x ended ≡ search_from look.after (look.slot + 1) x ended
-search_next look a s x ended some fewer next =
-    ap (λ n. search_from n s x ended) (one_fewer a look.after some fewer) ∙ ap (λ n. search_from look.after n x ended) next
+pub search_next : (cursor : Cursor) (a s x : ℕ) (ended : Option ℕ → Script) → cursor.after ≢ 0 → a ≡ cursor.after - 1 → s ≡ cursor.slot + 1
+    → search_from (suc a) s x ended ≡ search_from cursor.after (cursor.slot + 1) x ended
+search_next cursor a s x ended some fewer next =
+    ap (λ n. search_from n s x ended) (one_fewer a cursor.after some fewer) ∙ ap (λ n. search_from cursor.after n x ended) next
 
 -- where the slot isn't free, it is looked at the next one
-pub find_next : (h : Header) (variant : Variant) (value : ℕ) (found : Option ℕ → Script) (place : Finding) (look : Look) (a s answer : ℕ)
-    → place ≡ finding.Load look → answer ≢ 0 → look.after ≢ 0 → a ≡ look.after - 1 → s ≡ look.slot + 1
+pub find_next : (h : Header) (variant : Variant) (value : ℕ) (found : Option ℕ → Script) (place : Finding) (cursor : Cursor) (a s answer : ℕ)
+    → place ≡ finding.Load cursor → answer ≢ 0 → cursor.after ≢ 0 → a ≡ cursor.after - 1 → s ≡ cursor.slot + 1
     → find_from (suc a) s value (λ slot. find_unlock h variant (bucket_of h value) (found slot))
     ≡ after_answer (finding_rest h variant value found place) answer
-find_next h variant value found place look a s answer at taken some fewer next =
+find_next h variant value found place cursor a s answer at taken some fewer next =
     let on : Option ℕ → Script = λ slot. find_unlock h variant (bucket_of h value) (found slot) in
-    ap (λ n. find_from n s value on) (one_fewer a look.after some fewer) ∙ ap (λ n. find_from look.after n value on) next
-    ∙ ap (λ b. cond b (reserve look.slot value (on (Some look.slot))) (find_from look.after (look.slot + 1) value on))
+    ap (λ n. find_from n s value on) (one_fewer a cursor.after some fewer) ∙ ap (λ n. find_from cursor.after n value on) next
+    ∙ ap (λ b. cond b (reserve cursor.slot value (on (Some cursor.slot))) (find_from cursor.after (cursor.slot + 1) value on))
     (sym (isnt_same answer 0 taken))
     ∙ ap (λ p. after_answer (finding_rest h variant value found p) answer) (sym at)

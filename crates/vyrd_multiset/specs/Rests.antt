@@ -50,8 +50,8 @@ ended_for h task Lookup slot = looked_up h task.x slot
 abbrev pub finding_rest : Header → Variant → ℕ → (Option ℕ → Script) → Finding → Script
 finding_rest h variant value found finding.Lock = lock h (bucket_of h value)
     (find_from 4 (first_slot (bucket_of h value)) value (λ slot. find_unlock h variant (bucket_of h value) (found slot)))
-finding_rest h variant value found (finding.Load look) =
-    find_from (suc look.after) look.slot value (λ slot. find_unlock h variant (bucket_of h value) (found slot))
+finding_rest h variant value found (finding.Load cursor) =
+    find_from (suc cursor.after) cursor.slot value (λ slot. find_unlock h variant (bucket_of h value) (found slot))
 finding_rest h variant value found (finding.StoreValue slot) = reserve slot value (find_unlock h variant (bucket_of h value) (found (Some slot)))
 finding_rest h variant value found (finding.StoreState slot) =
     perform (Store (state_cell slot) 1)
@@ -61,8 +61,8 @@ finding_rest h variant value found (finding.Unlock slot) = unlock h (bucket_of h
 -- what is left of a search
 abbrev pub searching_rest : Header → ℕ → (Option ℕ → Script) → Searching → Script
 searching_rest h x ended searching.Lock = search_in h x ended
-searching_rest h x ended (searching.LoadState look) = search_from (suc look.after) look.slot x ended
-searching_rest h x ended (searching.LoadValue look) = compare look.slot x (ended (Some look.slot)) (search_from look.after (look.slot + 1) x ended)
+searching_rest h x ended (searching.LoadState cursor) = search_from (suc cursor.after) cursor.slot x ended
+searching_rest h x ended (searching.LoadValue cursor) = compare cursor.slot x (ended (Some cursor.slot)) (search_from cursor.after (cursor.slot + 1) x ended)
 
 -- what is left of changing a slot
 abbrev pub changing_rest : Header → ℕ → ℕ → ℕ → Changing → Script

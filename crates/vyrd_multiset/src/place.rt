@@ -51,20 +51,20 @@ pub(crate) enum Query {
 
 /// A slot that is looked at, and how many slots of its bucket come after it.
 #[derive(Clone, Copy)]
-pub(crate) struct Look {
+pub(crate) struct Cursor {
     pub(crate) slot: u32,
     pub(crate) after: u32,
 }
 
-impl Look {
+impl Cursor {
     /// The slot that comes after it.
-    pub(crate) fn next(self) -> Look
+    pub(crate) fn next(self) -> Cursor
         requires after { self.after ≢ 0 }
         requires slot { self.slot + 1 < 2 ^ 32 }
         ensures slot { result.slot ≡ self.slot + 1 }
         ensures after { result.after ≡ self.after - 1 }
     {
-        Look {
+        Cursor {
             slot: self.slot + 1,
             after: self.after - 1,
         }
@@ -77,7 +77,7 @@ pub(crate) enum Finding {
     /// Lock the bucket.
     Lock,
     /// Load the state of this slot.
-    Load(Look),
+    Load(Cursor),
     /// Store the value in this slot, which is free.
     StoreValue(u32),
     /// Store the state of this slot, which is then reserved.
@@ -92,9 +92,9 @@ pub(crate) enum Searching {
     /// Lock the bucket.
     Lock,
     /// Load the state of this slot.
-    LoadState(Look),
+    LoadState(Cursor),
     /// Load the value of this slot, which is valid.
-    LoadValue(Look),
+    LoadValue(Cursor),
 }
 
 /// The places of the block that changes one slot.

@@ -13,7 +13,7 @@ ghost use Rattle.vyrd_multiset.specs.Rests.{undoing_rest, first_of, second_of, r
 use crate::cells::{
     FREE, RESERVED, VALID, bucket_of, first_slot_for, lock_for, lock_of, state_cell, value_cell,
 };
-use crate::place::{Changing, Finding, Look, Pairing, Place, Query, Searching, Undoing, Want};
+use crate::place::{Changing, Cursor, Finding, Pairing, Place, Query, Searching, Undoing, Want};
 use vyrd_base::{Header, Kind};
 use vyrd_memory::{Act, Variant};
 
@@ -87,7 +87,7 @@ impl Task {
             Variant::Correct => Place::Find(want, Finding::Lock),
             Variant::Broken => Place::Find(
                 want,
-                Finding::Load(first_look(header, self.wanted(want))),
+                Finding::Load(first_cursor(header, self.wanted(want))),
             ),
         }
     }
@@ -100,7 +100,7 @@ impl Task {
     {
         match place {
             Finding::Lock => Act::Take(lock_for(header, self.wanted(want))),
-            Finding::Load(look) => Act::Load(state_cell(look.slot)),
+            Finding::Load(cursor) => Act::Load(state_cell(cursor.slot)),
             Finding::StoreValue(slot) => {
                 Act::Store(value_cell(slot), u64::from(self.wanted(want)))
             }
@@ -119,15 +119,15 @@ impl Task {
         match place {
             Finding::Lock => Place::Find(
                 want,
-                Finding::Load(first_look(header, self.wanted(want))),
+                Finding::Load(first_cursor(header, self.wanted(want))),
             ),
-            Finding::Load(look) => {
+            Finding::Load(cursor) => {
                 if answer == FREE {
-                    Place::Find(want, Finding::StoreValue(look.slot))
-                } else if look.after == 0 {
+                    Place::Find(want, Finding::StoreValue(cursor.slot))
+                } else if cursor.after == 0 {
                     self.unlock_found(header, want, None)
                 } else {
-                    Place::Find(want, Finding::Load(look.next()))
+                    Place::Find(want, Finding::Load(cursor.next()))
                 }
             }
             Finding::StoreValue(slot) => Place::Find(want, Finding::StoreState(slot)),
@@ -171,8 +171,8 @@ impl Task {
     {
         match place {
             Searching::Lock => Act::Take(lock_for(header, self.x)),
-            Searching::LoadState(look) => Act::Load(state_cell(look.slot)),
-            Searching::LoadValue(look) => Act::Load(value_cell(look.slot)),
+            Searching::LoadState(cursor) => Act::Load(state_cell(cursor.slot)),
+            Searching::LoadValue(cursor) => Act::Load(value_cell(cursor.slot)),
         }
     }
 
@@ -185,29 +185,29 @@ impl Task {
         match place {
             Searching::Lock => Place::Search(
                 query,
-                Searching::LoadState(first_look(header, self.x)),
+                Searching::LoadState(first_cursor(header, self.x)),
             ),
-            Searching::LoadState(look) if answer == VALID => {
-                Place::Search(query, Searching::LoadValue(look))
+            Searching::LoadState(cursor) if answer == VALID => {
+                Place::Search(query, Searching::LoadValue(cursor))
             }
-            Searching::LoadValue(look) if answer == u64::from(self.x) => {
-                self.ended(header, query, Some(look.slot))
+            Searching::LoadValue(cursor) if answer == u64::from(self.x) => {
+                self.ended(header, query, Some(cursor.slot))
             }
-            Searching::LoadState(look) | Searching::LoadValue(look) => {
-                self.search_on(header, query, look)
+            Searching::LoadState(cursor) | Searching::LoadValue(cursor) => {
+                self.search_on(header, query, cursor)
             }
         }
     }
 
     /// The place after a slot that doesn't have the value.
-    fn search_on(self, header: &Header, query: Query, look: Look) -> Place
-        requires { look.slot + 1 < 2 ^ 32 }
-        ensures { rest_at header.now self result ≡ search_from look.after (look.slot + 1) self.x (ended_for header.now self query) }
+    fn search_on(self, header: &Header, query: Query, cursor: Cursor) -> Place
+        requires { cursor.slot + 1 < 2 ^ 32 }
+        ensures { rest_at header.now self result ≡ search_from cursor.after (cursor.slot + 1) self.x (ended_for header.now self query) }
     {
-        if look.after == 0 {
+        if cursor.after == 0 {
             self.ended(header, query, None)
         } else {
-            Place::Search(query, Searching::LoadState(look.next()))
+            Place::Search(query, Searching::LoadState(cursor.next()))
         }
     }
 
@@ -338,11 +338,11 @@ impl Task {
 }
 
 /// The first slot that is looked at for a value: that of its bucket.
-fn first_look(header: &Header, value: u32) -> Look
+fn first_cursor(header: &Header, value: u32) -> Cursor
     ensures slot { result.slot ≡ first_slot (bucket_of header.now value) }
     ensures after { result.after ≡ 3 }
 {
-    Look {
+    Cursor {
         slot: first_slot_for(header, value),
         after: 3,
     }

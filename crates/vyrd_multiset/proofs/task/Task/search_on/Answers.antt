@@ -2,7 +2,7 @@ use Rattle.vyrd_multiset.specs.Rests.{ended_for}
 use Rattle.vyrd_multiset.proofs.Steps.{search_next}
 use Rattle.vyrd_multiset.proofs.task.Task.search_on.Goals as goal
 
-pub returns-else-look-eq0 : goal.returns-else-look-eq0
-returns-else-look-eq0 c =
-    search_next c.args.look c.next.result.after c.next.result.slot c.args.self.x (ended_for c.args.header.now c.args.self c.args.query)
-    c.if-look-eq0.false c.next.ensures.after c.next.ensures.slot
+pub returns-else-cursor-eq0 : goal.returns-else-cursor-eq0
+returns-else-cursor-eq0 c =
+    search_next c.args.cursor c.next.result.after c.next.result.slot c.args.self.x (ended_for c.args.header.now c.args.self c.args.query)
+    c.if-cursor-eq0.false c.next.ensures.after c.next.ensures.slot
