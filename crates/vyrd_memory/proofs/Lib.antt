@@ -1,6 +1,7 @@
 pub mod NumberLists
 pub mod PartSums
 pub mod Memories
+pub mod AloneLaws
 pub mod TimedActs
 pub mod Small
 mod BoundSums

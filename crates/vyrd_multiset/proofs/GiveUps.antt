@@ -5,21 +5,16 @@ use Rattle.vyrd_base.specs.declared.subject.Subject.TheVariants.{Multiset}
 use Rattle.vyrd_base.specs.Amounts.{Amounts}
 use Rattle.vyrd_memory.specs.declared.op.Variant.TheVariants.{Correct}
 use Rattle.vyrd_memory.specs.Alone.{Memory, Outcome, state_in, alone, GivesUpWhere}
+use Rattle.vyrd_memory.proofs.AloneLaws.{gives_up}
 use Rattle.vyrd_multiset.specs.Procedures.{insert, insert_pair}
 use Rattle.vyrd_multiset.specs.Room.{free_slots_for, has_room_for_both}
 use Rattle.vyrd_multiset.specs.Laws.Alone.Changes.{is_multiset}
-use Rattle.vyrd_multiset.specs.Laws.Alone.Played.{Ended}
 use Rattle.vyrd_multiset.specs.Laws.Alone.Done.{InsertDone, insert_done, PairDone, pair_done}
-
-by_outcome : (P : Type 0) (Q : ℕ → Memory → Type 0) (o : Option Outcome) → Ended o Q
-    → ((reply : ℕ) (after : Memory) → Q reply after → (reply ≡ 0 → P) × (P → reply ≡ 0)) → GivesUpWhere P o
-by_outcome P Q None e says = absurd e
-by_outcome P Q (Some outcome) e says = let both = says outcome.reply outcome.memory e in (both.0, both.1)
 
 pub insert_gives_up : (h : Header) (memory : Memory) (state : Amounts) (c x : ℕ) → h.subject ≡ Multiset → state_in h memory ≡ Some state
     → GivesUpWhere (free_slots_for h memory x ≡ 0) (alone c (insert h Correct x) memory)
 insert_gives_up h memory state c x is e =
-    by_outcome (free_slots_for h memory x ≡ 0) (InsertDone h memory state x) (alone c (insert h Correct x) memory)
+    gives_up (free_slots_for h memory x ≡ 0) (InsertDone h memory state x) (alone c (insert h Correct x) memory)
     (insert_done h c memory state x (is_multiset h memory state is e)) says
   where
     says : (reply : ℕ) (after : Memory) → InsertDone h memory state x reply after → (reply ≡ 0 → free_slots_for h memory x ≡ 0) ×
@@ -30,7 +25,7 @@ insert_gives_up h memory state c x is e =
 pub insert_pair_gives_up : (h : Header) (memory : Memory) (state : Amounts) (c x y : ℕ) → h.subject ≡ Multiset → state_in h memory ≡ Some state
     → GivesUpWhere (has_room_for_both h memory x y ≡ false) (alone c (insert_pair h Correct x y) memory)
 insert_pair_gives_up h memory state c x y is e =
-    by_outcome (has_room_for_both h memory x y ≡ false) (PairDone h memory state x y) (alone c (insert_pair h Correct x y) memory)
+    gives_up (has_room_for_both h memory x y ≡ false) (PairDone h memory state x y) (alone c (insert_pair h Correct x y) memory)
     (pair_done h c memory state x y (is_multiset h memory state is e)) says
   where
     says : (reply : ℕ) (after : Memory) → PairDone h memory state x y reply after → (reply ≡ 0 → has_room_for_both h memory x y ≡ false) ×

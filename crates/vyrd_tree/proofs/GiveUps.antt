@@ -14,7 +14,7 @@ use Rattle.vyrd_tree.specs.Contents.{level_at, count_at, bound_at, right_at, las
 use Rattle.vyrd_tree.specs.Laws.Alone.Order.{after_of, after_falls, after_few, next_of, one_cover}
 use Rattle.vyrd_tree.specs.Laws.Alone.Order.{zero_low}
 use Rattle.vyrd_tree.specs.Laws.Alone.Changes.{tree_represents}
-use Rattle.vyrd_tree.specs.Laws.Alone.Played.{EndsSo}
+use Rattle.vyrd_memory.proofs.AloneLaws.{gives_up}
 use Rattle.vyrd_tree.specs.Laws.Alone.WalkArrives.{past, not_past}
 use Rattle.vyrd_tree.specs.Laws.Alone.Inserted.{LeafOf, InsertDone, insert_alone}
 
@@ -61,17 +61,12 @@ leaf_is h m low key n t l =
     let found = leaf_stands h m low key t in
     one_cover h.size m low t (leaf_of h m key) n key found.in_use l.in_use (found.leaf ∙ sym l.leaf) found.covers l.covers
 
-by_outcome : (P : Type 0) (says : ℕ → Memory → Type 0) (o : Option Outcome) → EndsSo says o
-    → ((reply : ℕ) (after : Memory) → says reply after → (reply ≡ 0 → P) × (P → reply ≡ 0)) → GivesUpWhere P o
-by_outcome P says None e both = absurd e
-by_outcome P says (Some outcome) e both = let b = both outcome.reply outcome.memory e in (b.0, b.1)
-
 pub insert_gives_up : (h : Header) (memory : Memory) (state : Amounts) (c key value : ℕ) → h.subject ≡ Tree
     → state_in h memory ≡ Some state → key < 2 ^ 32
     → value < 2 ^ 32
     → GivesUpWhere (HasNoRoom h memory state key) (alone c (insert_entry h Correct key value) memory)
 insert_gives_up h memory state c key value is e small_key small =
-    by_outcome (HasNoRoom h memory state key) (InsertDone h memory state key value) (alone c (insert_entry h Correct key value) memory)
+    gives_up (HasNoRoom h memory state key) (InsertDone h memory state key value) (alone c (insert_entry h Correct key value) memory)
     (insert_alone h c memory state key value (tree_represents h memory state is e) small_key small) says
   where
     says : (reply : ℕ) (after : Memory) → InsertDone h memory state key value reply after

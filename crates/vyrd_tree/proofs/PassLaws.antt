@@ -24,7 +24,7 @@ use Rattle.vyrd_tree.specs.Contents.{count_at, last_in, entries_at, ShowsBy, Tre
 use Rattle.vyrd_tree.specs.Laws.Alone.Entries.{found_around, not_found}
 use Rattle.vyrd_tree.specs.Laws.Alone.Tested.{length-entries}
 use Rattle.vyrd_tree.specs.Laws.Alone.Changes.{tree_represents, tree_represented}
-use Rattle.vyrd_tree.specs.Laws.Alone.Played.{EndsSo}
+use Rattle.vyrd_memory.proofs.AloneLaws.{EndsSo}
 use Rattle.vyrd_tree.specs.Laws.Alone.WalkArrives.{loaded_at, with_lock, locked_words}
 use Rattle.vyrd_tree.specs.Laws.Alone.WalkArrives.{walk_down_arrives}
 use Rattle.vyrd_tree.specs.Laws.Alone.BlocksPlayed.{FreeAll, IsAt, is_at, unused_played}
@@ -104,8 +104,8 @@ round_keeps_state h c level key node memory state is e hangs = by_end (round_com
         let says = at_next s.0 s.1 s.2 s.3 in
         record { after = s.0; represents = says.0; goes_on = inr (record { key = s.1; node = s.2; rest = s.3; hangs = says.1 }) }
     by_end (inr (inr s)) =
-        absurd (subst (EndsSo (λ reply after. ⊤)) (s (returns 0) (λ level' key' node'. returns 0))
-        (played (returns 0) (λ level' key' node'. returns 0) (EndsSo (λ reply after. ⊤)) (λ m low shown free. tt)
+        absurd (subst (λ o. EndsSo o (λ reply after. ⊤)) (s (returns 0) (λ level' key' node'. returns 0))
+        (played (returns 0) (λ level' key' node'. returns 0) (λ o. EndsSo o (λ reply after. ⊤)) (λ m low shown free. tt)
         (λ m low key' node' shown free hangs'. tt)))
 
 pub insert_splits_leaf : (h : Header) (c : ℕ) (args : Args) (memory : Memory) (state : Amounts) → h.subject ≡ Tree
@@ -178,7 +178,7 @@ insert_splits_leaf h c args memory state is e small_key small none full room = r
         )))
       where
         Says : Option Outcome → Type 0
-        Says = EndsSo (λ reply after. (state_in h after ≡ Some next) × (is_hanging h after 0 key u ≡ true))
+        Says o = EndsSo o (λ reply after. (state_in h after ≡ Some next) × (is_hanging h after 0 key u ≡ true))
 
     -- from the leaf, with its lock held
     in_leaf : (later : ℕ → ℕ → Script)

@@ -25,6 +25,7 @@ use Rattle.vyrd_memory.specs.Arguments.{are_small}
 use Rattle.vyrd_memory.specs.Scripts.{step, returns}
 use Rattle.vyrd_memory.specs.Alone.{Memory, with_cell, alone, MeetsSpecification, IsRightAlone}
 use Rattle.vyrd_memory.proofs.Memories.{Represents, represents, other_cell}
+use Rattle.vyrd_memory.proofs.AloneLaws.{given_back}
 use Rattle.vyrd_buffers.specs.Cells.{count_cell, character_cell, lock_of, unlock}
 use Rattle.vyrd_buffers.specs.Procedures.{commit_count, append_at, append, load_from, unlock_both, append_held, append_all, append_from}
 use Rattle.vyrd_buffers.specs.Procedures.{cut_at, cut, length_of, read_from, read, procedure_of}
@@ -32,7 +33,7 @@ use Rattle.vyrd_buffers.specs.Contents.{buffer_of, shown}
 use Rattle.vyrd_buffers.specs.Laws.Alone.Changes.{sound_at, shown_at, Leaves, same_cells, count_at_most}
 use Rattle.vyrd_buffers.specs.Laws.Alone.Texts.{characters_in, character_in, count_is, length_shown, room_for, room_for_one}
 use Rattle.vyrd_buffers.specs.Laws.Alone.Texts.{one_text, Cut, cut_sound, cut_shown, uncut_shown}
-use Rattle.vyrd_buffers.specs.Laws.Alone.Stores.{SameWords, held, lock_changed, given_back, both_held, both_held-other, both_held-words}
+use Rattle.vyrd_buffers.specs.Laws.Alone.Stores.{SameWords, held, lock_changed, both_held, both_held-other, both_held-words}
 use Rattle.vyrd_buffers.specs.Laws.Alone.Stores.{both_given, both_given-words, both_given-back, loaded, loaded-length, loaded-at}
 use Rattle.vyrd_buffers.specs.Laws.Alone.Stores.{with_appended, with_appended-other, with_count-other, with_count-is}
 use Rattle.vyrd_buffers.specs.Laws.Alone.Played.{run_lock_both, run_unlock_both, run_load, run_store, run_read, run_look}

@@ -20,10 +20,10 @@ use Rattle.vyrd_memory.specs.declared.op.Op.{Op}
 use Rattle.vyrd_memory.specs.declared.op.Variant.TheVariants.{Correct}
 use Rattle.vyrd_memory.specs.Scripts.{Script}
 use Rattle.vyrd_memory.specs.Alone.{Memory, alone, state_in, state_after, MeetsSpecification, IsRightAlone}
+use Rattle.vyrd_memory.proofs.AloneLaws.{EndsSo, ended_with}
 use Rattle.vyrd_multiset.specs.Procedures.{insert, insert_pair, delete, lookup, procedure_of}
 use Rattle.vyrd_multiset.specs.Contents.{IsMultiset}
 use Rattle.vyrd_multiset.specs.Laws.Alone.Changes.{is_multiset, multiset_represented}
-use Rattle.vyrd_multiset.specs.Laws.Alone.Played.{Ended, ended_with}
 use Rattle.vyrd_multiset.specs.Laws.Alone.Done.{InsertDone, insert_done, PairDone, pair_done}
 use Rattle.vyrd_multiset.specs.Laws.Alone.Done.{DeleteDone, delete_done, LookupDone, lookup_done}
 
@@ -34,7 +34,7 @@ record Meets (h : Header) (op : Op) (s : Amounts) (reply : ℕ) (after : Memory)
   is : IsMultiset h after state
 
 meets : (h : Header) (op : Op) (script : Script) (c : ℕ) (memory : Memory) (s : Amounts) → h.subject ≡ Multiset
-    → (Q : ℕ → Memory → Type 0) → Ended (alone c script memory) Q → ((reply : ℕ) (after : Memory) → Q reply after → Meets h op s reply after)
+    → (Q : ℕ → Memory → Type 0) → EndsSo (alone c script memory) Q → ((reply : ℕ) (after : Memory) → Q reply after → Meets h op s reply after)
     → MeetsSpecification h op script c memory s
 meets h op script c memory s is Q ended says =
     let o = ended_with (alone c script memory) Q ended in

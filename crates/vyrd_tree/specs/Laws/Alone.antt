@@ -48,7 +48,7 @@ use Rattle.vyrd_memory.specs.Alone.{Memory, alone, state_in, state_after, MeetsS
 use Rattle.vyrd_tree.specs.Procedures.{procedure_of, lookup, delete, insert_entry}
 use Rattle.vyrd_tree.specs.Contents.{TreeRepresents}
 use Rattle.vyrd_tree.specs.Laws.Alone.Changes.{tree_represents, tree_represented}
-use Rattle.vyrd_tree.specs.Laws.Alone.Played.{EndsSo, ended_with}
+use Rattle.vyrd_memory.proofs.AloneLaws.{EndsSo, ended_with}
 use Rattle.vyrd_tree.specs.Laws.Alone.Done.{Meets, lookup_alone, delete_alone}
 use Rattle.vyrd_tree.specs.Laws.Alone.Inserted.{InsertDone, insert_alone}
 
@@ -57,7 +57,7 @@ abbrev says_of : Op → Amounts → ℕ → Option Amounts
 says_of op s reply = state_after (is_observer op.method) op reply s
 
 meets : (h : Header) (op : Op) (script : Script) (c : ℕ) (memory : Memory) (s : Amounts) → h.subject ≡ Tree
-    → (Q : ℕ → Memory → Type 0) → EndsSo Q (alone c script memory)
+    → (Q : ℕ → Memory → Type 0) → EndsSo (alone c script memory) Q
     → ((reply : ℕ) (after : Memory) → Q reply after → Meets h (says_of op s) reply after)
     → MeetsSpecification h op script c memory s
 meets h op script c memory s is Q ended says =

@@ -15,12 +15,13 @@ use Rattle.vyrd_memory.specs.declared.op.Op.{Op}
 use Rattle.vyrd_memory.specs.Scripts.{Script}
 use Rattle.vyrd_memory.specs.Alone.{Memory, with_cell, alone, state_after, MeetsSpecification}
 use Rattle.vyrd_memory.proofs.Memories.{Represents, represented, other_cell}
+use Rattle.vyrd_memory.proofs.AloneLaws.{given_back}
 use Rattle.vyrd_buffers.specs.Cells.{count_cell, lock_of}
 use Rattle.vyrd_buffers.specs.Contents.{buffer_of, shown}
 use Rattle.vyrd_buffers.specs.Laws.Alone.Changes.{Alike, sound_alike, shown_alike, sound_at, shown_at, Leaves, changed_buffer, same_cells}
 use Rattle.vyrd_buffers.specs.Laws.Alone.Texts.{Appended}
 use Rattle.vyrd_buffers.specs.Laws.Alone.Texts.{appended_sound, appended_shown}
-use Rattle.vyrd_buffers.specs.Laws.Alone.Stores.{SameWords, same_buffer, held, given_back}
+use Rattle.vyrd_buffers.specs.Laws.Alone.Stores.{SameWords, same_buffer, held}
 use Rattle.vyrd_buffers.specs.Laws.Alone.Stores.{with_appended, with_appended-is}
 
 -- an operation that ends so, and where the specification allows it

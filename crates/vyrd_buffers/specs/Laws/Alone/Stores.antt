@@ -6,6 +6,7 @@ use Rattle.vyrd_base.specs.declared.header.Header.{Header}
 use Rattle.vyrd_base.proofs.TestLaws.{same_of, apart_of}
 use Rattle.vyrd_memory.specs.Alone.{Memory, with_cell}
 use Rattle.vyrd_memory.proofs.Memories.{changed_cell, other_cell}
+use Rattle.vyrd_memory.proofs.AloneLaws.{given_back}
 use Rattle.vyrd_buffers.specs.Cells.{count_cell, character_cell, lock_of}
 use Rattle.vyrd_buffers.specs.Contents.{buffer_of}
 use Rattle.vyrd_buffers.specs.Laws.Alone.Changes.{Alike}
@@ -28,17 +29,6 @@ held c lock memory = with_cell memory lock (c + 1)
 -- the words stay the same where a lock changes
 pub lock_changed : (h : Header) (b value : ℕ) (memory : Memory) → SameWords h.size memory (with_cell memory (lock_of h b) value)
 lock_changed h b value memory cell low = other_cell memory (lock_of h b) value cell (omega (arith, low))
-
--- a lock that was free is given back: the cell is as it was
-pub given_back : (before during : Memory) (lock cell : ℕ) → before lock ≡ 0 → (cell ≢ lock → during cell ≡ before cell)
-    → with_cell during lock 0 cell ≡ before cell
-given_back before during lock cell free same = by_place (cell == lock) refl
-  where
-    by_place : (b : Bool) → (cell == lock) ≡ b → with_cell during lock 0 cell ≡ before cell
-    by_place true e =
-        let at : cell ≡ lock = same_of cell lock e in
-        subst (λ n. with_cell during lock 0 n ≡ before n) (sym at) (changed_cell during lock 0 ∙ sym free)
-    by_place false e = let apart = apart_of cell lock e in other_cell during lock 0 cell apart ∙ same apart
 
 -- the memory with the locks of two buffers held, which may be one
 abbrev pub both_held : Header → ℕ → ℕ → ℕ → Memory → Memory

@@ -12,6 +12,7 @@ use Rattle.vyrd_memory.specs.declared.op.Variant.TheVariants.{Correct}
 use Rattle.vyrd_memory.specs.Scripts.{Script, perform, returns, gives_up}
 use Rattle.vyrd_memory.specs.Alone.{Memory, with_cell, alone}
 use Rattle.vyrd_memory.proofs.Memories.{changed_cell, other_cell}
+use Rattle.vyrd_memory.proofs.AloneLaws.{EndsSo, take_played, given_back}
 use Rattle.vyrd_multiset.specs.Cells.{bucket_of, first_slot, state_cell, lock_of, lock, unlock}
 use Rattle.vyrd_multiset.specs.Procedures.{lock_other, validate_both, find_from, find, commit_state}
 use Rattle.vyrd_multiset.specs.Procedures.{inserted, insert, commit_both, second_found, first_found}
@@ -22,21 +23,10 @@ use Rattle.vyrd_multiset.specs.Laws.Sound.{some_size, bucket_low}
 use Rattle.vyrd_multiset.specs.Contents.{IsMultiset}
 use Rattle.vyrd_multiset.specs.Laws.Alone.Changes.{changed, made_valid, left_invalid, made_free}
 use Rattle.vyrd_multiset.specs.Laws.Alone.Changes.{is_there, isnt_there}
-use Rattle.vyrd_multiset.specs.Laws.Alone.Played.{Ended, take_played, with_reserved}
+use Rattle.vyrd_multiset.specs.Laws.Alone.Played.{with_reserved}
 use Rattle.vyrd_multiset.specs.Laws.Alone.Played.{find_from_played, search_from_played}
 use Rattle.vyrd_multiset.specs.Laws.Alone.FreeSlots.{free_none, free_some, free_two}
 use Rattle.vyrd_multiset.specs.Laws.Alone.FreeSlots.{free_one_at_most}
-
--- a lock that was free is given back: the cell is as it was
-pub given_back : (before during : Memory) (lock cell : ℕ) → before lock ≡ 0 → (cell ≢ lock → during cell ≡ before cell)
-    → with_cell during lock 0 cell ≡ before cell
-given_back before during lock cell free same = by_place (cell == lock) refl
-  where
-    by_place : (b : Bool) → (cell == lock) ≡ b → with_cell during lock 0 cell ≡ before cell
-    by_place true e =
-        let at : cell ≡ lock = same_of cell lock e in
-        subst (λ n. with_cell during lock 0 n ≡ before n) (sym at) (changed_cell during lock 0 ∙ sym free)
-    by_place false e = let apart = apart_of cell lock e in other_cell during lock 0 cell apart ∙ same apart
 
 -- the same memory
 kept : (h : Header) (before after : Memory) (s : Amounts) → IsMultiset h before s → ((cell : ℕ) → after cell ≡ before cell) → IsMultiset h after s
@@ -84,15 +74,15 @@ reserved_under before lock c j value free high = record {
 find_played : (h : Header) (c : ℕ) (memory : Memory) (Q : ℕ → Memory → Type 0) (value : ℕ) (found : Option ℕ → Script)
     → memory (lock_of h (bucket_of h value)) ≡ 0
     → ((j : ℕ) (after : Memory) → 4 * bucket_of h value ≤ j → j < 4 * bucket_of h value + 4 → memory (2 * j) ≡ 0 → Reserved memory after j value
-    → Ended (alone c (found (Some j)) after) Q)
+    → EndsSo (alone c (found (Some j)) after) Q)
     → ((after : Memory) → ((cell : ℕ) → after cell ≡ memory cell)
-    → ((j : ℕ) → 4 * bucket_of h value ≤ j → j < 4 * bucket_of h value + 4 → memory (2 * j) ≢ 0) → Ended (alone c (found None) after) Q)
-    → Ended (alone c (find h Correct value found) memory) Q
+    → ((j : ℕ) → 4 * bucket_of h value ≤ j → j < 4 * bucket_of h value + 4 → memory (2 * j) ≢ 0) → EndsSo (alone c (found None) after) Q)
+    → EndsSo (alone c (find h Correct value found) memory) Q
 find_played h c memory Q value found free some none =
     let b : ℕ = bucket_of h value in
     let held : ℕ = lock_of h (bucket_of h value) in
     let locked : Memory = with_cell memory (lock_of h (bucket_of h value)) (c + 1) in
-    take_played c held (find_from 4 (first_slot b) value (λ slot. unlock h b (found slot))) memory Q free
+    take_played c held (find_from 4 (first_slot b) value (λ slot. unlock h b (found slot))) memory (λ o. EndsSo o Q) free
     (find_from_played c locked Q 4 (first_slot b) value (λ slot. unlock h b (found slot))
     (λ j from to is_free. some j (with_cell (with_reserved locked j value) held 0) from to (sym (untouched j from to) ∙ is_free)
     (reserved_under memory held c j value free (lock_is_high h b j (in_range h value j from to).0)))
@@ -127,20 +117,20 @@ stored_others memory lock c j state free cell a =
     other_cell (with_cell memory lock (c + 1)) (2 * j) state cell a ∙ other_cell memory lock (c + 1) cell apart)
 
 pub insert_done : (h : Header) (c : ℕ) (memory : Memory) (s : Amounts) (x : ℕ) → IsMultiset h memory s
-    → Ended (alone c (insert h Correct x) memory) (InsertDone h memory s x)
+    → EndsSo (alone c (insert h Correct x) memory) (InsertDone h memory s x)
 insert_done h c memory s x m =
     find_played h c memory (InsertDone h memory s x) x (inserted h x) (m.free (bucket_of h x) (bucket_low h x)) found
     (λ after same taken. inr (refl, kept h memory after s m same, free_none memory 4 (4 * bucket_of h x) taken))
   where
     found : (j : ℕ) (after : Memory) → 4 * bucket_of h x ≤ j → j < 4 * bucket_of h x + 4 → memory (2 * j) ≡ 0 → Reserved memory after j x
-        → Ended (alone c (inserted h x (Some j)) after) (InsertDone h memory s x)
+        → EndsSo (alone c (inserted h x (Some j)) after) (InsertDone h memory s x)
     found j after from to is_free r =
         let held : ℕ = lock_of h (bucket_of h x) in
         let range = in_range h x j from to in
         let high : 2 * j + 1 < lock_of h (bucket_of h x) = lock_is_high h (bucket_of h x) j range.0 in
         let free : after (lock_of h (bucket_of h x)) ≡ 0 = r.others held (omega (arith, high)) (omega (arith, high))
         ∙ m.free (bucket_of h x) (bucket_low h x) in
-        take_played c held (commit_state h (bucket_of h x) j 2) after (InsertDone h memory s x) free
+        take_played c held (commit_state h (bucket_of h x) j 2) after (λ o. EndsSo o (InsertDone h memory s x)) free
         (inl (
           refl,
           made_valid h memory (stored_under after held c j 2) s j x m range.0
@@ -164,13 +154,13 @@ LookupDone h s x reply after = IsMultiset h after s × (((reply ≡ 1) × (1 ≤
 search_played : (h : Header) (c : ℕ) (memory : Memory) (s : Amounts) (Q : ℕ → Memory → Type 0) (x : ℕ) (ended : Option ℕ → Script)
     → IsMultiset h memory s
     → ((j : ℕ) → j < 4 * h.size → memory (2 * j) ≡ 2 → memory (2 * j + 1) ≡ x
-    → Ended (alone c (ended (Some j)) (with_cell memory (lock_of h (bucket_of h x)) (c + 1))) Q)
-    → (amount_of s x ≡ 0 → Ended (alone c (ended None) (with_cell memory (lock_of h (bucket_of h x)) (c + 1))) Q)
-    → Ended (alone c (search_in h x ended) memory) Q
+    → EndsSo (alone c (ended (Some j)) (with_cell memory (lock_of h (bucket_of h x)) (c + 1))) Q)
+    → (amount_of s x ≡ 0 → EndsSo (alone c (ended None) (with_cell memory (lock_of h (bucket_of h x)) (c + 1))) Q)
+    → EndsSo (alone c (search_in h x ended) memory) Q
 search_played h c memory s Q x ended m some none =
     let b : ℕ = bucket_of h x in
     let held : ℕ = lock_of h (bucket_of h x) in
-    take_played c held (search_from 4 (first_slot b) x ended) memory Q (m.free b (bucket_low h x))
+    take_played c held (search_from 4 (first_slot b) x ended) memory (λ o. EndsSo o Q) (m.free b (bucket_low h x))
     (search_from_played c (with_cell memory held (c + 1)) Q 4 (first_slot b) x ended
     (λ j from to valid has. some j (in_range h x j from to).0 (sym (untouched j from to).0 ∙ valid) (sym (untouched j from to).1 ∙ has))
     (λ no_slot. none (isnt_there h memory s x m (λ j from to valid has. no_slot j from to ((untouched j from to).0
@@ -191,7 +181,7 @@ unlocked memory lock c free cell =
     given_back memory (with_cell memory lock (c + 1)) lock cell free (λ apart. other_cell memory lock (c + 1) cell apart)
 
 pub delete_done : (h : Header) (c : ℕ) (memory : Memory) (s : Amounts) (x : ℕ) → IsMultiset h memory s
-    → Ended (alone c (delete h x) memory) (DeleteDone h s x)
+    → EndsSo (alone c (delete h x) memory) (DeleteDone h s x)
 delete_done h c memory s x m =
     let held : ℕ = lock_of h (bucket_of h x) in
     let free : memory (lock_of h (bucket_of h x)) ≡ 0 = m.free (bucket_of h x) (bucket_low h x) in
@@ -205,7 +195,7 @@ delete_done h c memory s x m =
     (λ none. inr (refl, kept h memory (with_cell (with_cell memory held (c + 1)) held 0) s m (unlocked memory held c free), none))
 
 pub lookup_done : (h : Header) (c : ℕ) (memory : Memory) (s : Amounts) (x : ℕ) → IsMultiset h memory s
-    → Ended (alone c (lookup h x) memory) (LookupDone h s x)
+    → EndsSo (alone c (lookup h x) memory) (LookupDone h s x)
 lookup_done h c memory s x m =
     let held : ℕ = lock_of h (bucket_of h x) in
     let free : memory (lock_of h (bucket_of h x)) ≡ 0 = m.free (bucket_of h x) (bucket_low h x) in
@@ -314,13 +304,13 @@ under_first h first second j k same = cond same (validated h first second j k sa
 commit_both_played : (h : Header) (c : ℕ) (before : Memory) (Q : ℕ → Memory → Type 0) (first second j k : ℕ)
     → before (lock_of h first) ≡ 0 → before (lock_of h second) ≡ 0 → 2 * j + 1 < 8 * h.size → 2 * k + 1 < 8 * h.size → j ≢ k
     → ((after : Memory) → after (2 * j) ≡ 2 → after (2 * k) ≡ 2 → ((cell : ℕ) → cell ≢ 2 * j → cell ≢ 2 * k → after cell ≡ before cell) → Q 1 after)
-    → Ended (alone c (commit_both h first second j k) before) Q
+    → EndsSo (alone c (commit_both h first second j k) before) Q
 commit_both_played h c before Q first second j k free_first free_second low_j low_k apart done =
-    take_played c (lock_of h first) (lock_other h first second (validate_both h first second j k)) before Q free_first
+    take_played c (lock_of h first) (lock_other h first second (validate_both h first second j k)) before (λ o. EndsSo o Q) free_first
     (by_test (first == second) refl)
   where
     by_test : (same : Bool) → (first == second) ≡ same
-        → Ended (alone c (under_first h first second j k same) (with_cell before (lock_of h first) (c + 1))) Q
+        → EndsSo (alone c (under_first h first second j k same) (with_cell before (lock_of h first) (c + 1))) Q
     by_test true e =
         let f : ℕ = lock_of h first in
         let held : Memory = with_cell before (lock_of h first) (c + 1) in
@@ -337,7 +327,7 @@ commit_both_played h c before Q first second j k free_first free_second low_j lo
         let other : first ≢ second = apart_of first second e in
         let held : Memory = with_cell before (lock_of h first) (c + 1) in
         let both : Memory = with_cell (with_cell before (lock_of h first) (c + 1)) (lock_of h second) (c + 1) in
-        take_played c g (validated h first second j k false) held Q (other_cell before f (c + 1) g (omega (arith, other)) ∙ free_second)
+        take_played c g (validated h first second j k false) held (λ o. EndsSo o Q) (other_cell before f (c + 1) g (omega (arith, other)) ∙ free_second)
         (done (with_cell (with_cell (stored both j k) g 0) f 0)
         (other_cell (with_cell (stored both j k) g 0) f 0 (2 * j) (omega (arith, low_j))
         ∙ other_cell (stored both j k) g 0 (2 * j) (omega (arith, low_j))
@@ -351,14 +341,14 @@ commit_both_played h c before Q first second j k free_first free_second low_j lo
         ∙ other_cell before f (c + 1) cell off_f))))
 
 pub pair_done : (h : Header) (c : ℕ) (memory : Memory) (s : Amounts) (x y : ℕ) → IsMultiset h memory s
-    → Ended (alone c (insert_pair h Correct x y) memory) (PairDone h memory s x y)
+    → EndsSo (alone c (insert_pair h Correct x y) memory) (PairDone h memory s x y)
 pair_done h c memory s x y m =
     find_played h c memory (PairDone h memory s x y) x (first_found h Correct x y) (m.free (bucket_of h x) (bucket_low h x)) first
     (λ after same taken. inr (refl, kept h memory after s m same, no_room h memory x y (free_none memory 4 (4 * bucket_of h x) taken)))
   where
     -- a slot was found for x
     first : (j : ℕ) (after : Memory) → 4 * bucket_of h x ≤ j → j < 4 * bucket_of h x + 4 → memory (2 * j) ≡ 0 → Reserved memory after j x
-        → Ended (alone c (first_found h Correct x y (Some j)) after) (PairDone h memory s x y)
+        → EndsSo (alone c (first_found h Correct x y (Some j)) after) (PairDone h memory s x y)
     first j after from to is_free r =
         find_played h c after (PairDone h memory s x y) y (second_found h Correct x y j) (m'.free (bucket_of h y) (bucket_low h y)) second no_second
       where
@@ -370,7 +360,7 @@ pair_done h c memory s x y m =
 
         -- a slot was found for y too
         second : (k : ℕ) (last : Memory) → 4 * bucket_of h y ≤ k → k < 4 * bucket_of h y + 4 → after (2 * k) ≡ 0 → Reserved after last k y
-            → Ended (alone c (second_found h Correct x y j (Some k)) last) (PairDone h memory s x y)
+            → EndsSo (alone c (second_found h Correct x y j (Some k)) last) (PairDone h memory s x y)
         second k last from_k to_k free_k r' =
             commit_both_played h c last (PairDone h memory s x y) (min p q) (max p q) j k (m''.free (min p q) (omega (arith, low_p, low_q)))
             (m''.free (max p q) (omega (arith, low_p, low_q)))
@@ -409,11 +399,11 @@ pair_done h c memory s x y m =
         -- no slot was found for y: that of x is freed
         no_second : (last : Memory) → ((cell : ℕ) → last cell ≡ after cell)
             → ((k : ℕ) → 4 * bucket_of h y ≤ k → k < 4 * bucket_of h y + 4 → after (2 * k) ≢ 0)
-            → Ended (alone c (second_found h Correct x y j None) last)
+            → EndsSo (alone c (second_found h Correct x y j None) last)
             (PairDone h memory s x y)
         no_second last same taken =
             take_played c held (perform (Store (state_cell j) 0)
-            (unlock h (bucket_of h x) gives_up)) last (PairDone h memory s x y) free
+            (unlock h (bucket_of h x) gives_up)) last (λ o. EndsSo o (PairDone h memory s x y)) free
             (inr (
               refl,
               left_invalid h memory (stored_under last held c j 0) s j m range.0

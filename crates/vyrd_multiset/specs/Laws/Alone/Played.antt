@@ -3,27 +3,11 @@
 use Rattle.std.proofs.Common.{◌≡◌, ◌≢◌, ℕ, zero, suc, ◌+◌, ◌*◌, ◌<◌, ◌≤◌, Bool, true, false, cond, Option, Some, None, refl, ap, sym, subst, arith}
 use Rattle.std.specs.Prelude.{◌==◌}
 use Rattle.vyrd_base.proofs.TestLaws.{same_of, apart_of}
-use Rattle.vyrd_memory.specs.declared.act.Act.TheVariants.{Take}
-use Rattle.vyrd_memory.specs.Scripts.{Script, perform}
-use Rattle.vyrd_memory.specs.Alone.{Memory, with_cell, Outcome, alone}
+use Rattle.vyrd_memory.specs.Scripts.{Script}
+use Rattle.vyrd_memory.specs.Alone.{Memory, with_cell, alone}
+use Rattle.vyrd_memory.proofs.AloneLaws.{EndsSo}
 use Rattle.vyrd_multiset.specs.Cells.{state_cell, value_cell}
 use Rattle.vyrd_multiset.specs.Procedures.{find_from, reserve, compare, search_from}
-
--- there is an outcome, and this holds of its reply and its memory
-abbrev pub Ended : Option Outcome → (ℕ → Memory → Type 0) → Type 0
-Ended None Q = ⊥
-Ended (Some outcome) Q = Q outcome.reply outcome.memory
-
-pub ended_with : (o : Option Outcome) (Q : ℕ → Memory → Type 0) → Ended o Q
-    → (outcome : Outcome) × (o ≡ Some outcome) × Q outcome.reply outcome.memory
-ended_with None Q e = absurd e
-ended_with (Some outcome) Q e = (outcome, refl, e)
-
--- a free lock is taken
-pub take_played : (c lock : ℕ) (later : Script) (memory : Memory) (Q : ℕ → Memory → Type 0) → memory lock ≡ 0
-    → Ended (alone c later (with_cell memory lock (c + 1))) Q → Ended (alone c (perform (Take lock) later) memory) Q
-take_played c lock later memory Q free e = subst (λ b. Ended (cond b (alone c later (with_cell memory lock (c + 1))) None) Q)
-    (sym (ap (λ n. n == 0) free)) e
 
 -- the memory after a slot was reserved
 abbrev pub with_reserved : Memory → ℕ → ℕ → Memory
@@ -32,9 +16,9 @@ with_reserved memory slot value =
 
 -- A free slot is found among the slots from this one on, or all of them have another state.
 pub find_from_played : (c : ℕ) (memory : Memory) (Q : ℕ → Memory → Type 0) (left slot value : ℕ) (found : Option ℕ → Script)
-    → ((j : ℕ) → slot ≤ j → j < slot + left → memory (2 * j) ≡ 0 → Ended (alone c (found (Some j)) (with_reserved memory j value)) Q)
-    → (((j : ℕ) → slot ≤ j → j < slot + left → memory (2 * j) ≢ 0) → Ended (alone c (found None) memory) Q)
-    → Ended (alone c (find_from left slot value found) memory) Q
+    → ((j : ℕ) → slot ≤ j → j < slot + left → memory (2 * j) ≡ 0 → EndsSo (alone c (found (Some j)) (with_reserved memory j value)) Q)
+    → (((j : ℕ) → slot ≤ j → j < slot + left → memory (2 * j) ≢ 0) → EndsSo (alone c (found None) memory) Q)
+    → EndsSo (alone c (find_from left slot value found) memory) Q
 find_from_played c memory Q zero slot value found some none = none (λ j from to. absurd (omega (arith, from, to)))
 find_from_played c memory Q (suc left) slot value found some none =
     by_state (memory (2 * slot) == 0) refl
@@ -50,17 +34,17 @@ find_from_played c memory Q (suc left) slot value found some none =
         by_place false e = let apart = apart_of j slot e in more j (omega (arith, apart, from)) (omega (arith, to))
 
     by_state : (b : Bool) → (memory (2 * slot) == 0) ≡ b
-        → ((((j : ℕ) → slot + 1 ≤ j → j < slot + 1 + left → memory (2 * j) ≢ 0) → Ended (alone c (found None) memory) Q) → Ended
+        → ((((j : ℕ) → slot + 1 ≤ j → j < slot + 1 + left → memory (2 * j) ≢ 0) → EndsSo (alone c (found None) memory) Q) → EndsSo
         (alone c (find_from left (slot + 1) value found) memory) Q)
-        → Ended (alone c (cond b (reserve slot value (found (Some slot))) (find_from left (slot + 1) value found)) memory) Q
+        → EndsSo (alone c (cond b (reserve slot value (found (Some slot))) (find_from left (slot + 1) value found)) memory) Q
     by_state true e later = some slot (omega arith) (omega arith) (same_of (memory (2 * slot)) 0 e)
     by_state false e later = later (λ more. none (no_more (apart_of (memory (2 * slot)) 0 e) more))
 
 -- A search ends at a valid slot with the value, or no slot from this one on is one.
 pub search_from_played : (c : ℕ) (memory : Memory) (Q : ℕ → Memory → Type 0) (left slot value : ℕ) (ended : Option ℕ → Script)
-    → ((j : ℕ) → slot ≤ j → j < slot + left → memory (2 * j) ≡ 2 → memory (2 * j + 1) ≡ value → Ended (alone c (ended (Some j)) memory) Q)
-    → (((j : ℕ) → slot ≤ j → j < slot + left → memory (2 * j) ≡ 2 → memory (2 * j + 1) ≡ value → ⊥) → Ended (alone c (ended None) memory) Q)
-    → Ended (alone c (search_from left slot value ended) memory) Q
+    → ((j : ℕ) → slot ≤ j → j < slot + left → memory (2 * j) ≡ 2 → memory (2 * j + 1) ≡ value → EndsSo (alone c (ended (Some j)) memory) Q)
+    → (((j : ℕ) → slot ≤ j → j < slot + left → memory (2 * j) ≡ 2 → memory (2 * j + 1) ≡ value → ⊥) → EndsSo (alone c (ended None) memory) Q)
+    → EndsSo (alone c (search_from left slot value ended) memory) Q
 search_from_played c memory Q zero slot value ended some none = none (λ j from to valid has. absurd (omega (arith, from, to)))
 search_from_played c memory Q (suc left) slot value ended some none =
     by_state (memory (2 * slot) == 2) refl
@@ -77,14 +61,14 @@ search_from_played c memory Q (suc left) slot value ended some none =
         by_place false e = let apart = apart_of j slot e in more j (omega (arith, apart, from)) (omega (arith, to))
 
     by_value : memory (2 * slot) ≡ 2 → (b : Bool) → (memory (2 * slot + 1) == value) ≡ b
-        → ((memory (2 * slot) ≡ 2 → memory (2 * slot + 1) ≡ value → ⊥) → Ended (alone c (search_from left (slot + 1) value ended) memory) Q)
-        → Ended (alone c (cond b (ended (Some slot)) (search_from left (slot + 1) value ended)) memory) Q
+        → ((memory (2 * slot) ≡ 2 → memory (2 * slot + 1) ≡ value → ⊥) → EndsSo (alone c (search_from left (slot + 1) value ended) memory) Q)
+        → EndsSo (alone c (cond b (ended (Some slot)) (search_from left (slot + 1) value ended)) memory) Q
     by_value valid true e on = some slot (omega arith) (omega arith) valid (same_of (memory (2 * slot + 1)) value e)
     by_value valid false e on = on (λ v has. apart_of (memory (2 * slot + 1)) value e has)
 
     by_state : (b : Bool) → (memory (2 * slot) == 2) ≡ b
-        → ((memory (2 * slot) ≡ 2 → memory (2 * slot + 1) ≡ value → ⊥) → Ended (alone c (search_from left (slot + 1) value ended) memory) Q)
-        → Ended (alone c (cond b (compare slot value (ended (Some slot)) (search_from left (slot + 1) value ended))
+        → ((memory (2 * slot) ≡ 2 → memory (2 * slot + 1) ≡ value → ⊥) → EndsSo (alone c (search_from left (slot + 1) value ended) memory) Q)
+        → EndsSo (alone c (cond b (compare slot value (ended (Some slot)) (search_from left (slot + 1) value ended))
         (search_from left (slot + 1) value ended)) memory) Q
     by_state true e on = by_value (same_of (memory (2 * slot)) 2 e) (memory (2 * slot + 1) == value) refl on
     by_state false e on = on (λ valid has. apart_of (memory (2 * slot)) 2 e valid)

@@ -20,7 +20,8 @@ use Rattle.vyrd_tree.specs.Laws.Alone.Entries.{each_both}
 use Rattle.vyrd_tree.specs.Laws.Alone.EntriesStaySound.{entries_added}
 use Rattle.vyrd_tree.specs.Laws.Alone.Tested.{length-entries}
 use Rattle.vyrd_tree.specs.Laws.Alone.Changes.{SameWords, rewritten_shows}
-use Rattle.vyrd_tree.specs.Laws.Alone.Played.{take_played, unlocked}
+use Rattle.vyrd_memory.proofs.AloneLaws.{take_played}
+use Rattle.vyrd_tree.specs.Laws.Alone.Played.{unlocked}
 use Rattle.vyrd_tree.specs.Laws.Alone.WalkArrives.{loaded_at, with_lock, locked_words, ArrivesAt}
 use Rattle.vyrd_tree.specs.Laws.Alone.WalkArrives.{walk_arrives}
 use Rattle.vyrd_tree.specs.Laws.Alone.SplitKeepsTree.{IsHanging}

@@ -19,7 +19,8 @@ use Rattle.vyrd_tree.specs.Laws.Alone.Entries.{drop_front}
 use Rattle.vyrd_tree.specs.Laws.Alone.EntriesStaySound.{length_join}
 use Rattle.vyrd_tree.specs.Laws.Alone.Changes.{SameWords, same_words_tree, same_words_entries}
 use Rattle.vyrd_tree.specs.Laws.Alone.Changes.{covers_same, entries_alike, Rewritten}
-use Rattle.vyrd_tree.specs.Laws.Alone.Played.{take_played, unlocked, Written, entries_written}
+use Rattle.vyrd_memory.proofs.AloneLaws.{take_played}
+use Rattle.vyrd_tree.specs.Laws.Alone.Played.{unlocked, Written, entries_written}
 use Rattle.vyrd_tree.specs.Laws.Alone.Played.{front_stands}
 use Rattle.vyrd_tree.specs.Laws.Alone.WalkArrives.{with_lock, locked_words}
 use Rattle.vyrd_tree.specs.Cells.{count_cell, used_cell, used_lock, lock_of, unlock_node, unlock_used}

@@ -23,7 +23,7 @@ use Rattle.vyrd_tree.specs.Laws.Alone.Entries.{each_back}
 use Rattle.vyrd_tree.specs.Laws.Alone.EntriesStaySound.{length_join, entries_removed, gives_around}
 use Rattle.vyrd_tree.specs.Laws.Alone.Tested.{length-entries}
 use Rattle.vyrd_tree.specs.Laws.Alone.Changes.{SameWords, Rewritten, rewritten_shows}
-use Rattle.vyrd_tree.specs.Laws.Alone.Played.{EndsSo}
+use Rattle.vyrd_memory.proofs.AloneLaws.{EndsSo}
 use Rattle.vyrd_tree.specs.Laws.Alone.WalkArrives.{loaded_at, with_lock, locked_words}
 use Rattle.vyrd_tree.specs.Laws.Alone.WalkArrives.{walk_down_arrives}
 use Rattle.vyrd_tree.specs.Laws.Alone.BlocksPlayed.{released, IsAt, is_at, SameLocks, still_free}
@@ -121,9 +121,8 @@ value_is xs front back entry e = ap (λ ys. value_in ys (length front)) e ∙ at
 
 -- A lookup replies the key's value plus 1, or 0, and changes nothing.
 pub lookup_alone : (h : Header) (c : ℕ) (m : Memory) (s : Amounts) (key : ℕ) → TreeRepresents h m s
-    → EndsSo (λ reply after. TreeRepresents h after s
+    → EndsSo (alone c (lookup h Correct key) m) (λ reply after. TreeRepresents h after s
     × (((amount_of s key ≡ 0) × (reply ≡ 0)) ⊎ ((value : ℕ) × (amount_of s key ≡ 2 ^ 32 + value) × (reply ≡ value + 1))))
-    (alone c (lookup h Correct key) m)
 lookup_alone h c m s key st = walked_down h c m s key (returns 0) (λ at. Rattle.vyrd_tree.specs.Cells.unlock_node h at.node
     (returns (reply_of at.entries (place_of key at.entries)))) Q st there
   where
@@ -132,7 +131,7 @@ lookup_alone h c m s key st = walked_down h c m s key (returns 0) (λ at. Rattle
         × (((amount_of s key ≡ 0) × (reply ≡ 0)) ⊎ ((value : ℕ) × (amount_of s key ≡ 2 ^ 32 + value) × (reply ≡ value + 1)))
 
     Q : Option Outcome → Type 0
-    Q = EndsSo Says
+    Q o = EndsSo o Says
 
     there : InLeaf h c m s key (λ at. Rattle.vyrd_tree.specs.Cells.unlock_node h at.node (returns (reply_of at.entries (place_of key at.entries)))) Q
     there m low n same at = by_place (place_of key (entries_at m n)) refl
@@ -157,9 +156,8 @@ lookup_alone h c m s key st = walked_down h c m s key (returns 0) (λ at. Rattle
 
 -- A delete removes the key and replies 1, or replies 0 where it isn't there.
 pub delete_alone : (h : Header) (c : ℕ) (m : Memory) (s : Amounts) (key : ℕ) → TreeRepresents h m s
-    → EndsSo (λ reply after.
+    → EndsSo (alone c (delete h Correct key) m) (λ reply after.
     ((amount_of s key ≡ 0) × (reply ≡ 0) × TreeRepresents h after s) ⊎ ((amount_of s key ≢ 0) × (reply ≡ 1) × TreeRepresents h after (with_amount s key 0)))
-    (alone c (delete h Correct key) m)
 delete_alone h c m s key st = walked_down h c m s key gives_up (λ at. delete_in h at (place_of key at.entries)) Q st there
   where
     Says : ℕ → Memory → Type 0
@@ -167,7 +165,7 @@ delete_alone h c m s key st = walked_down h c m s key gives_up (λ at. delete_in
         ⊎ ((amount_of s key ≢ 0) × (reply ≡ 1) × TreeRepresents h after (with_amount s key 0))
 
     Q : Option Outcome → Type 0
-    Q = EndsSo Says
+    Q o = EndsSo o Says
 
     there : InLeaf h c m s key (λ at. delete_in h at (place_of key at.entries)) Q
     there m low n same at = by_place (place_of key (entries_at m n)) refl

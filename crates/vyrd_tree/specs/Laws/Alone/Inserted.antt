@@ -23,7 +23,7 @@ use Rattle.vyrd_tree.specs.Laws.Alone.EntriesStaySound.{entries_replaced, gives_
 use Rattle.vyrd_tree.specs.Laws.Alone.Tested.{length-entries}
 use Rattle.vyrd_tree.specs.Laws.Alone.Changes.{SameWords, covers_same, Rewritten, entries_alike}
 use Rattle.vyrd_tree.specs.Laws.Alone.Changes.{same_words_tree}
-use Rattle.vyrd_tree.specs.Laws.Alone.Played.{EndsSo}
+use Rattle.vyrd_memory.proofs.AloneLaws.{EndsSo}
 use Rattle.vyrd_tree.specs.Laws.Alone.WalkArrives.{loaded_at}
 use Rattle.vyrd_tree.specs.Laws.Alone.BlocksPlayed.{IsAt, unused_played}
 use Rattle.vyrd_tree.specs.Laws.Alone.NewKey.{leaf_gets_entry, leaf_is_split}
@@ -115,7 +115,7 @@ module _ (h : Header) (c : ℕ) (before m : Memory) (low : ℕ
   s' = with_amount s key (2 ^ 32 + value)
 
   abbrev Q : Option Outcome → Type 0
-  Q = EndsSo (InsertDone h before s key value)
+  Q o = EndsSo o (InsertDone h before s key value)
 
   t : IsTree h.size m low
   t = at.shown.tree
@@ -255,8 +255,8 @@ module _ (h : Header) (c : ℕ) (before m : Memory) (low : ℕ
               four : count_at m n ≡ 4
               four = omega (arith, few, full, count_is)
 
-  pub inserted_in : EndsSo (InsertDone h before s key value)
-      (alone c (insert_in h Correct key value (loaded_at m n) (place_of key (entries_at m n))) m)
+  pub inserted_in : EndsSo (alone c (insert_in h Correct key value (loaded_at m n) (place_of key (entries_at m n))) m)
+      (InsertDone h before s key value)
   inserted_in = by_place (place_of key (entries_at m n)) refl
     where
       by_place : (o : Option ℕ) → place_of key (entries_at m n) ≡ o
@@ -269,7 +269,7 @@ module _ (h : Header) (c : ℕ) (before m : Memory) (low : ℕ
 
 -- An insert of numbers of 32 bits.
 pub insert_alone : (h : Header) (c : ℕ) (m : Memory) (s : Amounts) (key value : ℕ) → TreeRepresents h m s → key < 2 ^ 32 → value < 2 ^ 32
-    → EndsSo (InsertDone h m s key value) (alone c (insert_entry h Correct key value) m)
+    → EndsSo (alone c (insert_entry h Correct key value) m) (InsertDone h m s key value)
 insert_alone h c m s key value st small_key small =
-    walked_down h c m s key gives_up (λ at. insert_in h Correct key value at (place_of key at.entries)) (EndsSo (InsertDone h m s key value)) st
+    walked_down h c m s key gives_up (λ at. insert_in h Correct key value at (place_of key at.entries)) (λ o. EndsSo o (InsertDone h m s key value)) st
     (λ m' low n same at. inserted_in h c m m' low s n key value same at small_key small)

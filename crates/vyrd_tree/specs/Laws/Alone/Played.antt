@@ -12,41 +12,19 @@ use Rattle.vyrd_memory.specs.declared.act.Act.TheVariants.{Take}
 use Rattle.vyrd_memory.specs.Scripts.{Script, perform}
 use Rattle.vyrd_memory.specs.Alone.{Memory, with_cell, Outcome, alone}
 use Rattle.vyrd_memory.proofs.Memories.{changed_cell, other_cell}
+use Rattle.vyrd_memory.proofs.AloneLaws.{given_back}
 use Rattle.vyrd_tree.specs.Contents.{key_at, value_at, BeginsAt, entries_from, Entries}
 use Rattle.vyrd_tree.specs.Laws.Alone.Changes.{entries_alike}
 use Rattle.vyrd_tree.specs.Procedures.Walk.{load_keys, load_values, child_place}
 use Rattle.vyrd_tree.specs.Procedures.Split.{write_entries}
 
--- there is an outcome, and this holds of its reply and its memory
-abbrev pub EndsSo : (ℕ → Memory → Type 0) → Option Outcome → Type 0
-EndsSo says None = ⊥
-EndsSo says (Some outcome) = says outcome.reply outcome.memory
-
-pub ended_with : (o : Option Outcome) (says : ℕ → Memory → Type 0) → EndsSo says o
-    → (outcome : Outcome) × (o ≡ Some outcome) × says outcome.reply outcome.memory
-ended_with None says e = absurd e
-ended_with (Some outcome) says e = (outcome, refl, e)
-
--- a free lock is taken
-pub take_played : (c lock : ℕ) (later : Script) (memory : Memory) (Q : Option Outcome → Type 0) → memory lock ≡ 0
-    → Q (alone c later (with_cell memory lock (c + 1))) → Q (alone c (perform (Take lock) later) memory)
-take_played c lock later memory Q free e =
-    subst (λ b. Q (cond b (alone c later (with_cell memory lock (c + 1))) None)) (sym (ap (λ n. n == 0) free)) e
-
--- a lock that was free, taken and given back: the memory is as it was
-pub given_back : (m : Memory) (lock v : ℕ) → m lock ≡ 0 → with_cell (with_cell m lock v) lock 0 ≡ m
-given_back m lock v free = fun_ext (λ cell. by_place cell (cell == lock) refl)
-  where
-    by_place : (cell : ℕ) (b : Bool) → (cell == lock) ≡ b → with_cell (with_cell m lock v) lock 0 cell ≡ m cell
-    by_place cell true e =
-        let at : cell ≡ lock = same_of cell lock e in
-        ap (with_cell (with_cell m lock v) lock 0) at ∙ changed_cell (with_cell m lock v) lock 0 ∙ sym free ∙ sym (ap m at)
-    by_place cell false e = let apart = apart_of cell lock e in other_cell (with_cell m lock v) lock 0 cell apart ∙ other_cell m lock v cell apart
-
--- so it goes on from the memory that it was
+-- A lock that was free is taken and given back: it goes on from the memory that it was.
 pub unlocked : (c : ℕ) (later : Script) (m : Memory) (lock v : ℕ) (Q : Option Outcome → Type 0) → m lock ≡ 0 → Q (alone c later m)
     → Q (alone c later (with_cell (with_cell m lock v) lock 0))
-unlocked c later m lock v Q free e = subst (λ m. Q (alone c later m)) (sym (given_back m lock v free)) e
+unlocked c later m lock v Q free e = subst (λ m. Q (alone c later m)) (sym same) e
+  where
+    same : with_cell (with_cell m lock v) lock 0 ≡ m
+    same = fun_ext (λ cell. given_back m (with_cell m lock v) lock cell free (λ apart. other_cell m lock v cell apart))
 
 -- a node's keys are loaded, and then its values
 pub keys_loaded : (c : ℕ) (m : Memory) (many node place : ℕ) (loaded : List ℕ → Script)

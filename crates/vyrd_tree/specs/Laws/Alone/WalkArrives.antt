@@ -19,7 +19,8 @@ use Rattle.vyrd_tree.specs.Contents.{Covers, Entries}
 use Rattle.vyrd_tree.specs.Laws.Alone.Order.{IsAfter, after_of, after_falls, after_few, next_of}
 use Rattle.vyrd_tree.specs.Laws.Alone.Tested.{length-entries}
 use Rattle.vyrd_tree.specs.Laws.Alone.Changes.{SameWords, same_words_tree, covers_same}
-use Rattle.vyrd_tree.specs.Laws.Alone.Played.{take_played, unlocked, keys_loaded, values_loaded}
+use Rattle.vyrd_memory.proofs.AloneLaws.{take_played}
+use Rattle.vyrd_tree.specs.Laws.Alone.Played.{unlocked, keys_loaded, values_loaded}
 use Rattle.vyrd_tree.specs.Laws.Alone.Played.{child_is, any_from, begins_at, each_number}
 use Rattle.vyrd_tree.specs.Cells.{level_cell, count_cell, bound_cell, right_cell, lock_of, value_cell, unlock_node}
 use Rattle.vyrd_tree.specs.Procedures.Walk.{Arrived, load_values, is_past, child_place, descend}
