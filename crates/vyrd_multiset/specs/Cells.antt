@@ -1,7 +1,7 @@
 -- Where the words and the locks of a multiset are. There are as many buckets as the header's size,
 -- of 4 slots each: the slots of bucket b are those from 4b on. A slot has two words. A bucket has a
 -- lock.
-use Rattle.std.specs.Prelude.{ℕ, ◌+◌, ◌*◌, ◌%◌}
+use Rattle.std.specs.Prelude.{ℕ, ◌+◌, ◌*◌, ◌%◌, if◌then◌else◌, ◌==◌}
 use Rattle.vyrd_base.specs.declared.header.Header.{Header}
 use Rattle.vyrd_memory.specs.declared.act.Act.TheVariants.{Take, Give}
 use Rattle.vyrd_memory.specs.Scripts.{Script, perform}
@@ -33,3 +33,11 @@ lock h bucket later = perform (Take (lock_of h bucket)) later
 -- unlock a bucket, and go on
 abbrev pub unlock : Header → ℕ → Script → Script
 unlock h bucket later = perform (Give (lock_of h bucket)) later
+
+-- lock the second of two buckets, if it is another one
+abbrev pub lock_other : Header → ℕ → ℕ → Script → Script
+lock_other h first second later = if first == second then later else lock h second later
+
+-- unlock the second of two buckets, if it is another one
+abbrev pub unlock_other : Header → ℕ → ℕ → Script → Script
+unlock_other h first second later = if first == second then later else unlock h second later

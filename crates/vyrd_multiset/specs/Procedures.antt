@@ -10,7 +10,7 @@ use Rattle.vyrd_memory.specs.declared.op.Op.{Op}
 use Rattle.vyrd_memory.specs.declared.op.Variant.{Variant}
 use Rattle.vyrd_memory.specs.declared.op.Variant.TheVariants.{Correct, Broken}
 use Rattle.vyrd_memory.specs.Scripts.{Script, stop, step, perform, returns, gives_up}
-use Rattle.vyrd_multiset.specs.Cells.{bucket_of, first_slot, state_cell, value_cell, lock, unlock}
+use Rattle.vyrd_multiset.specs.Cells.{bucket_of, first_slot, state_cell, value_cell, lock, unlock, lock_other, unlock_other}
 
 -- store the value, and the state 1
 abbrev pub reserve : ℕ → ℕ → Script → Script
@@ -63,14 +63,6 @@ first_bucket Broken of_x of_y = of_x
 abbrev pub second_bucket : Variant → ℕ → ℕ → ℕ
 second_bucket Correct of_x of_y = max of_x of_y
 second_bucket Broken of_x of_y = of_y
-
--- lock the second of two buckets, if it is another one
-abbrev pub lock_other : Header → ℕ → ℕ → Script → Script
-lock_other h first second later = if first == second then later else lock h second later
-
--- unlock the second of two buckets, if it is another one
-abbrev pub unlock_other : Header → ℕ → ℕ → Script → Script
-unlock_other h first second later = if first == second then later else unlock h second later
 
 -- unlock the buckets in the reverse order, and return 1
 abbrev pub unlock_both : Header → ℕ → ℕ → Script

@@ -21,9 +21,9 @@ use Rattle.vyrd_memory.specs.Alone.{Memory, with_cell}
 use Rattle.vyrd_memory.proofs.Memories.{changed_cell, other_cell}
 use Rattle.vyrd_memory.specs.Scripts.{Script, returns}
 use Rattle.vyrd_memory.specs.Soundness.{holds, just_called}
-use Rattle.vyrd_multiset.specs.Cells.{bucket_of, lock_of, lock, unlock}
+use Rattle.vyrd_multiset.specs.Cells.{bucket_of, lock_of, lock, unlock, lock_other}
 use Rattle.vyrd_multiset.specs.Procedures.{find, search_from, search_in, validate_both, commit_both}
-use Rattle.vyrd_multiset.specs.Procedures.{lock_other, inserted, second_found, first_found, deleted}
+use Rattle.vyrd_multiset.specs.Procedures.{inserted, second_found, first_found, deleted}
 use Rattle.vyrd_multiset.specs.Procedures.{looked_up, procedure_of, multiset_procedure}
 use Rattle.vyrd_multiset.specs.Contents.{IsMultiset}
 use Rattle.vyrd_multiset.specs.Laws.Alone.Changes.{made_valid, made_free, is_there, isnt_there}

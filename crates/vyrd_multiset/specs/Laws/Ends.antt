@@ -15,10 +15,10 @@ use Rattle.vyrd_memory.specs.declared.op.Variant.TheVariants.{Correct, Broken}
 use Rattle.vyrd_memory.specs.Scripts.{Script, perform, returns, gives_up}
 use Rattle.vyrd_memory.specs.Bounds.{bound_in, bound_of, EndsByReturn}
 use Rattle.vyrd_memory.proofs.TimedActs.{in_more, loads_in, acts_in, returns_in, gives_up_in}
-use Rattle.vyrd_multiset.specs.Cells.{bucket_of, first_slot, state_cell, value_cell, lock_of, lock}
+use Rattle.vyrd_multiset.specs.Cells.{bucket_of, first_slot, state_cell, value_cell, lock_of, lock, lock_other}
 use Rattle.vyrd_multiset.specs.Cells.{unlock}
 use Rattle.vyrd_multiset.specs.Procedures.{reserve, find_from, find, commit_state, inserted, insert}
-use Rattle.vyrd_multiset.specs.Procedures.{first_bucket, second_bucket, lock_other, unlock_both}
+use Rattle.vyrd_multiset.specs.Procedures.{first_bucket, second_bucket, unlock_both}
 use Rattle.vyrd_multiset.specs.Procedures.{validate_both, commit_both, undo, second_found}
 use Rattle.vyrd_multiset.specs.Procedures.{first_found, insert_pair, compare, search_from}
 use Rattle.vyrd_multiset.specs.Procedures.{search_in, deleted, delete, looked_up, lookup}

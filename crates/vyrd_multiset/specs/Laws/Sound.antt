@@ -21,10 +21,10 @@ use Rattle.vyrd_memory.specs.declared.op.Variant.TheVariants.{Correct, Broken}
 use Rattle.vyrd_memory.specs.Scripts.{Script, step, perform, returns, gives_up}
 use Rattle.vyrd_memory.specs.Arguments.{are_small}
 use Rattle.vyrd_memory.specs.Soundness.{Situation, IsSound, just_called, holds}
-use Rattle.vyrd_multiset.specs.Cells.{bucket_of, first_slot, state_cell, value_cell, lock_of, lock}
+use Rattle.vyrd_multiset.specs.Cells.{bucket_of, first_slot, state_cell, value_cell, lock_of, lock, lock_other}
 use Rattle.vyrd_multiset.specs.Cells.{unlock}
 use Rattle.vyrd_multiset.specs.Procedures.{reserve, find_from, find, commit_state, inserted}
-use Rattle.vyrd_multiset.specs.Procedures.{lock_other, unlock_both, validate_both, commit_both}
+use Rattle.vyrd_multiset.specs.Procedures.{unlock_both, validate_both, commit_both}
 use Rattle.vyrd_multiset.specs.Procedures.{undo, second_found, first_found, compare, search_from}
 use Rattle.vyrd_multiset.specs.Procedures.{search_in, deleted, looked_up, procedure_of}
 

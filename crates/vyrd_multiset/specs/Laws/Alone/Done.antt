@@ -13,8 +13,8 @@ use Rattle.vyrd_memory.specs.Scripts.{Script, perform, returns, gives_up}
 use Rattle.vyrd_memory.specs.Alone.{Memory, with_cell, alone}
 use Rattle.vyrd_memory.proofs.Memories.{changed_cell, other_cell}
 use Rattle.vyrd_memory.proofs.AloneLaws.{EndsSo, take_played, given_back}
-use Rattle.vyrd_multiset.specs.Cells.{bucket_of, first_slot, state_cell, lock_of, lock, unlock}
-use Rattle.vyrd_multiset.specs.Procedures.{lock_other, validate_both, find_from, find, commit_state}
+use Rattle.vyrd_multiset.specs.Cells.{bucket_of, first_slot, state_cell, lock_of, lock, unlock, lock_other}
+use Rattle.vyrd_multiset.specs.Procedures.{validate_both, find_from, find, commit_state}
 use Rattle.vyrd_multiset.specs.Procedures.{inserted, insert, commit_both, second_found, first_found}
 use Rattle.vyrd_multiset.specs.Procedures.{insert_pair, search_from, search_in, deleted, delete}
 use Rattle.vyrd_multiset.specs.Procedures.{looked_up, lookup}
