@@ -15,6 +15,7 @@ ghost use Rattle.vyrd_every.specs.Schedules.{IsCorrect, IsCorrectWithFewEvents};
 ghost use Rattle.vyrd_live.specs.declared.run.LiveFault.TheVariants.{Memory};
 ghost use Rattle.vyrd_live.specs.Workers.{IsWorkerOf, HavePlayed};
 ghost use Rattle.vyrd_live.specs.LiveRuns.{AllHadRoom, IsCause, IsTooLow};
+ghost use Rattle.vyrd_trace.specs.Hands.{most_events};
 
 use crate::judging::judged;
 use crate::run::{LiveFault, Overrun, Run};
@@ -51,7 +52,7 @@ pub fn run_live<R: Threads + Wait + Sync, G: Gate>(
     limit: u64,
     gate: &G,
 ) -> Result<Run, LiveFault>
-    requires limit { limit ≤ 16777216 }
+    requires limit { limit ≤ most_events }
     requires limits { KeepsLimits (workload_of work.now) }
     ensures legal { IfOk result (λ run. is_legal (cells_of work.now.header) run.history.items ≡ true) }
     ensures parts { IfOk result (λ run. PlayToTheEnd (work_scripts (workload_of work.now)) run.history.items) }
@@ -98,7 +99,7 @@ fn play<R: Threads + Wait + Sync, G: Gate, M: WorkMachine + Send>(
     limit: u64,
     gate: &G,
 ) -> Result<Played, AllocError>
-    requires limit { limit ≤ 16777216 }
+    requires limit { limit ≤ most_events }
     requires limits { KeepsLimits (workload_of work.now) }
     ensures legal { IfOk result (λ played. is_legal (cells_of work.now.header) played.history.items ≡ true) }
     ensures words { IfOk result (λ played. played.words.items ≡ memory_after work.now.header (newest_first played.history.items)) }

@@ -1,6 +1,7 @@
 //! Live runs of small workloads, with gates that hold callers in the middle of their work, and a verifier by itself.
 
 ghost use Rattle.std.specs.Prelude.{◌≡◌, ◌<◌, ◌≤◌, ◌^◌};
+ghost use Rattle.vyrd_trace.specs.Hands.{most_events};
 
 use crate::{LiveFault, Run, Verifier, run_live};
 use std::alloc::{AllocError, Global};
@@ -22,7 +23,7 @@ fn run_text<R: Threads + Wait + Sync, G: Gate>(
     limit: u64,
     gate: &G,
 ) -> Option<Result<Run, LiveFault>>
-    requires { limit ≤ 16777216 }
+    requires { limit ≤ most_events }
 {
     let Ok(work) = read_work(alloc, text) else {
         return None;

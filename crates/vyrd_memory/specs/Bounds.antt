@@ -11,6 +11,13 @@ use Rattle.vyrd_memory.specs.declared.act.Act.TheVariants.{Mark}
 use Rattle.vyrd_memory.specs.declared.op.Op.{Op}
 use Rattle.vyrd_memory.specs.Scripts.{Script, stop, step, is_stop, IsAnswer}
 
+-- the most operations of a caller, and the most events of an operation: those of an insert into a tree of 1,024 nodes
+abbrev pub most_ops : ℕ
+most_ops = 200000
+
+abbrev pub most_op_events : ℕ
+most_op_events = 279208
+
 -- A walk through a tree of n nodes visits each node once at most. An insert walks once, and once more in each of the 16 rounds
 -- in which the tree may grow upwards.
 abbrev pub tree_bound : ℕ → Method → ℕ

@@ -1,7 +1,7 @@
 //! How many events an operation has at most.
 
 ghost use Rattle.std.specs.Prelude.{◌≡◌, ◌≤◌};
-ghost use Rattle.vyrd_memory.specs.Bounds.{bound_of};
+ghost use Rattle.vyrd_memory.specs.Bounds.{bound_of, most_op_events};
 
 use vyrd_base::{Header, Method, Subject};
 
@@ -21,7 +21,7 @@ const INSERT_WALKS: u64 = 17;
 pub(crate) fn bound(header: &Header, method: Method) -> u64
     ensures bound { result ≡ bound_of header.now method }
     ensures some { 1 ≤ result }
-    ensures small { result ≤ 279208 }
+    ensures small { result ≤ most_op_events }
 {
     match header.subject() {
         Subject::Multiset => MULTISET,

@@ -4,7 +4,7 @@ ghost use Rattle.std.specs.Prelude.{◌≡◌, ◌≤◌, ◌<◌, ◌+◌, ◌*
 ghost use Rattle.std.specs.Option.{option_map_or};
 ghost use Rattle.vyrd_memory.specs.Scripts.{stop, operations, followed_by};
 ghost use Rattle.vyrd_memory.specs.Soundness.{IsSound, at_rest};
-ghost use Rattle.vyrd_memory.specs.Bounds.{bounds_of};
+ghost use Rattle.vyrd_memory.specs.Bounds.{bounds_of, most_ops, most_op_events};
 ghost use Rattle.vyrd_memory.specs.declared.op.Op.{Op};
 ghost use Rattle.vyrd_memory.specs.declared.op.Variant.TheVariants.{Correct};
 ghost use Rattle.vyrd_memory.specs.Alone.{IsRightAlone};
@@ -31,7 +31,7 @@ pub struct Player<P: Progress> {
     ghost within: { begun ≤ vec_len ops },
     ghost callable: { are_callable underway.header (drop begun ops.items) ≡ true },
     ghost bounded: { later ≡ bounds_of underway.header (drop begun ops.items) },
-    ghost small: { later ≤ 200000 * 279208 },
+    ghost small: { later ≤ most_ops * most_op_events },
 }
 
 impl<P: Progress> Player<P> {
@@ -46,7 +46,7 @@ impl<P: Progress> Player<P> {
     ) -> Result<Player<P>, AllocError>
         requires subject { header.subject ≡ P.subject }
         requires caller { caller < header.callers }
-        requires count { length ops.now ≤ 200000 }
+        requires count { length ops.now ≤ most_ops }
         requires ops { are_callable header ops.now ≡ true }
         ensures header { IfOk result (λ m. ⟦<Player<P> as Machine>⟧.header_of m ≡ header) }
         ensures caller { IfOk result (λ m. ⟦<Player<P> as Machine>⟧.caller_of m ≡ caller) }
@@ -179,9 +179,9 @@ impl<P: Progress> Machine for Player<P> {
 
 /// The sum of the bounds of operations.
 fn sum_of_bounds(header: &Header, ops: &[Op]) -> u64
-    requires { length ops.now ≤ 200000 }
+    requires { length ops.now ≤ most_ops }
     ensures sum { result ≡ bounds_of header.now ops.now }
-    ensures small { result ≤ 200000 * 279208 }
+    ensures small { result ≤ most_ops * most_op_events }
 {
     let mut sum = 0;
     for op in ops {

@@ -4,7 +4,7 @@ ghost use Rattle.std.specs.Prelude.{◌≡◌, ◌+◌, ◌<◌, ◌≤◌, ◌-
 ghost use Rattle.std.specs.Option.{option_map_or};
 ghost use Rattle.vyrd_base.specs.Subjects.{subject_of, are_args};
 ghost use Rattle.vyrd_memory.specs.Scripts.{stop, next_act, after_answer, IsAnswer};
-ghost use Rattle.vyrd_memory.specs.Bounds.{bound_of};
+ghost use Rattle.vyrd_memory.specs.Bounds.{bound_of, most_op_events};
 ghost use Rattle.vyrd_memory.specs.Underway.{IsUnderway};
 
 use crate::bound::bound;
@@ -21,7 +21,7 @@ pub(crate) struct Underway<P: Progress> {
     ghost subject: { header.subject ≡ P.subject },
     ghost goes_on: { ∥ IfSome progress (λ p. IsUnderway header left (P.rest header p)) ∥₁ },
     ghost idle: { is_none progress ≡ true → left ≡ 0 },
-    ghost small: { left ≤ 279208 },
+    ghost small: { left ≤ most_op_events },
 }
 
 impl<P: Progress> Underway<P> {

@@ -23,14 +23,15 @@ use Rattle.vyrd_trace.proofs.HistoryGrows.{value_after, legal-snoc, may_read, ma
 use Rattle.vyrd_trace.proofs.Parts.{value-snoc, part-mine, part-other, legal_bounded, held_value}
 use Rattle.vyrd_trace.proofs.Stays.{St, turned, refit, below, changed}
 use Rattle.vyrd_trace.proofs.CellMoves.{same_some, upd, upd_here, upd_else, in_hand, moved, claims_moved, held_cell, nowhere, nowhere_rest}
+use Rattle.vyrd_trace.specs.Hands.{most_events}
 
-module _ (p : Plan) (few : p.callers ≤ 64) (short : p.limit ≤ 16777216) where
+module _ (p : Plan) (few : p.callers ≤ 64) (short : p.limit ≤ most_events) where
   -- the next number is far below 2 ^ 64
   bounded : (s : St) (r : Kept p s) → slice_index s.words 0 + 1 < 2 ^ 64
   bounded s r =
       let a = legal_bounded (cells_in p) p.limit r.ghost_state.history r.legal r.short in
       let b = r.counted in
-      let c : p.callers * p.limit ≤ 64 * 16777216 = mul-le-mul few short in omega arith
+      let c : p.callers * p.limit ≤ 64 * most_events = mul-le-mul few short in omega arith
 
   -- A draw of any event that may come next. What is left to say is which action each caller has in hand afterwards, which
   -- caller has each cell, and that the cells' words, which stay, fit their values in the longer history.

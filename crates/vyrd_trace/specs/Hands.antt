@@ -7,6 +7,13 @@ use Rattle.vyrd_trace.specs.declared.plan.Plan.{Plan}
 use Rattle.vyrd_trace.specs.declared.look.Look.{Look}
 use Rattle.vyrd_trace.specs.Lanes.{stamp, HoldsBy}
 
+-- the most events of a hand, and the most cells and locks of a memory
+abbrev pub most_events : ℕ
+most_events = 16777216
+
+abbrev pub most_cells : ℕ
+most_cells = 32768
+
 -- a traced memory: which table it is, and its plan
 pub record TracedView : Type 0 where
   pub table : TableId
@@ -26,8 +33,8 @@ pub record HandView : Type 0 where
 
 -- the table has one word for the next number and one for each cell, and keeps the limits
 abbrev pub IsSized : Plan → TableId → Type 0
-IsSized p t = (t.words ≡ 1 + (p.plain + p.locks)) × (p.plain + p.locks ≤ 32768) × (1 ≤ p.callers) × (p.callers ≤ 64)
-    × (p.limit ≤ 16777216) × (t.slots ≡ 0)
+IsSized p t = (t.words ≡ 1 + (p.plain + p.locks)) × (p.plain + p.locks ≤ most_cells) × (1 ≤ p.callers) × (p.callers ≤ 64)
+    × (p.limit ≤ most_events) × (t.slots ≡ 0)
 
 -- a hand of this memory
 abbrev pub IsOf : TracedView → HandView → Type 0

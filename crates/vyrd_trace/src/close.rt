@@ -6,7 +6,7 @@ ghost use Rattle.std.specs.Slots.{slots_items, slots_len, IsFull};
 ghost use Rattle.vyrd_base.specs.Histories.{is_legal};
 ghost use Rattle.vyrd_base.specs.Parts.{part};
 ghost use Rattle.vyrd_trace.specs.Lanes.{cells_in, last_values};
-ghost use Rattle.vyrd_trace.specs.Hands.{AreAll};
+ghost use Rattle.vyrd_trace.specs.Hands.{AreAll, most_events};
 
 use crate::board::Board;
 use crate::hand::Hand;
@@ -62,7 +62,7 @@ fn blank() -> Stamped {
 
 /// How many events the hands have.
 fn count_all(hands: &[Hand]) -> usize
-    requires limit { All (λ h. h.limit ≤ 16777216) hands.now }
+    requires limit { All (λ h. h.limit ≤ most_events) hands.now }
     requires few { length hands.now ≤ 64 }
     ensures { result ≡ sum_by (λ h. length h.lane) hands.now }
 {

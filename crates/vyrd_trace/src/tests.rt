@@ -2,7 +2,7 @@
 
 ghost use Rattle.std.specs.Prelude.{◌≡◌, ◌+◌, ◌<◌, ◌≤◌, [], IfOk, IfSome};
 ghost use Rattle.vyrd_base.specs.Parts.{part};
-ghost use Rattle.vyrd_trace.specs.Hands.{IsOf};
+ghost use Rattle.vyrd_trace.specs.Hands.{IsOf, most_events, most_cells};
 
 mod example;
 
@@ -20,7 +20,7 @@ fn two(
     locks: u32,
     limit: u64,
 ) -> Result<(Traced, Hand, Hand), AllocError>
-    requires { (plain + locks ≤ 32768) × (limit ≤ 16777216) }
+    requires { (plain + locks ≤ most_cells) × (limit ≤ most_events) }
     ensures plan { IfOk result (λ r. r.0.plan ≡ record { plain = plain; locks = locks; callers = 2; limit = limit }) }
     ensures first { IfOk result (λ r. IsOf r.0 r.1 × (r.1.caller ≡ 0) × (r.1.lane ≡ [])) }
     ensures second { IfOk result (λ r. IsOf r.0 r.2 × (r.2.caller ≡ 1) × (r.2.lane ≡ [])) }

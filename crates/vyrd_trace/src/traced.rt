@@ -1,7 +1,7 @@
 //! The traced memory, and how it begins.
 
 ghost use Rattle.std.specs.Prelude.{◌≡◌, ◌+◌, ◌≤◌, IfOk, vec_len};
-ghost use Rattle.vyrd_trace.specs.Hands.{AreNew};
+ghost use Rattle.vyrd_trace.specs.Hands.{AreNew, most_events, most_cells};
 
 use crate::board::Board;
 use crate::hand::Hand;
@@ -38,8 +38,8 @@ impl Traced {
         limit: u64,
     ) -> Result<(Traced, Vec<Hand>), AllocError>
         requires callers { (1 ≤ callers) × (callers ≤ 64) }
-        requires cells { plain + locks ≤ 32768 }
-        requires limit { limit ≤ 16777216 }
+        requires cells { plain + locks ≤ most_cells }
+        requires limit { limit ≤ most_events }
         ensures plan { IfOk result (λ new. new.0.plan ≡ record { plain = plain; locks = locks; callers = callers; limit = limit }) }
         ensures count { IfOk result (λ new. vec_len new.1 ≡ callers) }
         ensures hands { IfOk result (λ new. AreNew new.0 0 new.1.items) }

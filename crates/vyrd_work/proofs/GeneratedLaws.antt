@@ -10,6 +10,7 @@ use Rattle.vyrd_base.proofs.TestLaws.{both_true, is_below}
 use Rattle.vyrd_memory.specs.declared.op.Op.{Op}
 use Rattle.vyrd_work.specs.declared.work.WorkOp.{WorkOp}
 use Rattle.vyrd_memory.specs.Arguments.{are_small}
+use Rattle.vyrd_memory.specs.Bounds.{most_ops}
 use Rattle.vyrd_work.specs.WorkLimits.{is_op_of, KeepsLimits}
 use Rattle.vyrd_work.specs.Generated.{next_draw, upper, work_op_from, ops_from, generated_header, generated}
 
@@ -69,7 +70,7 @@ count zero i x = refl
 count (suc left) i x = ap suc (count left (i + 1) (next_draw x))
 
 -- a generated workload keeps the limits
-pub generated_keeps : (n : ℕ) → n ≤ 200000 → KeepsLimits (generated n)
+pub generated_keeps : (n : ℕ) → n ≤ most_ops → KeepsLimits (generated n)
 unfolding generated
 generated_keeps n h = record {
   version = refl;

@@ -25,7 +25,7 @@ use Rattle.vyrd_text.proofs.PartLaws.{one_before_space}
 use Rattle.vyrd_work.specs.declared.work.WorkOp.{WorkOp}
 use Rattle.vyrd_work.specs.declared.line.Item.{Item}
 use Rattle.vyrd_work.specs.declared.line.Item.TheVariants as item
-use Rattle.vyrd_work.specs.Workloads.{item_fields, item_line}
+use Rattle.vyrd_work.specs.Workloads.{item_fields, item_line, most_turns}
 use Rattle.vyrd_memory.specs.Arguments.{are_small}
 use Rattle.vyrd_work.specs.WorkLines.{is_item_of, guessed_item, item_in}
 use Rattle.vyrd_work.specs.Spelled.{IsItemRead}
@@ -49,10 +49,10 @@ item_in_sound subject line x found = by_guess (guessed_item subject (fields_of l
     by_guess None f = cc
     by_guess (Some y) f = checked y (is_item_of subject y && bytes_eq (item_line y) line) refl f
 
-pub most_turns : (n : ℕ) → nat_le n 4000000 ≡ true → n < 2 ^ 32
-most_turns n e = grind (arith, nat_tests)
+pub turn_count_fits : (n : ℕ) → nat_le n most_turns ≡ true → n < 2 ^ 32
+turn_count_fits n e = grind (arith, nat_tests)
 
-few_turns : (n : ℕ) → nat_le n 4000000 ≡ true → n < 2 ^ 64
+few_turns : (n : ℕ) → nat_le n most_turns ≡ true → n < 2 ^ 64
 few_turns n e = grind (arith, nat_tests)
 
 -- the entry of a log that calls what the operation calls
@@ -175,18 +175,18 @@ module _ (text : List ℕ) (n : ℕ) (r : List ℕ) (low : n < 2 ^ 64) (e : text
       let after = append_cancel_left (codes "turn ") text (decimal t.caller ++ 32 ∷ decimal t.count) f in
       (one_before_space n t.caller r (decimal t.count) low (below_32 t.caller (first_true _ _ ok)) (sym e ∙ after)).1
 
-  count_fits : (subject : Subject) (t : Turn) → is_item_of subject (item.Turns t) ≡ true → (nat_le 1 t.count && nat_le t.count 4000000) ≡ true
+  count_fits : (subject : Subject) (t : Turn) → is_item_of subject (item.Turns t) ≡ true → (nat_le 1 t.count && nat_le t.count most_turns) ≡ true
   count_fits subject t ok = second_true (nat_lt t.caller (2 ^ 32)) _ ok
 
   pub no_count : ((m : ℕ) → m < 2 ^ 32 → r ≡ decimal m → ⊥) → (subject : Subject) → IsItemRead subject (codes "turn " ++ text) None
   no_count none subject (item.Op o) ok f = absurd (let h : 116 ≡ 111 = ap (λ t. get_or t 0 0) f in omega (arith, h))
   no_count none subject (item.Turns t) ok f =
-      none t.count (most_turns t.count (second_true (nat_le 1 t.count) _ (count_fits subject t ok))) (after_caller subject t ok f)
+      none t.count (turn_count_fits t.count (second_true (nat_le 1 t.count) _ (count_fits subject t ok))) (after_caller subject t ok f)
 
-  pub bad_count : (m : ℕ) → m < 2 ^ 64 → r ≡ decimal m → (nat_le 1 m && nat_le m 4000000) ≡ false → (subject : Subject) → IsItemRead subject (codes "turn " ++ text) None
+  pub bad_count : (m : ℕ) → m < 2 ^ 64 → r ≡ decimal m → (nat_le 1 m && nat_le m most_turns) ≡ false → (subject : Subject) → IsItemRead subject (codes "turn " ++ text) None
   bad_count m small g bad subject (item.Op o) ok f = absurd (let h : 116 ≡ 111 = ap (λ t. get_or t 0 0) f in omega (arith, h))
   bad_count m small g bad subject (item.Turns t) ok f =
       let few : t.count < 2 ^ 64 = few_turns t.count (second_true (nat_le 1 t.count) _ (count_fits subject t ok)) in
       let same : m ≡ t.count = decimal_injective m t.count small few (sym g ∙ after_caller subject t ok f) in
-      let both : true ≡ false = sym (count_fits subject t ok) ∙ (λ i. nat_le 1 (sym same i) && nat_le (sym same i) 4000000) ∙ bad in
+      let both : true ≡ false = sym (count_fits subject t ok) ∙ (λ i. nat_le 1 (sym same i) && nat_le (sym same i) most_turns) ∙ bad in
       cc

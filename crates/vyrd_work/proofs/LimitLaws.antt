@@ -16,8 +16,9 @@ use Rattle.vyrd_work.specs.declared.line.Item.{Item}
 use Rattle.vyrd_work.specs.declared.line.Item.TheVariants as item
 use Rattle.vyrd_work.specs.declared.fault.WorkRule.{WorkRule}
 use Rattle.vyrd_work.specs.declared.fault.WorkRule.TheVariants.{CallerRange, ArgumentRange, OpAfterTurn, TooManyOps, TooManyTurns}
-use Rattle.vyrd_work.specs.Workloads.{Workload, items_of}
+use Rattle.vyrd_work.specs.Workloads.{Workload, items_of, most_turn_lines, most_turns}
 use Rattle.vyrd_memory.specs.Arguments.{are_small}
+use Rattle.vyrd_memory.specs.Bounds.{most_ops}
 use Rattle.vyrd_work.specs.WorkLines.{is_item_of}
 use Rattle.vyrd_work.specs.WorkReading.{turns_in, broken_by, with_item}
 use Rattle.vyrd_work.specs.WorkLimits.{is_op_of, is_turn_of, KeepsLimits}
@@ -38,14 +39,14 @@ none_of_them (t ∷ turns) e = absurd (let h : 0 < length (t ∷ turns) → ⊥ 
 -- an operation that breaks no rule
 module _ (w : Workload) (o : WorkOp) (is : broken_by w (item.Op o) ≡ None) where
   first : (nat_le w.header.callers o.caller ≡ false) × (cond (not (are_args w.header.size o.op.method o.op.args)) (Some ArgumentRange)
-      (cond (nat_lt 0 (length w.turns)) (Some OpAfterTurn) (cond (nat_le 200000 (length w.ops)) (Some TooManyOps) None)) ≡ None)
+      (cond (nat_lt 0 (length w.turns)) (Some OpAfterTurn) (cond (nat_le most_ops (length w.ops)) (Some TooManyOps) None)) ≡ None)
   first = not_broken _ CallerRange _ is
 
   second : (not (are_args w.header.size o.op.method o.op.args) ≡ false)
-      × (cond (nat_lt 0 (length w.turns)) (Some OpAfterTurn) (cond (nat_le 200000 (length w.ops)) (Some TooManyOps) None) ≡ None)
+      × (cond (nat_lt 0 (length w.turns)) (Some OpAfterTurn) (cond (nat_le most_ops (length w.ops)) (Some TooManyOps) None) ≡ None)
   second = not_broken _ ArgumentRange _ first.1
 
-  third : (nat_lt 0 (length w.turns) ≡ false) × (cond (nat_le 200000 (length w.ops)) (Some TooManyOps) None ≡ None)
+  third : (nat_lt 0 (length w.turns) ≡ false) × (cond (nat_le most_ops (length w.ops)) (Some TooManyOps) None ≡ None)
   third = not_broken _ OpAfterTurn _ second.1
 
   pub op_fits : same_subject (subject_of o.op.method) w.header.subject ≡ true → is_op_of w.header o ≡ true
@@ -54,26 +55,26 @@ module _ (w : Workload) (o : WorkOp) (is : broken_by w (item.Op o) ≡ None) whe
   pub before_turns : w.turns ≡ []
   before_turns = none_of_them w.turns third.0
 
-  pub not_many_ops : length w.ops < 200000
-  not_many_ops = above_of 200000 (length w.ops) (not_broken _ TooManyOps _ third.1).0
+  pub not_many_ops : length w.ops < most_ops
+  not_many_ops = above_of most_ops (length w.ops) (not_broken _ TooManyOps _ third.1).0
 
 -- turns that break no rule
 module _ (w : Workload) (t : Turn) (is : broken_by w (item.Turns t) ≡ None) where
   turn_first : (nat_le w.header.callers t.caller ≡ false)
-      × (cond (nat_le 200000 (length w.turns) || nat_lt 4000000 (turns_in w.turns + t.count)) (Some TooManyTurns) None ≡ None)
+      × (cond (nat_le most_turn_lines (length w.turns) || nat_lt most_turns (turns_in w.turns + t.count)) (Some TooManyTurns) None ≡ None)
   turn_first = not_broken _ CallerRange _ is
 
-  turn_second : (nat_le 200000 (length w.turns) ≡ false) × (nat_lt 4000000 (turns_in w.turns + t.count) ≡ false)
+  turn_second : (nat_le most_turn_lines (length w.turns) ≡ false) × (nat_lt most_turns (turns_in w.turns + t.count) ≡ false)
   turn_second = neither_true _ _ (not_broken _ TooManyTurns _ turn_first.1).0
 
-  pub turn_fits : (nat_le 1 t.count && nat_le t.count 4000000) ≡ true → is_turn_of w.header t ≡ true
+  pub turn_fits : (nat_le 1 t.count && nat_le t.count most_turns) ≡ true → is_turn_of w.header t ≡ true
   turn_fits counted = both_true _ _ (below_callers w.header.callers t.caller turn_first.0) counted
 
-  pub not_many_turns : length w.turns < 200000
-  not_many_turns = above_of 200000 (length w.turns) turn_second.0
+  pub not_many_turns : length w.turns < most_turn_lines
+  not_many_turns = above_of most_turn_lines (length w.turns) turn_second.0
 
-  pub sum_fits : turns_in w.turns + t.count ≤ 4000000
-  sum_fits = not_below_of 4000000 (turns_in w.turns + t.count) turn_second.1
+  pub sum_fits : turns_in w.turns + t.count ≤ most_turns
+  sum_fits = not_below_of most_turns (turns_in w.turns + t.count) turn_second.1
 
 pub all_more : {A : Type 0} (P : A → Type 0) (xs : List A) (x : A) → AllByRecursion P xs → P x → AllByRecursion P (xs ++ x ∷ [])
 all_more P [] x all p = (p, tt)
@@ -127,22 +128,22 @@ items_more w (item.Turns t) none =
     ∙ sym (append_assoc (map item.Op w.ops) (map item.Turns w.turns) (item.Turns t ∷ []))
 
 -- an operation that fits breaks no rule where there is room for it
-pub op_unbroken : (w : Workload) (o : WorkOp) → is_op_of w.header o ≡ true → w.turns ≡ [] → length w.ops < 200000 → broken_by w (item.Op o) ≡ None
+pub op_unbroken : (w : Workload) (o : WorkOp) → is_op_of w.header o ≡ true → w.turns ≡ [] → length w.ops < most_ops → broken_by w (item.Op o) ≡ None
 op_unbroken w o fits before room =
     let caller = above_then w.header.callers o.caller (first_true _ _ fits) in
     let args : not (are_args w.header.size o.op.method o.op.args) ≡ false =
     ap not (second_true (same_subject (subject_of o.op.method) w.header.subject) _ (second_true (nat_lt o.caller w.header.callers) _ fits)) in
-    let count = isnt_at_most 200000 (length w.ops) room in
+    let count = isnt_at_most most_ops (length w.ops) room in
     λ i. cond (caller i) (Some CallerRange)
     (cond (args i) (Some ArgumentRange) (cond (nat_lt 0 (length (before i))) (Some OpAfterTurn) (cond (count i) (Some TooManyOps) None)))
 
 -- and so do turns
-pub turns_unbroken : (w : Workload) (t : Turn) → is_turn_of w.header t ≡ true → length w.turns < 200000 → turns_in w.turns + t.count ≤ 4000000
+pub turns_unbroken : (w : Workload) (t : Turn) → is_turn_of w.header t ≡ true → length w.turns < most_turn_lines → turns_in w.turns + t.count ≤ most_turns
     → broken_by w (item.Turns t) ≡ None
 turns_unbroken w t fits room sum =
     let caller = above_then w.header.callers t.caller (first_true _ _ fits) in
-    let count = isnt_at_most 200000 (length w.turns) room in
-    let total = isnt_below 4000000 (turns_in w.turns + t.count) sum in
+    let count = isnt_at_most most_turn_lines (length w.turns) room in
+    let total = isnt_below most_turns (turns_in w.turns + t.count) sum in
     λ i. cond (caller i) (Some CallerRange) (cond (count i || total i) (Some TooManyTurns) None)
 
 small_caller : (callers caller : ℕ) → callers < 2 ^ 32 → nat_lt caller callers ≡ true → nat_lt caller (2 ^ 32) ≡ true

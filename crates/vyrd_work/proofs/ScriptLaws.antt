@@ -10,6 +10,7 @@ use Rattle.vyrd_base.proofs.TestLaws.{both_true, second_true}
 use Rattle.vyrd_memory.specs.declared.op.Op.{Op}
 use Rattle.vyrd_memory.specs.Arguments.{are_small}
 use Rattle.vyrd_memory.specs.Players.{is_callable, are_callable}
+use Rattle.vyrd_memory.specs.Bounds.{most_ops}
 use Rattle.vyrd_work.specs.declared.work.WorkOp.{WorkOp}
 use Rattle.vyrd_work.specs.Workloads.{Workload}
 use Rattle.vyrd_work.specs.WorkLimits.{KeepsLimits, is_op_of}
@@ -42,7 +43,7 @@ all_callable h c (o ∷ ops) fit small = by_owner (o.caller == c) (all_callable 
     by_owner true rest = both_true (is_callable h o.op) (are_callable h (ops_of c ops)) (callable h o fit.0 small.0) rest
 
 -- a caller's operations are no more than all, and may be called
-pub ops_are_few : (w : Workload) (c : ℕ) → KeepsLimits w → length (ops_of c w.ops) ≤ 200000
+pub ops_are_few : (w : Workload) (c : ℕ) → KeepsLimits w → length (ops_of c w.ops) ≤ most_ops
 ops_are_few w c limits = omega (arith, few c w.ops, limits.op_count)
 
 pub ops_are_callable : (w : Workload) (c : ℕ) → KeepsLimits w → are_callable w.header (ops_of c w.ops) ≡ true

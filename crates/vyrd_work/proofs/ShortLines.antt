@@ -19,7 +19,7 @@ use Rattle.vyrd_work.specs.Workloads.{Workload, variant_name, work_header_line, 
 use Rattle.vyrd_memory.specs.Arguments.{are_small}
 use Rattle.vyrd_work.specs.WorkLines.{is_item_of}
 use Rattle.vyrd_work.specs.WorkLimits.{is_op_of, is_turn_of, KeepsLimits}
-use Rattle.vyrd_work.proofs.ItemLaws.{call_of, op_caller, op_call, most_turns}
+use Rattle.vyrd_work.proofs.ItemLaws.{call_of, op_caller, op_call, turn_count_fits}
 use Rattle.vyrd_work.proofs.FirstLaws.{size_fits, callers_fit}
 use Rattle.vyrd_work.proofs.LimitLaws.{op_is_item, turns_are_item}
 
@@ -41,7 +41,7 @@ short_op subject o is =
 pub short_turns : (subject : Subject) (t : Turn) → is_item_of subject (item.Turns t) ≡ true → length (item_line (item.Turns t)) ≤ 64
 short_turns subject t is =
     let caller = short_number t.caller (below_of _ _ (first_true _ _ is)) in
-    let count = short_number t.count (most_turns t.count (second_true (nat_le 1 t.count) _ (second_true (nat_lt t.caller (2 ^ 32)) _ is))) in
+    let count = short_number t.count (turn_count_fits t.count (second_true (nat_le 1 t.count) _ (second_true (nat_lt t.caller (2 ^ 32)) _ is))) in
     omega (arith, caller, count, length-append (decimal t.caller) (32 ∷ decimal t.count))
 
 short_variant : (variant : Variant) → length (variant_name variant) ≤ 7

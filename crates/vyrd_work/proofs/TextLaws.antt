@@ -18,8 +18,9 @@ use Rattle.vyrd_work.specs.declared.work.WorkOp.{WorkOp}
 use Rattle.vyrd_work.specs.declared.line.Item.{Item}
 use Rattle.vyrd_work.specs.declared.line.Item.TheVariants as item
 use Rattle.vyrd_work.specs.declared.fault.WorkRule.{WorkRule}
-use Rattle.vyrd_work.specs.Workloads.{Workload, work_header_line, item_line, items_of, lines_of, work_text}
+use Rattle.vyrd_work.specs.Workloads.{Workload, work_header_line, item_line, items_of, lines_of, work_text, most_turn_lines, most_turns}
 use Rattle.vyrd_memory.specs.Arguments.{are_small}
+use Rattle.vyrd_memory.specs.Bounds.{most_ops}
 use Rattle.vyrd_work.specs.WorkLines.{begun, begun_in, is_item_of, item_in}
 use Rattle.vyrd_work.specs.WorkReading.{Refusal, refused, turns_in, broken_by, with_item, unless_broken, item_read}
 use Rattle.vyrd_work.specs.WorkReading.{line_read, begun_or_bad, ended, lines_read, text_read, work_reading}
@@ -182,7 +183,7 @@ of_parts h variant ops turns = record { header = h; variant = variant; ops = ops
 
 -- the lines of turns, and `end`
 turns_read : (h : Header) (variant : Variant) (ops : List WorkOp) (past todo : List Turn) (n : ℕ) → AllByRecursion (λ t. is_turn_of h t ≡ true) todo
-    → length past + length todo ≤ 200000 → turns_in past + turns_in todo ≤ 4000000
+    → length past + length todo ≤ most_turn_lines → turns_in past + turns_in todo ≤ most_turns
     → lines_read (of_parts h variant ops past) n (map item_line (map item.Turns todo) ++ end_line ∷ [] ∷ [])
     ≡ Ok (of_parts h variant ops (past ++ todo))
 turns_read h variant ops past [] n all count total = ap (λ ts. Ok (of_parts h variant ops ts)) (sym (append-nil past))
@@ -198,7 +199,7 @@ turns_read h variant ops past (t ∷ todo) n all count total =
 
 -- the lines of operations, and what follows them
 ops_read : (h : Header) (variant : Variant) (past todo : List WorkOp) (next : List ℕ) (lines : List (List ℕ)) (r : Result Workload Refusal) (n : ℕ)
-    → AllByRecursion (λ o. is_op_of h o ≡ true) todo → AllByRecursion (λ o. are_small o.op.args ≡ true) todo → length past + length todo ≤ 200000
+    → AllByRecursion (λ o. is_op_of h o ≡ true) todo → AllByRecursion (λ o. are_small o.op.args ≡ true) todo → length past + length todo ≤ most_ops
     → ((m : ℕ) → lines_read (of_parts h variant (past ++ todo) []) m (next ∷ lines) ≡ r)
     → lines_read (of_parts h variant past []) n (map item_line (map item.Op todo) ++ next ∷ lines) ≡ r
 ops_read h variant past [] next lines r n all small count on =
@@ -225,7 +226,7 @@ items_read w n keeps = by_turns w.turns keeps.turns keeps.turn_count keeps.turn_
         regroup [] = refl
         regroup (o ∷ ops) = ap (λ rest. item_line (item.Op o) ∷ rest) (regroup ops)
 
-    by_turns : (turns : List Turn) → AllByRecursion (λ t. is_turn_of w.header t ≡ true) turns → length turns ≤ 200000 → turns_in turns ≤ 4000000
+    by_turns : (turns : List Turn) → AllByRecursion (λ t. is_turn_of w.header t ≡ true) turns → length turns ≤ most_turn_lines → turns_in turns ≤ most_turns
         → lines_read (begun w.variant w.header) n (map item_line (map item.Op w.ops ++ map item.Turns turns) ++ end_line ∷ [] ∷ [])
         ≡ Ok (of_parts w.header w.variant w.ops turns)
     by_turns [] all count total = ap (lines_read (begun w.variant w.header) n) (lines [])

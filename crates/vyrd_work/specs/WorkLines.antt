@@ -10,7 +10,7 @@ use Rattle.vyrd_memory.specs.declared.op.Variant.{Variant}
 use Rattle.vyrd_memory.specs.declared.op.Variant.TheVariants.{Correct, Broken}
 use Rattle.vyrd_work.specs.declared.line.Item.{Item}
 use Rattle.vyrd_work.specs.declared.line.Item.TheVariants as item
-use Rattle.vyrd_work.specs.Workloads.{Workload, variant_name, work_header_line, item_line}
+use Rattle.vyrd_work.specs.Workloads.{Workload, variant_name, work_header_line, item_line, most_turns}
 
 -- the variant of that name
 abbrev pub variant_called : List ℕ → Option Variant
@@ -42,7 +42,7 @@ begun_in line = begun_from line (fields_of line)
 abbrev pub is_item_of : Subject → Item → Bool
 is_item_of subject (item.Op o) = nat_lt o.caller (2 ^ 32)
     && (same_subject (subject_of o.op.method) subject && are_padded (arity_of o.op.method) o.op.args && are_small o.op.args)
-is_item_of subject (item.Turns t) = nat_lt t.caller (2 ^ 32) && (nat_le 1 t.count && nat_le t.count 4000000)
+is_item_of subject (item.Turns t) = nat_lt t.caller (2 ^ 32) && (nat_le 1 t.count && nat_le t.count most_turns)
 
 -- a guess at what the fields of a later line say
 abbrev pub guessed_item : Subject → List (List ℕ) → Option Item

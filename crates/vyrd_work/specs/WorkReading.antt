@@ -8,12 +8,13 @@ use Rattle.vyrd_base.specs.Subjects.{are_args}
 use Rattle.vyrd_base.specs.Spelling.{end_line}
 use Rattle.vyrd_base.specs.Reading.{has_any}
 use Rattle.vyrd_memory.specs.declared.op.Turn.{Turn}
+use Rattle.vyrd_memory.specs.Bounds.{most_ops}
 use Rattle.vyrd_work.specs.declared.line.Item.{Item}
 use Rattle.vyrd_work.specs.declared.line.Item.TheVariants as item
 use Rattle.vyrd_work.specs.declared.fault.WorkRule.{WorkRule}
 use Rattle.vyrd_work.specs.declared.fault.WorkRule.TheVariants.{AfterEnd, BadHeader, BadLine, CallerRange, ArgumentRange}
 use Rattle.vyrd_work.specs.declared.fault.WorkRule.TheVariants.{OpAfterTurn, TooManyOps, TooManyTurns, NoLineFeed, NoEnd}
-use Rattle.vyrd_work.specs.Workloads.{Workload}
+use Rattle.vyrd_work.specs.Workloads.{Workload, most_turn_lines, most_turns}
 use Rattle.vyrd_work.specs.WorkLines.{begun_in, item_in}
 
 -- a bad line with the rule that it breaks
@@ -35,10 +36,10 @@ broken_by w (item.Op o) =
     if nat_le w.header.callers o.caller then Some CallerRange
     else (if not (are_args w.header.size o.op.method o.op.args) then Some ArgumentRange
     else (if nat_lt 0 (length w.turns) then Some OpAfterTurn
-    else (if nat_le 200000 (length w.ops) then Some TooManyOps else None)))
+    else (if nat_le most_ops (length w.ops) then Some TooManyOps else None)))
 broken_by w (item.Turns t) =
     if nat_le w.header.callers t.caller then Some CallerRange
-    else (if nat_le 200000 (length w.turns) || nat_lt 4000000 (turns_in w.turns + t.count) then Some TooManyTurns else None)
+    else (if nat_le most_turn_lines (length w.turns) || nat_lt most_turns (turns_in w.turns + t.count) then Some TooManyTurns else None)
 
 -- one more operation, or turns
 abbrev pub with_item : Workload → Item → Workload

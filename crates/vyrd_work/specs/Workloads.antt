@@ -12,6 +12,13 @@ use Rattle.vyrd_work.specs.declared.work.Work.{Work}
 use Rattle.vyrd_work.specs.declared.line.Item.{Item}
 use Rattle.vyrd_work.specs.declared.line.Item.TheVariants as item
 
+-- the most lines of turns, and the most turns in a line and in all
+abbrev pub most_turn_lines : ℕ
+most_turn_lines = 200000
+
+abbrev pub most_turns : ℕ
+most_turns = 4000000
+
 -- a workload: its header, the variant of the structure, the operations in their order, and the turns in theirs
 pub record Workload : Type 0 where
   pub header : Header

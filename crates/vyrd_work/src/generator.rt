@@ -4,6 +4,7 @@ ghost use Rattle.std.specs.Prelude.{◌≡◌, ◌≤◌, ◌<◌, ◌^◌, ◌%
 ghost use Rattle.vyrd_work.specs.Workloads.{workload_of};
 ghost use Rattle.vyrd_work.specs.WorkLimits.{KeepsLimits};
 ghost use Rattle.vyrd_work.specs.Generated.{generated, generated_header, next_draw, work_op_from, ops_from, op_for};
+ghost use Rattle.vyrd_memory.specs.Bounds.{most_ops};
 
 use crate::work::{Work, WorkOp};
 use std::alloc::{AllocError, Global};
@@ -33,7 +34,7 @@ const CALLERS: u32 = 4;
 /// The same `n`, from 1 to 200,000, always gives the same workload. The time and the memory grow with `n`.
 pub fn generate(alloc: Global, n: u32) -> Result<Work, AllocError>
     requires low { 1 ≤ n }
-    requires high { n ≤ 200000 }
+    requires high { n ≤ most_ops }
     ensures work { IfOk result (λ work. workload_of work ≡ generated n) }
     ensures limits { IfOk result (λ work. KeepsLimits (workload_of work)) }
 {

@@ -4,6 +4,7 @@ ghost use Rattle.std.specs.Prelude.{◌≡◌, ◌&&◌, true, ◌++◌, codes, 
 ghost use Rattle.vyrd_base.specs.declared.subject.Subject.{Subject};
 ghost use Rattle.vyrd_work.specs.WorkLines.{begun, begun_in, is_item_of, item_in};
 ghost use Rattle.vyrd_work.specs.Spelled.{IsFirstRead, AreBoundsRead, IsItemRead, IsVariantRead};
+ghost use Rattle.vyrd_work.specs.Workloads.{most_turns};
 
 use crate::work::WorkOp;
 use vyrd_base::{Header, Subject};
@@ -112,7 +113,7 @@ fn read_turns(text: &[u8]) -> Option<Item>
 
 /// Whether a line may give this many turns.
 fn is_count(count: u32) -> bool
-    ensures { result ≡ (nat_le 1 count && nat_le count 4000000) }
+    ensures { result ≡ (nat_le 1 count && nat_le count most_turns) }
 {
     1 <= count && count <= MOST_TURNS
 }

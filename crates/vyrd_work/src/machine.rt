@@ -1,7 +1,7 @@
 //! The machine of a workload's caller.
 
 ghost use Rattle.std.specs.Prelude.{◌≡◌, ◌<◌, ◌≤◌, true, length, IfOk};
-ghost use Rattle.vyrd_memory.specs.Bounds.{bounds_of};
+ghost use Rattle.vyrd_memory.specs.Bounds.{bounds_of, most_ops};
 ghost use Rattle.vyrd_memory.specs.Players.{are_callable};
 ghost use Rattle.vyrd_work.specs.Workloads.{workload_of};
 ghost use Rattle.vyrd_work.specs.WorkLimits.{KeepsLimits};
@@ -159,7 +159,7 @@ impl MachineOf<MultisetMachine, CacheMachine, TreeMachine, BufferMachine> {
 fn ops_of(alloc: Global, work: &Work, caller: u32) -> Result<Vec<Op>, AllocError>
     requires { KeepsLimits (workload_of work.now) }
     ensures ops { IfOk result (λ own. own.items ≡ ops_of caller work.now.ops.items) }
-    ensures few { IfOk result (λ own. length own.items ≤ 200000) }
+    ensures few { IfOk result (λ own. length own.items ≤ most_ops) }
     ensures callable { IfOk result (λ own. are_callable work.now.header own.items ≡ true) }
 {
     own_ops(alloc, &work.ops, caller)

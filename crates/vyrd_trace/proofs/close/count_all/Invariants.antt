@@ -1,7 +1,7 @@
 use Rattle.std.proofs.Common.{◌≡◌, ◌≤◌, ◌*◌, length, take}
 use Rattle.std.specs.List.{sum_by}
-use Rattle.vyrd_trace.specs.Hands.{HandView}
+use Rattle.vyrd_trace.specs.Hands.{HandView, most_events}
 use Rattle.vyrd_trace.proofs.close.count_all.Given as goal
 
 abbrev pub invariant-loop-hand : goal.invariant-loop-hand
-invariant-loop-hand l = (l.total ≡ sum_by (λ (h : HandView). length h.lane) (take l.hand-index l.hands)) × (l.total ≤ 16777216 * l.hand-index)
+invariant-loop-hand l = (l.total ≡ sum_by (λ (h : HandView). length h.lane) (take l.hand-index l.hands)) × (l.total ≤ most_events * l.hand-index)
