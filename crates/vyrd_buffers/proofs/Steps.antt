@@ -14,6 +14,7 @@ use Rattle.vyrd_memory.specs.declared.act.Act.{Act}
 use Rattle.vyrd_memory.specs.declared.act.Act.TheVariants.{Load, Store, Take, Give, Mark, Done}
 use Rattle.vyrd_memory.specs.Scripts.{Script, stop, step, returns, next_act, after_answer}
 use Rattle.vyrd_memory.specs.Soundness.{Situation, IsSound, IsSoundSomewhere, may_act}
+use Rattle.vyrd_memory.proofs.Small.{size_fits}
 use Rattle.vyrd_buffers.specs.declared.held.Held.{Held}
 use Rattle.vyrd_buffers.specs.declared.text.Text.{Text}
 use Rattle.vyrd_buffers.specs.declared.place.Place.{Place}
@@ -28,12 +29,6 @@ use Rattle.vyrd_buffers.specs.Rests.{first_of, second_of, reading_rest, joining_
 pub sound_at : (h : Header) (task : Task) (p q : Place) → p ≡ q → IsSoundSomewhere h (rest_at h task p) → IsSoundSomewhere h (rest_at h task q)
 sound_at h task p q e sound = subst (λ place. IsSoundSomewhere h (rest_at h task place)) e sound
 
-few_buffers : (h : Header) → h.size ≤ 1024
-few_buffers h = within h.version h.size h.callers h.within
-  where
-    within : (version size callers : ℕ) → IsTrue (is_within version size callers) → size ≤ 1024
-    within version size callers w = grind (arith, nat_tests)
-
 -- the cell of an act, which has to be there
 abbrev pub cell_in : Act → ℕ
 cell_in (Load cell) = cell
@@ -46,7 +41,7 @@ cell_in _ = 0
 plain_low : (h : Header) (cell : ℕ) → h.subject ≡ Buffers → nat_lt cell (plain_words_of h.subject h.size) ≡ true → nat_lt cell (2 ^ 32) ≡ true
 plain_low h cell is plain =
     let low : cell < 8 * h.size = below_of cell (8 * h.size) (sym (ap (λ s. nat_lt cell (plain_words_of s h.size)) is) ∙ plain) in
-    is_below cell (2 ^ 32) (omega (arith, low, few_buffers h))
+    is_below cell (2 ^ 32) (omega (arith, low, size_fits h))
 
 lock_low : (h : Header) (lock : ℕ) → h.subject ≡ Buffers
     → (nat_le (plain_words_of h.subject h.size) lock && nat_lt lock (plain_words_of h.subject h.size + lock_words_of h.subject h.size)) ≡ true
@@ -55,7 +50,7 @@ lock_low h lock is within =
     let test : nat_lt lock (8 * h.size + h.size) ≡ true =
     sym (ap (λ s. nat_lt lock (plain_words_of s h.size + lock_words_of s h.size)) is) ∙ second_true (nat_le (plain_words_of h.subject h.size) lock) _ within in
     let low : lock < 8 * h.size + h.size = below_of lock (8 * h.size + h.size) test in
-    is_below lock (2 ^ 32) (omega (arith, low, few_buffers h))
+    is_below lock (2 ^ 32) (omega (arith, low, size_fits h))
 
 cell_there : (h : Header) (s : Situation) (act : Act) → h.subject ≡ Buffers → may_act h s act ≡ true → nat_lt (cell_in act) (2 ^ 32) ≡ true
 cell_there h s (Load cell) is may = plain_low h cell is may

@@ -13,7 +13,7 @@ use Rattle.vyrd_memory.specs.declared.act.Act.TheVariants.{Load, Store, Take, Gi
 use Rattle.vyrd_memory.specs.Alone.{Memory}
 use Rattle.vyrd_memory.specs.Scripts.{Script, stop, step, perform, returns}
 use Rattle.vyrd_memory.specs.Soundness.{Situation, holds, after_act}
-use Rattle.vyrd_multiset.specs.Laws.Sound.{gone}
+use Rattle.vyrd_memory.proofs.SoundActs.{gone}
 use Rattle.vyrd_every.specs.Structures.{Structure}
 use Rattle.vyrd_every.specs.Locals.{Locals, Access, written, shown_after, pending_after, called_after}
 use Rattle.vyrd_every.specs.Others.{Rely, Guarantee}
@@ -72,6 +72,10 @@ holds_first lock locks committed in_block called = ap (λ b. b || list_any (λ h
 -- the locals with no slot reserved
 abbrev pub without_slots : Locals → List (ℕ × ℕ) → Locals
 without_slots k pending = record { owned = λ slot. false; pending = pending; called = k.called; answered = k.answered }
+
+-- the caller's locals in a block
+abbrev pub writing : Locals → List (ℕ × ℕ) → Locals
+writing k pending = record { owned = k.owned; pending = pending; called = k.called; answered = k.answered }
 
 -- the return, where nothing is reserved
 pub returns_right : (S : Structure) (k : Locals) (shown : Memory) (committed : Bool) (called : Called) (reply : ℕ) → ((i : ℕ) → k.owned i ≡ false)

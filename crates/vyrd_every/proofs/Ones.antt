@@ -47,7 +47,7 @@ stepped S s k shown did (step act rest) right e =
         × ((now : Memory) → Rely S (after_act s a) next (shown_after s k shown a) now → DoesRight S (after_act s a) next now (rest (answer_at shown a)))
 
 -- a word that the caller's block has written after its own event
-holds_parts : (a b : Bool) → (a && b) ≡ true → (a ≡ true) × (b ≡ true)
+pub holds_parts : (a b : Bool) → (a && b) ≡ true → (a ≡ true) × (b ≡ true)
 holds_parts a b e = (first_true a b e, second_true a b e)
 
 covers_step : (S : Structure) (c : ℕ) (did : Did) (s : Situation) (log : List Entry) → Agrees c s log

@@ -12,8 +12,8 @@ use Rattle.vyrd_memory.specs.declared.op.Variant.TheVariants.{Broken}
 use Rattle.vyrd_memory.specs.Alone.{Memory}
 use Rattle.vyrd_memory.specs.Scripts.{Script, step, perform}
 use Rattle.vyrd_memory.specs.Soundness.{Situation, holds, just_called, after_act}
+use Rattle.vyrd_memory.proofs.SoundActs.{gone}
 use Rattle.vyrd_multiset.specs.Procedures.{multiset_procedure}
-use Rattle.vyrd_multiset.specs.Laws.Sound.{gone}
 use Rattle.vyrd_cache.specs.Cells.{lock_of}
 use Rattle.vyrd_cache.specs.Procedures.{cache_procedure}
 use Rattle.vyrd_buffers.specs.Cells as texts

@@ -16,6 +16,7 @@ use Rattle.vyrd_memory.specs.declared.act.Act.{Act}
 use Rattle.vyrd_memory.specs.declared.act.Act.TheVariants.{Load, Store, Take, Give, Mark, Done}
 use Rattle.vyrd_memory.specs.Scripts.{Script, stop, step, next_act, after_answer, event_of, is_between, IsAnswer}
 use Rattle.vyrd_memory.specs.Bounds.{bound_of, is_return, EndsWithin}
+use Rattle.vyrd_memory.specs.Laws.Player.{return_zero}
 use Rattle.vyrd_trace.specs.Hands.{HandView, with_spare}
 use Rattle.vyrd_live.specs.Rooms.{BeginsWithRoom}
 use Rattle.vyrd_live.specs.Working.{HasRoom, HasRoomAhead}
@@ -96,15 +97,7 @@ next_in_time : (n : ℕ) (left : Script) (answer : ℕ) → is_return (next_act 
 next_in_time n stop answer goes is ends = tt
 next_in_time n (step act rest) answer goes is ends = ends.1 goes answer is
 
-return_answer : (act : Act) (answer : ℕ) → is_return act ≡ true → IsAnswer act answer → answer ≡ 0
-return_answer (Load cell) answer ends is = cc
-return_answer (Store cell value) answer ends is = is
-return_answer (Take lock) answer ends is = is
-return_answer (Give lock) answer ends is = is
-return_answer Done answer ends is = is
-return_answer (Mark kind) answer ends is = is
-
--- So an operation that goes on still ends in time. `rests` says that none is in hand after a return.
+-- So an operation that goes on still ends in time. `rests` says that none is under way after a return.
 pub still_in_time : (n : ℕ) (left : Script) (answer : ℕ)
     → (is_return (next_act left) ≡ true → is_between (after_answer left 0) ≡ true) → IsAnswer (next_act left) answer
     → ∥ EndsWithin n left ∥₁ → is_between (after_answer left answer) ≡ false → ∥ EndsWithin (n - 1) (after_answer left answer) ∥₁
@@ -113,5 +106,5 @@ still_in_time n left answer rests is in_time goes = ∥∥₁_map in_time (next_
     no_return : (b : _) → is_return (next_act left) ≡ b → is_return (next_act left) ≡ false
     no_return false e = e
     no_return true e =
-        let zero = return_answer (next_act left) answer e is in
+        let zero = return_zero (next_act left) answer e is in
         let b : true ≡ false = sym (ap (λ a. is_between (after_answer left a)) zero ∙ rests e) ∙ goes in cc

@@ -1,11 +1,16 @@
 -- What is said of a script that is played alone: how it ends, and locks that are taken and given back.
-use Rattle.std.proofs.Common.{◌≡◌, ◌≢◌, ℕ, ◌+◌, Bool, true, false, cond, Option, Some, None, refl, ap, ◌∙◌, sym, subst}
-use Rattle.std.specs.Prelude.{◌==◌}
-use Rattle.vyrd_base.proofs.TestLaws.{same_of, apart_of}
+use Rattle.std.proofs.Common.{◌≡◌, ◌≢◌, ℕ, ◌+◌, Bool, true, false, cond, not, Option, Some, None, refl, ap, ◌∙◌, sym, subst}
+use Rattle.std.specs.Prelude.{◌==◌, IsSome}
+use Rattle.vyrd_base.specs.declared.header.Header.{Header}
+use Rattle.vyrd_base.specs.Subjects.{is_observer}
+use Rattle.vyrd_base.specs.Amounts.{Amounts, amount_of}
+use Rattle.vyrd_base.specs.Specification.{is_present}
+use Rattle.vyrd_base.proofs.TestLaws.{same_of, apart_of, isnt_same}
 use Rattle.vyrd_memory.specs.declared.act.Act.TheVariants.{Take}
+use Rattle.vyrd_memory.specs.declared.op.Op.{Op}
 use Rattle.vyrd_memory.specs.Scripts.{Script, perform}
-use Rattle.vyrd_memory.specs.Alone.{Memory, with_cell, Outcome, alone, GivesUpWhere}
-use Rattle.vyrd_memory.proofs.Memories.{changed_cell, other_cell}
+use Rattle.vyrd_memory.specs.Alone.{Memory, with_cell, Outcome, alone, state_after, MeetsSpecification, GivesUpWhere}
+use Rattle.vyrd_memory.proofs.Memories.{Represents, represented, changed_cell, other_cell}
 
 -- there is an outcome, and this holds of its reply and its memory
 abbrev pub EndsSo : Option Outcome → (ℕ → Memory → Type 0) → Type 0
@@ -16,6 +21,24 @@ pub ended_with : (o : Option Outcome) (says : ℕ → Memory → Type 0) → End
     → (outcome : Outcome) × (o ≡ Some outcome) × says outcome.reply outcome.memory
 ended_with None says e = absurd e
 ended_with (Some outcome) says e = (outcome, refl, e)
+
+-- an operation that ends so, and where the specification allows it
+pub met : (h : Header) (op : Op) (script : Script) (c : ℕ) (old new : Memory) (state next : Amounts) (reply : ℕ)
+    → alone c script old ≡ Some (record { reply = reply; memory = new }) → Represents h new next
+    → state_after (is_observer op.method) op reply state ≡ Some next → MeetsSpecification h op script c old state
+met h op script c old new state next reply ends is allowed = record {
+  outcome = record { reply = reply; memory = new };
+  ends = ends;
+  after = represented h new next is ∙ sym allowed;
+  goes_on = subst (λ (o : Option Amounts). IsSome o) (sym (represented h new next is)) refl;
+}
+
+-- what the specification says of a key that is there, and of one that isn't
+pub is_there : (s : Amounts) (x : ℕ) → amount_of s x ≢ 0 → is_present s x ≡ true
+is_there s x some = ap not (isnt_same (amount_of s x) 0 some)
+
+pub isnt_there : (s : Amounts) (x : ℕ) → amount_of s x ≡ 0 → is_present s x ≡ false
+isnt_there s x none = ap (λ n. not (n == 0)) none
 
 -- an operation that ends so gives up where this says that its reply is 0
 pub gives_up : (P : Type 0) (says : ℕ → Memory → Type 0) (o : Option Outcome) → EndsSo o says

@@ -2,6 +2,7 @@ pub mod NumberLists
 pub mod PartSums
 pub mod Memories
 pub mod AloneLaws
+pub mod SoundActs
 pub mod TimedActs
 pub mod Small
 mod BoundSums

@@ -1,5 +1,5 @@
 -- What it says of a memory that it represents a state.
-use Rattle.std.proofs.Common.{◌≡◌, ℕ, ◌+◌, ◌<◌, ◌≤◌, Bool, true, false, cond, length, map, Some, refl, ap, ◌∙◌, sym, arith, rules}
+use Rattle.std.proofs.Common.{◌≡◌, ℕ, ◌+◌, ◌<◌, ◌≤◌, Bool, true, false, cond, length, map, Some, refl, ap, ◌∙◌, sym, subst, arith, rules}
 use Rattle.std.specs.Prelude.{◌==◌, ◌≢◌, ◌&&◌, drop, slice_index}
 use Rattle.std.specs.Bool.{then_some}
 use Rattle.std.specs.List.{list_all}
@@ -8,11 +8,12 @@ use Rattle.std.proofs.lemmas.List.Folds.{list_all-map}
 use Rattle.vyrd_base.specs.declared.header.Header.{Header}
 use Rattle.vyrd_base.specs.Places.{numbers_from}
 use Rattle.vyrd_base.specs.Layout.{plain_words, lock_words}
-use Rattle.vyrd_base.specs.Amounts.{Amounts}
-use Rattle.vyrd_base.specs.Views.{view_of_words}
+use Rattle.vyrd_base.specs.Amounts.{Amounts, IsAmounts}
+use Rattle.vyrd_base.specs.Views.{view_of_words, parts_of}
 use Rattle.vyrd_base.specs.Represented.{is_sound, state_of_words}
 use Rattle.vyrd_base.proofs.PlaceLaws.{length-mapped}
 use Rattle.vyrd_base.proofs.TestLaws.{both_true, first_true, second_true}
+use Rattle.vyrd_base.proofs.SumLaws.{IsAmounts-collected}
 use Rattle.vyrd_memory.specs.Alone.{Memory, words_in, state_in, with_cell}
 use Rattle.vyrd_memory.proofs.NumberLists.{element_below, drop-from, all_pass, pass_all}
 
@@ -83,6 +84,11 @@ represented h memory state s =
     free : list_all is_free (drop (plain_words h) (words_in h memory)) ≡ true
     free = ap (list_all is_free) (locks_are h memory) ∙ free_list memory (plain_words h) (lock_words h)
         ∙ pass_all (λ lock. is_free (memory lock)) (plain_words h) (lock_words h) (λ lock from to. ap is_free (s.free lock from to))
+
+-- the state that a memory represents is a map
+pub is_amounts : (h : Header) (memory : Memory) (state : Amounts) → Represents h memory state → IsAmounts state
+unfolding view_of_words
+is_amounts h memory state s = subst IsAmounts s.shows (IsAmounts-collected (parts_of h.subject h.size (words_in h memory)))
 
 -- the cell that was changed, and every other cell
 pub changed_cell : (memory : Memory) (cell value : ℕ) → with_cell memory cell value cell ≡ value

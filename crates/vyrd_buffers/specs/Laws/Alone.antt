@@ -25,7 +25,7 @@ use Rattle.vyrd_memory.specs.Arguments.{are_small}
 use Rattle.vyrd_memory.specs.Scripts.{step, returns}
 use Rattle.vyrd_memory.specs.Alone.{Memory, with_cell, alone, MeetsSpecification, IsRightAlone}
 use Rattle.vyrd_memory.proofs.Memories.{Represents, represents, other_cell}
-use Rattle.vyrd_memory.proofs.AloneLaws.{given_back}
+use Rattle.vyrd_memory.proofs.AloneLaws.{given_back, met}
 use Rattle.vyrd_buffers.specs.Cells.{count_cell, character_cell, lock_of, unlock}
 use Rattle.vyrd_buffers.specs.Procedures.{commit_count, append_at, append, load_from, unlock_both, append_held, append_all, append_from}
 use Rattle.vyrd_buffers.specs.Procedures.{cut_at, cut, length_of, read_from, read, procedure_of}
@@ -37,7 +37,7 @@ use Rattle.vyrd_buffers.specs.Laws.Alone.Stores.{SameWords, held, lock_changed, 
 use Rattle.vyrd_buffers.specs.Laws.Alone.Stores.{both_given, both_given-words, both_given-back, loaded, loaded-length, loaded-at}
 use Rattle.vyrd_buffers.specs.Laws.Alone.Stores.{with_appended, with_appended-other, with_count-other, with_count-is}
 use Rattle.vyrd_buffers.specs.Laws.Alone.Played.{run_lock_both, run_unlock_both, run_load, run_store, run_read, run_look}
-use Rattle.vyrd_buffers.specs.Laws.Alone.Done.{met, full_allowed, room_allowed, free_lock, held_sound, held_shown, unlocked, changed, appended, Appends, Cuts, answer_alone}
+use Rattle.vyrd_buffers.specs.Laws.Alone.Done.{full_allowed, room_allowed, free_lock, held_sound, held_shown, unlocked, changed, appended, Appends, Cuts, answer_alone}
 
 -- an append of one character
 pub append_alone : (h : Header) (op : Op) (c b x : ℕ) (memory : Memory) (state : Amounts) → h.subject ≡ Buffers → Represents h memory state

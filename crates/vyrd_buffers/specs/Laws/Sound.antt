@@ -22,18 +22,11 @@ use Rattle.vyrd_memory.specs.Arguments.{are_small}
 use Rattle.vyrd_memory.specs.Scripts.{Script, step, perform, returns}
 use Rattle.vyrd_memory.specs.Soundness.{Situation, IsSound, just_called, holds}
 use Rattle.vyrd_memory.proofs.Small.{small_b}
+use Rattle.vyrd_memory.proofs.SoundActs.{holding, in_block, store_sound, either, gone, held_first, other_lock}
 use Rattle.vyrd_buffers.specs.Cells.{count_cell, character_cell, lock_of, lock, unlock, lock_other}
 use Rattle.vyrd_buffers.specs.Procedures.{procedure_of, commit_count, append_at, append, load_from, store_from}
 use Rattle.vyrd_buffers.specs.Procedures.{unlock_both, append_held, append_all, append_from, cut_at, cut, length_of}
 use Rattle.vyrd_buffers.specs.Procedures.{read_from, read}
-
--- these locks are held in an execution of the method, and whether that has committed
-abbrev holding : List ℕ → Method → Bool → Situation
-holding locks method committed = record { locks = locks; called = Some method; committed = committed; in_block = false }
-
--- in a block
-abbrev in_block : List ℕ → Method → Situation
-in_block locks method = record { locks = locks; called = Some method; committed = false; in_block = true }
 
 plain_cell : (h : Header) (cell : ℕ) → h.subject ≡ Buffers → cell < 8 * h.size → is_plain (cells_of h) cell ≡ true
 plain_cell h cell is low = ap (λ s. nat_lt cell (plain_words_of s h.size)) is ∙ is_below cell (8 * h.size) low
@@ -49,29 +42,10 @@ lock_cell h b is low =
     ap (λ s. nat_le (plain_words_of s h.size) (lock_of h b) && nat_lt (lock_of h b) (plain_words_of s h.size + lock_words_of s h.size)) is
     ∙ both_true _ _ (is_at_most (8 * h.size) (8 * h.size + b) (omega arith)) (is_below (8 * h.size + b) (8 * h.size + h.size) (omega arith))
 
--- a store
-stored : (h : Header) (s : Situation) (cell value : ℕ) (later : Script) → is_plain (cells_of h) cell ≡ true → value < 2 ^ 63 → is_some s.called ≡ true
-    → IsSound h s later → IsSound h s (perform (Store cell value) later)
-stored h s cell value later plain small called sound =
-    (both_true _ _ (both_true _ _ plain (is_below value (2 ^ 63) small)) called, λ answer none. sound)
-
--- both ways of a choice, each with what the test told
-either : (h : Header) (s : Situation) (b : Bool) (x y : Script) → (b ≡ true → IsSound h s x) → (b ≡ false → IsSound h s y) → IsSound h s (cond b x y)
-either h s true x y e f = e refl
-either h s false x y e f = f refl
-
 -- the one lock is taken, and given back
 taken : (h : Header) (b : ℕ) (method : Method) (committed : Bool) (later : Script) → h.subject ≡ Buffers → b < h.size
     → IsSound h (holding (lock_of h b ∷ []) method committed) later → IsSound h (holding [] method committed) (lock h b later)
 taken h b method committed later is low sound = (both_true _ _ (lock_cell h b is low) refl, λ answer none. sound)
-
--- the same lock isn't held any more
-gone : (lock : ℕ) (locks : List ℕ) → filter (λ held. not (held == lock)) (lock ∷ locks) ≡ filter (λ held. not (held == lock)) locks
-gone lock locks = ap (λ b. cond (not b) (lock ∷ filter (λ held. not (held == lock)) locks)
-    (filter (λ held. not (held == lock)) locks)) (same_number lock)
-
-held_first : (lock : ℕ) (locks : List ℕ) (method : Method) (committed : Bool) → holds (holding (lock ∷ locks) method committed) lock ≡ true
-held_first lock locks method committed = ap (λ b. b || list_any (λ held. held == lock) locks) (same_number lock)
 
 given : (h : Header) (b : ℕ) (method : Method) (committed : Bool) (later : Script) → h.subject ≡ Buffers → b < h.size
     → IsSound h (holding [] method committed) later → IsSound h (holding (lock_of h b ∷ []) method committed) (unlock h b later)
@@ -101,7 +75,7 @@ counted : (h : Header) (locks : List ℕ) (method : Method) (b count : ℕ) (lat
     → b < h.size → count < 2 ^ 63 → IsSound h (holding locks method true) later
     → IsSound h (in_block locks method) (commit_count b count later)
 counted h locks method b count later is mutates low small sound =
-    stored h (in_block locks method) (count_cell b) count (perform (Mark BlockCommit) later) (count_plain h b is low) small refl
+    store_sound h (in_block locks method) (count_cell b) count (perform (Mark BlockCommit) later) (count_plain h b is low) small refl
     (simp mutates, λ answer none. sound)
 
 -- a look at the count of one buffer, with its lock held
@@ -118,7 +92,7 @@ sound_append_at h b x count is low small = either h _ (nat_le 7 count) _ _
     (λ room. (
       refl,
       λ answer none.
-          stored h (in_block (lock_of h b ∷ []) BuAppend) (character_cell b count) x (commit_count b (count + 1) (unlock h b (returns 1)))
+          store_sound h (in_block (lock_of h b ∷ []) BuAppend) (character_cell b count) x (commit_count b (count + 1) (unlock h b (returns 1)))
           (character_plain h b count is low (above_of 7 count room)) (omega (arith, small)) refl
           (counted h (lock_of h b ∷ []) BuAppend b (count + 1) (unlock h b (returns 1)) is refl low (omega (arith, above_of 7 count room))
           (leave h b BuAppend true 1 is low refl)),
@@ -142,7 +116,7 @@ sound_read_from h (suc left) b i text is low few = (
   λ character small. sound_read_from h left b (i + 1) _ is low (omega (arith, few)),
 )
 
--- whether all of these may be stored
+-- whether all of these may be store_sound
 abbrev are_low : List ℕ → Bool
 are_low [] = true
 are_low (character ∷ characters) = nat_lt character (2 ^ 63) && are_low characters
@@ -170,7 +144,7 @@ sound_store_from : (h : Header) (s : Situation) (characters : List ℕ) (b i : �
     → i + length characters ≤ 7 → are_low characters ≡ true → IsSound h s later → IsSound h s (store_from characters b i later)
 sound_store_from h s [] b i later is low called few small sound = sound
 sound_store_from h s (character ∷ characters) b i later is low called few small sound =
-    stored h s (character_cell b i) character (store_from characters b (i + 1) later) (character_plain h b i is low (omega (arith, few)))
+    store_sound h s (character_cell b i) character (store_from characters b (i + 1) later) (character_plain h b i is low (omega (arith, few)))
     (below_of character (2 ^ 63) (first_true _ _ small)) called
     (sound_store_from h s characters b (i + 1) later is low called (omega (arith, few))
     (second_true (nat_lt character (2 ^ 63)) (are_low characters) small) sound)
@@ -197,12 +171,6 @@ sound_append_all h locks first second b s count more is low_b low_s sound = eith
     (λ all small long. sound_append_held h locks first second b count more all is low_b (omega (arith, long)) (at_most_of (count + more) 7 room) small (sound 1)))
     (λ full. lone_commit h locks BuAppendFrom (unlock_both h first second (returns 0)) refl (sound 0))
 
-other_lock : (h : Header) (first second : ℕ) → (first == second) ≡ false → (lock_of h first == lock_of h second) ≡ false
-other_lock h first second e = other (8 * h.size)
-  where
-    other : (n : ℕ) → ((n + first) == (n + second)) ≡ false
-    other n = grind (arith, nat_tests)
-
 -- both locks are given back
 given_one : (h : Header) (first second reply : ℕ) → h.subject ≡ Buffers → first < h.size → (first == second) ≡ true
     → IsSound h (holding (lock_of h first ∷ []) BuAppendFrom true) (unlock_both h first second (returns reply))
@@ -218,7 +186,7 @@ given_both h first second reply is low_first low_second apart =
       both_true _ _ (lock_cell h second is low_second) (held_first (lock_of h second) (lock_of h first ∷ []) BuAppendFrom true),
       λ answer none.
           subst (λ locks. IsSound h (holding locks BuAppendFrom true) (unlock h first (returns reply)))
-          (sym (gone (lock_of h second) (lock_of h first ∷ []) ∙ ap (λ b. cond (not b) (lock_of h first ∷ []) []) (other_lock h first second apart)))
+          (sym (gone (lock_of h second) (lock_of h first ∷ []) ∙ ap (λ b. cond (not b) (lock_of h first ∷ []) []) (other_lock (8 * h.size) first second apart)))
           (leave h first BuAppendFrom true reply is low_first refl),
     )
 
@@ -238,7 +206,7 @@ under_both h first second b s is low_first low_second low_b low_s =
     taken h first BuAppendFrom false (lock_other h first second both) is low_first (either h _ (first == second) _ _
     (λ same. counts (lock_of h first ∷ []) (λ reply. given_one h first second reply is low_first same))
     (λ apart. (
-      both_true _ _ (lock_cell h second is low_second) (ap (λ b. not (b || false)) (other_lock h first second apart)),
+      both_true _ _ (lock_cell h second is low_second) (ap (λ b. not (b || false)) (other_lock (8 * h.size) first second apart)),
       λ answer none. counts (lock_of h second ∷ lock_of h first ∷ []) (λ reply. given_both h first second reply is low_first low_second apart),
     )))
   where

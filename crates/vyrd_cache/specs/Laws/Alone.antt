@@ -24,6 +24,7 @@ use Rattle.vyrd_memory.specs.Arguments.{are_small}
 use Rattle.vyrd_memory.specs.Scripts.{Script, step}
 use Rattle.vyrd_memory.specs.Alone.{Memory, with_cell, alone, state_after, MeetsSpecification, IsRightAlone}
 use Rattle.vyrd_memory.proofs.Memories.{Represents, represents, represented, changed_cell}
+use Rattle.vyrd_memory.proofs.AloneLaws.{met}
 use Rattle.vyrd_cache.specs.Cells.{state_cell, lock_of, lock}
 use Rattle.vyrd_cache.specs.Procedures.{joined, procedure_of, put_cached, put_stored, forget}
 use Rattle.vyrd_cache.specs.Procedures.{only_commit, fetch, answer_cached}
@@ -42,17 +43,6 @@ use Rattle.vyrd_cache.specs.Laws.Alone.Pairs.{small, dirty_sound, fetched_sound,
 use Rattle.vyrd_cache.specs.Laws.Alone.Pairs.{evicted_sound, forgotten_sound, shown_dirty}
 use Rattle.vyrd_cache.specs.Laws.Alone.Pairs.{shown_absent, shown_cached}
 use Rattle.vyrd_cache.specs.Laws.Alone.Pairs.{shown_clean, joined_small}
-
--- an operation that ends so, and where the specification allows it
-met : (h : Header) (op : Op) (script : Script) (c : ℕ) (old new : Memory) (state next : Amounts) (reply : ℕ)
-    → alone c script old ≡ Some (record { reply = reply; memory = new }) → Represents h new next
-    → state_after (is_observer op.method) op reply state ≡ Some next → MeetsSpecification h op script c old state
-met h op script c old new state next reply ends is allowed = record {
-  outcome = record { reply = reply; memory = new };
-  ends = ends;
-  after = represented h new next is ∙ sym allowed;
-  goes_on = subst (λ (o : Option Amounts). IsSome o) (sym (represented h new next is)) refl;
-}
 
 -- the memory represents a state where its chunk k is known
 kept : (h : Header) (old new : Memory) (state : Amounts) (k : ℕ) (chunk : Chunk) → h.subject ≡ Cache → Represents h old state → k < h.size

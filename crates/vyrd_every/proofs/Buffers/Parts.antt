@@ -15,20 +15,17 @@ use Rattle.vyrd_memory.specs.declared.act.Act.TheVariants.{Load, Mark}
 use Rattle.vyrd_memory.specs.Alone.{Memory, with_cell}
 use Rattle.vyrd_memory.proofs.Memories.{Represents}
 use Rattle.vyrd_memory.specs.Scripts.{Script, step, perform, returns}
+use Rattle.vyrd_memory.proofs.SoundActs.{gone}
 use Rattle.vyrd_buffers.specs.Cells.{character_cell, lock_of, lock, unlock, lock_other}
 use Rattle.vyrd_buffers.specs.Procedures.{commit_count, load_from, store_from, read_from, unlock_both}
 use Rattle.vyrd_buffers.specs.Laws.Alone.Stores.{loaded}
-use Rattle.vyrd_multiset.specs.Laws.Sound.{gone}
 use Rattle.vyrd_every.specs.Locals.{Locals, written}
 use Rattle.vyrd_every.specs.Others.{Guarantee}
 use Rattle.vyrd_every.specs.RightScripts.{WillReturn, DoesRight}
 use Rattle.vyrd_every.specs.Guarded.{buffers}
 use Rattle.vyrd_every.proofs.Acts.{never, at, without_slots, load_right, take_right, give_right, returns_right, mutates, lone_commit_right, open_right, block_store_right, commit_right}
 use Rattle.vyrd_every.proofs.Buffers.Texts.{IsHeld, word_access, Stays, stays_so, stays_same, stays_more, stays_character, writes_of, written_is, after_block, block_leaves}
-
--- the caller's locals in a block
-abbrev pub writing : Locals → List (ℕ × ℕ) → Locals
-writing k pending = record { owned = k.owned; pending = pending; called = k.called; answered = k.answered }
+use Rattle.vyrd_every.proofs.Acts.{writing}
 
 -- the last lock that was taken is held, and those before it
 held_last : (h : Header) (locks : List ℕ) (b : ℕ) → b < h.size → IsHeld h (lock_of h b ∷ locks) b

@@ -24,6 +24,7 @@ use Rattle.vyrd_memory.specs.Alone.{Memory, with_cell}
 use Rattle.vyrd_memory.specs.Scripts.{Script, step, perform, returns}
 use Rattle.vyrd_memory.specs.Soundness.{Situation, holds, just_called}
 use Rattle.vyrd_memory.proofs.Memories.{Represents, other_cell}
+use Rattle.vyrd_memory.proofs.SoundActs.{gone}
 use Rattle.vyrd_cache.specs.Cells.{state_cell, lock_of, lock}
 use Rattle.vyrd_cache.specs.Procedures.{joined, in_order, put_cached, put_stored, forget}
 use Rattle.vyrd_cache.specs.Procedures.{only_commit, fetch, answer_cached}
@@ -35,7 +36,6 @@ use Rattle.vyrd_cache.specs.Laws.Alone.Stores.{with_cached, with_stored, with_st
 use Rattle.vyrd_cache.specs.Laws.Alone.Pairs.{small, dirty_sound, fetched_sound, flushed_sound}
 use Rattle.vyrd_cache.specs.Laws.Alone.Pairs.{evicted_sound, forgotten_sound, shown_dirty}
 use Rattle.vyrd_cache.specs.Laws.Alone.Pairs.{shown_absent, shown_cached, shown_clean, joined_small}
-use Rattle.vyrd_multiset.specs.Laws.Sound.{gone}
 use Rattle.vyrd_every.specs.Locals.{Locals, Access}
 use Rattle.vyrd_every.specs.Others.{Rely, Guarantee}
 use Rattle.vyrd_every.specs.RightScripts.{DoesRight, IsRight}
@@ -43,6 +43,7 @@ use Rattle.vyrd_every.specs.Guarded.{cache}
 use Rattle.vyrd_every.proofs.Relies.{rely_more}
 use Rattle.vyrd_every.proofs.Acts.{never, at, holds_first, without_slots, load_right, take_right, give_right, returns_right, mutates, lone_commit_right, open_right, block_store_right, commit_right, close_right, answer_right}
 use Rattle.vyrd_every.proofs.Caches.Chunks.{chunk_access, chunk_stays, thrice, thrice-other, after_cached, after_stored, after_state, kept, changed}
+use Rattle.vyrd_every.proofs.Acts.{writing}
 
 -- the chunk's lock is held, and no other
 abbrev locked : Header → ℕ → Bool → Bool → Called → Situation
@@ -103,10 +104,6 @@ leave_right h n called k now none is mutator =
     give_right (cache h) (locked h n true false called) k now (lock_of h n) (returns 1) refl
     (λ last rely. subst (λ locks. DoesRight (cache h) (at locks true false called) k last (returns 1)) (sym (gone (lock_of h n) []))
     (returns_right (cache h) k last true called 1 none (mutates k called 1 is mutator)))
-
--- the caller's locals in a block
-abbrev writing : Locals → List (ℕ × ℕ) → Locals
-writing k pending = record { owned = k.owned; pending = pending; called = k.called; answered = k.answered }
 
 -- stores into a chunk leave other chunks alone
 leaves_alone : (h : Header) (n a x b y z : ℕ) (called : Called) (k : Locals) (memory : Memory) → n < h.size → 5 * n ≤ a → a < 5 * n + 5 → 5 * n ≤ b → b < 5 * n + 5

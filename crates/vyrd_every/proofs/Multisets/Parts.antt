@@ -11,9 +11,9 @@ use Rattle.vyrd_memory.specs.Alone.{Memory, with_cell}
 use Rattle.vyrd_memory.proofs.Memories.{changed_cell, other_cell}
 use Rattle.vyrd_memory.specs.Scripts.{Script, perform}
 use Rattle.vyrd_memory.specs.Soundness.{Situation, holds, after_act}
+use Rattle.vyrd_memory.proofs.SoundActs.{gone}
 use Rattle.vyrd_multiset.specs.Cells.{bucket_of, lock_of, lock, unlock}
 use Rattle.vyrd_multiset.specs.Procedures.{reserve, find_from, find, compare, search_from}
-use Rattle.vyrd_multiset.specs.Laws.Sound.{gone}
 use Rattle.vyrd_multiset.specs.Contents.{IsMultiset}
 use Rattle.vyrd_multiset.specs.Laws.Alone.Changes.{left_invalid}
 use Rattle.vyrd_every.specs.Guarded.{zero_one, multiset}

@@ -21,13 +21,14 @@ use Rattle.vyrd_memory.specs.Alone.{Memory, with_cell}
 use Rattle.vyrd_memory.proofs.Memories.{changed_cell, other_cell}
 use Rattle.vyrd_memory.specs.Scripts.{Script, returns}
 use Rattle.vyrd_memory.specs.Soundness.{holds, just_called}
+use Rattle.vyrd_memory.proofs.SoundActs.{gone}
 use Rattle.vyrd_multiset.specs.Cells.{bucket_of, lock_of, lock, unlock, lock_other}
 use Rattle.vyrd_multiset.specs.Procedures.{find, search_from, search_in, validate_both, commit_both}
 use Rattle.vyrd_multiset.specs.Procedures.{inserted, second_found, first_found, deleted}
 use Rattle.vyrd_multiset.specs.Procedures.{looked_up, procedure_of, multiset_procedure}
 use Rattle.vyrd_multiset.specs.Contents.{IsMultiset}
 use Rattle.vyrd_multiset.specs.Laws.Alone.Changes.{made_valid, made_free, is_there, isnt_there}
-use Rattle.vyrd_multiset.specs.Laws.Sound.{bucket_low, gone}
+use Rattle.vyrd_multiset.specs.Laws.Sound.{bucket_low}
 use Rattle.vyrd_every.specs.Locals.{Locals, Access}
 use Rattle.vyrd_every.specs.RightScripts.{WillReturn, DoesRight, IsRight}
 use Rattle.vyrd_every.specs.Guarded.{multiset}

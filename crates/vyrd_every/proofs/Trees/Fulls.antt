@@ -15,6 +15,7 @@ use Rattle.vyrd_memory.specs.declared.op.Variant.TheVariants.{Correct}
 use Rattle.vyrd_memory.specs.Alone.{Memory}
 use Rattle.vyrd_memory.specs.Scripts.{Script, perform, returns}
 use Rattle.vyrd_memory.specs.Soundness.{Situation}
+use Rattle.vyrd_memory.proofs.AloneLaws.{isnt_there}
 use Rattle.vyrd_tree.specs.Cells.{lock_of, used_lock, unlock_node}
 use Rattle.vyrd_tree.specs.Procedures.Walk.{Arrived}
 use Rattle.vyrd_tree.specs.Procedures.Split.{with_entry, split, split_entry, split_key, lower_half}
@@ -43,7 +44,7 @@ use Rattle.vyrd_every.proofs.Trees.Walks.{AtNode}
 use Rattle.vyrd_every.proofs.Trees.Order.{one_cover_in}
 use Rattle.vyrd_every.proofs.Trees.Kept.{coded, code, linked_low}
 use Rattle.vyrd_every.proofs.Trees.Blocks.{with_pending, unseen_with, rely_with, tree_open, InBlock, entries_kept}
-use Rattle.vyrd_every.proofs.Trees.Leafs.{IsIn, still_in, absent_in, not_there, IsBare, nothing_right}
+use Rattle.vyrd_every.proofs.Trees.Leafs.{IsIn, still_in, absent_in, IsBare, nothing_right}
 use Rattle.vyrd_every.proofs.Trees.Inserts.{FullRight}
 use Rattle.vyrd_every.proofs.Trees.Splits.{with_node, IsSplitAt, split_state}
 use Rattle.vyrd_every.proofs.Trees.Unused.{with_fresh, unused_right}
@@ -221,7 +222,7 @@ full_right h args k g m small_key small bare ascent n a x begun at is full apart
                   reply = 1;
                   returns = λ answer is. ascent.returns_one 0 key u;
                   next = with_amount state args.a (2 ^ 32 + args.b);
-                  allowed = ap (λ b. then_some (not b) (with_amount state args.a (2 ^ 32 + args.b))) (not_there state args.a
+                  allowed = ap (λ b. then_some (not b) (with_amount state args.a (2 ^ 32 + args.b))) (isnt_there state args.a
                       (absent_in h.size c z state n args.a r'.tree shows is_c (subst (Each (λ v. v.0 ≢ args.a)) (sym same_c) apart')));
                   means = split_state h.size c z end n u (front ++ (args.a, args.b) ∷ back) r'.tree is_c.linked (unseen_c.fresh u refl).0 (unseen_c.fresh u refl).1 sp ha
                       state (with_amount state args.a (2 ^ 32 + args.b)) (IsAmounts-with_amount state args.a (2 ^ 32 + args.b) shows.formed) shows

@@ -17,6 +17,7 @@ use Rattle.vyrd_memory.specs.Alone.{Memory, with_cell}
 use Rattle.vyrd_memory.proofs.Memories.{changed_cell, other_cell}
 use Rattle.vyrd_memory.specs.Scripts.{Script, perform, returns, gives_up}
 use Rattle.vyrd_memory.specs.Soundness.{Situation}
+use Rattle.vyrd_memory.proofs.AloneLaws.{is_there, isnt_there}
 use Rattle.vyrd_tree.specs.Cells.{value_cell, lock_of, unlock_node}
 use Rattle.vyrd_tree.specs.Procedures.Split.{with_unused, add_entry, rewrite, with_entry}
 use Rattle.vyrd_tree.specs.Procedures.Split.{split_entry, split_key}
@@ -35,6 +36,7 @@ use Rattle.vyrd_tree.specs.Laws.Alone.EntriesStaySound.{with_entry_is, place_bel
 use Rattle.vyrd_tree.specs.Laws.Alone.Tested.{length-entries}
 use Rattle.vyrd_tree.specs.Laws.Alone.Changes.{entries_alike, Rewritten}
 use Rattle.vyrd_tree.specs.Laws.Alone.WalkArrives.{loaded_at}
+use Rattle.vyrd_tree.specs.Laws.Alone.Inserted.{value_stored}
 use Rattle.vyrd_every.specs.Locals.{written}
 use Rattle.vyrd_every.specs.Trees.Shapes.{Shape, HasEntries, IsLinked}
 use Rattle.vyrd_every.specs.Trees.States.{ShowsState}
@@ -45,60 +47,7 @@ use Rattle.vyrd_every.proofs.Trees.Parts.{OwnsUnseen, unseen_stays, tree_rely_mo
 use Rattle.vyrd_every.proofs.Trees.Walks.{AtNode, Onward, Arrives}
 use Rattle.vyrd_every.proofs.Trees.Kept.{coded, code, uncode, linked_low}
 use Rattle.vyrd_every.proofs.Trees.Blocks.{with_pending, rely_with, tree_open, store_in_node, node_writes, entries_kept}
-use Rattle.vyrd_every.proofs.Trees.Leafs.{IsIn, still_in, present_in, absent_in, changed_in, there, not_there, IsBare, tree_returns, tree_mutates, commit_block, rewrite_right, walk_down_right}
-
--- an entry gets another value, and nothing else changes
-value_stored : (m : Memory) (node place many v : ℕ) (front : Entries) (entry : ℕ × ℕ) (back : Entries) → place + many ≤ 4
-    → entries_from m node place many
-    ≡ front ++ entry ∷ back
-    → entries_from (with_cell m (12 * node + (8 + (place + length front))) v) node place many ≡ front ++ (entry.0, v) ∷ back
-value_stored m node place zero v [] entry back fits e = cc
-value_stored m node place zero v (x ∷ front) entry back fits e = cc
-value_stored m node place (suc many) v [] entry back fits e =
-    put (key_at m' node place) (value_at m' node place) (entries_from m' node (place + 1) many)
-    (other_cell m (12 * node + (8 + (place + 0))) v (12 * node + (4 + place)) (omega (arith, fits)) ∙ head_key)
-    (let at : place + 0 ≡ place = omega arith in ap (λ p. with_cell m (12 * node + (8 + p)) v (12 * node + (8 + place))) at
-    ∙ changed_cell m (12 * node + (8 + place)) v)
-    (entries_alike m m' node (place + 1) many (λ j from to. (
-      other_cell m (12 * node + (8 + (place + 0))) v (12 * node + (4 + j)) (omega (arith, to, fits)),
-      other_cell m (12 * node + (8 + (place + 0))) v (12 * node + (8 + j)) (omega (arith, from)),
-    )) ∙ tail)
-  where
-    m' : Memory
-    m' = with_cell m (12 * node + (8 + (place + 0))) v
-
-    head_key : key_at m node place ≡ entry.0
-    head_key = let head : (key_at m node place, value_at m node place) ≡ entry = cc in ap (λ x. x.0) head
-
-    tail : entries_from m node (place + 1) many ≡ back
-    tail = cc
-
-    put : (a b : ℕ) (xs : Entries) → a ≡ entry.0 → b ≡ v → xs ≡ back → (a, b) ∷ xs ≡ (entry.0, v) ∷ back
-    put a b xs e f g = ap (λ a. (a, b) ∷ xs) e ∙ ap (λ b. (entry.0, b) ∷ xs) f ∙ ap (λ xs. (entry.0, v) ∷ xs) g
-value_stored m node place (suc many) v (x ∷ front) entry back fits e =
-    put (key_at m' node place) (value_at m' node place) (entries_from m' node (place + 1) many)
-    (other_cell m (12 * node + (8 + (place + suc (length front)))) v (12 * node + (4 + place)) (far 4 (omega arith)))
-    (other_cell m (12 * node + (8 + (place + suc (length front)))) v (12 * node + (8 + place)) (omega arith))
-    (let at : place + 1 + length front ≡ place + suc (length front) = omega arith in
-    subst (λ p. entries_from (with_cell m (12 * node + (8 + p)) v) node (place + 1) many ≡ front ++ (entry.0, v) ∷ back) at
-    (value_stored m node (place + 1) many v front entry back (omega (arith, fits)) tail))
-  where
-    m' : Memory
-    m' = with_cell m (12 * node + (8 + (place + suc (length front)))) v
-
-    far : (i : ℕ) → i ≤ 8 → 12 * node + (i + place) ≢ 12 * node + (8 + (place + suc (length front)))
-    far i low = omega (arith, low)
-
-    head : (key_at m node place, value_at m node place) ≡ x
-    head = cc
-
-    tail : entries_from m node (place + 1) many ≡ front ++ entry ∷ back
-    tail = cc
-
-    put : (a b : ℕ) (xs : Entries) → a ≡ key_at m node place → b ≡ value_at m node place → xs ≡ front ++ (entry.0, v) ∷ back → (a, b) ∷ xs
-        ≡ x ∷ (front ++ (entry.0, v) ∷ back)
-    put a b xs e f g =
-        ap (λ a. (a, b) ∷ xs) e ∙ ap (λ b. (key_at m node place, b) ∷ xs) f ∙ ap (λ y. y ∷ xs) head ∙ ap (λ xs. x ∷ xs) g
+use Rattle.vyrd_every.proofs.Trees.Leafs.{IsIn, still_in, present_in, absent_in, changed_in, IsBare, tree_returns, tree_mutates, commit_block, rewrite_right, walk_down_right}
 
 -- what an insert does in a full leaf of its key, where the key isn't there
 abbrev pub FullRight : Header → Args → TreeLocals → Shape → Memory → Type 0
@@ -215,7 +164,7 @@ insert_right h args k g m small_key small tree unseen bare full =
               reply = 2;
               returns = λ answer is. refl;
               next = with_amount state args.a (2 ^ 32 + args.b);
-              allowed = ap (λ b. then_some b (with_amount state args.a (2 ^ 32 + args.b))) (there state args.a
+              allowed = ap (λ b. then_some b (with_amount state args.a (2 ^ 32 + args.b))) (is_there state args.a
                   (let e = present_in h.size b y state n args.a front back entry r.tree shows (still_in h s k a x b y 0 n args.a is at.held r)
                   (record { parts = entries_kept h s k a x n b y begun.tree at r ∙ around.parts; key_is = around.key_is }) in omega (arith, e)));
               means = changed_in h.size b y (with_cell y (12 * n + (8 + length front)) args.b) state n args.a (2 ^ 32 + args.b) (front ++ (entry.0, args.b) ∷ back)
@@ -279,7 +228,7 @@ insert_right h args k g m small_key small tree unseen bare full =
                   reply = 1;
                   returns = λ answer is. refl;
                   next = with_amount state args.a (2 ^ 32 + args.b);
-                  allowed = ap (λ b. then_some (not b) (with_amount state args.a (2 ^ 32 + args.b))) (not_there state args.a
+                  allowed = ap (λ b. then_some (not b) (with_amount state args.a (2 ^ 32 + args.b))) (isnt_there state args.a
                       (absent_in h.size b y state n args.a r.tree shows here (subst (Each (λ z. z.0 ≢ args.a)) (sym same) apart)));
                   means = changed_in h.size b y (written (node_writes n front ((args.a, args.b) ∷ back)) y) state n args.a (2 ^ 32 + args.b)
                       (front ++ (args.a, args.b) ∷ back) r.tree shows here rw gives_it gives_others;

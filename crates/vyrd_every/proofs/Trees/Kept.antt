@@ -7,7 +7,7 @@ use Rattle.vyrd_tree.specs.Contents.{level_at, count_at, bound_at, right_at, las
 use Rattle.vyrd_tree.specs.Contents.{IsChild, AreEntries, entries_at, entries_from, Covers, Entries}
 use Rattle.vyrd_tree.specs.Contents.{gives}
 use Rattle.vyrd_tree.specs.Laws.Alone.Entries.{each_more}
-use Rattle.vyrd_tree.specs.Laws.Alone.Changes.{entries_alike, Rewritten}
+use Rattle.vyrd_tree.specs.Laws.Alone.Changes.{entries_alike, Rewritten, off_node}
 use Rattle.vyrd_every.specs.Trees.Shapes.{Shape, LeadsDown, HasEntries, LeadsRight, IsLinked, Unnamed, Hangs}
 use Rattle.vyrd_every.specs.Trees.States.{ShowsState}
 use Rattle.vyrd_every.specs.Trees.Others.{Grows}
@@ -84,10 +84,6 @@ linked_low size g m t n linked = (let le = t.taken n linked in let lt = t.last_l
 
 pub same_or : (a b : ℕ) → (a ≡ b) ⊎ ((a < b) ⊎ (b < a))
 same_or a b = grind arith
-
-off_node : (a n i : ℕ) → (a < n) ⊎ (n < a) → i < 12 → (12 * a + i < 12 * n + 1) ⊎ (12 * n + 12 ≤ 12 * a + i)
-off_node a n i (inl lt) low = inl (omega arith)
-off_node a n i (inr lt) low = inr (omega arith)
 
 -- a word of another node
 pub other_word : (size : ℕ) (m m' : Memory) (n : ℕ) (xs : Entries) → Rewritten size m m' n xs → (a i : ℕ) → a < size → i < 12 → (a < n) ⊎ (n < a)

@@ -19,7 +19,8 @@ use Rattle.vyrd_memory.specs.declared.op.Variant.TheVariants.{Correct}
 use Rattle.vyrd_memory.specs.Alone.{Memory}
 use Rattle.vyrd_memory.specs.Scripts.{Script, perform, returns, gives_up}
 use Rattle.vyrd_memory.specs.Soundness.{Situation, holds}
-use Rattle.vyrd_multiset.specs.Laws.Sound.{gone}
+use Rattle.vyrd_memory.proofs.SoundActs.{gone}
+use Rattle.vyrd_memory.proofs.AloneLaws.{is_there, isnt_there}
 use Rattle.vyrd_tree.specs.Cells.{count_cell, root_cell, lock_of, unlock_node}
 use Rattle.vyrd_tree.specs.Procedures.Walk.{Arrived, walk_from}
 use Rattle.vyrd_tree.specs.Procedures.Split.{write_entries, rewrite}
@@ -34,7 +35,7 @@ use Rattle.vyrd_tree.specs.Laws.Alone.EntriesStaySound.{length_join, entries_rem
 use Rattle.vyrd_tree.specs.Laws.Alone.Tested.{length-entries}
 use Rattle.vyrd_tree.specs.Laws.Alone.Changes.{Rewritten}
 use Rattle.vyrd_tree.specs.Laws.Alone.WalkArrives.{loaded_at}
-use Rattle.vyrd_tree.specs.Laws.Alone.Done.{changed_inside}
+use Rattle.vyrd_tree.specs.Laws.Alone.Done.{changed_inside, value_is}
 use Rattle.vyrd_every.proofs.Acts.{never}
 use Rattle.vyrd_every.specs.Locals.{written}
 use Rattle.vyrd_every.specs.Trees.Shapes.{Shape, HasEntries, IsLinked}
@@ -96,12 +97,6 @@ changed_in size g m m' s n key amount new t st is r here there =
     off : {a b : ℕ} → (a < b) ⊎ (b < a) → a ≢ b
     off (inl lt) = omega (arith, lt)
     off (inr lt) = omega (arith, lt)
-
-pub there : (s : Amounts) (x : ℕ) → amount_of s x ≢ 0 → is_present s x ≡ true
-there s x some = ap not (isnt_same (amount_of s x) 0 some)
-
-pub not_there : (s : Amounts) (x : ℕ) → amount_of s x ≡ 0 → is_present s x ≡ false
-not_there s x none = ap (λ n. not (n == 0)) none
 
 -- the locals of an operation that has nothing but its call
 pub record IsBare (k : TreeLocals) (called : Called) : Type 0 where
@@ -336,14 +331,6 @@ walk_down_right h method committed key k g m lost arrived tree unseen there =
       enough = omega arith;
     }))
 
--- the value at the place of an entry
-value_is : (xs front back : Entries) (entry : ℕ × ℕ) → xs ≡ front ++ entry ∷ back → value_in xs (length front) ≡ entry.1
-value_is xs front back entry e = ap (λ ys. value_in ys (length front)) e ∙ at front
-  where
-    at : (front : Entries) → value_in (front ++ entry ∷ back) (length front) ≡ entry.1
-    at [] = refl
-    at (x ∷ front) = at front
-
 -- a lookup
 pub lookup_right : (h : Header) (args : Args) (k : TreeLocals) (g : Shape) (m : Memory) → IsLinked h.size g m → OwnsUnseen h k g m
     → IsBare k (record { method = TrLookup; args = args })
@@ -424,7 +411,7 @@ lookup_right h args k g m tree unseen bare =
         by_place : (state : Amounts) → ShowsState b y state → (o : Option ℕ) → place_of args.a (entries_at x n) ≡ o
             → answer_in state TrLookup args ≡ reply_of (entries_at x n) (place_of args.a (entries_at x n))
         by_place state shows None e =
-            ap (λ b. cond b (amount_of state args.a - 2 ^ 32 + 1) 0) (not_there state args.a
+            ap (λ b. cond b (amount_of state args.a - 2 ^ 32 + 1) 0) (isnt_there state args.a
             (absent_in h.size b y state n args.a r.tree shows is (subst (Each (λ x. x.0 ≢ args.a)) (sym same) (not_found args.a (entries_at x n) e))))
             ∙ sym (ap (reply_of (entries_at x n)) e)
         by_place state shows (Some i) e =
@@ -432,7 +419,7 @@ lookup_right h args k g m tree unseen bare =
             let around = found.4 in
             let amount : amount_of state args.a ≡ 2 ^ 32 + found.1.1 = present_in h.size b y state n args.a found.0 found.2 found.1 r.tree shows is
             (record { parts = same ∙ around.parts; key_is = around.key_is }) in
-            ap (λ b. cond b (amount_of state args.a - 2 ^ 32 + 1) 0) (there state args.a (omega (arith, amount)))
+            ap (λ b. cond b (amount_of state args.a - 2 ^ 32 + 1) 0) (is_there state args.a (omega (arith, amount)))
             ∙ plus_one found.1.1 (amount_of state args.a) amount
             ∙ sym (ap (reply_of (entries_at x n)) e ∙ ap (λ i. value_in (entries_at x n) i + 1) (sym found.3)
             ∙ ap (λ v. v + 1) (value_is (entries_at x n) found.0 found.2 found.1 around.parts))
@@ -480,7 +467,7 @@ delete_right h args k g m tree unseen bare =
               reply = 1;
               returns = λ answer is. refl;
               next = with_amount state args.a 0;
-              allowed = ap (λ b. then_some b (with_amount state args.a 0)) (there state args.a (let e = amount b y r state shows in omega (arith, e)));
+              allowed = ap (λ b. then_some b (with_amount state args.a 0)) (is_there state args.a (let e = amount b y r state shows in omega (arith, e)));
               means = changed_in h.size b y (written (node_writes n front back) y) state n args.a 0 (front ++ back) r.tree shows
                   (still_in h s k a x b y 0 n args.a is at.held r) rw (gives-append args.a front back ∙ plus one.0 one.1)
                   (λ q apart. others q apart ∙ ap (gives q) (sym (entries_kept h s k a x n b y begun.tree at r)));
@@ -544,7 +531,7 @@ delete_right h args k g m tree unseen bare =
         by_place None e =
             subst (λ o. Onward h s k a x (delete_in h (loaded_at x n) o)) (sym e)
             (λ b y r. nothing_right h called k b y n r.tree (unseen_stays h s k a x b y at.unseen r) bare refl
-            (λ state shows. ap (λ b. then_some (not b) state) (not_there state args.a
+            (λ state shows. ap (λ b. then_some (not b) state) (isnt_there state args.a
             (absent_in h.size b y state n args.a r.tree shows (still_in h s k a x b y 0 n args.a is at.held r)
             (subst (Each (λ z. z.0 ≢ args.a)) (sym (entries_kept h s k a x n b y begun.tree at r)) (not_found args.a (entries_at x n) e))))))
         by_place (Some i) e =

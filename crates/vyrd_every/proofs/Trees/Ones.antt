@@ -37,6 +37,7 @@ use Rattle.vyrd_every.proofs.Logs.{pending_step, pending_other, called_step, cal
 use Rattle.vyrd_every.proofs.Trees.Parts.{grows_same, tree_rely_more}
 use Rattle.vyrd_every.proofs.Trees.Others.{still_owns, owns_after}
 use Rattle.vyrd_every.proofs.Trees.Written.{given_by, all_given, when_out}
+use Rattle.vyrd_every.proofs.Ones.{holds_parts}
 
 -- nothing was done by others
 pub rely_none : (h : Header) (s : Situation) (k : TreeLocals) (g : Shape) (m : Memory) → IsLinked h.size g m
@@ -155,9 +156,6 @@ ahead_after h s k g m act rest next g' does may ahead out = by_before k.out refl
         let within = does.within inside (alone_after h s k g m act rest next g' does may out).1 (out ∙ sym e) in
         subst (λ x. g'.top < level_at x (root_in h.size x)) (sym (still_out h s k g m act e inside does.reaches))
         (subst (λ g. g.top < level_at m (root_in h.size m)) (sym within.0) (ahead e))
-
-holds_parts : (a b : Bool) → (a && b) ≡ true → (a ≡ true) × (b ≡ true)
-holds_parts a b e = (first_true a b e, second_true a b e)
 
 -- the caller's own store in its block
 store_holds : (h : Header) (s : Situation) (k : TreeLocals) (g : Shape) (m : Memory) (cell value : ℕ) (rest : Script) (next : TreeLocals) (g' : Shape)

@@ -22,7 +22,7 @@ use Rattle.vyrd_tree.specs.Laws.Alone.Tested.{length-entries}
 use Rattle.vyrd_tree.specs.Laws.Alone.Changes.{entries_alike}
 use Rattle.vyrd_tree.specs.Laws.Alone.Played.{Written, front_stands}
 use Rattle.vyrd_tree.specs.Laws.Alone.SplitKeepsTree.{old_low, off_words}
-use Rattle.vyrd_tree.specs.Laws.Alone.SplitWrites.{NodeWritten}
+use Rattle.vyrd_tree.specs.Laws.Alone.SplitWrites.{NodeWritten, IsLower, lower_stood, written_nowhere, written_at}
 use Rattle.vyrd_tree.specs.Laws.Alone.WalkArrives.{loaded_at}
 use Rattle.vyrd_every.proofs.Acts.{never}
 use Rattle.vyrd_every.specs.Locals.{written}
@@ -89,35 +89,6 @@ new_stands m u level bound right xs two = record {
 
     apart : (cell : ℕ) → (cell < 12 * u) ⊎ (12 * u + 12 ≤ cell) → (j : ℕ) → j < 4 → (cell ≢ 12 * u + (4 + j)) × (cell ≢ 12 * u + (8 + j))
     apart cell off j low = (not_at cell off (4 + j) (omega (arith, low)), not_at cell off (8 + j) (omega (arith, low)))
-
--- Of the three entries that stay, those before the new one's place stand already.
-record IsLower (front back : Entries) (entry : ℕ × ℕ) (pre rest : Entries) : Type 0 where
-  stood : front ++ back ≡ pre ++ rest
-  lower : lower_half (front ++ entry ∷ back) ≡ pre ++ drop (length front) (lower_half (front ++ entry ∷ back))
-  place : (length pre ≡ length front) ⊎ (drop (length front) (lower_half (front ++ entry ∷ back)) ≡ [])
-
-lower_stood : (front back : Entries) (entry : ℕ × ℕ) → length front + length back ≡ 4
-    → (pre : Entries) × (rest : Entries) × IsLower front back entry pre rest
-lower_stood [] back entry four = ([], back, record { stood = refl; lower = refl; place = inl refl })
-lower_stood (a ∷ []) back entry four = (a ∷ [], back, record { stood = refl; lower = refl; place = inl refl })
-lower_stood (a ∷ b ∷ []) back entry four = (a ∷ b ∷ [], back, record { stood = refl; lower = refl; place = inl refl })
-lower_stood (a ∷ b ∷ d ∷ []) back entry four = (a ∷ b ∷ d ∷ [], back, record { stood = refl; lower = refl; place = inl refl })
-lower_stood (a ∷ b ∷ d ∷ e ∷ []) back entry four = (a ∷ b ∷ d ∷ [], e ∷ back, record { stood = refl; lower = refl; place = inr refl })
-lower_stood (a ∷ b ∷ d ∷ e ∷ f ∷ more) back entry four = absurd (omega (arith, four))
-
--- nothing is written anywhere
-written_nowhere : (m m' : Memory) (node place place' : ℕ) (xs : Entries) → xs ≡ [] → Written m m' node place xs → Written m m' node place' xs
-written_nowhere m m' node place place' xs none w = record {
-  stand = none_stand xs none;
-  others = λ cell off. w.others cell (λ j from to. absurd (let e = ap length none in omega (arith, from, to, e)));
-}
-  where
-    none_stand : (xs : Entries) → xs ≡ [] → entries_from m' node place' (length xs) ≡ xs
-    none_stand [] e = refl
-    none_stand (x ∷ xs) e = cc
-
-written_at : (m m' : Memory) (node place place' : ℕ) (xs : Entries) → place' ≡ place → Written m m' node place xs → Written m m' node place' xs
-written_at m m' node place place' xs e w = subst (λ place. Written m m' node place xs) (sym e) w
 
 -- the writes of a split, the newest first
 abbrev pub split_writes : ℕ → ℕ → ℕ → ℕ → ℕ → ℕ → Entries → List (ℕ × ℕ)

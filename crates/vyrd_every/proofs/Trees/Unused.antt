@@ -12,7 +12,7 @@ use Rattle.vyrd_memory.specs.Alone.{Memory, with_cell}
 use Rattle.vyrd_memory.proofs.Memories.{changed_cell, other_cell}
 use Rattle.vyrd_memory.specs.Scripts.{Script, step, perform}
 use Rattle.vyrd_memory.specs.Soundness.{Situation, holds}
-use Rattle.vyrd_multiset.specs.Laws.Sound.{gone}
+use Rattle.vyrd_memory.proofs.SoundActs.{gone}
 use Rattle.vyrd_tree.specs.Cells.{used_cell, used_lock, root_lock, unlock_used}
 use Rattle.vyrd_tree.specs.Procedures.Split.{with_unused}
 use Rattle.vyrd_tree.specs.Laws.Sound.Acts.{holding}

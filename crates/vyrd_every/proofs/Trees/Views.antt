@@ -23,6 +23,7 @@ use Rattle.vyrd_tree.specs.Contents.{level_at, count_at, bound_at, Below, right_
 use Rattle.vyrd_tree.specs.Contents.{value_at, last_in, InRange, entries_at, Covers, gives}
 use Rattle.vyrd_tree.specs.Laws.Alone.Order.{after_of, after_falls, after_few}
 use Rattle.vyrd_tree.specs.Laws.Alone.Entries.{gives_none, each_more}
+use Rattle.vyrd_tree.specs.Laws.Alone.View.{chain_on, step_ends, step_on}
 use Rattle.vyrd_every.specs.Structures.{shown_by}
 use Rattle.vyrd_every.specs.Trees.Shapes.{Shape, LeadsRight, IsLinked}
 use Rattle.vyrd_every.specs.Trees.States.{ShowsState}
@@ -116,41 +117,6 @@ next_on_chain size g m t left seen n here on = record {
   where
     rises : g.low n < g.low (right_at m n)
     rises = let above = on.above in let begins = on.begins in omega arith
-
--- what follows a node, by whether the chain ends there and whether its link goes back or past the nodes
-abbrev chain_on : ℕ → List ℕ → ℕ → List ℕ → ℕ → Bool → Bool → List (ℕ × ℕ)
-chain_on size words left seen n ends back = elim ends [
-  | true ↦ []
-  | false ↦ elim back [
-    | true ↦ damage
-    | false ↦ chain_parts_from size words left (n ∷ seen) (right_of words n)
-  ]
-]
-
-step_ends : (size : ℕ) (words : List ℕ) (left : ℕ) (seen : List ℕ) (q n : ℕ) → right_of words n ≡ 0
-    → given q (chain_parts_from size words (suc left) seen n) ≡ given q (node_parts words n)
-step_ends size words left seen q n ends =
-    given-append q (node_parts words n) (chain_on size words left seen n (right_of words n == 0)
-    (nat_le size (right_of words n) || list_any (λ y. y == right_of words n) (n ∷ seen)))
-    ∙ ap (λ b. given q (node_parts words n) + given q (chain_on size words left seen n b
-    (nat_le size (right_of words n) || list_any (λ y. y == right_of words n) (n ∷ seen))))
-    (is_same (right_of words n) 0 ends)
-    ∙ plus_none (given q (node_parts words n))
-  where
-    plus_none : (n : ℕ) → n + 0 ≡ n
-    plus_none n = omega arith
-
-step_on : (size : ℕ) (words : List ℕ) (left : ℕ) (seen : List ℕ) (q n : ℕ) → right_of words n ≢ 0
-    → (nat_le size (right_of words n) || list_any (λ y. y == right_of words n) (n ∷ seen)) ≡ false
-    → given q (chain_parts_from size words (suc left) seen n)
-    ≡ given q (node_parts words n) + given q (chain_parts_from size words left (n ∷ seen) (right_of words n))
-step_on size words left seen q n on fresh =
-    given-append q (node_parts words n) (chain_on size words left seen n (right_of words n == 0)
-    (nat_le size (right_of words n) || list_any (λ y. y == right_of words n) (n ∷ seen)))
-    ∙ ap (λ b. given q (node_parts words n) + given q (chain_on size words left seen n b
-    (nat_le size (right_of words n) || list_any (λ y. y == right_of words n) (n ∷ seen))))
-    (isnt_same (right_of words n) 0 on)
-    ∙ ap (λ b. given q (node_parts words n) + given q (chain_on size words left seen n false b)) fresh
 
 fresh_link : (size : ℕ) (g : Shape) (words : List ℕ) (left : ℕ) (seen : List ℕ) (n : ℕ) → IsLinked size g (slice_index words)
     → OnChain size g (slice_index words) left (n ∷ seen) (right_of words n)

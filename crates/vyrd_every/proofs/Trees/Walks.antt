@@ -21,7 +21,7 @@ use Rattle.vyrd_tree.specs.Contents.{Below, entries_at, entries_from, Covers, En
 use Rattle.vyrd_tree.specs.Laws.Alone.Order.{IsAfter}
 use Rattle.vyrd_tree.specs.Laws.Alone.Tested.{length-entries}
 use Rattle.vyrd_tree.specs.Laws.Alone.Played.{child_is, any_from, begins_at, each_number}
-use Rattle.vyrd_tree.specs.Laws.Alone.WalkArrives.{loaded_at, past, not_past}
+use Rattle.vyrd_tree.specs.Laws.Alone.WalkArrives.{loaded_at, past, not_past, passed}
 use Rattle.vyrd_every.specs.Trees.Shapes.{Shape, LeadsDown, IsInner, LeadsRight, IsLinked}
 use Rattle.vyrd_every.specs.Trees.Others.{Grows}
 use Rattle.vyrd_every.specs.Trees.Locals.{TreeLocals}
@@ -187,11 +187,6 @@ below_of_node size g m n key tree linked some from =
 
 least : (a : ℕ) → a ≤ 4 → min a 4 ≡ a
 least a le = omega arith
-
--- what is done at a node, by the two tests
-abbrev passed : Header → ℕ → ℕ → ℕ → ℕ → ℕ → ℕ → Script → (ℕ → Script) → (Arrived → Script) → Bool → Bool → Script
-passed h key node level many bound right lost visit arrived past above =
-    cond past (unlock_node h node (visit right)) (cond above (descend h key node many lost visit) (arrive node level many bound right arrived))
 
 -- At a node, with its lock held: right, down, or there. It is never lost here.
 visit_right : (h : Header) (method : Method) (committed : Bool) (key toward : ℕ) (k : TreeLocals) (g : Shape) (m : Memory) (n : ℕ) (lost : Script)

@@ -123,7 +123,7 @@ no_bound h (Mark BlockClose) e = refl
 no_bound h (Mark BlockCommit) e = refl
 
 -- a return is answered by 0
-return_zero : (act : Act) (answer : ℕ) → is_return act ≡ true → IsAnswer act answer → answer ≡ 0
+pub return_zero : (act : Act) (answer : ℕ) → is_return act ≡ true → IsAnswer act answer → answer ≡ 0
 return_zero (Load cell) answer ends is = cc
 return_zero (Store cell value) answer ends is = is
 return_zero (Take lock) answer ends is = is

@@ -20,7 +20,7 @@ use Rattle.vyrd_memory.specs.declared.op.Op.{Op}
 use Rattle.vyrd_memory.specs.declared.op.Variant.TheVariants.{Correct}
 use Rattle.vyrd_memory.specs.Scripts.{Script}
 use Rattle.vyrd_memory.specs.Alone.{Memory, alone, state_in, state_after, MeetsSpecification, IsRightAlone}
-use Rattle.vyrd_memory.proofs.AloneLaws.{EndsSo, ended_with}
+use Rattle.vyrd_memory.proofs.AloneLaws.{EndsSo, ended_with, is_there, isnt_there}
 use Rattle.vyrd_multiset.specs.Procedures.{insert, insert_pair, delete, lookup, procedure_of}
 use Rattle.vyrd_multiset.specs.Contents.{IsMultiset}
 use Rattle.vyrd_multiset.specs.Laws.Alone.Changes.{is_multiset, multiset_represented}
@@ -46,16 +46,6 @@ meets h op script c memory s is Q ended says =
       after = e ∙ sym m.says;
       goes_on = subst (λ o. IsSome o) (sym e) refl;
     }
-
--- whether a key is there
-is_there : (s : Amounts) (x : ℕ) → 1 ≤ amount_of s x → is_present s x ≡ true
-is_there s x some = of_amount (amount_of s x) some
-  where
-    of_amount : (n : ℕ) → 1 ≤ n → not (n == 0) ≡ true
-    of_amount n some = grind (arith, nat_tests)
-
-isnt_there : (s : Amounts) (x : ℕ) → amount_of s x ≡ 0 → is_present s x ≡ false
-isnt_there s x none = ap (λ n. not (n == 0)) none
 
 by_method_right : (h : Header) (method : Method) (args : Args) → h.subject ≡ Multiset
     → subject_of method ≡ Multiset → (c : ℕ) (memory : Memory) (s : Amounts) → IsMultiset h memory s
@@ -103,7 +93,7 @@ by_method_right h MsDelete args is of c memory s m =
     says reply after (inl d) = record {
       state = with_amount s args.a (amount_of s args.a - 1);
       says = ap (λ r. next_state MsDelete args r s) d.0
-          ∙ ap (λ b. then_some b (with_amount s args.a (amount_of s args.a - 1))) (is_there s args.a d.2);
+          ∙ ap (λ b. then_some b (with_amount s args.a (amount_of s args.a - 1))) (is_there s args.a (let some = d.2 in omega (arith, some)));
       is = d.1;
     }
     says reply after (inr d) = record {
@@ -119,7 +109,7 @@ by_method_right h MsLookup args is of c memory s m =
     says reply after (m', inl d) = record {
       state = s;
       says = ap (λ r. state_after true (record { method = MsLookup; args = args }) r s) d.0
-          ∙ ap (λ b. cond (1 == cond b 1 0) (Some s) None) (is_there s args.a d.1);
+          ∙ ap (λ b. cond (1 == cond b 1 0) (Some s) None) (is_there s args.a (let some = d.1 in omega (arith, some)));
       is = m';
     }
     says reply after (m', inr d) = record {

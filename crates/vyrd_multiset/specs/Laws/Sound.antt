@@ -21,6 +21,7 @@ use Rattle.vyrd_memory.specs.declared.op.Variant.TheVariants.{Correct, Broken}
 use Rattle.vyrd_memory.specs.Scripts.{Script, step, perform, returns, gives_up}
 use Rattle.vyrd_memory.specs.Arguments.{are_small}
 use Rattle.vyrd_memory.specs.Soundness.{Situation, IsSound, just_called, holds}
+use Rattle.vyrd_memory.proofs.SoundActs.{holding, in_block, store_sound, gone, held_first, other_lock}
 use Rattle.vyrd_multiset.specs.Cells.{bucket_of, first_slot, state_cell, value_cell, lock_of, lock, lock_other}
 use Rattle.vyrd_multiset.specs.Cells.{unlock}
 use Rattle.vyrd_multiset.specs.Procedures.{reserve, find_from, find, commit_state, inserted}
@@ -56,28 +57,10 @@ is_its_lock h is bucket low =
     && nat_lt (8 * h.size + bucket) (plain_words_of s h.size + lock_words_of s h.size)) is
     ∙ between (8 * h.size) h.size (8 * h.size + bucket) (omega arith) (omega arith)
 
--- what a caller is in the middle of, where it holds these locks and has called this method
-abbrev pub holding : List ℕ → Method → Bool → Situation
-holding locks method committed = record { locks = locks; called = Some method; committed = committed; in_block = false }
-
 load_sound : (h : Header) (s : Situation) (cell : ℕ) (rest : ℕ → Script) → is_plain (cells_of h) cell ≡ true
     → ((answer : ℕ) → IsSound h s (rest answer))
     → IsSound h s (step (Load cell) rest)
 load_sound h s cell rest plain later = (plain, λ answer is. later answer)
-
-store_sound : (h : Header) (s : Situation) (cell value : ℕ) (later : Script) → is_plain (cells_of h) cell ≡ true → value < 2 ^ 63
-    → is_some s.called ≡ true
-    → IsSound h s later → IsSound h s (perform (Store cell value) later)
-store_sound h s cell value later plain low called sound =
-    (both_true _ _ (both_true _ _ plain (is_below value (2 ^ 63) low)) called, λ answer is. sound)
-
--- the same lock isn't held any more
-pub gone : (lock : ℕ) (locks : List ℕ) → filter (λ held. not (held == lock)) (lock ∷ locks) ≡ filter (λ held. not (held == lock)) locks
-gone lock locks = ap (λ b. cond (not b) (lock ∷ filter (λ held. not (held == lock)) locks)
-    (filter (λ held. not (held == lock)) locks)) (same_number lock)
-
-held_first : (lock : ℕ) (locks : List ℕ) (method : Method) (committed : Bool) → holds (holding (lock ∷ locks) method committed) lock ≡ true
-held_first lock locks method committed = ap (λ b. b || list_any (λ held. held == lock) locks) (same_number lock)
 
 take_first : (h : Header) (bucket : ℕ) (method : Method) (committed : Bool) (later : Script) → h.subject ≡ Multiset → bucket < h.size
     → IsSound h (holding (lock_of h bucket ∷ []) method committed) later → IsSound h (holding [] method committed) (lock h bucket later)
@@ -168,10 +151,6 @@ search_in_sound h method x ended is some none =
     take_first h b method false (search_from 4 (first_slot b) x ended) is (bucket_low h x)
     (search_from_sound h (holding (lock_of h b ∷ []) method false) 4 (first_slot b) x ended is (slots_fit h x) some none)
 
--- in a block
-abbrev in_block : List ℕ → Method → Situation
-in_block locks method = record { locks = locks; called = Some method; committed = false; in_block = true }
-
 commit_state_sound : (h : Header) (method : Method) (x slot state : ℕ) → h.subject ≡ Multiset → is_observer method ≡ false
     → slot < 4 * h.size → state < 2 ^ 63
     → IsSound h (holding (lock_of h (bucket_of h x) ∷ []) method false) (commit_state h (bucket_of h x) slot state)
@@ -221,12 +200,6 @@ validate_both_sound h method locks first second slot_x slot_y is mutates low_x l
       (simp mutates, λ answer' is''. sound)),
 )
 
-other_lock : (h : Header) (first second : ℕ) → (first == second) ≡ false → (lock_of h first == lock_of h second) ≡ false
-other_lock h first second e = other (8 * h.size)
-  where
-    other : (n : ℕ) → ((n + first) == (n + second)) ≡ false
-    other n = grind (arith, nat_tests)
-
 commit_both_sound : (h : Header) (method : Method) (first second slot_x slot_y : ℕ) → h.subject ≡ Multiset → is_observer method ≡ false
     → first < h.size → second < h.size → slot_x < 4 * h.size → slot_y < 4 * h.size
     → IsSound h (holding [] method false) (commit_both h first second slot_x slot_y)
@@ -245,7 +218,7 @@ commit_both_sound h method first second slot_x slot_y is mutates low_first low_s
         (cond b (unlock h first (returns 1)) (unlock h second (unlock h first (returns 1)))))
         (sym e) last)
     by_test false e =
-        let apart : (lock_of h first == lock_of h second) ≡ false = other_lock h first second e in (
+        let apart : (lock_of h first == lock_of h second) ≡ false = other_lock (8 * h.size) first second e in (
           both_true _ _ (is_its_lock h is second low_second) (ap (λ b. not (b || false)) apart),
           λ answer is'.
               validate_both_sound h method (lock_of h second ∷ lock_of h first ∷ []) first second slot_x slot_y is mutates low_x low_y

@@ -48,7 +48,7 @@ use Rattle.vyrd_memory.specs.Alone.{Memory, alone, state_in, state_after, MeetsS
 use Rattle.vyrd_tree.specs.Procedures.{procedure_of, lookup, delete, insert_entry}
 use Rattle.vyrd_tree.specs.Contents.{TreeRepresents}
 use Rattle.vyrd_tree.specs.Laws.Alone.Changes.{tree_represents, tree_represented}
-use Rattle.vyrd_memory.proofs.AloneLaws.{EndsSo, ended_with}
+use Rattle.vyrd_memory.proofs.AloneLaws.{EndsSo, ended_with, is_there, isnt_there}
 use Rattle.vyrd_tree.specs.Laws.Alone.Done.{Meets, lookup_alone, delete_alone}
 use Rattle.vyrd_tree.specs.Laws.Alone.Inserted.{InsertDone, insert_alone}
 
@@ -70,12 +70,6 @@ meets h op script c memory s is Q ended says =
       after = e ∙ sym m.allowed;
       goes_on = subst (λ o. IsSome o) (sym e) refl;
     }
-
-is_there : (s : Amounts) (x : ℕ) → amount_of s x ≢ 0 → is_present s x ≡ true
-is_there s x some = ap not (isnt_same (amount_of s x) 0 some)
-
-isnt_there : (s : Amounts) (x : ℕ) → amount_of s x ≡ 0 → is_present s x ≡ false
-isnt_there s x none = ap (λ n. not (n == 0)) none
 
 by_method_right : (h : Header) (method : Method) (args : Args) → h.subject ≡ Tree
     → subject_of method ≡ Tree → args.a < 2 ^ 32 → args.b < 2 ^ 32

@@ -22,6 +22,8 @@ use Rattle.vyrd_memory.specs.declared.op.Variant.{Variant}
 use Rattle.vyrd_memory.specs.Arguments.{are_small}
 use Rattle.vyrd_memory.specs.Scripts.{Script, step, perform, returns, gives_up}
 use Rattle.vyrd_memory.specs.Soundness.{IsSound, just_called}
+use Rattle.vyrd_memory.proofs.SoundActs.{either}
+use Rattle.vyrd_memory.proofs.Small.{size_fits}
 use Rattle.vyrd_tree.specs.Cells.{level_cell, count_cell, bound_cell, right_cell, key_cell, value_cell, root_cell, used_cell, lock_of, root_lock, used_lock}
 use Rattle.vyrd_tree.specs.Cells.{unlock_node, unlock_root, unlock_used}
 use Rattle.vyrd_tree.specs.Procedures.Walk.{Arrived, walk_from}
@@ -33,19 +35,12 @@ use Rattle.vyrd_tree.specs.Procedures.Ascent.{grow_root, add_child, ascend_once,
 use Rattle.vyrd_tree.specs.Procedures.{changes_nothing, walk_down, place_of, reply_of, look_in}
 use Rattle.vyrd_tree.specs.Procedures.{delete_in, insert_new, insert_in, procedure_of}
 use Rattle.vyrd_tree.specs.Laws.Sound.Acts.{holding, IsLock, loads, stores, takes_first, gives_last}
-use Rattle.vyrd_tree.specs.Laws.Sound.Acts.{takes_second, gives_second, returned, gave_up, either}
+use Rattle.vyrd_tree.specs.Laws.Sound.Acts.{takes_second, gives_second, returned, gave_up}
 use Rattle.vyrd_tree.specs.Laws.Sound.Walk.{node_lock, AreSmallEntries, IsLoaded, walk_sound}
 use Rattle.vyrd_tree.specs.Laws.Sound.Fits.{small_take, small_drop, small_insert, small_remove}
 use Rattle.vyrd_tree.specs.Laws.Sound.Fits.{small_first, length_insert, length_remove, place_fits}
 use Rattle.vyrd_tree.specs.Laws.Sound.Fits.{place_low}
 use Rattle.vyrd_tree.specs.Laws.Sound.Fits.{ends_low, two_above, three_below}
-
--- a header has at most 1,024 nodes
-size_fits : (h : Header) → h.size ≤ 1024
-size_fits h = within h.version h.size h.callers h.within
-  where
-    within : (version size callers : ℕ) → IsTrue (is_within version size callers) → size ≤ 1024
-    within version size callers w = grind (arith, nat_tests)
 
 the_used_lock : (h : Header) → IsLock h (used_lock h)
 the_used_lock h = (omega arith, omega arith)

@@ -17,7 +17,7 @@ use Rattle.vyrd_base.proofs.TextLaws.{text_same, characters_same}
 use Rattle.vyrd_memory.specs.Alone.{Memory, words_in}
 use Rattle.vyrd_memory.proofs.NumberLists.{all_pass, pass_all}
 use Rattle.vyrd_memory.proofs.PartSums.{given-changed, collected-is}
-use Rattle.vyrd_memory.proofs.Memories.{Represents, word_at}
+use Rattle.vyrd_memory.proofs.Memories.{Represents, word_at, is_amounts}
 use Rattle.vyrd_buffers.specs.Contents.{buffer_of, shown}
 
 -- two buffers with the same words
@@ -97,10 +97,6 @@ unfolding view_of_words
 amounts_given h memory state q is s =
     ap (λ t. amount_of t q) (sym s.shows) ∙ amount_of-collected (parts_of h.subject h.size (words_in h memory)) q
     ∙ ap (λ subject. given q (parts_of subject h.size (words_in h memory))) is
-
-pub is_amounts : (h : Header) (memory : Memory) (state : Amounts) → Represents h memory state → IsAmounts state
-unfolding view_of_words
-is_amounts h memory state s = subst IsAmounts s.shows (IsAmounts-collected (parts_of h.subject h.size (words_in h memory)))
 
 -- what the other buffers give
 abbrev parts_without : Header → Memory → ℕ → ℕ → List (ℕ × ℕ)

@@ -15,7 +15,7 @@ use Rattle.vyrd_memory.specs.declared.op.Op.{Op}
 use Rattle.vyrd_memory.specs.Scripts.{Script}
 use Rattle.vyrd_memory.specs.Alone.{Memory, with_cell, alone, state_after, MeetsSpecification}
 use Rattle.vyrd_memory.proofs.Memories.{Represents, represented, other_cell}
-use Rattle.vyrd_memory.proofs.AloneLaws.{given_back}
+use Rattle.vyrd_memory.proofs.AloneLaws.{given_back, met}
 use Rattle.vyrd_buffers.specs.Cells.{count_cell, lock_of}
 use Rattle.vyrd_buffers.specs.Contents.{buffer_of, shown}
 use Rattle.vyrd_buffers.specs.Laws.Alone.Changes.{Alike, sound_alike, shown_alike, sound_at, shown_at, Leaves, changed_buffer, same_cells}
@@ -23,17 +23,6 @@ use Rattle.vyrd_buffers.specs.Laws.Alone.Texts.{Appended}
 use Rattle.vyrd_buffers.specs.Laws.Alone.Texts.{appended_sound, appended_shown}
 use Rattle.vyrd_buffers.specs.Laws.Alone.Stores.{SameWords, same_buffer, held}
 use Rattle.vyrd_buffers.specs.Laws.Alone.Stores.{with_appended, with_appended-is}
-
--- an operation that ends so, and where the specification allows it
-pub met : (h : Header) (op : Op) (script : Script) (c : ℕ) (old new : Memory) (state next : Amounts) (reply : ℕ)
-    → alone c script old ≡ Some (record { reply = reply; memory = new }) → Represents h new next
-    → state_after (is_observer op.method) op reply state ≡ Some next → MeetsSpecification h op script c old state
-met h op script c old new state next reply ends is allowed = record {
-  outcome = record { reply = reply; memory = new };
-  ends = ends;
-  after = represented h new next is ∙ sym allowed;
-  goes_on = subst (λ (o : Option Amounts). IsSome o) (sym (represented h new next is)) refl;
-}
 
 -- what the specification allows: an append to a full buffer, one where there is room, and an answer
 pub full_allowed : (state : Amounts) (b more : ℕ) → has_room (amount_of state b) more ≡ false → after_append 0 state b more ≡ Some state

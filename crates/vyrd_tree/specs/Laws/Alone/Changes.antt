@@ -247,7 +247,7 @@ pub record Rewritten (size : ℕ) (m m' : Memory) (n : ℕ) (xs : Entries) : Typ
 apart_or : (a b : ℕ) → (a ≡ b) ⊎ ((a < b) ⊎ (b < a))
 apart_or a b = grind arith
 
-off_node : (a n i : ℕ) → (a < n) ⊎ (n < a) → i < 12 → (12 * a + i < 12 * n + 1) ⊎ (12 * n + 12 ≤ 12 * a + i)
+pub off_node : (a n i : ℕ) → (a < n) ⊎ (n < a) → i < 12 → (12 * a + i < 12 * n + 1) ⊎ (12 * n + 12 ≤ 12 * a + i)
 off_node a n i (inl lt) low = inl (omega arith)
 off_node a n i (inr lt) low = inr (omega arith)
 

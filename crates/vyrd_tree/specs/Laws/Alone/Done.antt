@@ -112,7 +112,7 @@ walked_down h c m s key lost arrived Q st there =
     (λ n used level over. there (with_lock h c m n) st.low n (locked_words h c m n) (is_at h c m s st n key 0 used level over))
 
 -- the value at the place of an entry
-value_is : (xs front back : Entries) (entry : ℕ × ℕ) → xs ≡ front ++ entry ∷ back → value_in xs (length front) ≡ entry.1
+pub value_is : (xs front back : Entries) (entry : ℕ × ℕ) → xs ≡ front ++ entry ∷ back → value_in xs (length front) ≡ entry.1
 value_is xs front back entry e = ap (λ ys. value_in ys (length front)) e ∙ at front
   where
     at : (front : Entries) → value_in (front ++ entry ∷ back) (length front) ≡ entry.1

@@ -36,7 +36,7 @@ use Rattle.vyrd_tree.specs.Procedures.Ascent.{ascend}
 use Rattle.vyrd_tree.specs.Procedures.{changes_nothing, place_of, replace_value, insert_new, insert_in, insert_entry}
 
 -- an entry gets another value, and nothing else changes
-value_stored : (m : Memory) (node place many v : ℕ) (front : Entries) (entry : ℕ × ℕ) (back : Entries) → place + many ≤ 4
+pub value_stored : (m : Memory) (node place many v : ℕ) (front : Entries) (entry : ℕ × ℕ) (back : Entries) → place + many ≤ 4
     → entries_from m node place many
     ≡ front ++ entry ∷ back
     → entries_from (with_cell m (12 * node + (8 + (place + length front))) v) node place many ≡ front ++ (entry.0, v) ∷ back

@@ -78,12 +78,12 @@ node_written c m Q node level bound right xs later two goes_on =
     apart cell off j low = (not_at cell off (4 + j) (omega (arith, low)), not_at cell off (8 + j) (omega (arith, low)))
 
 -- Of the three entries that stay, those before the new one's place stand already.
-record IsLower (front back : Entries) (entry : ℕ × ℕ) (pre rest : Entries) : Type 0 where
-  stood : front ++ back ≡ pre ++ rest
-  lower : lower_half (front ++ entry ∷ back) ≡ pre ++ drop (length front) (lower_half (front ++ entry ∷ back))
-  place : (length pre ≡ length front) ⊎ (drop (length front) (lower_half (front ++ entry ∷ back)) ≡ [])
+pub record IsLower (front back : Entries) (entry : ℕ × ℕ) (pre rest : Entries) : Type 0 where
+  pub stood : front ++ back ≡ pre ++ rest
+  pub lower : lower_half (front ++ entry ∷ back) ≡ pre ++ drop (length front) (lower_half (front ++ entry ∷ back))
+  pub place : (length pre ≡ length front) ⊎ (drop (length front) (lower_half (front ++ entry ∷ back)) ≡ [])
 
-lower_stood : (front back : Entries) (entry : ℕ × ℕ) → length front + length back ≡ 4
+pub lower_stood : (front back : Entries) (entry : ℕ × ℕ) → length front + length back ≡ 4
     → (pre : Entries) × (rest : Entries) × IsLower front back entry pre rest
 lower_stood [] back entry four = ([], back, record { stood = refl; lower = refl; place = inl refl })
 lower_stood (a ∷ []) back entry four = (a ∷ [], back, record { stood = refl; lower = refl; place = inl refl })
@@ -93,7 +93,7 @@ lower_stood (a ∷ b ∷ d ∷ e ∷ []) back entry four = (a ∷ b ∷ d ∷ []
 lower_stood (a ∷ b ∷ d ∷ e ∷ f ∷ more) back entry four = absurd (omega (arith, four))
 
 -- nothing is written anywhere
-written_nowhere : (m m' : Memory) (node place place' : ℕ) (xs : Entries) → xs ≡ [] → Written m m' node place xs → Written m m' node place' xs
+pub written_nowhere : (m m' : Memory) (node place place' : ℕ) (xs : Entries) → xs ≡ [] → Written m m' node place xs → Written m m' node place' xs
 written_nowhere m m' node place place' xs none w = record {
   stand = none_stand xs none;
   others = λ cell off. w.others cell (λ j from to. absurd (let e = ap length none in omega (arith, from, to, e)));
@@ -103,7 +103,7 @@ written_nowhere m m' node place place' xs none w = record {
     none_stand [] e = refl
     none_stand (x ∷ xs) e = cc
 
-written_at : (m m' : Memory) (node place place' : ℕ) (xs : Entries) → place' ≡ place → Written m m' node place xs → Written m m' node place' xs
+pub written_at : (m m' : Memory) (node place place' : ℕ) (xs : Entries) → place' ≡ place → Written m m' node place xs → Written m m' node place' xs
 written_at m m' node place place' xs e w = subst (λ place. Written m m' node place xs) (sym e) w
 
 -- The stores of a split, from where the new node was got on.

@@ -58,7 +58,7 @@ next_on_chain size m low left seen n here on = record {
     rises = let above = on.above in let begins = on.begins in omega arith
 
 -- what follows a node, by whether the chain ends there and whether its link goes back or past the nodes
-abbrev chain_on : ℕ → List ℕ → ℕ → List ℕ → ℕ → Bool → Bool → List (ℕ × ℕ)
+abbrev pub chain_on : ℕ → List ℕ → ℕ → List ℕ → ℕ → Bool → Bool → List (ℕ × ℕ)
 chain_on size words left seen n ends back = elim ends [
   | true ↦ []
   | false ↦ elim back [
@@ -67,7 +67,7 @@ chain_on size words left seen n ends back = elim ends [
   ]
 ]
 
-step_ends : (size : ℕ) (words : List ℕ) (left : ℕ) (seen : List ℕ) (q n : ℕ) → right_of words n ≡ 0
+pub step_ends : (size : ℕ) (words : List ℕ) (left : ℕ) (seen : List ℕ) (q n : ℕ) → right_of words n ≡ 0
     → given q (chain_parts_from size words (suc left) seen n) ≡ given q (node_parts words n)
 step_ends size words left seen q n ends =
     given-append q (node_parts words n) (chain_on size words left seen n (right_of words n == 0)
@@ -80,7 +80,7 @@ step_ends size words left seen q n ends =
     plus_none : (n : ℕ) → n + 0 ≡ n
     plus_none n = omega arith
 
-step_on : (size : ℕ) (words : List ℕ) (left : ℕ) (seen : List ℕ) (q n : ℕ) → right_of words n ≢ 0
+pub step_on : (size : ℕ) (words : List ℕ) (left : ℕ) (seen : List ℕ) (q n : ℕ) → right_of words n ≢ 0
     → (nat_le size (right_of words n) || list_any (λ y. y == right_of words n) (n ∷ seen)) ≡ false
     → given q (chain_parts_from size words (suc left) seen n)
     ≡ given q (node_parts words n) + given q (chain_parts_from size words left (n ∷ seen) (right_of words n))

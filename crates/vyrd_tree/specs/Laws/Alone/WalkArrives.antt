@@ -93,7 +93,7 @@ child_of size m low n key t used some from =
     }
 
 -- what is done at a node, by the two tests
-abbrev passed : Header → ℕ → ℕ → ℕ → ℕ → ℕ → ℕ → Script → (ℕ → Script) → (Arrived → Script) → Bool → Bool → Script
+abbrev pub passed : Header → ℕ → ℕ → ℕ → ℕ → ℕ → ℕ → Script → (ℕ → Script) → (Arrived → Script) → Bool → Bool → Script
 passed h key node level many bound right lost visit arrived past above =
     cond past (unlock_node h node (visit right)) (cond above (descend h key node many lost visit) (arrive node level many bound right arrived))
 

@@ -59,7 +59,7 @@ pub four_at_most : (n : ℕ) → min n 4 ≤ 4
 four_at_most n = omega arith
 
 -- the loads of level, count, bound and right link
-abbrev first_loads : ℕ → (ℕ → ℕ → ℕ → ℕ → Script) → Script
+abbrev pub first_loads : ℕ → (ℕ → ℕ → ℕ → ℕ → Script) → Script
 first_loads node rest = step (Load (level_cell node)) (λ level. step (Load (count_cell node)) (λ count.
     step (Load (bound_cell node)) (λ bound. step (Load (right_cell node)) (λ right. rest level count bound right))))
 

@@ -94,9 +94,3 @@ returned h method committed reply may = (both_true _ _ may refl, λ _ _. refl)
 -- the commit of a mutator that gives up
 pub gave_up : (h : Header) (method : Method) → is_observer method ≡ false → IsSound h (holding [] method false false) gives_up
 gave_up h method mutates = (rw mutates, λ _ _. returned h method true 0 (rw mutates))
-
--- both ways of a choice, each of which knows the test
-pub either : (h : Header) (s : Situation) (b : Bool) (x y : Script) → (b ≡ true → IsSound h s x) → (b ≡ false → IsSound h s y)
-    → IsSound h s (cond b x y)
-either h s true x y e f = e refl
-either h s false x y e f = f refl

@@ -11,12 +11,13 @@ use Rattle.vyrd_memory.specs.declared.act.Act.TheVariants.{Load}
 use Rattle.vyrd_memory.specs.declared.op.Variant.{Variant}
 use Rattle.vyrd_memory.specs.Scripts.{Script, step}
 use Rattle.vyrd_memory.specs.Soundness.{Situation, IsSound}
+use Rattle.vyrd_memory.proofs.SoundActs.{either}
 use Rattle.vyrd_tree.specs.Cells.{level_cell, count_cell, bound_cell, right_cell, key_cell, value_cell, lock_of, unlock_node}
 use Rattle.vyrd_tree.specs.Procedures.Walk.{Arrived, load_keys, load_values, child_place, to_child}
 use Rattle.vyrd_tree.specs.Procedures.Walk.{descend, load_rest, arrive, moves_right, pass_on}
 use Rattle.vyrd_tree.specs.Procedures.Walk.{visit_node, walk_from}
-use Rattle.vyrd_tree.specs.Laws.Sound.Acts.{holding, IsLock, loads, takes_first, gives_last, either}
-use Rattle.vyrd_tree.specs.Laws.Ends.Walk.{four_at_most}
+use Rattle.vyrd_tree.specs.Laws.Sound.Acts.{holding, IsLock, loads, takes_first, gives_last}
+use Rattle.vyrd_tree.specs.Laws.Ends.Walk.{four_at_most, first_loads}
 
 -- a node's lock
 pub node_lock : (h : Header) (node : ℕ) → node < h.size → IsLock h (lock_of h node)
@@ -103,11 +104,6 @@ arrive_sound h method committed node level count bound right arrived is low few 
     (λ entries. arrived (record { node = node; level = level; bound = bound; right = right; entries = entries })) is low (omega (arith, len, few)) all
     (λ entries len' small. sound (record { node = node; level = level; bound = bound; right = right; entries = entries })
     (record { node = low; level = l; bound = b; right = r; few = omega (arith, len, len', few); small = small })))
-
--- the loads of level, count, bound and right link
-abbrev first_loads : ℕ → (ℕ → ℕ → ℕ → ℕ → Script) → Script
-first_loads node rest = step (Load (level_cell node)) (λ level. step (Load (count_cell node)) (λ count.
-    step (Load (bound_cell node)) (λ bound. step (Load (right_cell node)) (λ right. rest level count bound right))))
 
 first_loads_sound : (h : Header) (s : Situation) (node : ℕ) (rest : ℕ → ℕ → ℕ → ℕ → Script) → h.subject ≡ Tree → node < h.size
     → ((level count bound right : ℕ) → level < 2 ^ 63 → bound < 2 ^ 63 → right < 2 ^ 63 → IsSound h s (rest level count bound right))
