@@ -8,5 +8,7 @@ pub mod WriteLaws
 pub mod FormLaws
 pub mod StepLaws
 pub mod EveryLaws
+pub mod EveryWritten
 pub mod MoversLaws
 pub mod BatchLaws
+pub mod CommandLaws

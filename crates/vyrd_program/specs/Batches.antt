@@ -18,20 +18,3 @@ pub record AnswersBatch (input : Option (List ℕ)) (status : ℕ) (text : List 
 -- the statuses with which a batch is answered
 abbrev pub IsBatchStatus : ℕ → Type 0
 IsBatchStatus status = (status ≤ 2) ⊎ (status ≡ 11)
-
--- the sink has taken the text of that answer
-pub record IsBatched (input : Option (List ℕ)) (status : ℕ) (before after : Option (List ℕ)) : Type 0 where
-  pub text : List ℕ
-  pub answers : AnswersBatch input status text
-  pub written : Appends before after text
-
--- the sink has taken some of the first bytes of it
-pub record IsBatchedInPart (input before after : Option (List ℕ)) : Type 0 where
-  pub status : ℕ
-  pub text : List ℕ
-  pub answers : AnswersBatch input status text
-  pub written : AppendsFront before after text
-
--- the sink has sure room for the text of any answer to the input
-abbrev pub HasRoomForBatch : Option (List ℕ) → ℕ → Type 0
-HasRoomForBatch input room = (status : ℕ) (text : List ℕ) → AnswersBatch input status text → length text ≤ room

@@ -49,7 +49,6 @@ pub record IsAnsweredInPart (max : ℕ) (input before after : Option (List ℕ))
   pub judged : IsJudged max input status text
   pub written : AppendsFront before after text
 
--- the sink has sure room for the line of the whole input's verdict, whose bytes are told
+-- the sink has sure room for the line of the whole input's verdict
 abbrev pub HasRoomForAnswer : ℕ → Option (List ℕ) → ℕ → Type 0
-HasRoomForAnswer max None room = ⊥
-HasRoomForAnswer max (Some input) room = length (verdict_text (text_verdict max input)) ≤ room
+HasRoomForAnswer max input room = (status : ℕ) (text : List ℕ) → IsJudged max input status text → length text ≤ room

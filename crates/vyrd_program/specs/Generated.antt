@@ -6,7 +6,7 @@ use Rattle.vyrd_memory.specs.Turns.{GetsStuck}
 use Rattle.vyrd_work.specs.WorkScripts.{work_scripts}
 use Rattle.vyrd_work.specs.Generated.{generated}
 use Rattle.vyrd_live.specs.declared.run.Run.{Run}
-use Rattle.vyrd_program.specs.Outputs.{status_of, Appends, AppendsFront}
+use Rattle.vyrd_program.specs.Outputs.{status_of}
 use Rattle.vyrd_live.specs.TurnRuns.{IsRunByTurns}
 use Rattle.vyrd_program.specs.Steps.{stuck_line}
 
@@ -23,20 +23,3 @@ IsGenAnswer n status text (Some run) = (status ≡ status_of run.verdict)
 -- the statuses with which they are answered
 abbrev pub IsGenStatus : ℕ → Type 0
 IsGenStatus status = (status ≤ 2) ⊎ (status ≡ 8)
-
--- the sink has taken the text of that answer
-pub record IsGenerated (n : ℕ) (status : ℕ) (run : Option Run) (before after : Option (List ℕ)) : Type 0 where
-  pub text : List ℕ
-  pub answer : IsGenAnswer n status text run
-  pub written : Appends before after text
-
--- the sink has taken some of the first bytes of it
-pub record IsGeneratedInPart (n : ℕ) (run : Option Run) (before after : Option (List ℕ)) : Type 0 where
-  pub status : ℕ
-  pub text : List ℕ
-  pub answer : IsGenAnswer n status text run
-  pub written : AppendsFront before after text
-
--- the sink has sure room for the text of any answer
-abbrev pub HasRoomForGen : ℕ → ℕ → Type 0
-HasRoomForGen n room = (status : ℕ) (text : List ℕ) (run : Option Run) → IsGenAnswer n status text run → length text ≤ room

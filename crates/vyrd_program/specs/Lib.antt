@@ -9,3 +9,5 @@ pub mod Generated
 pub mod CorrectInputs
 pub mod Moved
 pub mod Batches
+pub mod Commands
+pub mod HandedOut

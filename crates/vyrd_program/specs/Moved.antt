@@ -1,5 +1,5 @@
 -- What `movers` answers about an input: how the bytes are refused as a history, or what is said of the history's blocks.
-use Rattle.std.specs.Prelude.{◌≡◌, ◌≤◌, ◌⊎◌, ℕ, List, length, Option, Result, Ok, Err, IfSome}
+use Rattle.std.specs.Prelude.{◌≡◌, ◌≤◌, ◌⊎◌, ℕ, List, Option, Result, Ok, Err, IfSome}
 use Rattle.vyrd_base.specs.Histories.{cells_of}
 use Rattle.vyrd_mover.specs.declared.blocks.Blocks.{Blocks}
 use Rattle.vyrd_mover.specs.declared.blocks.Blocks.TheVariants.{Reducible, Broken}
@@ -8,7 +8,6 @@ use Rattle.vyrd_mover.specs.BlocksText.{blocks_text}
 use Rattle.vyrd_mover.specs.HistoryText.{Recorded}
 use Rattle.vyrd_mover.specs.HistoryReading.{Refusal, history_reading}
 use Rattle.vyrd_mover.specs.Refusals.{history_refusal_text}
-use Rattle.vyrd_program.specs.Outputs.{Appends, AppendsFront}
 
 -- the status that the answer about blocks ends with
 abbrev pub status_of_blocks : Blocks → ℕ
@@ -33,20 +32,3 @@ pub record AnswersMovers (input : Option (List ℕ)) (status : ℕ) (text : List
 -- the statuses with which a history is answered
 abbrev pub IsMoversStatus : ℕ → Type 0
 IsMoversStatus status = (status ≤ 1) ⊎ (status ≡ 10)
-
--- the sink has taken the text of that answer
-pub record IsMoved (input : Option (List ℕ)) (status : ℕ) (before after : Option (List ℕ)) : Type 0 where
-  pub text : List ℕ
-  pub answers : AnswersMovers input status text
-  pub written : Appends before after text
-
--- the sink has taken some of the first bytes of it
-pub record IsMovedInPart (input before after : Option (List ℕ)) : Type 0 where
-  pub status : ℕ
-  pub text : List ℕ
-  pub answers : AnswersMovers input status text
-  pub written : AppendsFront before after text
-
--- the sink has sure room for the text of any answer to the input
-abbrev pub HasRoomForMovers : Option (List ℕ) → ℕ → Type 0
-HasRoomForMovers input room = (status : ℕ) (text : List ℕ) → AnswersMovers input status text → length text ≤ room

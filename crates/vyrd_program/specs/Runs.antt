@@ -1,6 +1,6 @@
 -- What `run` answers about an input: how the bytes are refused, that a caller's events are spent, or the verdict about the log
 -- of a live run.
-use Rattle.std.specs.Prelude.{[], ◌≡◌, ◌<◌, ◌≤◌, ◌⊎◌, ℕ, true, List, ◌++◌, length, Option, Some, None, Result, Ok, Err, IfSome, codes, decimal}
+use Rattle.std.specs.Prelude.{[], ◌≡◌, ◌<◌, ◌≤◌, ◌⊎◌, ℕ, true, List, ◌++◌, Option, Some, None, Result, Ok, Err, IfSome, codes, decimal}
 use Rattle.vyrd_base.specs.Places.{newest_first}
 use Rattle.vyrd_base.specs.Histories.{cells_of, is_legal, log_of}
 use Rattle.vyrd_base.specs.Spelling.{ended_line}
@@ -16,7 +16,7 @@ use Rattle.vyrd_live.specs.declared.run.Run.{Run}
 use Rattle.vyrd_live.specs.declared.run.Overrun.{Overrun}
 use Rattle.vyrd_live.specs.LiveRuns.{AllHadRoom, IsOverrun}
 use Rattle.vyrd_program.specs.declared.show.Show.{Show}
-use Rattle.vyrd_program.specs.Outputs.{status_of, Appends, AppendsFront}
+use Rattle.vyrd_program.specs.Outputs.{status_of}
 use Rattle.vyrd_program.specs.Steps.{run_text}
 
 -- how many events a caller may have in a live run
@@ -59,23 +59,3 @@ pub record AnswersRun (show : Show) (input : Option (List ℕ)) (status : ℕ) (
 -- the statuses with which a workload is answered
 abbrev pub IsRunStatus : ℕ → Type 0
 IsRunStatus status = (status ≤ 2) ⊎ (status ≡ 7) ⊎ (status ≡ 9)
-
--- the sink has taken the text of that answer
-pub record HasRun (show : Show) (input : Option (List ℕ)) (status : ℕ) (run : Option Run) (spent : Option Overrun)
-    (before after : Option (List ℕ)) : Type 0 where
-  pub text : List ℕ
-  pub answers : AnswersRun show input status text run spent
-  pub written : Appends before after text
-
--- the sink has taken some of the first bytes of it
-pub record HasRunInPart (show : Show) (input : Option (List ℕ)) (run : Option Run) (spent : Option Overrun)
-    (before after : Option (List ℕ)) : Type 0 where
-  pub status : ℕ
-  pub text : List ℕ
-  pub answers : AnswersRun show input status text run spent
-  pub written : AppendsFront before after text
-
--- the sink has sure room for the text of any answer to the input
-abbrev pub HasRoomForRun : Show → Option (List ℕ) → ℕ → Type 0
-HasRoomForRun show input room = (status : ℕ) (text : List ℕ) (run : Option Run) (spent : Option Overrun)
-    → AnswersRun show input status text run spent → length text ≤ room

@@ -1,5 +1,5 @@
 -- What `step` answers about an input: how the bytes are refused, that the run by turns gets stuck, or the verdict about its log.
-use Rattle.std.specs.Prelude.{[], ◌≡◌, ◌≤◌, ◌⊎◌, ℕ, List, ◌++◌, length, Option, Some, None, Result, Ok, Err, IfSome, codes}
+use Rattle.std.specs.Prelude.{[], ◌≡◌, ◌≤◌, ◌⊎◌, ℕ, List, ◌++◌, Option, Some, None, Result, Ok, Err, IfSome, codes}
 use Rattle.vyrd_base.specs.declared.header.Header.{Header}
 use Rattle.vyrd_base.specs.declared.verdict.Rule.{Rule}
 use Rattle.vyrd_base.specs.declared.verdict.Rule.TheVariants.{BlockRaced}
@@ -17,7 +17,7 @@ use Rattle.vyrd_live.specs.declared.run.Run.{Run}
 use Rattle.vyrd_live.specs.TurnRuns.{IsRunByTurns}
 use Rattle.vyrd_program.specs.declared.show.Show.{Show}
 use Rattle.vyrd_program.specs.declared.show.Show.TheVariants as shown
-use Rattle.vyrd_program.specs.Outputs.{status_of, Appends, AppendsFront}
+use Rattle.vyrd_program.specs.Outputs.{status_of}
 
 -- what is shown of a run: the verdict's line, or the log's text and then that line, or the history's text
 abbrev pub run_text : Show → Header → Run → List ℕ
@@ -44,23 +44,6 @@ pub record AnswersInput (show : Show) (input : Option (List ℕ)) (status : ℕ)
 -- the statuses with which a workload is answered
 abbrev pub IsStepStatus : ℕ → Type 0
 IsStepStatus status = (status ≤ 2) ⊎ (status ≡ 7) ⊎ (status ≡ 8)
-
--- the sink has taken the text of that answer
-pub record IsStepped (show : Show) (input : Option (List ℕ)) (status : ℕ) (run : Option Run) (before after : Option (List ℕ)) : Type 0 where
-  pub text : List ℕ
-  pub answers : AnswersInput show input status text run
-  pub written : Appends before after text
-
--- the sink has taken some of the first bytes of it
-pub record IsSteppedInPart (show : Show) (input : Option (List ℕ)) (run : Option Run) (before after : Option (List ℕ)) : Type 0 where
-  pub status : ℕ
-  pub text : List ℕ
-  pub answers : AnswersInput show input status text run
-  pub written : AppendsFront before after text
-
--- the sink has sure room for the text of any answer to the input
-abbrev pub HasRoomForStep : Show → Option (List ℕ) → ℕ → Type 0
-HasRoomForStep show input room = (status : ℕ) (text : List ℕ) (run : Option Run) → AnswersInput show input status text run → length text ≤ room
 
 -- a verdict that names a rule names that of raced blocks
 abbrev pub NamesOnlyRaces : Run → Type 0

@@ -1,8 +1,9 @@
 //! A log's check under a limit of lines, from the source to the sink.
 
-ghost use Rattle.std.specs.Prelude.{◌≡◌, ◌≢◌, ◌≤◌, ◌⊎◌, true, None};
+ghost use Rattle.std.specs.Prelude.{◌≡◌, ◌≤◌, ◌⊎◌, true};
 ghost use Rattle.vyrd_base.specs.Devices.{HasRisen, IsAtEnd};
 ghost use Rattle.vyrd_check.specs.Checking.{most_lines};
+ghost use Rattle.vyrd_program.specs.HandedOut.{HandsOutNothing};
 ghost use Rattle.vyrd_program.specs.Checks.{IsAnswered, IsAnsweredInPart, IsSettled, IsUnsettled, IsReadNoFurther, HasRoomForAnswer};
 
 use crate::check::check;
@@ -23,7 +24,7 @@ pub fn check_limited<S: Source, K: Sink>(
 ) -> Ended
     requires low { 1 ≤ max_lines }
     requires high { max_lines ≤ most_lines }
-    ensures statuses { (result.status ≤ 6) × (result.status ≢ 3) }
+    ensures statuses { (result.status ≤ 2) ⊎ (result.status ≡ 4) ⊎ (result.status ≡ 5) ⊎ (result.status ≡ 6) }
 
     // 0, 1 and 2: it has written the line of the verdict of all that the source held, and the status is that verdict's.
     ensures verdict { result.status ≤ 2 → IsAnswered max_lines (S.rest source.old) result.status (K.taken sink.old) (K.taken sink.new) }
@@ -44,13 +45,12 @@ pub fn check_limited<S: Source, K: Sink>(
     ensures write_fault { result.status ≡ 5 → HasRisen (K.faults sink.old) (K.faults sink.new) }
     ensures write_failures_alone { (K.faults sink.new ≡ K.faults sink.old) ⊎ (result.status ≡ 5) }
     ensures write_fault_stops { result.status ≡ 5 → K.taken sink.new ≡ K.left_off sink.new }
-    ensures write_fault_check { result.status ≡ 5 → IsAnsweredInPart max_lines (S.rest source.old) (K.taken sink.old) (K.taken sink.new) }
+    ensures answered_in_part { result.status ≡ 5 → IsAnsweredInPart max_lines (S.rest source.old) (K.taken sink.old) (K.taken sink.new) }
 
     // 6: there was no memory, and nothing was written.
     ensures memory { result.status ≡ 6 → K.taken sink.new ≡ K.taken sink.old }
 
-    ensures no_run { result.run ≡ None }
-    ensures no_overrun { result.spent ≡ None }
+    ensures handed_out { HandsOutNothing result.run result.spent }
 
     // No count falls, and over sure devices none rises.
     ensures source_counted { S.faults source.old ≤ S.faults source.new }

@@ -10,6 +10,7 @@ mod batch;
 #[cfg(test)]
 mod batch_tests;
 mod check;
+mod command;
 mod deliver;
 mod form;
 mod generate;

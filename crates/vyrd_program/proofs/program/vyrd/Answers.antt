@@ -1,70 +1,192 @@
--- What was written in part of the answer to generated operations: the status of that answer isn't the one of a failed write. And
--- that a correct structure is accepted.
-use Rattle.std.proofs.Common.{◌≡◌, ℕ, ◌≤◌, ap, ◌∙◌, sym, subst, arith, inl, inr, Option, Some}
-use Rattle.std.specs.Prelude.{◌≢◌, ◌⊎◌}
+-- What the call does under the form that the words have is what it does for the words.
+use Rattle.std.proofs.Common.{◌≡◌, ap, ◌∙◌, sym, subst, Some, false}
 use Rattle.vyrd_program.specs.declared.form.Form.{Form}
-use Rattle.vyrd_program.specs.declared.form.Form.TheVariants.{Gen}
-use Rattle.vyrd_program.specs.Generated.{IsGenStatus, IsGenAnswer}
-use Rattle.vyrd_program.specs.Steps.{IsStepStatus}
-use Rattle.vyrd_program.specs.Runs.{IsRunStatus}
-use Rattle.vyrd_program.proofs.EveryLaws.{step_is_accepted, run_is_accepted, run_is_unspent, gen_is_accepted, step_given, run_given, gen_given}
+use Rattle.vyrd_program.specs.declared.form.Form.TheVariants as asked
+use Rattle.vyrd_program.specs.Forms.{form_said}
+use Rattle.vyrd_program.specs.Commands.{reads, IsEnough, IsNoFurther}
+use Rattle.vyrd_program.proofs.CommandLaws.{written_status, no_usage, written_answer, written_in_part, text_fits, enough_taken, written_out, hands_out_nothing, checked_status, checked_untouched, checked_answer, checked_in_part, checked_enough, line_fits, usage_status, usage_answer, usage_in_part, usage_fits}
+use Rattle.vyrd_program.proofs.EveryWritten.{step_written, run_written, run_has_room, gen_written}
 use Rattle.vyrd_program.proofs.program.vyrd.Goals as goal
 
-same_count : (n m : ℕ) → ◌≡◌ {A = Form} (Gen n) (Gen m) → n ≡ m
-same_count n m e = cc
+-- `check`
+pub returns-in-Some-Check-clause-statuses : goal.returns-in-Some-Check-clause-statuses
+returns-in-Some-Check-clause-statuses g c =
+    let is = sym c.form_of.ensures.form ∙ c.in-Some-Check.is ∙ ap Some c.in-Some-Check.field-0-is in
+    checked_status (form_said c.args.words.now) c.check_limited.result.status is c.check_limited.ensures.statuses
 
-same_form : (a b : Form) → ◌≡◌ {A = Option Form} (Some a) (Some b) → a ≡ b
-same_form a b e = cc
+pub returns-in-Some-Check-clause-answered : goal.returns-in-Some-Check-clause-answered
+returns-in-Some-Check-clause-answered g c =
+    let is = sym c.form_of.ensures.form ∙ c.in-Some-Check.is ∙ ap Some c.in-Some-Check.field-0-is in
+    let ended = c.check_limited.result in
+    checked_answer (form_said c.args.words.now) (g.S.Source.rest c.args.source.now) (g.K.Sink.taken c.args.sink.now) (g.K.Sink.taken c.check_limited.new.sink)
+    ended.status ended.run ended.spent is c.check_limited.ensures.verdict
 
-pub returns-in-Some-Gen-clause-write_fault_gen : goal.returns-in-Some-Gen-clause-write_fault_gen
-returns-in-Some-Gen-clause-write_fault_gen g c = λ failed n is.
-    let answer = c.answer_generated-answer.result in
-    let six : answer.status ≡ 6 → ⊥ = λ e.
-    let five : answer.status ≡ 5 = sym (c.give-in-Some-Gen.ensures.silent (c.answer_generated-answer.ensures.silent e).0) ∙ failed in
-    omega (arith, e, five) in
-    let judged : IsGenStatus answer.status = elim c.answer_generated-answer.ensures.statuses [
-      | inl answered ↦ answered
-      | inr e ↦ absurd (six e)
-    ] in
-    let other : answer.status ≢ 5 = λ e. elim judged [ inl low ↦ omega (arith, low, e) | inr eight ↦ omega (arith, eight, e) ] in
-    let same : c.in-Some-Gen.count ≡ n =
-    same_count c.in-Some-Gen.count n (sym c.in-Some-Gen.field-0-is
-    ∙ same_form c.in-Some-Gen.field-0 (Gen n) (sym c.in-Some-Gen.is ∙ c.form_of.ensures.form ∙ is)) in
-    record {
-      status = answer.status;
-      text = answer.text.items;
-      answer = subst (λ run. IsGenAnswer n answer.status answer.text.items run) (sym c.give-in-Some-Gen.ensures.run)
-          (subst (λ n. IsGenAnswer n answer.status answer.text.items answer.run) same (c.answer_generated-answer.ensures.answer judged));
-      written = c.give-in-Some-Gen.ensures.in_part failed other;
-    }
+pub returns-in-Some-Check-clause-consumed : goal.returns-in-Some-Check-clause-consumed
+returns-in-Some-Check-clause-consumed g c =
+    let is = sym c.form_of.ensures.form ∙ c.in-Some-Check.is ∙ ap Some c.in-Some-Check.field-0-is in
+    checked_enough (form_said c.args.words.now) (g.S.Source.rest c.args.source.now) (g.S.Source.rest c.check_limited.new.source)
+    c.check_limited.result.status is c.check_limited.ensures.consumed
 
-pub returns-in-Some-Step-clause-every_step : goal.returns-in-Some-Step-clause-every_step
-returns-in-Some-Step-clause-every_step g c = λ log is says judged.
-    let answer = c.step-answer.result in
-    let same = step_given c.give.result.status answer.status judged c.give.ensures.statuses in
-    same ∙ step_is_accepted c.in-Some-Step.show _ answer.status answer.text.items answer.run says (c.step-answer.ensures.answers (subst IsStepStatus same judged))
+pub returns-in-Some-Check-clause-no_further : goal.returns-in-Some-Check-clause-no_further
+returns-in-Some-Check-clause-no_further g c =
+    let is = sym c.form_of.ensures.form ∙ c.in-Some-Check.is ∙ ap Some c.in-Some-Check.field-0-is in
+    subst (λ said. IsNoFurther said (g.S.Source.rest c.args.source.now) (g.S.Source.rest c.check_limited.new.source)) (sym is)
+    c.check_limited.ensures.no_further
 
-pub returns-in-Some-Run-clause-every_run : goal.returns-in-Some-Run-clause-every_run
-returns-in-Some-Run-clause-every_run g c = λ show is says judged.
-    let answer = c.run-answer.result in
-    let same = run_given c.give-in-Some-Run.result.status answer.status judged c.give-in-Some-Run.ensures.statuses in
-    subst (λ n. (n ≡ 0) ⊎ (n ≡ 9)) (sym same)
-    (run_is_accepted c.in-Some-Run.show _ answer.status answer.text.items answer.run answer.spent says
-    (c.run-answer.ensures.answers (subst IsRunStatus same judged)))
+pub returns-in-Some-Check-clause-untouched : goal.returns-in-Some-Check-clause-untouched
+returns-in-Some-Check-clause-untouched g c = λ isnt.
+    let is = sym c.form_of.ensures.form ∙ c.in-Some-Check.is ∙ ap Some c.in-Some-Check.field-0-is in
+    absurd (checked_untouched (form_said c.args.words.now) is isnt)
 
-pub returns-in-Some-Run-clause-run_has_room : goal.returns-in-Some-Run-clause-run_has_room
-returns-in-Some-Run-clause-run_has_room g c = λ show is says nine.
-    let answer = c.run-answer.result in
-    let judged : IsRunStatus c.give-in-Some-Run.result.status = inr (inr nine) in
-    let same = run_given c.give-in-Some-Run.result.status answer.status judged c.give-in-Some-Run.ensures.statuses in
-    run_is_unspent c.in-Some-Run.show _ answer.status answer.text.items answer.run answer.spent says
-    (c.run-answer.ensures.answers (subst IsRunStatus same judged)) (sym same ∙ nine)
+pub returns-in-Some-Check-clause-answered_in_part : goal.returns-in-Some-Check-clause-answered_in_part
+returns-in-Some-Check-clause-answered_in_part g c = λ five.
+    let is = sym c.form_of.ensures.form ∙ c.in-Some-Check.is ∙ ap Some c.in-Some-Check.field-0-is in
+    let ended = c.check_limited.result in
+    checked_in_part (form_said c.args.words.now) (g.S.Source.rest c.args.source.now) (g.K.Sink.taken c.args.sink.now) (g.K.Sink.taken c.check_limited.new.sink)
+    ended.run ended.spent is (c.check_limited.ensures.answered_in_part five)
 
-pub returns-in-Some-Gen-clause-every_gen : goal.returns-in-Some-Gen-clause-every_gen
-returns-in-Some-Gen-clause-every_gen g c = λ n is judged.
-    let answer = c.answer_generated-answer.result in
-    let same = gen_given c.give-in-Some-Gen.result.status answer.status judged c.give-in-Some-Gen.ensures.statuses in
-    same ∙ gen_is_accepted c.in-Some-Gen.count answer.status answer.text.items answer.run few (c.answer_generated-answer.ensures.answer (subst IsGenStatus same judged))
-  where
-    few : c.in-Some-Gen.count ≤ 200000
-    few = c.form_of.ensures.few c.in-Some-Gen.count (c.in-Some-Gen.is ∙ ap Some c.in-Some-Gen.field-0-is)
+pub returns-in-Some-Check-clause-handed_out : goal.returns-in-Some-Check-clause-handed_out
+returns-in-Some-Check-clause-handed_out g c =
+    let ended = c.check_limited.result in
+    hands_out_nothing (form_said c.args.words.now) ended.status ended.run ended.spent c.check_limited.ensures.handed_out
+
+pub returns-in-Some-Check-clause-sink_sure : goal.returns-in-Some-Check-clause-sink_sure
+returns-in-Some-Check-clause-sink_sure g c = λ room.
+    let is = sym c.form_of.ensures.form ∙ c.in-Some-Check.is ∙ ap Some c.in-Some-Check.field-0-is in
+    c.check_limited.ensures.sink_sure
+    (line_fits (form_said c.args.words.now) (g.S.Source.rest c.args.source.now) (g.K.Sink.sure_room c.args.sink.now) is room)
+
+-- every other form
+pub returns-in-Some-clause-statuses : goal.returns-in-Some-clause-statuses
+returns-in-Some-clause-statuses g c =
+    let is = sym c.form_of.ensures.form ∙ c.in-Some.is in
+    written_status (form_said c.args.words.now) c.in-Some.form c.give.result.status c.carry_out-answer.result.status is
+    c.give.ensures.statuses c.carry_out-answer.ensures.statuses
+
+pub returns-in-Some-clause-answered : goal.returns-in-Some-clause-answered
+returns-in-Some-clause-answered g c =
+    let is = sym c.form_of.ensures.form ∙ c.in-Some.is in
+    let answer = c.carry_out-answer.result in
+    let ended = c.give.result in
+    written_answer (form_said c.args.words.now) c.in-Some.form (g.S.Source.rest c.args.source.now) (g.K.Sink.taken c.args.sink.now) (g.K.Sink.taken c.give.new.sink)
+    ended.status answer.status answer.text.items ended.run answer.run ended.spent answer.spent is c.give.ensures.run c.give.ensures.spent
+    c.give.ensures.statuses c.carry_out-answer.ensures.answer c.give.ensures.given
+
+pub returns-in-Some-clause-consumed : goal.returns-in-Some-clause-consumed
+returns-in-Some-clause-consumed g c =
+    let is = sym c.form_of.ensures.form ∙ c.in-Some.is in
+    enough_taken (form_said c.args.words.now) c.in-Some.form (g.S.Source.rest c.args.source.now) (g.S.Source.rest c.carry_out-answer.new.source)
+    c.give.result.status c.carry_out-answer.result.status is c.give.ensures.statuses c.carry_out-answer.ensures.consumed
+
+pub returns-in-Some-clause-no_further : goal.returns-in-Some-clause-no_further
+returns-in-Some-clause-no_further g c =
+    let is = sym c.form_of.ensures.form ∙ c.in-Some.is in
+    subst (λ said. IsNoFurther said (g.S.Source.rest c.args.source.now) (g.S.Source.rest c.carry_out-answer.new.source)) (sym is)
+    c.carry_out-answer.ensures.no_further
+
+pub returns-in-Some-clause-untouched : goal.returns-in-Some-clause-untouched
+returns-in-Some-clause-untouched g c = λ isnt.
+    let is = sym c.form_of.ensures.form ∙ c.in-Some.is in
+    c.carry_out-answer.ensures.untouched (subst (λ said. reads said ≡ false) is isnt)
+
+pub returns-in-Some-clause-every_step : goal.returns-in-Some-clause-every_step
+returns-in-Some-clause-every_step g c = λ show known.
+    let is = sym c.form_of.ensures.form ∙ c.in-Some.is in
+    let answer = c.carry_out-answer.result in
+    step_written (form_said c.args.words.now) c.in-Some.form show (g.S.Source.rest c.args.source.now) c.give.result.status answer.status answer.text.items
+    answer.run answer.spent is known c.carry_out-answer.ensures.answer c.give.ensures.statuses
+
+pub returns-in-Some-clause-every_run : goal.returns-in-Some-clause-every_run
+returns-in-Some-clause-every_run g c = λ show known.
+    let is = sym c.form_of.ensures.form ∙ c.in-Some.is in
+    let answer = c.carry_out-answer.result in
+    run_written (form_said c.args.words.now) c.in-Some.form show (g.S.Source.rest c.args.source.now) c.give.result.status answer.status answer.text.items
+    answer.run answer.spent is known c.carry_out-answer.ensures.answer c.give.ensures.statuses
+
+pub returns-in-Some-clause-run_has_room : goal.returns-in-Some-clause-run_has_room
+returns-in-Some-clause-run_has_room g c = λ show known.
+    let is = sym c.form_of.ensures.form ∙ c.in-Some.is in
+    let answer = c.carry_out-answer.result in
+    run_has_room (form_said c.args.words.now) c.in-Some.form show (g.S.Source.rest c.args.source.now) c.give.result.status answer.status answer.text.items
+    answer.run answer.spent is known c.carry_out-answer.ensures.answer c.give.ensures.statuses
+
+pub returns-in-Some-clause-every_gen : goal.returns-in-Some-clause-every_gen
+returns-in-Some-clause-every_gen g c = λ n known.
+    let is = sym c.form_of.ensures.form ∙ c.in-Some.is in
+    let answer = c.carry_out-answer.result in
+    gen_written (form_said c.args.words.now) c.in-Some.form n (g.S.Source.rest c.args.source.now) c.give.result.status answer.status answer.text.items
+    answer.run answer.spent is known c.carry_out-answer.ensures.answer c.give.ensures.statuses (c.form_of.ensures.few n (c.form_of.ensures.form ∙ known))
+
+pub returns-in-Some-clause-usage_form : goal.returns-in-Some-clause-usage_form
+returns-in-Some-clause-usage_form g c = λ three.
+    let is = sym c.form_of.ensures.form ∙ c.in-Some.is in
+    absurd (no_usage (form_said c.args.words.now) c.in-Some.form c.give.result.status c.carry_out-answer.result.status is
+    c.give.ensures.statuses c.carry_out-answer.ensures.statuses three)
+
+pub returns-in-Some-clause-answered_in_part : goal.returns-in-Some-clause-answered_in_part
+returns-in-Some-clause-answered_in_part g c =
+    let is = sym c.form_of.ensures.form ∙ c.in-Some.is in
+    let answer = c.carry_out-answer.result in
+    let ended = c.give.result in
+    written_in_part (form_said c.args.words.now) c.in-Some.form (g.S.Source.rest c.args.source.now) (g.K.Sink.taken c.args.sink.now) (g.K.Sink.taken c.give.new.sink)
+    ended.status answer.status answer.text.items ended.run answer.run ended.spent answer.spent is c.give.ensures.run c.give.ensures.spent
+    c.carry_out-answer.ensures.statuses c.carry_out-answer.ensures.unwritten c.carry_out-answer.ensures.silent c.carry_out-answer.ensures.answer
+    c.give.ensures.silent c.give.ensures.in_part
+
+pub returns-in-Some-clause-handed_out : goal.returns-in-Some-clause-handed_out
+returns-in-Some-clause-handed_out g c =
+    let is = sym c.form_of.ensures.form ∙ c.in-Some.is in
+    let answer = c.carry_out-answer.result in
+    let ended = c.give.result in
+    written_out (form_said c.args.words.now) c.in-Some.form ended.status answer.status ended.run answer.run ended.spent answer.spent is
+    c.give.ensures.run c.give.ensures.spent c.give.ensures.statuses c.carry_out-answer.ensures.statuses c.carry_out-answer.ensures.unplayed
+    c.carry_out-answer.ensures.no_workload c.carry_out-answer.ensures.no_limit
+
+pub returns-in-Some-clause-sink_sure : goal.returns-in-Some-clause-sink_sure
+returns-in-Some-clause-sink_sure g c = λ room.
+    let is = sym c.form_of.ensures.form ∙ c.in-Some.is in
+    let answer = c.carry_out-answer.result in
+    c.give.ensures.sure (text_fits (form_said c.args.words.now) c.in-Some.form (g.S.Source.rest c.args.source.now) answer.status
+    (g.K.Sink.sure_room c.args.sink.now) answer.text.items answer.run answer.spent is
+    c.carry_out-answer.ensures.statuses c.carry_out-answer.ensures.unwritten c.carry_out-answer.ensures.silent c.carry_out-answer.ensures.answer room)
+
+-- words that are none of the forms
+pub returns-in-None-clause-statuses : goal.returns-in-None-clause-statuses
+returns-in-None-clause-statuses g c =
+    let is = sym c.form_of.ensures.form ∙ c.in-None.is in
+    usage_status (form_said c.args.words.now) c.give_usage.result.status is c.give_usage.ensures.statuses
+
+pub returns-in-None-clause-answered : goal.returns-in-None-clause-answered
+returns-in-None-clause-answered g c =
+    let is = sym c.form_of.ensures.form ∙ c.in-None.is in
+    let ended = c.give_usage.result in
+    usage_answer (form_said c.args.words.now) (g.S.Source.rest c.args.source.now) (g.K.Sink.taken c.args.sink.now) (g.K.Sink.taken c.give_usage.new.sink)
+    ended.status ended.run ended.spent is c.give_usage.ensures.given
+
+pub returns-in-None-clause-consumed : goal.returns-in-None-clause-consumed
+returns-in-None-clause-consumed g c = λ answered.
+    let is = sym c.form_of.ensures.form ∙ c.in-None.is in
+    subst (λ said. IsEnough said (g.S.Source.rest c.args.source.now) (g.S.Source.rest c.args.source.now)) (sym is) tt
+
+pub returns-in-None-clause-no_further : goal.returns-in-None-clause-no_further
+returns-in-None-clause-no_further g c =
+    let is = sym c.form_of.ensures.form ∙ c.in-None.is in
+    subst (λ said. IsNoFurther said (g.S.Source.rest c.args.source.now) (g.S.Source.rest c.args.source.now)) (sym is) tt
+
+pub returns-in-None-clause-answered_in_part : goal.returns-in-None-clause-answered_in_part
+returns-in-None-clause-answered_in_part g c = λ five.
+    let is = sym c.form_of.ensures.form ∙ c.in-None.is in
+    let ended = c.give_usage.result in
+    usage_in_part (form_said c.args.words.now) (g.S.Source.rest c.args.source.now) (g.K.Sink.taken c.args.sink.now) (g.K.Sink.taken c.give_usage.new.sink)
+    ended.run ended.spent is (c.give_usage.ensures.in_part five)
+
+pub returns-in-None-clause-handed_out : goal.returns-in-None-clause-handed_out
+returns-in-None-clause-handed_out g c =
+    let ended = c.give_usage.result in
+    hands_out_nothing (form_said c.args.words.now) ended.status ended.run ended.spent
+    (record { no_run = c.give_usage.ensures.run; no_overrun = c.give_usage.ensures.spent })
+
+pub returns-in-None-clause-sink_sure : goal.returns-in-None-clause-sink_sure
+returns-in-None-clause-sink_sure g c = λ room.
+    let is = sym c.form_of.ensures.form ∙ c.in-None.is in
+    c.give_usage.ensures.sure (usage_fits (form_said c.args.words.now) (g.S.Source.rest c.args.source.now) (g.K.Sink.sure_room c.args.sink.now) is room)

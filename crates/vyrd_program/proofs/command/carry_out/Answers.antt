@@ -1,0 +1,109 @@
+-- What is answered to words of a form is what the form's own call answers.
+use Rattle.std.proofs.Common.{◌≡◌, sym, subst, refl, Some, false}
+use Rattle.vyrd_program.specs.declared.form.Form.{Form}
+use Rattle.vyrd_program.specs.declared.form.Form.TheVariants as asked
+use Rattle.vyrd_program.specs.Commands.{IsStatus, IsAnswerStatus, IsAnswer, IsEnough, IsNoFurther}
+use Rattle.vyrd_program.proofs.CommandLaws.{read_status, made_status, reads_on, plays_on, plays_live_on}
+use Rattle.vyrd_program.proofs.command.carry_out.Goals as goal
+
+pub returns-in-Step-clause-statuses : goal.returns-in-Step-clause-statuses
+returns-in-Step-clause-statuses g c = subst (λ form. IsStatus (Some form) c.step.result.status) (sym c.in-Step.is) (read_status (asked.Step c.in-Step.show) c.step.result.status refl c.step.ensures.statuses)
+
+pub returns-in-Step-clause-answer : goal.returns-in-Step-clause-answer
+returns-in-Step-clause-answer g c =
+    subst (λ form. IsAnswerStatus (Some form) c.step.result.status → IsAnswer (Some form) (g.S.Source.rest c.args.source.now) c.step.result.status c.step.result.text.items c.step.result.run c.step.result.spent)
+    (sym c.in-Step.is) c.step.ensures.answers
+
+pub returns-in-Step-clause-consumed : goal.returns-in-Step-clause-consumed
+returns-in-Step-clause-consumed g c =
+    subst (λ form. IsAnswerStatus (Some form) c.step.result.status → IsEnough (Some form) (g.S.Source.rest c.args.source.now) (g.S.Source.rest c.step.new.source))
+    (sym c.in-Step.is) c.step.ensures.consumed
+
+pub returns-in-Step-clause-no_further : goal.returns-in-Step-clause-no_further
+returns-in-Step-clause-no_further g c = subst (λ form. IsNoFurther (Some form) (g.S.Source.rest c.args.source.now) (g.S.Source.rest c.step.new.source)) (sym c.in-Step.is) c.step.ensures.few
+
+pub returns-in-Step-clause-untouched : goal.returns-in-Step-clause-untouched
+returns-in-Step-clause-untouched g c = λ isnt. absurd (reads_on c.args.form (asked.Step c.in-Step.show) c.in-Step.is refl isnt)
+
+pub returns-in-Step-clause-no_workload : goal.returns-in-Step-clause-no_workload
+returns-in-Step-clause-no_workload g c = λ isnt. absurd (plays_on c.args.form (asked.Step c.in-Step.show) c.in-Step.is refl isnt)
+
+pub returns-in-Run-clause-statuses : goal.returns-in-Run-clause-statuses
+returns-in-Run-clause-statuses g c = subst (λ form. IsStatus (Some form) c.run.result.status) (sym c.in-Run.is) (read_status (asked.Run c.in-Run.show) c.run.result.status refl c.run.ensures.statuses)
+
+pub returns-in-Run-clause-answer : goal.returns-in-Run-clause-answer
+returns-in-Run-clause-answer g c =
+    subst (λ form. IsAnswerStatus (Some form) c.run.result.status → IsAnswer (Some form) (g.S.Source.rest c.args.source.now) c.run.result.status c.run.result.text.items c.run.result.run c.run.result.spent)
+    (sym c.in-Run.is) c.run.ensures.answers
+
+pub returns-in-Run-clause-consumed : goal.returns-in-Run-clause-consumed
+returns-in-Run-clause-consumed g c =
+    subst (λ form. IsAnswerStatus (Some form) c.run.result.status → IsEnough (Some form) (g.S.Source.rest c.args.source.now) (g.S.Source.rest c.run.new.source))
+    (sym c.in-Run.is) c.run.ensures.consumed
+
+pub returns-in-Run-clause-no_further : goal.returns-in-Run-clause-no_further
+returns-in-Run-clause-no_further g c = subst (λ form. IsNoFurther (Some form) (g.S.Source.rest c.args.source.now) (g.S.Source.rest c.run.new.source)) (sym c.in-Run.is) c.run.ensures.few
+
+pub returns-in-Run-clause-untouched : goal.returns-in-Run-clause-untouched
+returns-in-Run-clause-untouched g c = λ isnt. absurd (reads_on c.args.form (asked.Run c.in-Run.show) c.in-Run.is refl isnt)
+
+pub returns-in-Run-clause-no_workload : goal.returns-in-Run-clause-no_workload
+returns-in-Run-clause-no_workload g c = λ isnt. absurd (plays_on c.args.form (asked.Run c.in-Run.show) c.in-Run.is refl isnt)
+
+pub returns-in-Run-clause-no_limit : goal.returns-in-Run-clause-no_limit
+returns-in-Run-clause-no_limit g c = λ isnt. absurd (plays_live_on c.args.form (asked.Run c.in-Run.show) c.in-Run.is refl isnt)
+
+pub returns-in-Gen-clause-statuses : goal.returns-in-Gen-clause-statuses
+returns-in-Gen-clause-statuses g c = subst (λ form. IsStatus (Some form) c.answer_generated.result.status) (sym c.in-Gen.is) (made_status (asked.Gen c.in-Gen.count) c.answer_generated.result.status c.answer_generated.ensures.statuses)
+
+pub returns-in-Gen-clause-answer : goal.returns-in-Gen-clause-answer
+returns-in-Gen-clause-answer g c =
+    subst (λ form. IsAnswerStatus (Some form) c.answer_generated.result.status → IsAnswer (Some form) (g.S.Source.rest c.args.source.now) c.answer_generated.result.status c.answer_generated.result.text.items c.answer_generated.result.run c.answer_generated.result.spent)
+    (sym c.in-Gen.is) c.answer_generated.ensures.answer
+
+pub returns-in-Gen-clause-consumed : goal.returns-in-Gen-clause-consumed
+returns-in-Gen-clause-consumed g c = λ answered. subst (λ form. IsEnough (Some form) (g.S.Source.rest c.args.source.now) (g.S.Source.rest c.args.source.now)) (sym c.in-Gen.is) tt
+
+pub returns-in-Gen-clause-no_further : goal.returns-in-Gen-clause-no_further
+returns-in-Gen-clause-no_further g c = subst (λ form. IsNoFurther (Some form) (g.S.Source.rest c.args.source.now) (g.S.Source.rest c.args.source.now)) (sym c.in-Gen.is) tt
+
+pub returns-in-Gen-clause-no_workload : goal.returns-in-Gen-clause-no_workload
+returns-in-Gen-clause-no_workload g c = λ isnt. absurd (plays_on c.args.form (asked.Gen c.in-Gen.count) c.in-Gen.is refl isnt)
+
+pub returns-in-Movers-clause-statuses : goal.returns-in-Movers-clause-statuses
+returns-in-Movers-clause-statuses g c = subst (λ form. IsStatus (Some form) c.movers.result.status) (sym c.in-Movers.is) (read_status asked.Movers c.movers.result.status refl c.movers.ensures.statuses)
+
+pub returns-in-Movers-clause-answer : goal.returns-in-Movers-clause-answer
+returns-in-Movers-clause-answer g c =
+    subst (λ form. IsAnswerStatus (Some form) c.movers.result.status → IsAnswer (Some form) (g.S.Source.rest c.args.source.now) c.movers.result.status c.movers.result.text.items c.movers.result.run c.movers.result.spent)
+    (sym c.in-Movers.is) c.movers.ensures.answers
+
+pub returns-in-Movers-clause-consumed : goal.returns-in-Movers-clause-consumed
+returns-in-Movers-clause-consumed g c =
+    subst (λ form. IsAnswerStatus (Some form) c.movers.result.status → IsEnough (Some form) (g.S.Source.rest c.args.source.now) (g.S.Source.rest c.movers.new.source))
+    (sym c.in-Movers.is) c.movers.ensures.consumed
+
+pub returns-in-Movers-clause-no_further : goal.returns-in-Movers-clause-no_further
+returns-in-Movers-clause-no_further g c = subst (λ form. IsNoFurther (Some form) (g.S.Source.rest c.args.source.now) (g.S.Source.rest c.movers.new.source)) (sym c.in-Movers.is) c.movers.ensures.few
+
+pub returns-in-Movers-clause-untouched : goal.returns-in-Movers-clause-untouched
+returns-in-Movers-clause-untouched g c = λ isnt. absurd (reads_on c.args.form asked.Movers c.in-Movers.is refl isnt)
+
+pub returns-in-Batch-clause-statuses : goal.returns-in-Batch-clause-statuses
+returns-in-Batch-clause-statuses g c = subst (λ form. IsStatus (Some form) c.batch.result.status) (sym c.in-Batch.is) (read_status asked.Batch c.batch.result.status refl c.batch.ensures.statuses)
+
+pub returns-in-Batch-clause-answer : goal.returns-in-Batch-clause-answer
+returns-in-Batch-clause-answer g c =
+    subst (λ form. IsAnswerStatus (Some form) c.batch.result.status → IsAnswer (Some form) (g.S.Source.rest c.args.source.now) c.batch.result.status c.batch.result.text.items c.batch.result.run c.batch.result.spent)
+    (sym c.in-Batch.is) c.batch.ensures.answers
+
+pub returns-in-Batch-clause-consumed : goal.returns-in-Batch-clause-consumed
+returns-in-Batch-clause-consumed g c =
+    subst (λ form. IsAnswerStatus (Some form) c.batch.result.status → IsEnough (Some form) (g.S.Source.rest c.args.source.now) (g.S.Source.rest c.batch.new.source))
+    (sym c.in-Batch.is) c.batch.ensures.consumed
+
+pub returns-in-Batch-clause-no_further : goal.returns-in-Batch-clause-no_further
+returns-in-Batch-clause-no_further g c = subst (λ form. IsNoFurther (Some form) (g.S.Source.rest c.args.source.now) (g.S.Source.rest c.batch.new.source)) (sym c.in-Batch.is) c.batch.ensures.few
+
+pub returns-in-Batch-clause-untouched : goal.returns-in-Batch-clause-untouched
+returns-in-Batch-clause-untouched g c = λ isnt. absurd (reads_on c.args.form asked.Batch c.in-Batch.is refl isnt)

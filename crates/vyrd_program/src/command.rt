@@ -1,0 +1,59 @@
+//! What words of a form are answered, made ready before its first byte is written.
+
+ghost use Rattle.std.specs.Prelude.{◌≡◌, ◌≢◌, ◌≤◌, ◌⊎◌, ℕ, true, false, [], Some, None, IfSome};
+ghost use Rattle.vyrd_base.specs.Devices.{HasRisen};
+ghost use Rattle.vyrd_program.specs.declared.form.Form.TheVariants.{Check, Gen};
+ghost use Rattle.vyrd_program.specs.Commands.{IsStatus, IsAnswerStatus, IsAnswer, reads, IsEnough, IsNoFurther};
+ghost use Rattle.vyrd_program.specs.HandedOut.{HandsOutNothing, plays, plays_live};
+ghost use Rattle.vyrd_program.specs.Steps.{NamesOnlyRaces};
+
+use crate::answer::Answer;
+use crate::batch::batch;
+use crate::form::Form;
+use crate::generate::answer_generated;
+use crate::movers::movers;
+use crate::run::run;
+use crate::step::step;
+use std::alloc::Global;
+use std::sync::Wait;
+use std::thread::Threads;
+use vyrd_base::{Gate, Source};
+
+/// The answer to words of any other form than `check`; or nothing after a failed read or out of memory.
+pub(crate) fn carry_out<R: Threads + Wait + Sync, S: Source, G: Gate>(
+    rt: &R,
+    alloc: Global,
+    form: Form,
+    source: &mut S,
+    gate: &G,
+) -> Answer
+    requires other { form ≢ Check }
+    requires some { (n : ℕ) → form ≡ Gen n → 1 ≤ n }
+    requires few { (n : ℕ) → form ≡ Gen n → n ≤ 200000 }
+    ensures statuses { IsStatus (Some form) result.status }
+    ensures unwritten { result.status ≢ 5 }
+    ensures answer { IsAnswerStatus (Some form) result.status →
+        IsAnswer (Some form) (S.rest source.old) result.status result.text.items result.run result.spent }
+    ensures consumed { IsAnswerStatus (Some form) result.status → IsEnough (Some form) (S.rest source.old) (S.rest source.new) }
+    ensures no_further { IsNoFurther (Some form) (S.rest source.old) (S.rest source.new) }
+    ensures untouched { reads (Some form) ≡ false → source.new ≡ source.old }
+    ensures races { IfSome result.run NamesOnlyRaces }
+    ensures silent { (result.status ≡ 4) ⊎ (result.status ≡ 6) → result.text.items ≡ [] }
+    ensures unplayed { (result.status ≡ 4) ⊎ (result.status ≡ 6) → HandsOutNothing result.run result.spent }
+    ensures no_workload { plays (Some form) ≡ false → HandsOutNothing result.run result.spent }
+    ensures no_limit { plays_live (Some form) ≡ false → result.spent ≡ None }
+    ensures cause { result.status ≡ 4 → HasRisen (S.faults source.old) (S.faults source.new) }
+    ensures stopped { result.status ≡ 4 → S.rest source.new ≡ S.left_off source.new }
+    ensures failures_alone { (S.faults source.new ≡ S.faults source.old) ⊎ (result.status ≡ 4) }
+    ensures counted { S.faults source.old ≤ S.faults source.new }
+    ensures sure { S.is_sure source.old ≡ true → S.faults source.new ≡ S.faults source.old }
+{
+    match form {
+        Form::Check => unreachable!(),
+        Form::Step { show } => step(alloc, show, source),
+        Form::Run { show } => run(rt, alloc, show, source, gate),
+        Form::Gen { count } => answer_generated(alloc, count),
+        Form::Movers => movers(alloc, source),
+        Form::Batch => batch(rt, alloc, source),
+    }
+}
