@@ -1,13 +1,11 @@
 //! Inputs that are meant to do harm, devices that fail at each call, and logs at their limit of lines.
 
+ghost use Rattle.std.specs.Prelude.{◌<◌};
+
+use crate::case::{Case, Devices};
 use crate::limited::check_limited;
-use crate::program::vyrd;
-use std::alloc::{AllocError, Global};
-use std::process::Abort;
-use std::sync::Wait;
 use std::test::*;
-use std::thread::Threads;
-use vyrd_base::{MemorySink, MemorySource, OpenGate};
+use vyrd_base::{MemorySink, MemorySource};
 
 /// The most bytes that a sink takes here. No answer is as long.
 const ROOM: usize = 128;
@@ -22,57 +20,55 @@ const DELETED: &[u8] = b"vyrd 1 multiset 1 1\n0 call delete 5\n0 commit\n0 retur
 
 const DELETED_NOTHING: &[u8] = b"vyrd 1 multiset 1 1\n0 call delete 5\n0 commit\n0 return 1\nend\n";
 
-/// What the words are answered over these bytes, which come in reads of at most 16, in writes of at most 5.
-#[derive(Drop)]
-struct Outcome {
-    status: u8,
-    sink: MemorySink,
+const NOT_ALLOWED: &[u8] = b"violation at line 3: reply 1 not allowed\n";
+
+/// How many bytes a write takes at most.
+const LONGEST_WRITE: usize = 5;
+
+/// Reads of 16 bytes and writes of 5, of which these fail.
+fn failing<'a>(failing_reads: &'a [u64], failing_writes: &'a [u64]) -> Devices<'a>
+    ensures reads { 0 < result.longest_read }
+    ensures writes { 0 < result.longest_write }
+{
+    Devices {
+        longest_read: 16,
+        failing_reads,
+        longest_write: LONGEST_WRITE,
+        failing_writes,
+    }
 }
 
-fn run<R: Threads + Wait + Sync>(
-    rt: &R,
-    alloc: Global,
-    words: &[&str],
-    bytes: &[u8],
-    failing_reads: &[u64],
-    failing_writes: &[u64],
-) -> Result<Outcome, AllocError> {
-    let mut source = MemorySource::new(alloc, bytes, 16, failing_reads)?;
-    let mut sink = MemorySink::new(alloc, ROOM, 5, failing_writes)?;
-    let ended = vyrd(rt, alloc, words, &mut source, &mut sink, &OpenGate);
-    Ok(Outcome {
-        status: ended.status,
-        sink,
-    })
+/// A log under `check`, and what the program answers to it.
+fn checked<'a>(name: &'a str, input: &'a [u8], status: u8, answer: &'a [u8]) -> Case<'a> {
+    Case {
+        name,
+        words: CHECK,
+        input,
+        status,
+        answer,
+    }
 }
 
 /// The log's verdict stands with its fourth read, and a fifth isn't made.
 #[test]
 fn each_read_fails_once(rt: HostRuntime) -> Result<(), Fail> {
+    let alloc = rt.alloc();
     for k in 1..=4_u64 {
-        let ended = run(&rt, rt.alloc(), CHECK, UNWRITTEN, &[k], &[])?;
-        assert_eq!(rt;
-            (ended.status, ended.sink.taken()),
-            (4, b"".as_slice()),
-            "read {k}"
-        );
+        let name = format!(in alloc; "read {k}")?;
+        checked(&name, UNWRITTEN, 4, b"").assert_over(&rt, alloc, &failing(&[k], &[]))?;
     }
-    let ended = run(&rt, rt.alloc(), CHECK, UNWRITTEN, &[5], &[])?;
-    assert_eq!(rt; (ended.status, ended.sink.taken()), (1, VIOLATED));
-    Ok(())
+    let decided = checked("read 5", UNWRITTEN, 1, VIOLATED);
+    decided.assert_over(&rt, alloc, &failing(&[5], &[]))
 }
 
 /// The answer has 43 bytes, so nine writes.
 #[test]
 fn each_write_fails_once(rt: HostRuntime) -> Result<(), Fail> {
+    let alloc = rt.alloc();
     for k in 1..=9_u64 {
-        let ended = run(&rt, rt.alloc(), CHECK, UNWRITTEN, &[], &[k])?;
-        let written = 5 * (k as usize - 1);
-        assert_eq!(rt;
-            (ended.status, ended.sink.taken()),
-            (5, &VIOLATED[..written]),
-            "write {k}"
-        );
+        let name = format!(in alloc; "write {k}")?;
+        let written = &VIOLATED[..LONGEST_WRITE * (k as usize - 1)];
+        checked(&name, UNWRITTEN, 5, written).assert_over(&rt, alloc, &failing(&[], &[k]))?;
     }
     Ok(())
 }
@@ -80,23 +76,28 @@ fn each_write_fails_once(rt: HostRuntime) -> Result<(), Fail> {
 /// The read behind the one that says the end would fail. It isn't made: not for a log, and not for a workload.
 #[test]
 fn no_read_behind_the_end(rt: HostRuntime) -> Result<(), Fail> {
-    let ended = run(&rt, rt.alloc(), CHECK, DELETED, &[6], &[])?;
-    assert_eq!(rt; ended.status, 0);
-    let work = b"work multiset 1 1 correct\nop 0 lookup 5\nend\n";
-    let ended = run(&rt, rt.alloc(), &["step"], work, &[5], &[])?;
-    assert_eq!(rt; ended.status, 0);
-    let ended = run(&rt, rt.alloc(), &["step"], work, &[4], &[])?;
-    assert_eq!(rt; ended.status, 4);
-    Ok(())
-}
-
-/// A workload whose first read fails.
-#[test]
-fn read_of_a_workload_that_fails(rt: HostRuntime) -> Result<(), Fail> {
-    let work =
-        b"work multiset 1 2 broken\nop 0 insert 5\nop 1 insert 6\nturn 0 2\nturn 1 10\nend\n";
-    let ended = run(&rt, rt.alloc(), &["step"], work, &[1], &[])?;
-    assert_eq!(rt; (ended.status, ended.sink.taken()), (4, b"".as_slice()));
+    let alloc = rt.alloc();
+    let accepted = b"accepted: 3 entries, 1 commits, 0 observers\n";
+    let log = checked("log", DELETED, 0, accepted);
+    log.assert_over(&rt, alloc, &failing(&[6], &[]))?;
+    let table = [
+        (
+            5,
+            0,
+            b"accepted: 2 entries, 0 commits, 1 observers\n".as_slice(),
+        ),
+        (4, 4, b""),
+    ];
+    for (failing_read, status, answer) in table {
+        let work = Case {
+            name: "workload",
+            words: &["step"],
+            input: b"work multiset 1 1 correct\nop 0 lookup 5\nend\n",
+            status,
+            answer,
+        };
+        work.assert_over(&rt, alloc, &failing(&[failing_read], &[]))?;
+    }
     Ok(())
 }
 
@@ -105,11 +106,7 @@ fn read_of_a_workload_that_fails(rt: HostRuntime) -> Result<(), Fail> {
 fn logs_of_too_many_lines(rt: HostRuntime) -> Result<(), Fail> {
     let table: [(&[u8], u8, &[u8]); 2] = [
         (DELETED, 2, b"malformed at line 5: too many lines\n"),
-        (
-            DELETED_NOTHING,
-            1,
-            b"violation at line 3: reply 1 not allowed\n",
-        ),
+        (DELETED_NOTHING, 1, NOT_ALLOWED),
     ];
     for (log, status, answer) in table {
         let mut source = MemorySource::new(rt.alloc(), log, ROOM, &[])?;
@@ -122,18 +119,15 @@ fn logs_of_too_many_lines(rt: HostRuntime) -> Result<(), Fail> {
 
 #[test]
 fn each_byte_alone(rt: HostRuntime) -> Result<(), Fail> {
+    let alloc = rt.alloc();
     for byte in 0..=255_u8 {
         let answer: &[u8] = if byte == b'\n' {
             b"malformed at line 1: bad header\n"
         } else {
             b"malformed at line 1: no line feed\n"
         };
-        let ended = run(&rt, rt.alloc(), CHECK, &[byte], &[], &[])?;
-        assert_eq!(rt;
-            (ended.status, ended.sink.taken()),
-            (2, answer),
-            "byte {byte}"
-        );
+        let name = format!(in alloc; "byte {byte}")?;
+        checked(&name, &[byte], 2, answer).assert_over(&rt, alloc, &failing(&[], &[]))?;
     }
     Ok(())
 }
@@ -142,23 +136,16 @@ fn each_byte_alone(rt: HostRuntime) -> Result<(), Fail> {
 fn a_million_bytes_of_one_line(rt: HostRuntime) -> Result<(), Fail> {
     let mut log = Vec::new(rt.alloc());
     log.resize(1_000_000, b'x')?;
-    let ended = run(&rt, rt.alloc(), CHECK, &log, &[], &[])?;
-    assert_eq!(rt;
-        (ended.status, ended.sink.taken()),
-        (2, b"malformed at line 1: bad header\n".as_slice())
-    );
-    Ok(())
+    let case = checked("long line", &log, 2, b"malformed at line 1: bad header\n");
+    case.assert_over(&rt, rt.alloc(), &failing(&[], &[]))
 }
 
 /// A delete commits first and returns last, behind ten thousand other deletes.
 #[test]
 fn ten_thousand_wait_for_one(rt: HostRuntime) -> Result<(), Fail> {
+    let alloc = rt.alloc();
     let table: [(&[u8], u8, &[u8]); 2] = [
-        (
-            b"0 return 1\nend\n",
-            1,
-            b"violation at line 3: reply 1 not allowed\n",
-        ),
+        (b"0 return 1\nend\n", 1, NOT_ALLOWED),
         (
             b"0 return 0\nend\n",
             0,
@@ -166,14 +153,13 @@ fn ten_thousand_wait_for_one(rt: HostRuntime) -> Result<(), Fail> {
         ),
     ];
     for (last, status, answer) in table {
-        let mut log = Vec::new(rt.alloc());
+        let mut log = Vec::new(alloc);
         log.extend_from_slice(b"vyrd 1 multiset 1 2\n0 call delete 5\n0 commit\n")?;
         for _ in 0..10_000 {
             log.extend_from_slice(b"1 call delete 6\n1 commit\n1 return 0\n")?;
         }
         log.extend_from_slice(last)?;
-        let ended = run(&rt, rt.alloc(), CHECK, &log, &[], &[])?;
-        assert_eq!(rt; (ended.status, ended.sink.taken()), (status, answer));
+        checked("waiting", &log, status, answer).assert_over(&rt, alloc, &failing(&[], &[]))?;
     }
     Ok(())
 }

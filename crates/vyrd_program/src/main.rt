@@ -9,6 +9,8 @@ mod answer;
 mod batch;
 #[cfg(test)]
 mod batch_tests;
+#[cfg(test)]
+mod case;
 mod check;
 mod command;
 mod deliver;

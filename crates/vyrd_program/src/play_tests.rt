@@ -1,198 +1,81 @@
-//! What the top call answers on worked workloads, and on live runs.
+//! What the top call answers to workloads, by turns and on threads.
 
+use crate::case::{BYTE_BY_BYTE, Case};
 use crate::program::vyrd;
 use std::alloc::{AllocError, Global};
-use std::process::Abort;
-use std::sync::Wait;
 use std::test::*;
-use std::thread::Threads;
 use vyrd_base::{Did, MemorySink, MemorySource, OpenGate, Stamped, Verdict};
 
 /// The most bytes that a sink takes here. No answer is as long.
 const ROOM: usize = 4096;
 
-/// Words and a workload, and what the program answers to them.
-#[derive(Drop)]
-struct Row<'a> {
-    name: &'a str,
-    words: &'a [&'a str],
-    work: &'a [u8],
-    status: u8,
-    answer: &'a [u8],
+/// A write to a dirty chunk without its lock, which a flush tears.
+fn write_behind_a_flush_by_turns() -> Case<'static> {
+    Case {
+        name: "write_behind_a_flush_by_turns",
+        words: &["step", "--log"],
+        input: b"work cache 1 2 broken\nop 0 write 0 1 2\nop 0 write 0 3 4\nop 1 flush 0\nturn 0 15\nturn 1 12\nend\n",
+        status: 1,
+        answer: b"vyrd 1 cache 1 2\n0 call write 0 1 2\n0 open\n0 write 1 1\n0 write 2 2\n0 write 0 2\n0 close commit\n0 return 1\n0 call write 0 3 4\n0 write 1 3\n1 call flush 0\n1 open\n1 write 3 3\n1 write 4 2\n1 write 0 1\n1 close commit\n1 return 1\n0 write 2 4\n0 commit\n0 return 1\nend\nviolation at line 16: view differs at key 0\n",
+    }
 }
 
-/// Asserts that a call ends with the row's status and has written its answer.
-fn assert_row<R: Threads + Wait + Abort + Sync>(
-    rt: &R,
-    alloc: Global,
-    row: &Row<'_>,
-) -> Result<(), Fail> {
-    let mut source = MemorySource::new(alloc, row.work, 16, &[])?;
-    let mut sink = MemorySink::new(alloc, ROOM, ROOM, &[])?;
-    let ended = vyrd(rt, alloc, row.words, &mut source, &mut sink, &OpenGate);
-    assert_eq!(rt;
-        (ended.status, sink.taken()),
-        (row.status, row.answer),
-        "{}",
-        row.name
-    );
-    Ok(())
+/// Two inserts of a pair, each of which holds the lock that the other wants.
+fn locks_taken_crosswise() -> Case<'static> {
+    Case {
+        name: "locks_taken_crosswise",
+        words: &["step"],
+        input: b"work multiset 2 2 broken\nop 0 insert_pair 0 1\nop 1 insert_pair 1 0\nturn 0 8\nturn 1 10\nend\n",
+        status: 8,
+        answer: b"stuck\n",
+    }
+}
+
+/// Two inserts that find the same free slot, and write it one inside the block of the other.
+fn history_of_a_raced_block() -> Case<'static> {
+    Case {
+        name: "history_of_a_raced_block",
+        words: &["step", "--history"],
+        input: b"work multiset 1 2 broken\nop 0 insert 5\nop 1 insert 6\nturn 0 2\nturn 1 2\nturn 0 3\nend\n",
+        status: 2,
+        answer: b"history multiset 1 2\n0 call insert 5\n0 read 0 0\n1 call insert 6\n1 read 0 0\n0 wrote 1 5\n0 wrote 0 1\n0 took 8\n0 open\n1 wrote 1 6\n0 wrote 0 2\n1 wrote 0 1\n0 close commit\n0 gave 8\n1 took 8\n0 return 1\n1 open\n1 wrote 0 2\n1 close commit\n1 gave 8\n1 return 1\nend\n",
+    }
+}
+
+/// A character into each of two buffers, then the second behind the first, and a read.
+fn text_is_read() -> Case<'static> {
+    Case {
+        name: "text_is_read",
+        words: &["step", "--log"],
+        input: b"work buffers 2 2 correct\nop 0 append 0 65\nop 0 append 1 66\nop 0 append_from 0 1\nop 1 read 0\nturn 0 100\nend\n",
+        status: 0,
+        answer: b"vyrd 1 buffers 2 2\n0 call append 0 65\n0 open\n0 write 1 65\n0 write 0 1\n0 close commit\n0 return 1\n0 call append 1 66\n0 open\n0 write 9 66\n0 write 8 1\n0 close commit\n0 return 1\n0 call append_from 0 1\n0 open\n0 write 2 66\n0 write 0 2\n0 close commit\n0 return 1\n1 call read 0\n1 return 17218\nend\naccepted: 20 entries, 3 commits, 1 observers\n",
+    }
+}
+
+/// An insert, an insert of a pair and two lookups.
+fn four_generated_operations() -> Case<'static> {
+    Case {
+        name: "four_generated_operations",
+        words: &["gen", "4"],
+        input: b"",
+        status: 0,
+        answer: b"generated: 4 operations, 48 events\naccepted: 21 entries, 2 commits, 2 observers\n",
+    }
 }
 
 #[test]
 fn workloads_by_turns(rt: HostRuntime) -> Result<(), Fail> {
-    let alloc = rt.alloc();
-    for row in worked() {
-        assert_row(&rt, alloc, &row)?;
+    for case in [
+        write_behind_a_flush_by_turns(),
+        locks_taken_crosswise(),
+        history_of_a_raced_block(),
+        text_is_read(),
+        four_generated_operations(),
+    ] {
+        case.assert_over(&rt, rt.alloc(), &BYTE_BY_BYTE)?;
     }
     Ok(())
-}
-
-/// Worked workloads, with the answers that the definitions give.
-fn worked() -> [Row<'static>; 13] {
-    [
-        Row {
-            name: "write_behind_a_flush_by_turns",
-            words: &["step", "--log"],
-            work: b"work cache 1 2 broken\nop 0 write 0 1 2\nop 0 write 0 3 4\nop 1 flush 0\nturn 0 15\nturn 1 12\nend\n",
-            status: 1,
-            answer: b"vyrd 1 cache 1 2\n0 call write 0 1 2\n0 open\n0 write 1 1\n0 write 2 2\n0 write 0 2\n0 close commit\n0 return 1\n0 call write 0 3 4\n0 write 1 3\n1 call flush 0\n1 open\n1 write 3 3\n1 write 4 2\n1 write 0 1\n1 close commit\n1 return 1\n0 write 2 4\n0 commit\n0 return 1\nend\nviolation at line 16: view differs at key 0\n",
-        },
-        Row {
-            name: "evicted_chunk_is_read_again",
-            words: &["step"],
-            work: b"work cache 1 1 correct\nop 0 write 0 1 2\nop 0 flush 0\nop 0 evict 0\nop 0 read 0\nend\n",
-            status: 0,
-            answer: b"accepted: 26 entries, 3 commits, 1 observers\n",
-        },
-        Row {
-            name: "slot_taken_without_the_lock",
-            words: &["step"],
-            work: b"work multiset 1 2 broken\nop 0 insert 5\nop 1 insert 6\nturn 0 2\nturn 1 10\nend\n",
-            status: 1,
-            answer: b"violation at line 14: view differs at key 6\n",
-        },
-        Row {
-            name: "slots_taken_under_the_lock",
-            words: &["step"],
-            work: b"work multiset 1 2 correct\nop 0 insert 5\nop 1 insert 6\nturn 0 2\nturn 1 10\nend\n",
-            status: 0,
-            answer: b"accepted: 14 entries, 2 commits, 0 observers\n",
-        },
-        Row {
-            name: "locks_taken_crosswise",
-            words: &["step"],
-            work: b"work multiset 2 2 broken\nop 0 insert_pair 0 1\nop 1 insert_pair 1 0\nturn 0 8\nturn 1 10\nend\n",
-            status: 8,
-            answer: b"stuck\n",
-        },
-        Row {
-            name: "tree_is_full",
-            words: &["step"],
-            work: b"work tree 1 1 correct\nop 0 insert 1 1\nop 0 insert 2 2\nop 0 insert 3 3\nop 0 insert 4 4\nop 0 insert 5 5\nend\n",
-            status: 0,
-            answer: b"accepted: 31 entries, 5 commits, 0 observers\n",
-        },
-        Row {
-            name: "refused_workload",
-            words: &["step"],
-            work: b"work cache 1 1 correct\nop 0 flush 1\nend\n",
-            status: 7,
-            answer: b"workload refused at line 2: argument out of range\n",
-        },
-        Row {
-            name: "refused_live_run",
-            words: &["run", "--log"],
-            work: b"work tree 0 1 correct\nend\n",
-            status: 7,
-            answer: b"workload refused at line 1: bad header\n",
-        },
-        Row {
-            name: "history_of_an_insert",
-            words: &["step", "--history"],
-            work: b"work multiset 1 1 correct\nop 0 insert 5\nend\n",
-            status: 0,
-            answer: b"history multiset 1 1\n0 call insert 5\n0 took 8\n0 read 0 0\n0 wrote 1 5\n0 wrote 0 1\n0 gave 8\n0 took 8\n0 open\n0 wrote 0 2\n0 close commit\n0 gave 8\n0 return 1\nend\n",
-        },
-        Row {
-            name: "history_of_a_raced_block",
-            words: &["step", "--history"],
-            work: b"work multiset 1 2 broken\nop 0 insert 5\nop 1 insert 6\nturn 0 2\nturn 1 2\nturn 0 3\nend\n",
-            status: 2,
-            answer: b"history multiset 1 2\n0 call insert 5\n0 read 0 0\n1 call insert 6\n1 read 0 0\n0 wrote 1 5\n0 wrote 0 1\n0 took 8\n0 open\n1 wrote 1 6\n0 wrote 0 2\n1 wrote 0 1\n0 close commit\n0 gave 8\n1 took 8\n0 return 1\n1 open\n1 wrote 0 2\n1 close commit\n1 gave 8\n1 return 1\nend\n",
-        },
-        Row {
-            name: "no_history_of_a_stuck_run",
-            words: &["step", "--history"],
-            work: b"work multiset 2 2 broken\nop 0 insert_pair 0 1\nop 1 insert_pair 1 0\nturn 0 8\nturn 1 10\nend\n",
-            status: 8,
-            answer: b"stuck\n",
-        },
-        Row {
-            name: "no_history_of_a_refused_workload",
-            words: &["run", "--history"],
-            work: b"work cache 1 1 correct\nop 0 flush 1\nend\n",
-            status: 7,
-            answer: b"workload refused at line 2: argument out of range\n",
-        },
-        Row {
-            name: "four_generated_operations",
-            words: &["gen", "4"],
-            work: b"",
-            status: 0,
-            answer: b"generated: 4 operations, 48 events\naccepted: 21 entries, 2 commits, 2 observers\n",
-        },
-    ]
-}
-
-#[test]
-fn buffers_by_turns(rt: HostRuntime) -> Result<(), Fail> {
-    let alloc = rt.alloc();
-    for row in worked_buffers() {
-        assert_row(&rt, alloc, &row)?;
-    }
-    Ok(())
-}
-
-/// Worked workloads of string buffers. In the two with `cut` it comes while the other caller appends the buffer that is cut.
-fn worked_buffers() -> [Row<'static>; 5] {
-    [
-        Row {
-            name: "buffer_is_appended",
-            words: &["step"],
-            work: b"work buffers 2 2 correct\nop 0 append 0 65\nop 0 append 1 66\nop 0 append_from 0 1\nop 1 read 0\nturn 0 100\nend\n",
-            status: 0,
-            answer: b"accepted: 20 entries, 3 commits, 1 observers\n",
-        },
-        Row {
-            name: "text_is_read",
-            words: &["step", "--log"],
-            work: b"work buffers 2 2 correct\nop 0 append 0 65\nop 0 append 1 66\nop 0 append_from 0 1\nop 1 read 0\nturn 0 100\nend\n",
-            status: 0,
-            answer: b"vyrd 1 buffers 2 2\n0 call append 0 65\n0 open\n0 write 1 65\n0 write 0 1\n0 close commit\n0 return 1\n0 call append 1 66\n0 open\n0 write 9 66\n0 write 8 1\n0 close commit\n0 return 1\n0 call append_from 0 1\n0 open\n0 write 2 66\n0 write 0 2\n0 close commit\n0 return 1\n1 call read 0\n1 return 17218\nend\naccepted: 20 entries, 3 commits, 1 observers\n",
-        },
-        Row {
-            name: "buffer_cut_while_it_is_appended",
-            words: &["step"],
-            work: b"work buffers 2 2 broken\nop 0 append 1 66\nop 0 append_from 0 1\nop 1 cut 1 0\nturn 0 13\nturn 1 20\nend\n",
-            status: 1,
-            answer: b"violation at line 17: view differs at key 0\n",
-        },
-        Row {
-            name: "buffer_locked_while_it_is_appended",
-            words: &["step"],
-            work: b"work buffers 2 2 correct\nop 0 append 1 66\nop 0 append_from 0 1\nop 1 cut 1 0\nturn 0 13\nturn 1 20\nend\n",
-            status: 0,
-            answer: b"accepted: 17 entries, 3 commits, 0 observers\n",
-        },
-        Row {
-            name: "character_out_of_range",
-            words: &["step"],
-            work: b"work buffers 2 2 correct\nop 0 append 1 255\nend\n",
-            status: 7,
-            answer: b"workload refused at line 2: argument out of range\n",
-        },
-    ]
 }
 
 #[test]
