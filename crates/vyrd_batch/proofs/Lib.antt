@@ -5,3 +5,4 @@ pub mod JudgedFacts
 pub mod SettledLaws
 pub mod Opened
 pub mod TextLaws
+pub mod RoundLaws

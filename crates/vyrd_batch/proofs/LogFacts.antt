@@ -44,7 +44,7 @@ logs_end (suc more) log place bytes e =
     ])) (same_bytes bytes last_line e)
 
 -- where no more logs may come
-logs_full : (log place : ℕ) (bytes : List ℕ) → (bytes ≡ last_line → ⊥) → logs_from zero log place bytes ≡ Err log
+pub logs_full : (log place : ℕ) (bytes : List ℕ) → (bytes ≡ last_line → ⊥) → logs_from zero log place bytes ≡ Err log
 unfolding logs_from
 logs_full log place bytes apart = ap (λ t. cond t (Ok []) (Err log)) (other_bytes bytes last_line apart)
 
@@ -81,7 +81,7 @@ found_none place bytes spans none = subst (λ spans. HasFound (logs_from most_lo
   place_is = refl;
 })
 
-all_more : (P : Span → Type 0) (spans : List Span) (span : Span) → AllByRecursion P spans → P span → AllByRecursion P (spans ++ span ∷ [])
+pub all_more : (P : Span → Type 0) (spans : List Span) (span : Span) → AllByRecursion P spans → P span → AllByRecursion P (spans ++ span ∷ [])
 all_more P [] span all one = (one, tt)
 all_more P (s ∷ spans) span all one = (all.0, all_more P spans span all.1 one)
 
@@ -138,7 +138,7 @@ found_no_log whole limit spans place log rest found apart room none is =
     ∙ ap (spans_after spans) (at_line (most_logs - (length spans + 1)) (length spans) place rest None apart none) ∙ ap Err is
 
 -- the whole input
-reading_at : (bytes : List ℕ) (o : Option Cut) → first_line bytes ≡ o → batch_reading bytes ≡ elim o as (λ _. Result (List Span) ℕ) [
+pub reading_at : (bytes : List ℕ) (o : Option Cut) → first_line bytes ≡ o → batch_reading bytes ≡ elim o as (λ _. Result (List Span) ℕ) [
   | None ↦ Err 0
   | Some cut ↦ logs_behind cut
 ]

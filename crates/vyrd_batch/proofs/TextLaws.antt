@@ -26,7 +26,7 @@ same_span : (a b : Span) → ◌≡◌ {A = Option Span} (Some a) (Some b) → a
 same_span a b e = cc
 
 -- bytes that were cut
-cut_is : (bytes : List ℕ) (cut : Cut) → first_line bytes ≡ Some cut → bytes ≡ cut.line ++ 10 ∷ cut.rest
+pub cut_is : (bytes : List ℕ) (cut : Cut) → first_line bytes ≡ Some cut → bytes ≡ cut.line ++ 10 ∷ cut.rest
 cut_is [] cut e = cc
 cut_is (b ∷ bytes) cut e = by_test (b == 10) refl (first_line bytes) (cut_is bytes) e
   where
@@ -68,7 +68,7 @@ pub record StandsAt (place : ℕ) (bytes : List ℕ) (span : Span) : Type 0 wher
   pub first_is : span.first ≡ place + length (log_word size) + 1
   pub past_is : span.past ≡ span.first + size
 
-stands_at : (place : ℕ) (bytes : List ℕ) (span : Span) → log_at place bytes ≡ Some span → StandsAt place bytes span
+pub stands_at : (place : ℕ) (bytes : List ℕ) (span : Span) → log_at place bytes ≡ Some span → StandsAt place bytes span
 stands_at place bytes span e = by_cut (first_line bytes) (cut_is bytes) e
   where
     by_cut : (o : Option Cut) → ((cut : Cut) → o ≡ Some cut → bytes ≡ cut.line ++ 10 ∷ cut.rest)
@@ -106,7 +106,7 @@ stands_at place bytes span e = by_cut (first_line bytes) (cut_is bytes) e
             by_test false t e = cc
 
 -- the bytes of such a log, and what stands behind them
-log_bytes : (front bytes : List ℕ) (place : ℕ) (span : Span) (s : StandsAt place bytes span) → length front ≡ place
+pub log_bytes : (front bytes : List ℕ) (place : ℕ) (span : Span) (s : StandsAt place bytes span) → length front ≡ place
     → bytes_of (front ++ bytes) span ≡ take s.size s.rest
 log_bytes front bytes place span s len =
     let word = log_word s.size in
@@ -117,7 +117,7 @@ log_bytes front bytes place span s len =
     ∙ ap (λ n. take s.size (drop n (front ++ bytes))) first
     ∙ ap (take s.size) (drop-append-add front bytes (length word + 1) ∙ here)
 
-next_bytes : (bytes : List ℕ) (place : ℕ) (span : Span) (s : StandsAt place bytes span) → drop (span.past - place) bytes ≡ drop s.size s.rest
+pub next_bytes : (bytes : List ℕ) (place : ℕ) (span : Span) (s : StandsAt place bytes span) → drop (span.past - place) bytes ≡ drop s.size s.rest
 next_bytes bytes place span s =
     let word = log_word s.size in
     let count : span.past - place ≡ length word + suc s.size = omega (arith, s.first_is, s.past_is) in
@@ -245,7 +245,7 @@ read_batch_is_text bytes logs e =
     spans_text bytes found.0 found.1 ∙ ap batch_of found.2
 
 -- the line before a log has no line feed
-one_line_word : (n : ℕ) → n ≤ most_bytes → is_one_line (log_word n) ≡ true
+pub one_line_word : (n : ℕ) → n ≤ most_bytes → is_one_line (log_word n) ≡ true
 one_line_word n small = lacks-append 10 (codes "log ") (decimal n) refl (decimal_lacks 10 n no_line_feed (omega (arith, small)))
 
 log_isnt_end : (log more : List ℕ) → (log_text log ++ more ≡ last_line → ⊥)

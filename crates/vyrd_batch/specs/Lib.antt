@@ -1,3 +1,4 @@
 pub mod Batches
 pub mod BatchAnswers
 pub mod LongBatches
+pub mod Rounds

@@ -12,6 +12,7 @@ mod judging;
 pub mod laws;
 mod parts;
 mod reader;
+mod rounds;
 mod span;
 #[cfg(test)]
 mod tests;
@@ -21,4 +22,5 @@ pub use answer::{status_of, write_refusal, write_verdicts};
 pub use fault::BatchFault;
 pub use judging::judge_batch;
 pub use reader::read_batch;
+pub use rounds::BatchJudge;
 pub use span::Span;

@@ -2,7 +2,8 @@
 
 ghost use Rattle.std.specs.Prelude.{◌≡◌, ◌≤◌, ◌<◌, ◌+◌, ◌-◌, ◌^◌, ℕ, List, length, drop, Ok, Err, None, Some, IfOk, OnOk, MatchOption, ◌++◌, ◌∷◌, []};
 ghost use Rattle.std.specs.List.{AllByRecursion};
-ghost use Rattle.vyrd_batch.specs.Batches.{batch_reading, logs_from, log_at, log_word, size_in, most_logs, LiesWithin};
+ghost use Rattle.vyrd_batch.specs.Batches.{batch_reading, logs_from, log_at, log_word, size_in, most_logs, logs_end_within, LiesWithin};
+ghost use Rattle.vyrd_batch.specs.Rounds.{IsCut, IsNoLog};
 ghost use Rattle.vyrd_batch.specs.declared.fault.BatchFault.TheVariants.{Refused};
 
 use crate::fault::BatchFault;
@@ -62,6 +63,48 @@ fn read_logs(alloc: Global, first: usize, bytes: &[u8]) -> Result<Vec<Span>, Bat
     Ok(spans)
 }
 
+/// The logs that some bytes begin with.
+pub(crate) struct Whole {
+    /// Where their bytes stand, counted from the first of these bytes.
+    pub(crate) spans: Vec<Span>,
+    /// How many bytes they take, their lines included.
+    pub(crate) taken: usize,
+}
+
+impl Drop for Whole {
+    fn drop(self) {
+        let Whole { spans, taken: _ } = self;
+        drop(spans);
+    }
+}
+
+/// The logs that these bytes begin with. The bytes stand at a place of a batch, after `log` logs.
+pub(crate) fn whole_logs(
+    alloc: Global,
+    log: usize,
+    place: usize,
+    bytes: &[u8],
+) -> Result<Whole, AllocError>
+    requires few { log ≤ most_logs }
+    requires near { place ≤ logs_end_within }
+    ensures cut { IfOk result (λ found. IsCut bytes.now log place found.spans.items found.taken) }
+    ensures no_more { IfOk result (λ found. IsNoLog (log + length found.spans.items) (place + found.taken) (drop found.taken bytes.now)) }
+{
+    let mut spans: Vec<Span> = Vec::new(alloc);
+    let mut taken = 0;
+    let mut rest = bytes;
+    while log + spans.len() < MOST_LOGS {
+        let Some((span, next)) = log_at(place + taken, rest) else {
+            return Ok(Whole { spans, taken });
+        };
+        let (first, past) = (span.first - place, span.past - place);
+        spans.push(Span { first, past })?;
+        taken = past;
+        rest = next;
+    }
+    Ok(Whole { spans, taken })
+}
+
 /// Appends a span.
 fn keep(span: Span, spans: &mut Vec<Span>) -> Result<(), AllocError>
     ensures { OnOk result (spans.new.items ≡ spans.old.items ++ span ∷ []) }
@@ -73,7 +116,7 @@ fn keep(span: Span, spans: &mut Vec<Span>) -> Result<(), AllocError>
 /// Where the bytes of a log stand whose line begins at a place of the input, with these bytes from there on; and what stands
 /// behind them.
 fn log_at(place: usize, bytes: &[u8]) -> Option<(Span, &[u8])>
-    requires { place + length bytes.now < 2 ^ 63 }
+    requires { place + length bytes.now < 2 ^ 63 + 2 ^ 62 }
     ensures { MatchOption result (log_at place bytes.now ≡ None)
         (λ r. (log_at place bytes.now ≡ Some r.0) × (r.1.now ≡ drop (r.0.past - place) bytes.now)
         × (place ≤ r.0.first) × (r.0.first ≤ r.0.past) × (r.0.past + length r.1.now ≡ place + length bytes.now)) }

@@ -1,0 +1,171 @@
+//! A batch that is judged while it is read.
+
+ghost use Rattle.std.specs.Prelude.{◌≡◌, ◌≤◌, ◌++◌, length, drop, OnOk, OnErr};
+ghost use Rattle.vyrd_batch.specs.Batches.{most_logs, logs_end_within};
+
+use crate::fault::BatchFault;
+use crate::judging::judge_batch;
+use crate::reader::whole_logs;
+use std::alloc::{AllocError, Global};
+use std::thread::Threads;
+use vyrd_base::Verdict;
+use vyrd_text::{after, is_word};
+
+/// How many bytes the first line takes.
+const FIRST_LINE: usize = 6;
+
+/// The verdicts about the first logs of a batch, while its rest is still to come.
+///
+/// The bytes that aren't judged yet stay with the caller. Each call judges the logs that are whole in them, and takes their bytes
+/// away, so that the caller can append further bytes to what is left. The memory is that of the verdicts, and during a call that
+/// of the logs that are judged at one time.
+pub struct BatchJudge {
+    alloc: Global,
+    verdicts: Vec<Verdict>,
+    /// Where the bytes begin that aren't judged, counted from 0; 0 until the first line was read.
+    place: usize,
+    ghost few: { length verdicts.items ≤ most_logs },
+    ghost near: { place ≤ logs_end_within },
+}
+
+impl Drop for BatchJudge {
+    fn drop(self) {
+        let BatchJudge {
+            alloc: _,
+            verdicts,
+            place: _,
+        } = self;
+        drop(verdicts);
+    }
+}
+
+impl BatchJudge {
+    ghost use Rattle.std.specs.Prelude.{◌<◌, ℕ, List, [], Ok, Err, IfOk, MatchOption};
+    ghost use Rattle.vyrd_batch.specs.Batches.{batch_logs};
+    ghost use Rattle.vyrd_batch.specs.BatchAnswers.{verdicts_of};
+    ghost use Rattle.vyrd_batch.specs.Rounds.{IsJudged, IsSpent};
+    ghost use Rattle.vyrd_batch.specs.declared.fault.BatchFault.TheVariants.{Refused};
+
+    /// Nothing is judged yet. It takes no memory.
+    pub fn new(alloc: Global) -> BatchJudge
+        ensures { IsJudged [] result [] }
+    {
+        BatchJudge {
+            alloc,
+            verdicts: Vec::new(alloc),
+            place: 0,
+        }
+    }
+
+    /// The verdicts about the logs that were judged, in their order.
+    pub fn verdicts(&self) -> &[Verdict]
+        ensures items { result.now ≡ self.now.verdicts.items }
+        ensures few { length result.now ≤ most_logs }
+    {
+        &self.verdicts
+    }
+
+    /// Judges the logs that are whole in `bytes`, side by side, and takes their bytes away.
+    ///
+    /// `bytes` are those after the logs that were judged, as far as they have come. The only error is out of memory, and then
+    /// nothing is known of `bytes` and of this.
+    pub fn judge<R: Threads + Sync>(
+        &mut self,
+        rt: &R,
+        bytes: &mut Vec<u8>,
+    ) -> Result<(), AllocError>
+        ensures judged { (input : List ℕ) → IsJudged input self.old bytes.old.items → OnOk result (IsJudged input self.new bytes.new.items) }
+        ensures spent { OnOk result (IsSpent self.new bytes.new.items) }
+    {
+        let Some(first) = self.begin(bytes) else {
+            return Ok(());
+        };
+        let (_, behind) = bytes.split_at(first);
+        let taken = self.judge_logs(rt, behind)?;
+        take_away(first + taken, bytes);
+        Ok(())
+    }
+
+    /// Judges the last logs, if `bytes` are all that come after the logs that were judged.
+    ///
+    /// `Refused` comes exactly when the input is no batch, with the number of the first log that isn't framed, counted from 0.
+    /// `Memory` may come at any time.
+    pub fn finish<R: Threads + Sync>(
+        &mut self,
+        rt: &R,
+        bytes: &mut Vec<u8>,
+    ) -> Result<(), BatchFault>
+        ensures verdicts { (input : List ℕ) → IsJudged input self.old bytes.old.items →
+            OnOk result ((logs : List (List ℕ)) × (batch_logs input ≡ Ok logs) × (self.new.verdicts.items ≡ verdicts_of logs)) }
+        ensures refused { (input : List ℕ) (log : ℕ) → IsJudged input self.old bytes.old.items → result ≡ Err (Refused log) →
+            batch_logs input ≡ Err log }
+    {
+        self.judge(rt, bytes)?;
+        self.end(bytes)
+    }
+
+    /// What comes of the batch if these bytes are its last ones.
+    fn end(&self, bytes: &[u8]) -> Result<(), BatchFault>
+        requires { IsSpent self.now bytes.now }
+        ensures verdicts { (input : List ℕ) → IsJudged input self.now bytes.now →
+            OnOk result ((logs : List (List ℕ)) × (batch_logs input ≡ Ok logs) × (self.now.verdicts.items ≡ verdicts_of logs)) }
+        ensures refused { (input : List ℕ) (log : ℕ) → IsJudged input self.now bytes.now → result ≡ Err (Refused log) →
+            batch_logs input ≡ Err log }
+    {
+        if self.place == 0 {
+            return Err(BatchFault::Refused { log: 0 });
+        }
+        if !is_word(bytes, b"end\n") {
+            let log = self.verdicts.len() as u64;
+            return Err(BatchFault::Refused { log });
+        }
+        Ok(())
+    }
+
+    /// Reads the first line, if that wasn't done. The answer is how many bytes it takes here; None if it isn't there.
+    fn begin(&mut self, bytes: &[u8]) -> Option<usize>
+        ensures spent { MatchOption result (IsSpent self.new bytes.now) (λ first. 0 < self.new.place) }
+        ensures within { MatchOption result (self.new ≡ self.old) (λ first. first ≤ length bytes.now) }
+        ensures judged { (input : List ℕ) → IsJudged input self.old bytes.now →
+            MatchOption result (IsJudged input self.new bytes.now) (λ first. IsJudged input self.new (drop first bytes.now)) }
+    {
+        if self.place > 0 {
+            return Some(0);
+        }
+        after(bytes, b"batch\n")?;
+        self.place = FIRST_LINE;
+        Some(FIRST_LINE)
+    }
+
+    /// Judges the logs that are whole. The answer is how many bytes they take.
+    fn judge_logs<R: Threads + Sync>(&mut self, rt: &R, bytes: &[u8]) -> Result<usize, AllocError>
+        requires { 0 < self.old.place }
+        ensures within { IfOk result (λ taken. taken ≤ length bytes.now) }
+        ensures judged { (input : List ℕ) → IsJudged input self.old bytes.now → IfOk result (λ taken. IsJudged input self.new (drop taken bytes.now)) }
+        ensures spent { IfOk result (λ taken. IsSpent self.new (drop taken bytes.now)) }
+    {
+        let found = whole_logs(self.alloc, self.verdicts.len(), self.place, bytes)?;
+        let verdicts = judge_batch(rt, self.alloc, bytes, &found.spans)?;
+        append(&verdicts, &mut self.verdicts)?;
+        self.place += found.taken;
+        Ok(found.taken)
+    }
+}
+
+/// Appends more verdicts. A refusal leaves `verdicts` unchanged.
+fn append(more: &[Verdict], verdicts: &mut Vec<Verdict>) -> Result<(), AllocError>
+    ensures ok { OnOk result (verdicts.new.items ≡ verdicts.old.items ++ more.now) }
+    ensures err { OnErr result (verdicts.new.items ≡ verdicts.old.items) }
+{
+    verdicts.extend_from_slice(more)
+}
+
+/// Takes the first `n` bytes away.
+fn take_away(n: usize, bytes: &mut Vec<u8>)
+    requires { n ≤ length bytes.old.items }
+    ensures { bytes.new.items ≡ drop n bytes.old.items }
+{
+    let left = bytes.len() - n;
+    bytes.copy_within(n.., 0);
+    bytes.truncate(left);
+}
