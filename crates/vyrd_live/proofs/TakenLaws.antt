@@ -174,3 +174,37 @@ pub has_with : (k after : Kept) (e : Stamped) → after.next ≡ k.next → ((n 
 has_with k after e next put n apart =
     ap (λ (m : ℕ). ltb n m || is_some (held after n)) next
     ∙ ap (λ (o : Option Stamped). ltb n k.next || is_some o) (put n ∙ ap (λ (b : Bool). cond b (Some e) (held k n)) (ne_eqb n e.number apart))
+
+-- an event whose turn it is was shown at once
+pub taking_turn : (judge judge' : JudgeView) (k after : Kept) (taken : List Stamped) (e : Stamped) → has k e.number ≡ false → e.number ≡ k.next
+    → after.next ≡ k.next + 1 → ((n : ℕ) → k.next < n → held after n ≡ held k n)
+    → HasFollowed judge' [] (log_of (in_order_below k.next taken) ++ option_to_list (logged e.caller e.did))
+    → IsTaking judge k taken → IsTaking judge' after (taken ++ e ∷ [])
+taking_turn judge judge' k after taken e not_had turn next same fed t =
+    let new = new_number k taken e.number not_had t.in_hand in
+    let none : numbered k.next taken ≡ None = ap (λ (n : ℕ). numbered n taken) (sym turn) ∙ new.1 in
+    let here : numbered k.next (taken ++ e ∷ []) ≡ Some e = numbered_new k.next taken e none turn in
+    let log = ap (λ (n : ℕ). log_of (in_order_below n (taken ++ e ∷ []))) next
+    ∙ ap (λ (n : ℕ). log_of (in_order_below n (taken ++ e ∷ []))) (one_more k.next) ∙ log_more k.next (taken ++ e ∷ []) e here
+    ∙ ap (λ (xs : List Stamped). log_of xs ++ option_to_list (logged e.caller e.did)) (in_order_same k.next taken e new.0) in record {
+      in_hand = record {
+        gone = λ n l. dite (dec_lt n k.next)
+            (λ less. ap is_some (numbered_old n taken e (λ q. omega arith)) ∙ t.in_hand.gone n less)
+            (λ no_less. let is : k.next ≡ n = omega arith in ap is_some (ap (λ (m : ℕ). numbered m (taken ++ e ∷ [])) (sym is) ∙ here));
+        later = λ n l. same n (omega arith) ∙ t.in_hand.later n (omega arith) ∙ sym (numbered_old n taken e (λ q. omega arith));
+      };
+      judged = subst (HasFollowed judge' []) (sym log) fed;
+    }
+  where
+    one_more : (n : ℕ) → n + 1 ≡ suc n
+    one_more n = omega arith
+
+-- and what is had changes at its number alone
+pub has_passed : (k after : Kept) (number : ℕ) → number ≡ k.next → after.next ≡ k.next + 1 → ((n : ℕ) → k.next < n → held after n ≡ held k n)
+    → (n : ℕ) → n ≢ number → has after n ≡ has k n
+has_passed k after number turn next same n apart = dite (dec_lt n k.next)
+    (λ less. let a : ltb n after.next ≡ true = grind (arith, nat_tests) in let b : ltb n k.next ≡ true = grind (arith, nat_tests) in
+    ap (λ (x : Bool). x || is_some (held after n)) a ∙ sym (ap (λ (x : Bool). x || is_some (held k n)) b))
+    (λ no_less. let over : k.next < n = omega arith in
+    let a : ltb n after.next ≡ false = grind (arith, nat_tests) in let b : ltb n k.next ≡ false = grind (arith, nat_tests) in
+    ap (λ (x : Bool). x || is_some (held after n)) a ∙ ap is_some (same n over) ∙ sym (ap (λ (x : Bool). x || is_some (held k n)) b))

@@ -107,6 +107,13 @@ impl Verifier {
         }
     }
 
+    /// The least number that wasn't taken in.
+    pub(crate) fn next(&self) -> u64
+        ensures { result ≡ self.now.kept.next }
+    {
+        self.reorder.next()
+    }
+
     /// Whether an event with this number was taken in. It takes no memory.
     pub fn had(&self, number: u64) -> bool
         ensures value { result ≡ has_number self.now number }
@@ -142,12 +149,30 @@ fn follow(judge: &mut AnyJudge, reorder: &mut Reorder, item: Stamped) -> Result<
     ensures going { OnOk result (judge.new.has_failed ≡ false) }
     ensures header { judge.new.kept.header ≡ judge.old.kept.header }
 {
-    reorder.put(item)?;
+    place(judge, reorder, item)?;
     let mut more = true;
     while more {
         more = advance(judge, reorder)?;
     }
     Ok(())
+}
+
+/// Shows the judge an event whose turn it is, and puts any other in order.
+fn place(judge: &mut AnyJudge, reorder: &mut Reorder, item: Stamped) -> Result<(), AllocError>
+    requires number { item.number < 2 ^ 62 }
+    requires new { has reorder.old item.number ≡ false }
+    requires few { judge.old.kept.entries ≤ reorder.old.next }
+    requires going { judge.old.has_failed ≡ false }
+    ensures followed { (taken : List Stamped) → IsTaking judge.old reorder.old taken → OnOk result (IsTaking judge.new reorder.new (taken ++ item ∷ [])) }
+    ensures had { (n : ℕ) → n ≢ item.number → has reorder.new n ≡ has reorder.old n }
+    ensures few { judge.new.kept.entries ≤ reorder.new.next }
+    ensures going { OnOk result (judge.new.has_failed ≡ false) }
+    ensures header { judge.new.kept.header ≡ judge.old.kept.header }
+{
+    if reorder.take_turn(item.number) {
+        return show(judge, item);
+    }
+    reorder.put(item)
 }
 
 /// Shows the judge the event whose turn has come, and answers whether there was one.

@@ -1,6 +1,6 @@
 //! Events put in order by their numbers.
 
-ghost use Rattle.std.specs.Prelude.{◌≡◌, ℕ, ◌+◌, ◌<◌, ◌≤◌, ◌^◌, ◌==◌, false, None, Some, IfOk, OnOk, OnErr, IfSome, IfNone, OnSome, slice_index_or, if◌then◌else◌};
+ghost use Rattle.std.specs.Prelude.{◌≡◌, ℕ, ◌+◌, ◌<◌, ◌≤◌, ◌^◌, ◌==◌, true, false, None, Some, IfOk, OnOk, OnErr, IfSome, IfNone, OnSome, slice_index_or, if◌then◌else◌};
 ghost use Rattle.std.specs.VecDeque.{deque_len};
 ghost use Rattle.vyrd_relay.specs.Numbers.{held, has};
 
@@ -63,6 +63,31 @@ impl Reorder {
             self.far.insert(item.number, item)?;
             Ok(())
         }
+    }
+
+    /// The number that is handed out next.
+    pub fn next(&self) -> u64
+        ensures { result ≡ self.now.next }
+    {
+        self.next
+    }
+
+    /// Whether it is this number's turn. If so, the event counts as handed out, as if it had been put and taken again. Its number
+    /// isn't held and wasn't handed out. It takes no memory.
+    pub fn take_turn(&mut self, number: u64) -> bool
+        requires range { number < 2 ^ 62 }
+        requires new { has self.old number ≡ false }
+        ensures turn { result ≡ (number == self.old.next) }
+        ensures next { result ≡ true → self.new.next ≡ self.old.next + 1 }
+        ensures rest { result ≡ true → (n : ℕ) → self.old.next < n → held self.new n ≡ held self.old n }
+        ensures waits { result ≡ false → self.new ≡ self.old }
+    {
+        if number != self.next {
+            return false;
+        }
+        self.near.pop_front();
+        self.next = number + 1;
+        true
     }
 
     /// Whether the event with this number is held or was handed out. It takes no memory.

@@ -2,7 +2,6 @@ use Rattle.std.proofs.Common.{◌≡◌, ◌≢◌, ◌∙◌, ℕ, None, Ok, Er
 use Rattle.std.specs.Prelude.{Result}
 use Rattle.std.specs.Result.{OnErr}
 use Rattle.vyrd_relay.specs.Numbers.{Kept, held}
-use Rattle.vyrd_live.proofs.TakenLaws.{taking_with, has_with}
 use Rattle.vyrd_live.proofs.verifier.follow.Goals as goal
 
 pub loop-more-preserved : goal.loop-more-preserved
@@ -22,14 +21,13 @@ on_err : {T E : Type 0} {P : Type 0} (r : Result T E) → P → OnErr r P
 on_err (Ok x) p = tt
 on_err (Err e) p = p
 
+pub returns-in_err-place-clause-had : goal.returns-in_err-place-clause-had
+returns-in_err-place-clause-had c = on_err c.from_residual.result c.place.ensures.had
+
 pub returns-in_err-more-clause-had : goal.returns-in_err-more-clause-had
 returns-in_err-more-clause-had c =
-    let e = c.in_ok-put.ensures in
     on_err c.from_residual-in_err-more.result
-    (λ (n : ℕ) (apart : n ≢ c.args.item.number). c.advance.ensures.had n ∙ c.loop-more.invariant.had n ∙ has_with c.args.reorder.now c.put.new.self c.args.item e.next e.held n apart)
+    (λ (n : ℕ) (apart : n ≢ c.args.item.number). c.advance.ensures.had n ∙ c.loop-more.invariant.had n ∙ c.place.ensures.had n apart)
 
 pub returns-clause-followed : goal.returns-clause-followed
-returns-clause-followed c =
-    let e = c.in_ok-put.ensures in
-    λ taken t. c.loop-more.invariant.taking _ (taking_with c.args.judge.now c.args.reorder.now c.put.new.self
-    taken c.args.item c.requires.new e.next e.held t)
+returns-clause-followed c = λ taken t. c.loop-more.invariant.taking _ (c.in_ok-place.ensures.followed taken t)
