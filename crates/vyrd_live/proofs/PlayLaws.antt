@@ -12,15 +12,16 @@ use Rattle.vyrd_memory.specs.Scripts.{Script}
 use Rattle.vyrd_base.specs.Parts.{part}
 use Rattle.vyrd_trace.specs.Hands.{TracedView, HandView, AreAll}
 use Rattle.vyrd_relay.specs.declared.known.Lane.{Lane}
-use Rattle.vyrd_relay.specs.Ends.{RelayView, SenderView, AreNew, lane_sent}
+use Rattle.vyrd_relay.specs.Knowledge.{HasBeginning}
+use Rattle.vyrd_relay.specs.Ends.{RelayView, SenderView, AreNew}
 use Rattle.vyrd_live.specs.declared.worker.Worker.{Worker}
 use Rattle.vyrd_live.specs.declared.worker.Stopped.{Stopped}
 use Rattle.vyrd_live.specs.declared.outbox.Outbox.{Outbox}
 use Rattle.vyrd_live.specs.Workers.{HasWorked}
-use Rattle.vyrd_live.specs.Beside.{IsClosing, AreRests, lanes_sent, counts_sent, hands_left, counts_left, lanes_left}
+use Rattle.vyrd_live.specs.Beside.{IsClosing, hands_left, lanes_left}
 use Rattle.vyrd_live.proofs.WorkerLists.{HaveWorked, element_of}
-use Rattle.vyrd_live.proofs.HistoryLaws.{history_is}
-use Rattle.vyrd_live.proofs.TakenParts.{Done, AllSent, parts_taken}
+use Rattle.vyrd_live.proofs.HistoryLaws.{closing_is}
+use Rattle.vyrd_live.proofs.TakenParts.{Done, AllSent, had_stands}
 
 -- a fact of all images is one of all
 pub of_images : {A B : Type 0} (f : A → B) (P : B → Type 0) (xs : List A) → All P (map f xs) → All (λ (x : A). P (f x)) xs
@@ -83,27 +84,18 @@ worked_all {M} header_of script ahead traced workers jobs done stopped are left 
 )
 
 -- the verdict at the end is that of the history's log
-pub beside_verdict : (relay : RelayView) (z : Cells) (h : Header) (done : List Done) (history : List Stamped) (hands : List HandView)
-    (outboxes : List Outbox) (senders : ℕ) (r : Option Verdict) → is_legal z history ≡ true → z.callers ≡ length done → senders ≡ length done
-    → hands ≡ hands_left done → outboxes ≡ map (λ (d : Done). d.1) done
+pub beside_verdict : (relay : RelayView) (z : Cells) (h : Header) (done : List Done) (had history : List Stamped) (hands : List HandView)
+    (lanes : List Lane) (senders : ℕ) (r : Option Verdict) → is_legal z history ≡ true → senders ≡ length done
+    → hands ≡ hands_left done → lanes ≡ lanes_left done
     → ((i : ℕ) (d : Done) → i < length done → (get_or done i d).0.hand.caller ≡ i) → AllSent relay done
     → All (λ (hand : HandView). part hand.caller history ≡ hand.lane) hands
-    → IfSome r (λ v. (x : List Stamped) × (next : ℕ) × (more : List Stamped)
-    × AreRests hands (counts_sent outboxes) more × IsClosing h x next v senders (lanes_sent outboxes) (x ++ more))
-    → IfSome r (λ v. v ≡ verdict h [] (log_of history))
-beside_verdict relay z h done history hands outboxes senders None legal callers many are outs own sent parts is = tt
-beside_verdict relay z h done history hands outboxes senders (Some v) legal callers many are outs own sent parts is =
-    let lanes : lanes_sent outboxes ≡ lanes_left done = ap lanes_sent outs ∙ map_twice (λ (d : Done). d.1) (λ (o : Outbox). lane_sent o.sender) done in
-    let counts : counts_sent outboxes ≡ counts_left done = ap counts_sent outs ∙ map_twice (λ (d : Done). d.1) (λ (o : Outbox). length o.sender.sent) done in
-    let had = is.0 in
-    let next = is.1 in
-    let more = is.2 in
-    let rests = subst (λ (x : List HandView × List ℕ). AreRests x.0 x.1 more) (λ k. (are k, counts k)) is.3 in
-    let c : IsClosing h had next v (length done) (lanes_left done) (had ++ more) =
-    subst (λ (x : ℕ × List Lane). IsClosing h had next v x.0 x.1 (had ++ more)) (λ k. (many k, lanes k)) is.4 in
+    → All (HasBeginning had) lanes → All (λ (e : Stamped). e.caller < senders) had
+    → IfSome r (λ v. IsClosing h v had history) → IfSome r (λ v. v ≡ verdict h [] (log_of history))
+beside_verdict relay z h done had history hands lanes senders None legal many are sent_is own sent parts begins theirs is = tt
+beside_verdict relay z h done had history hands lanes senders (Some v) legal many are sent_is own sent parts begins theirs is =
     let each = of_images (λ (d : Done). d.0.hand) (λ (hand : HandView). part hand.caller history ≡ hand.lane) done
     (subst (All (λ (hand : HandView). part hand.caller history ≡ hand.lane)) are parts) in
-    let all = parts_taken relay z done had more history legal callers own sent c.all c.theirs rests
-    (λ i d l. ap (λ (n : ℕ). part n history) (sym (own i d l)) ∙ each i d l) in
-    c.verdict_is ∙ ap (λ (xs : List Stamped). verdict h [] (log_of xs))
-    (history_is z history (had ++ more) legal all next c.gone c.missing)
+    closing_is z h v had history legal
+    (had_stands relay z done had history legal own sent (subst (All (HasBeginning had)) sent_is begins)
+    (subst (λ (n : ℕ). All (λ (e : Stamped). e.caller < n) had) many theirs)
+    (λ i d l. ap (λ (n : ℕ). part n history) (sym (own i d l)) ∙ each i d l)) is

@@ -6,9 +6,9 @@ ghost use Rattle.vyrd_base.specs.declared.header.Header.{Header};
 ghost use Rattle.vyrd_base.specs.declared.history.Stamped.{Stamped};
 ghost use Rattle.vyrd_base.specs.Histories.{log_of};
 ghost use Rattle.vyrd_base.specs.Verdicts.{verdict};
-ghost use Rattle.vyrd_relay.specs.Ends.{HasAll};
+ghost use Rattle.vyrd_relay.specs.Knowledge.{HasBeginning};
 ghost use Rattle.vyrd_live.specs.Taken.{in_order_below};
-ghost use Rattle.vyrd_live.specs.Beside.{HasWatched, IsSameReceiver, lanes_sent, counts_sent, AreOwn, AreRests, HasNext, IsAtEnds};
+ghost use Rattle.vyrd_live.specs.Beside.{HasWatched, IsSameReceiver, lanes_sent, AreOfSenders, IsClosing};
 
 use crate::outbox::Outbox;
 use crate::verifier::Verifier;
@@ -18,7 +18,6 @@ use std::sync::atomic::{AtomicBool, Ordering};
 use std::thread;
 use vyrd_base::{Gate, Header, Stamped, Verdict};
 use vyrd_relay::{Receiver, Relay};
-use vyrd_trace::Hand;
 
 /// The end of the relay, with the verifier that takes in what comes there.
 #[derive(Drop)]
@@ -62,16 +61,18 @@ impl Watch {
         gate: &G,
         ended: &AtomicBool,
     ) -> Watch
-        requires { self.receiver.queue ≡ relay.now.queue }
+        requires receiver { self.receiver.queue ≡ relay.now.queue }
+        requires theirs { AreOfSenders self.receiver }
         ensures same { IsSameReceiver self.receiver result.receiver }
         ensures watched { (h : Header) → HasWatched h self self.receiver.had → HasWatched h result result.receiver.had }
+        ensures theirs { AreOfSenders result.receiver }
     {
         let mut watch = self;
         watch.watch(rt, relay, gate, ended);
         watch
     }
 
-    /// Takes in what comes, until the workers have ended and nothing is left in the relay.
+    /// Takes in what comes, until the workers have ended. What is in the relay then stays there.
     pub(crate) fn watch<R: Wait, G: Gate>(
         &mut self,
         rt: &R,
@@ -79,19 +80,18 @@ impl Watch {
         gate: &G,
         ended: &AtomicBool,
     )
-        requires { self.old.receiver.queue ≡ relay.now.queue }
+        requires receiver { self.old.receiver.queue ≡ relay.now.queue }
+        requires theirs { AreOfSenders self.old.receiver }
         ensures same { IsSameReceiver self.old.receiver self.new.receiver }
         ensures watched { (h : Header) → HasWatched h self.old self.old.receiver.had
             → HasWatched h self.new self.new.receiver.had }
-        ensures all { All (HasAll self.new.receiver.had) self.new.receiver.settled }
-        ensures senders { All (λ e. e.caller < self.new.receiver.senders) self.new.receiver.had }
+        ensures theirs { AreOfSenders self.new.receiver }
     {
         for _ in rt.forever() {
-            let over = ended.load(Ordering::SeqCst);
+            if ended.load(Ordering::SeqCst) {
+                return;
+            }
             if !self.take_next(rt, relay, gate, ended) {
-                if over {
-                    return;
-                }
                 thread::yield_now();
             }
         }
@@ -106,12 +106,12 @@ impl Watch {
         gate: &G,
         ended: &AtomicBool,
     ) -> bool
-        requires { self.old.receiver.queue ≡ relay.now.queue }
+        requires receiver { self.old.receiver.queue ≡ relay.now.queue }
+        requires theirs { AreOfSenders self.old.receiver }
         ensures same { IsSameReceiver self.old.receiver self.new.receiver }
         ensures watched { (h : Header) → HasWatched h self.old self.old.receiver.had
             → HasWatched h self.new self.new.receiver.had }
-        ensures all { result ≡ false → All (HasAll self.new.receiver.had) self.new.receiver.settled }
-        ensures senders { result ≡ false → All (λ e. e.caller < self.new.receiver.senders) self.new.receiver.had }
+        ensures theirs { AreOfSenders self.new.receiver }
     {
         let Some(event) = relay.pop(rt, &mut self.receiver) else {
             return false;
@@ -135,54 +135,52 @@ impl Watch {
         }
     }
 
-    /// Takes in the senders of the workers, which have ended, and answers how many events each has sent.
-    pub(crate) fn settle<R: Wait>(
-        &mut self,
-        rt: &R,
-        alloc: Global,
-        relay: &Relay,
-        outboxes: Vec<Outbox>,
-    ) -> Result<Vec<u64>, AllocError>
+    /// Takes in the senders of the workers, which have ended: what was had of each is a beginning of what it sent.
+    pub(crate) fn settle<R: Wait>(&mut self, rt: &R, relay: &Relay, outboxes: Vec<Outbox>)
         requires receiver { self.old.receiver.queue ≡ relay.now.queue }
+        requires first { self.old.receiver.settled ≡ [] }
         requires senders { All (λ o. o.sender.queue ≡ relay.now.queue) outboxes.items }
-        ensures queue { self.new.receiver.queue ≡ self.old.receiver.queue }
         ensures senders { self.new.receiver.senders ≡ self.old.receiver.senders }
         ensures had { self.new.receiver.had ≡ self.old.receiver.had }
         ensures verifier { (self.new.stands ≡ self.old.stands) × (self.new.verifier ≡ self.old.verifier) }
-        ensures settled { IfOk result (λ _. self.new.receiver.settled
-            ≡ self.old.receiver.settled ++ lanes_sent outboxes.items) }
-        ensures counts { IfOk result (λ counts. counts.items ≡ counts_sent outboxes.items) }
+        ensures settled { self.new.receiver.settled ≡ lanes_sent outboxes.items }
+        ensures beginnings { All (HasBeginning self.new.receiver.had) self.new.receiver.settled }
     {
-        let mut counts = Vec::with_capacity(alloc, outboxes.len())?;
         for outbox in outboxes {
             let Outbox { sender, .. } = outbox;
-            counts.push(relay.settle(rt, &mut self.receiver, sender))?;
+            relay.settle(rt, &mut self.receiver, sender);
         }
-        Ok(counts)
     }
 
-    /// Takes in what the workers haven't sent: the rest of each hand's lane, from its place on. The places then say how far
-    /// it came: to the ends, where the verifier still stands.
-    ///
-    /// It goes by the numbers, so that the turn of each event has come. One that comes early is held until its turn, and lane
-    /// after lane nearly all would be.
-    pub(crate) fn take_rests(&mut self, hands: &[Hand], places: &mut [u64])
-        requires count { length places.old ≡ length hands.now }
-        requires own { AreOwn hands.now }
-        ensures { self.new.stands ≡ true → (more : List Stamped) × AreRests hands.now places.old more
-            × ((h : Header) (taken : List Stamped) → HasWatched h self.old taken → HasWatched h self.new (taken ++ more)) }
+    /// The verdict about the log of a history, where the verifier stands and can take in the events from the least number on that
+    /// it hasn't taken in.
+    pub(crate) fn verdict(&mut self, history: &[Stamped]) -> Option<Verdict>
+        ensures { (h : Header) (taken : List Stamped) → HasWatched h self.old taken
+            → IfSome result (λ v. IsClosing h v taken history.now) }
     {
-        while self.stands {
-            let Some(caller) = next_by_number(hands, places) else {
-                return;
-            };
-            let end = self.take_run(hands[caller].lane(), places[caller] as usize);
-            places[caller] = end as u64;
+        if !self.stands {
+            return None;
         }
+        if !self.take_rest(history) {
+            return None;
+        }
+        self.closing()
     }
 
-    /// Takes in the event at this place of a lane, and those after it as long as their numbers follow each other. It answers
-    /// where it stopped.
+    /// Takes in the events of a history from the least number on that wasn't taken in, and answers whether it came to the end.
+    fn take_rest(&mut self, history: &[Stamped]) -> bool
+        ensures { (h : Header) (taken : List Stamped) → result ≡ true → HasWatched h self.old taken
+            → HasWatched h self.new (taken ++ drop self.old.verifier.kept.next history.now) }
+    {
+        let place = self.verifier.next() as usize;
+        if place >= history.len() {
+            return true;
+        }
+        self.take_run(history, place) == history.len()
+    }
+
+    /// Takes in the event at this place of a lane or of a history, and those after it as long as their numbers follow each other.
+    /// It answers where it stopped.
     fn take_run(&mut self, lane: &[Stamped], place: usize) -> usize
         requires { place < length lane.now }
         ensures end { (place < result) × (result ≤ length lane.now) }
@@ -200,7 +198,7 @@ impl Watch {
     }
 
     /// The verdict about all that was taken in, where the verifier stands.
-    pub(crate) fn verdict(&self) -> Option<Verdict>
+    fn closing(&self) -> Option<Verdict>
         ensures verdict { (h : Header) (taken : List Stamped) → HasWatched h self.now taken
             → IfSome result (λ v. v ≡ verdict h [] (log_of (in_order_below self.now.verifier.kept.next taken))) }
         ensures stands { IfSome result (λ _. self.now.stands ≡ true) }
@@ -221,27 +219,4 @@ fn await_turn<R: Wait, G: Gate>(rt: &R, gate: &G, callers: u32, taken: u64, ende
         thread::yield_now();
     }
     unreachable!()
-}
-
-/// Which hand has at its place the event with the least number. `None` comes where each place is at its lane's end.
-fn next_by_number(hands: &[Hand], places: &[u64]) -> Option<usize>
-    requires { length places.now ≡ length hands.now }
-    ensures found { IfSome result (HasNext hands.now places.now) }
-    ensures none { IfNone result (IsAtEnds hands.now places.now (length hands.now)) }
-{
-    let mut next = None;
-    let mut least = u64::MAX;
-    for caller in 0..hands.len() {
-        let lane = hands[caller].lane();
-        let place = places[caller] as usize;
-        if place >= lane.len() {
-            continue;
-        }
-        let number = lane[place].number;
-        if next.is_none() || number < least {
-            next = Some(caller);
-            least = number;
-        }
-    }
-    next
 }

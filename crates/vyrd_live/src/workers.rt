@@ -12,7 +12,7 @@ ghost use Rattle.vyrd_trace.specs.Hands.{AreAll};
 ghost use Rattle.vyrd_live.specs.Endings.{IsFirstSpent};
 ghost use Rattle.vyrd_live.specs.Workers.{IsFresh, HasWorked, HavePlayed, AreMadeFor};
 ghost use Rattle.vyrd_live.specs.Sending.{HasSent};
-ghost use Rattle.vyrd_live.specs.Beside.{HasWatched, IsSameReceiver, IsClosing, lanes_sent, counts_sent, AreOwn, AreRests};
+ghost use Rattle.vyrd_live.specs.Beside.{HasWatched, IsSameReceiver, AreOfSenders, IsClosing};
 
 use crate::outbox::Outbox;
 use crate::watch::Watch;
@@ -70,17 +70,15 @@ pub(crate) fn play_all<R: Threads + Wait + Sync, G: Gate, M: Machine + Send>(
     let (relay, senders, receiver) = Relay::new(alloc, RELAY_CAPACITY, header.callers())?;
     let jobs = jobs_of(alloc, &relay, workers, senders)?;
     let watch = Watch::new(alloc, header, receiver)?;
-    let (done, watch) = beside(rt, &traced, gate, &relay, jobs, watch)?;
+    let (done, mut watch) = beside(rt, &traced, gate, &relay, jobs, watch)?;
     let (stopped, outboxes) = part_all(alloc, done)?;
     let spent = first_spent(&stopped)?;
     let hands = hands_of(alloc, stopped)?;
-    let verdict = match spent {
-        None => closing_verdict(rt, alloc, gate, &relay, outboxes, &hands, watch)?,
-        Some(_) => None,
-    };
+    watch.settle(rt, &relay, outboxes);
     let Ok(closed) = traced.close(hands) else {
         return Err(AllocError);
     };
+    let verdict = closing_verdict(watch, spent, &closed.history);
     Ok(Played {
         history: closed.history,
         words: closed.words,
@@ -132,6 +130,7 @@ fn beside<R: Threads + Wait + Sync, G: Gate, M: Machine + Send>(
     requires fresh { All (λ j. IsFresh M.header_of M.script traced.now j.0.machine j.0.hand) jobs.items }
     requires sent { All (λ j. HasSent relay.now j.1.sender j.1.place j.0.hand) jobs.items }
     requires receiver { watch.receiver.queue ≡ relay.now.queue }
+    requires theirs { AreOfSenders watch.receiver }
     ensures count { IfOk result (λ r. vec_len r.0 ≡ vec_len jobs) }
     ensures each { IfOk result (λ r. (i : ℕ) (j : _) (d : _) → i < vec_len jobs → HasWorked M.header_of M.script M.ahead traced.now
         (slice_index_or jobs.items i j).0.machine (slice_index_or jobs.items i j).0.hand
@@ -140,6 +139,7 @@ fn beside<R: Threads + Wait + Sync, G: Gate, M: Machine + Send>(
     ensures same { IfOk result (λ r. IsSameReceiver watch.receiver r.1.receiver) }
     ensures watched { IfOk result (λ r. (h : Header) → HasWatched h watch watch.receiver.had
         → HasWatched h r.1 r.1.receiver.had) }
+    ensures theirs { IfOk result (λ r. AreOfSenders r.1.receiver) }
 {
     let ended = AtomicBool::new(false);
     let over = &ended;
@@ -148,10 +148,11 @@ fn beside<R: Threads + Wait + Sync, G: Gate, M: Machine + Send>(
     let (watch, done) = join(
         rt,
         move || -> Watch
-            requires { watch.receiver.queue ≡ relay.now.queue }
+            requires { (watch.receiver.queue ≡ relay.now.queue) × AreOfSenders watch.receiver }
             ensures same { IsSameReceiver watch.receiver result.receiver }
             ensures watched { (h : Header) → HasWatched h watch watch.receiver.had
                 → HasWatched h result result.receiver.had }
+            ensures theirs { AreOfSenders result.receiver }
         { watch.watched(rt, relay, gate, over) },
         move || -> Result<Vec<(Stopped, Outbox)>, AllocError>
             requires { All (λ j. IsFresh M.header_of M.script traced.now j.0.machine j.0.hand) jobs.items
@@ -247,29 +248,13 @@ fn hands_of(alloc: Global, stopped: Vec<Stopped>) -> Result<Vec<Hand>, AllocErro
         .collect(alloc)
 }
 
-/// Takes in what is left after the workers have ended, and answers the verdict where the verifier stands.
-fn closing_verdict<R: Wait, G: Gate>(
-    rt: &R,
-    alloc: Global,
-    gate: &G,
-    relay: &Relay,
-    outboxes: Vec<Outbox>,
-    hands: &[Hand],
-    watch: Watch,
-) -> Result<Option<Verdict>, AllocError>
-    requires receiver { watch.receiver.queue ≡ relay.now.queue }
-    requires settled { watch.receiver.settled ≡ [] }
-    requires senders { All (λ o. o.sender.queue ≡ relay.now.queue) outboxes.items }
-    requires count { length outboxes.items ≡ length hands.now }
-    requires own { AreOwn hands.now }
-    ensures { (h : Header) → HasWatched h watch watch.receiver.had → IfOk result (λ verdict. IfSome verdict (λ v.
-        (had : List Stamped) × (next : ℕ) × (more : List Stamped) × AreRests hands.now (counts_sent outboxes.items) more
-        × IsClosing h had next v watch.receiver.senders (lanes_sent outboxes.items) (had ++ more))) }
+/// The verdict about a history, where no caller is spent and the verifier that took in some of it stands.
+fn closing_verdict(watch: Watch, spent: Option<u32>, history: &[Stamped]) -> Option<Verdict>
+    ensures { (h : Header) (taken : List Stamped) → HasWatched h watch taken → IfSome result (λ v. IsClosing h v taken history.now) }
 {
+    if spent.is_some() {
+        return None;
+    }
     let mut watch = watch;
-    let ended = AtomicBool::new(true);
-    let mut places = watch.settle(rt, alloc, relay, outboxes)?;
-    watch.watch(rt, relay, gate, &ended);
-    watch.take_rests(hands, &mut places);
-    Ok(watch.verdict())
+    watch.verdict(history)
 }

@@ -5,23 +5,22 @@ use Rattle.std.specs.Prelude.{IfSome}
 use Rattle.std.specs.List.{All}
 use Rattle.std.proofs.lemmas.List.{get_or-map, length-map}
 use Rattle.std.proofs.lemmas.List.Elements.{All-map}
-use Rattle.vyrd_base.specs.declared.verdict.Verdict.{Verdict}
-use Rattle.vyrd_base.specs.Histories.{log_of}
-use Rattle.vyrd_base.specs.Verdicts.{verdict}
+use Rattle.vyrd_base.specs.declared.history.Stamped.{Stamped}
 use Rattle.vyrd_base.specs.Parts.{part}
 use Rattle.vyrd_trace.specs.Lanes.{cells_in}
 use Rattle.vyrd_trace.specs.Hands.{HandView, AreAll}
-use Rattle.vyrd_relay.specs.Ends.{ReceiverView}
+use Rattle.vyrd_relay.specs.Knowledge.{HasBeginning}
+use Rattle.vyrd_relay.specs.Ends.{ReceiverView, lane_sent}
 use Rattle.vyrd_live.specs.declared.worker.Worker.{Worker}
 use Rattle.vyrd_live.specs.declared.worker.Stopped.{Stopped}
 use Rattle.vyrd_live.specs.declared.outbox.Outbox.{Outbox}
 use Rattle.vyrd_live.specs.Endings.{IsFirstSpent}
 use Rattle.vyrd_live.specs.Workers.{IsFresh}
-use Rattle.vyrd_live.specs.Beside.{AreOwn, hands_left}
+use Rattle.vyrd_live.specs.Taken.{VerifierView}
+use Rattle.vyrd_live.specs.Beside.{StandsAt, IsClosing, lanes_sent, hands_left}
 use Rattle.vyrd_live.proofs.WorkerLists.{hands, endings, all_hands, all_played, first_is_long}
-use Rattle.vyrd_live.proofs.TakenParts.{Done, own_lanes}
+use Rattle.vyrd_live.proofs.TakenParts.{Done}
 use Rattle.vyrd_live.proofs.PlayLaws.{of_images, map_twice, same_callers, worked_all, beside_verdict}
-use Rattle.vyrd_live.proofs.workers.play_all.Goals.{in-None+in_ok-verdict-in-None, in-Some}
 use Rattle.vyrd_live.proofs.workers.play_all.Goals as goal
 
 pub jobs_of-requires-clause-callers : goal.jobs_of-requires-clause-callers
@@ -35,40 +34,12 @@ beside-requires-clause-fresh g c κs within =
     let fresh = λ (w : W). IsFresh g.M.Machine.header_of g.M.Machine.script c.args.traced w.machine w.hand in
     of_images (λ (j : W × Outbox). j.0) fresh c.in_ok-jobs.jobs.items (subst (All fresh) (sym c.in_ok-jobs.ensures.workers) c.requires.fresh)
 
-pub closing_verdict-requires-clause-senders : goal.closing_verdict-requires-clause-senders
-closing_verdict-requires-clause-senders g c κs within =
+pub settle-requires-clause-senders : goal.settle-requires-clause-senders
+settle-requires-clause-senders g c =
     let relay = c.in_ok-relay.relay in
     let queue = λ (o : Outbox). o.sender.queue ≡ relay.queue in
     subst (All queue) (sym c.in_ok-stopped.ensures.outboxes)
     (All-map queue (λ (d : Done). d.1) c.in_ok-done.done.items (λ k d l. (c.in_ok-done.ensures.sent k d l).queue))
-
-pub closing_verdict-requires-clause-count : goal.closing_verdict-requires-clause-count
-closing_verdict-requires-clause-count g c κs within =
-    let done = c.in_ok-done.done.items in
-    let stopped = c.in_ok-stopped.stopped.items in
-    ap (λ (os : List Outbox). length os) c.in_ok-stopped.ensures.outboxes ∙ length-map done (λ (d : Done). d.1)
-    ∙ sym (ap (λ (hs : List HandView). length hs) (c.deref-in-None.ensures.value ∙ c.in_ok-hands.ensures)
-    ∙ length-map stopped (λ (s : Stopped). s.hand) ∙ ap (λ (ss : List Stopped). length ss) c.in_ok-stopped.ensures.stopped
-    ∙ length-map done (λ (d : Done). d.0))
-
-pub closing_verdict-requires-clause-own : goal.closing_verdict-requires-clause-own
-closing_verdict-requires-clause-own g c κs within =
-    let H = g.M.Machine.header_of in
-    let S = g.M.Machine.script in
-    let A = g.M.Machine.ahead in
-    let jobs = c.in_ok-jobs.jobs.items in
-    let done = c.in_ok-done.done.items in
-    let stopped = c.in_ok-stopped.stopped.items in
-    let count : length done ≡ length jobs = search rules in
-    let worked = worked_all H S A c.args.traced c.args.workers.items jobs done stopped c.in_ok-jobs.ensures.workers c.in_ok-stopped.ensures.stopped count
-    (λ i j d low. c.in_ok-done.ensures.each i j d (search rules)) in
-    let left : hands stopped ≡ hands_left done = ap hands c.in_ok-stopped.ensures.stopped ∙ map_twice (λ (d : Done). d.0) (λ (s : Stopped). s.hand) done in
-    let of = subst (AreAll c.args.traced) left (all_hands H S A c.args.traced c.args.workers.items stopped worked.0 worked.1 c.requires.hands) in
-    let own = λ (i : ℕ) (d : Done) (low : i < length done). subst (λ (v : HandView). v.caller ≡ i)
-    (get_or-map (λ (d : Done). d.0.hand) done i d d.0.hand low)
-    (of.1 i d.0.hand (omega (arith, low, length-map done (λ (d : Done). d.0.hand)))).1 in
-    subst AreOwn (sym (c.deref-in-None.ensures.value ∙ c.in_ok-hands.ensures ∙ left))
-    (own_lanes c.in_ok-relay.relay done own c.in_ok-done.ensures.sent)
 
 pub close-requires : goal.close-requires
 close-requires g c =
@@ -122,7 +93,6 @@ returns-clause-verdict g c =
     let done = c.in_ok-done.done.items in
     let stopped = c.in_ok-stopped.stopped.items in
     let history = c.in-Ok.closed.history.items in
-    let Right = λ (r : Option Verdict). IfSome r (λ v. v ≡ verdict c.args.header [] (log_of history)) in
     let count : length done ≡ length jobs = search rules in
     let worked = worked_all H S A c.args.traced c.args.workers.items jobs done stopped c.in_ok-jobs.ensures.workers c.in_ok-stopped.ensures.stopped count
     (λ i j d low. c.in_ok-done.ensures.each i j d (search rules)) in
@@ -132,16 +102,17 @@ returns-clause-verdict g c =
     let own = λ (i : ℕ) (d : Done) (low : i < length done). subst (λ (v : HandView). v.caller ≡ i)
     (get_or-map (λ (d : Done). d.0.hand) done i d d.0.hand low)
     (of.1 i d.0.hand (omega (arith, low, length-map done (λ (d : Done). d.0.hand)))).1 in
-    let senders : c.in_ok-done.watch.receiver.senders ≡ length done = c.in_ok-done.ensures.same.senders
+    let watch = c.in_ok-done.watch in
+    let senders : watch.receiver.senders ≡ length done = c.in_ok-done.ensures.same.senders
     ∙ ap (λ (r : ReceiverView). r.senders) (c.in_ok-watch.ensures.receiver ∙ c.in_ok-relay.ensures.receiver)
     ∙ c.callers.ensures ∙ c.requires.callers.0 ∙ callers in
-    elim c.match-spent.branch [
-      | in-None+in_ok-verdict-in-None w ↦
-          let parts = subst (All (λ (hand : HandView). part hand.caller history ≡ hand.lane)) (sym w.deref-in-None.ensures.value) c.in-Ok.ensures.parts in
-          subst Right (sym w.verdict-is)
-          (beside_verdict c.in_ok-relay.relay (cells_in c.args.traced.plan) c.args.header done history w.deref-in-None.result.now
-          c.in_ok-stopped.outboxes.items c.in_ok-done.watch.receiver.senders _ c.in-Ok.ensures.legal callers senders
-          (w.deref-in-None.ensures.value ∙ c.in_ok-hands.ensures ∙ left) c.in_ok-stopped.ensures.outboxes own c.in_ok-done.ensures.sent parts
-          (w.in_ok-verdict-in-None.ensures c.args.header (c.in_ok-done.ensures.watched c.args.header c.in_ok-watch.ensures.watched)))
-      | in-Some w ↦ subst Right (sym w.verdict-is) tt
-    ]
+    let s = c.settle.ensures in
+    let lanes = s.settled ∙ ap lanes_sent c.in_ok-stopped.ensures.outboxes ∙ map_twice (λ (d : Done). d.1) (λ (o : Outbox). lane_sent o.sender) done in
+    let watched = c.in_ok-done.ensures.watched c.args.header c.in_ok-watch.ensures.watched in
+    beside_verdict c.in_ok-relay.relay (cells_in c.args.traced.plan) c.args.header done watch.receiver.had history c.in_ok-hands.hands.items
+    c.settle.new.self.receiver.settled watch.receiver.senders _ c.in-Ok.ensures.legal senders
+    (c.in_ok-hands.ensures ∙ left) lanes own c.in_ok-done.ensures.sent c.in-Ok.ensures.parts
+    (subst (λ (xs : List Stamped). All (HasBeginning xs) c.settle.new.self.receiver.settled) s.had s.beginnings) c.in_ok-done.ensures.theirs
+    (subst (λ (xs : List Stamped). IfSome c.closing_verdict-verdict.result (λ v. IsClosing c.args.header v watch.receiver.had xs)) c.deref-2.ensures.value
+    (c.closing_verdict-verdict.ensures c.args.header watch.receiver.had
+    (λ stands. subst (λ (x : VerifierView). StandsAt c.args.header x watch.receiver.had) (sym s.verifier.1) (watched (sym s.verifier.0 ∙ stands)))))

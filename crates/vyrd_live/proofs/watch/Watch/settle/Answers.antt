@@ -1,21 +1,32 @@
 -- One sender more is taken in.
-use Rattle.std.proofs.Common.{◌≡◌, ℕ, ◌++◌, [], ◌∷◌, List, length, ap, ◌∙◌, sym, append_assoc}
+use Rattle.std.proofs.Common.{◌≡◌, ◌++◌, [], ◌∷◌, List, refl, ap, ◌∙◌, sym, subst, arith, rules}
+use Rattle.std.specs.List.{All}
 use Rattle.std.proofs.lemmas.List.{map-append}
 use Rattle.std.proofs.lemmas.List.Elements.{All-rest}
 use Rattle.vyrd_relay.specs.declared.known.Lane.{Lane}
+use Rattle.vyrd_relay.specs.Knowledge.{HasBeginning}
 use Rattle.vyrd_relay.specs.Ends.{ReceiverView, lane_sent}
 use Rattle.vyrd_live.specs.declared.outbox.Outbox.{Outbox}
-use Rattle.vyrd_live.specs.Beside.{lanes_sent, counts_sent}
+use Rattle.vyrd_live.specs.Beside.{lanes_sent}
 use Rattle.vyrd_live.proofs.watch.Watch.settle.Goals as goal
+
+pub loop-outbox-init : goal.loop-outbox-init
+loop-outbox-init g c = record {
+  left = search rules;
+  queue = refl;
+  senders = refl;
+  had = refl;
+  verifier = (refl, refl);
+  settled = c.requires.first;
+  beginnings = subst (All (HasBeginning c.args.self.now.receiver.had)) (sym c.requires.first) (λ k d l. absurd (omega arith));
+}
 
 pub loop-outbox-preserved : goal.loop-outbox-preserved
 loop-outbox-preserved g c =
     let inv = c.loop-outbox.invariant in
     let s = c.settle.ensures.settled in
     let o = c.in-Some.outbox in
-    let before = c.args.self.now.receiver.settled in
-    let lane : Lane = lane_sent o.sender in
-    let count : ℕ = length o.sender.sent in record {
+    let lane : Lane = lane_sent o.sender in record {
       left = All-rest (λ (x : Outbox). x.sender.queue ≡ c.args.relay.now.queue) o c.next.new.self.rest.items c.loop-outbox.outbox-iterator.rest.items
           c.in-Some.ensures.steps.0 inv.left;
       queue = ap (λ (r : ReceiverView). r.queue) s ∙ inv.queue;
@@ -23,9 +34,6 @@ loop-outbox-preserved g c =
       had = ap (λ (r : ReceiverView). r.had) s ∙ inv.had;
       verifier = inv.verifier;
       settled = ap (λ (r : ReceiverView). r.settled) s ∙ ap (λ (ls : List Lane). ls ++ lane ∷ []) inv.settled
-          ∙ append_assoc before (lanes_sent c.loop-outbox.yielded) (lane ∷ [])
-          ∙ ap (λ (ls : List Lane). before ++ ls) (sym (map-append (λ (x : Outbox). lane_sent x.sender) c.loop-outbox.yielded (o ∷ [])));
-      counts = c.in_ok-push.ensures.items ∙ ap (λ (ns : List ℕ). ns ++ c.settle.result ∷ []) inv.counts
-          ∙ ap (λ (n : ℕ). counts_sent c.loop-outbox.yielded ++ n ∷ []) c.settle.ensures.count
-          ∙ sym (map-append (λ (x : Outbox). length x.sender.sent) c.loop-outbox.yielded (o ∷ []));
+          ∙ sym (map-append (λ (x : Outbox). lane_sent x.sender) c.loop-outbox.yielded (o ∷ []));
+      beginnings = c.settle.ensures.beginnings;
     }

@@ -1,6 +1,7 @@
-use Rattle.std.proofs.Common.{◌≡◌, ◌++◌}
+use Rattle.std.proofs.Common.{◌≡◌}
 use Rattle.std.specs.List.{All}
-use Rattle.vyrd_live.specs.Beside.{lanes_sent, counts_sent}
+use Rattle.vyrd_relay.specs.Knowledge.{HasBeginning}
+use Rattle.vyrd_live.specs.Beside.{lanes_sent}
 use Rattle.vyrd_live.proofs.watch.Watch.settle.Given as goal
 
 abbrev pub invariant-loop-outbox : goal.invariant-loop-outbox
@@ -10,6 +11,6 @@ invariant-loop-outbox g l = record {
   senders : l.self.receiver.senders ≡ l.initial.self.receiver.senders;
   had : l.self.receiver.had ≡ l.initial.self.receiver.had;
   verifier : (l.self.stands ≡ l.initial.self.stands) × (l.self.verifier ≡ l.initial.self.verifier);
-  settled : l.self.receiver.settled ≡ l.initial.self.receiver.settled ++ lanes_sent l.yielded;
-  counts : l.counts.items ≡ counts_sent l.yielded;
+  settled : l.self.receiver.settled ≡ lanes_sent l.yielded;
+  beginnings : All (HasBeginning l.self.receiver.had) l.self.receiver.settled;
 }
