@@ -1,11 +1,19 @@
--- What was read of an input says the logs of the whole input.
-use Rattle.std.proofs.Common.{◌≡◌, ℕ, List, ◌++◌, length, Option, Some, None, ap, ◌∙◌, sym, subst, arith, inl, inr, append-nil}
-use Rattle.std.specs.Prelude.{◌⊎◌, IfSome}
+-- What was read of an input says the logs of the whole input, and what is judged of it while it is read.
+use Rattle.std.proofs.Common.{◌≡◌, ℕ, ◌+◌, ◌≤◌, List, [], ◌++◌, length, Option, Some, None, refl, ap, ◌∙◌, sym, subst, arith, inl, inr, append-nil, length-append}
+use Rattle.std.specs.Prelude.{◌⊎◌, IfSome, Result, Ok, Err, IfOk}
 use Rattle.vyrd_base.specs.Devices.{IsAtEnd}
+use Rattle.vyrd_base.specs.declared.verdict.Verdict.{Verdict}
 use Rattle.vyrd_batch.specs.Batches.{batch_logs}
+use Rattle.vyrd_batch.specs.BatchAnswers.{verdicts_of, batch_text, batch_status}
 use Rattle.vyrd_batch.specs.LongBatches.{longest_batch_input}
 use Rattle.vyrd_batch.proofs.SettledLaws.{logs_are_settled}
-use Rattle.vyrd_program.specs.Inputs.{IsInputRead}
+use Rattle.vyrd_batch.specs.declared.rounds.BatchJudge.{BatchJudge}
+use Rattle.vyrd_batch.specs.Rounds.{IsJudged}
+use Rattle.vyrd_batch.proofs.RoundLaws.{judged_more}
+use Rattle.vyrd_program.specs.Inputs.{IsInputRead, IsMoreRead, IsFewTaken}
+use Rattle.vyrd_program.specs.declared.answer.Answer.{Answer}
+use Rattle.vyrd_program.specs.Batches.{IsBatchAnswer, IsReading, IsBatchRead}
+use Rattle.vyrd_program.proofs.TakenLaws.{taken_more, taken_nothing}
 
 pub logs_are_input : (before after : Option (List ℕ)) (bytes : List ℕ) → IsInputRead longest_batch_input before after bytes
     → IfSome before (λ input. batch_logs bytes ≡ batch_logs input)
@@ -16,3 +24,59 @@ logs_are_input before (Some left) bytes is =
     by_end : IsAtEnd (Some left) ⊎ (length bytes ≡ longest_batch_input) → batch_logs bytes ≡ batch_logs (bytes ++ left)
     by_end (inl none) = ap batch_logs (sym (ap (λ left. bytes ++ left) none ∙ append-nil bytes))
     by_end (inr long) = sym (logs_are_settled bytes left (omega (arith, long)))
+
+-- nothing is read yet
+pub reading_none : (before : Option (List ℕ)) (judge : BatchJudge) (rest : List ℕ) → rest ≡ [] → IsJudged [] judge []
+    → IsReading before before judge rest 0
+reading_none before judge rest none fresh = record {
+  taken = [];
+  told = taken_nothing before;
+  judged = subst (IsJudged [] judge) (sym none) fresh;
+  many = refl;
+}
+
+-- one more read
+pub reading_more : (before between after : Option (List ℕ)) (judge : BatchJudge) (old new : List ℕ) (count n most : ℕ)
+    → IsReading before between judge old count → IsMoreRead most between after old new n → IsReading before after judge new (count + n)
+reading_more before between after judge old new count n most r m = record {
+  taken = r.taken ++ m.piece;
+  told = taken_more before between after r.taken m.piece r.told m.told;
+  judged = subst (IsJudged (r.taken ++ m.piece) judge) (sym m.grown) (judged_more r.taken old m.piece judge.verdicts.items judge.place r.judged);
+  many = omega (arith, length-append r.taken m.piece, r.many, m.many);
+}
+
+-- one more round
+pub reading_judged : (before now : Option (List ℕ)) (old new : BatchJudge) (bytes rest : List ℕ) (count : ℕ) → IsReading before now old bytes count
+    → ((input : List ℕ) → IsJudged input old bytes → IsJudged input new rest) → IsReading before now new rest count
+reading_judged before now old new bytes rest count r judged = record {
+  taken = r.taken;
+  told = r.told;
+  judged = judged r.taken r.judged;
+  many = r.many;
+}
+
+pub few_read : (before now : Option (List ℕ)) (judge : BatchJudge) (rest : List ℕ) (count : ℕ) → IsReading before now judge rest count
+    → count ≤ longest_batch_input → IsFewTaken longest_batch_input before now
+few_read before now judge rest count r few = (r.taken, r.told, omega (arith, r.many, few))
+
+-- the input is read
+pub all_read : (before now : Option (List ℕ)) (judge : BatchJudge) (rest : List ℕ) (count : ℕ) → IsReading before now judge rest count
+    → IsAtEnd now ⊎ (count ≡ longest_batch_input) → count ≤ longest_batch_input → IsBatchRead before now judge rest
+all_read before now judge rest count r enough few = record {
+  taken = r.taken;
+  read = record { told = r.told; enough = by_end enough; few = omega (arith, r.many, few) };
+  judged = r.judged;
+}
+  where
+    by_end : IsAtEnd now ⊎ (count ≡ longest_batch_input) → IsAtEnd now ⊎ (length r.taken ≡ longest_batch_input)
+    by_end (inl end) = inl end
+    by_end (inr long) = inr (omega (arith, r.many, long))
+
+-- the answer tells the verdicts about the logs of the input
+pub verdicts_told : {E : Type 0} (input : List ℕ) (verdicts : List Verdict) (r : Result Answer E)
+    → (logs : List (List ℕ)) × (batch_logs input ≡ Ok logs) × (verdicts ≡ verdicts_of logs)
+    → IfOk r (λ answer. answer.status ≡ batch_status verdicts) → IfOk r (λ answer. answer.text.items ≡ batch_text verdicts)
+    → IfOk r (λ answer. IsBatchAnswer (batch_logs input) answer.status answer.text.items)
+verdicts_told input verdicts (Ok answer) found status text =
+    subst (λ read. IsBatchAnswer read answer.status answer.text.items) (sym found.1) (status ∙ ap batch_status found.2, text ∙ ap batch_text found.2)
+verdicts_told input verdicts (Err e) found status text = tt

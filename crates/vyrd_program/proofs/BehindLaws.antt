@@ -1,6 +1,7 @@
 -- What a source gives is put behind the bytes that were taken before.
-use Rattle.std.proofs.Common.{◌≡◌, ℕ, ◌+◌, List, ◌++◌, take, drop, Option, ap, subst, sym, ◌∙◌}
-use Rattle.std.proofs.Math.Seq.{take-add}
+use Rattle.std.proofs.Common.{◌≡◌, ℕ, ◌+◌, ◌≤◌, List, ◌++◌, length, take, drop, Option, ap, subst, sym, ◌∙◌, arith}
+use Rattle.std.proofs.lemmas.List.{take_all}
+use Rattle.std.proofs.Math.Seq.{take-add, take-append_seam}
 use Rattle.vyrd_base.specs.Devices.{Gives}
 use Rattle.vyrd_program.specs.Inputs.{IsTaken}
 use Rattle.vyrd_program.proofs.TakenLaws.{taken_more}
@@ -10,3 +11,9 @@ pub taken_behind : (before between after : Option (List ℕ)) (count n : ℕ) (o
 taken_behind before between after count n old new told front gives =
     subst (λ bytes. IsTaken before bytes after) (ap (λ bytes. bytes ++ take n (drop count new)) (sym front) ∙ sym (take-add count n new))
     (taken_more before between after (take count old) (take n (drop count new)) told gives.bytes)
+
+-- bytes that were put behind others leave these at the front
+pub front_kept : (old new more : List ℕ) (count many : ℕ) → length old ≡ count → count ≤ many → new ≡ take many old ++ more → take count new ≡ old
+front_kept old new more count many whole within grown =
+    let all : take many old ≡ old = take_all many old (omega (arith, whole, within)) in
+    ap (take count) (grown ∙ ap (λ front. front ++ more) all) ∙ ap (λ n. take n (old ++ more)) (sym whole) ∙ take-append_seam old more

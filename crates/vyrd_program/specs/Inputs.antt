@@ -26,6 +26,14 @@ pub record IsInputRead (most : ℕ) (before after : Option (List ℕ)) (bytes : 
   pub enough : IsAtEnd after ⊎ (length bytes ≡ most)
   pub few : length bytes ≤ most
 
+-- One read gave the next n bytes of an input, `most` at most, and they were appended to those that there were.
+pub record IsMoreRead (most : ℕ) (before after : Option (List ℕ)) (old new : List ℕ) (n : ℕ) : Type 0 where
+  pub piece : List ℕ
+  pub told : IsTaken before piece after
+  pub grown : new ≡ old ++ piece
+  pub many : length piece ≡ n
+  pub few : n ≤ most
+
 -- The source has said its end, or as many bytes were taken of the input as are read at most, where they are told.
 abbrev pub IsInputTaken : ℕ → Option (List ℕ) → Option (List ℕ) → Type 0
 IsInputTaken most before after = IsAtEnd after ⊎ ((taken : List ℕ) × IsTaken before taken after × (length taken ≡ most))

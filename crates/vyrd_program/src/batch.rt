@@ -1,26 +1,32 @@
 //! What `batch` answers.
 
-ghost use Rattle.std.specs.Prelude.{◌≡◌, ◌≤◌, ◌⊎◌, true, length, map, [], Ok, None, IfOk};
-ghost use Rattle.std.specs.List.{AllByRecursion};
+ghost use Rattle.std.specs.Prelude.{◌≡◌, ◌≤◌, ◌<◌, ◌^◌, ◌⊎◌, true, ℕ, List, [], length, Ok, Err, None, IfOk, OnOk};
 ghost use Rattle.vyrd_base.specs.Devices.{HasRisen};
-ghost use Rattle.vyrd_batch.specs.Batches.{batch_logs, bytes_of, LiesWithin};
-ghost use Rattle.vyrd_batch.specs.BatchAnswers.{refused_line};
+ghost use Rattle.vyrd_batch.specs.Batches.{batch_logs};
+ghost use Rattle.vyrd_batch.specs.BatchAnswers.{batch_status, batch_text, refused_line};
 ghost use Rattle.vyrd_batch.specs.LongBatches.{longest_batch_input};
-ghost use Rattle.vyrd_program.specs.Inputs.{IsInputTaken, IsFewTaken};
-ghost use Rattle.vyrd_program.specs.Batches.{AnswersBatch, IsBatchAnswer, IsBatchStatus};
+ghost use Rattle.vyrd_batch.specs.Rounds.{IsJudged};
+ghost use Rattle.vyrd_program.specs.Inputs.{IsInputTaken, IsFewTaken, UnlessFailed};
+ghost use Rattle.vyrd_program.specs.Batches.{AnswersBatch, IsBatchAnswer, IsBatchRead, IsBatchStatus};
+ghost use Rattle.vyrd_program.specs.declared.read_log.ReadFault.TheVariants.{Failed};
 
 use crate::answer::{Answer, BATCH_REFUSED, MEMORY, READ_FAULT};
-use crate::read_input::{LONGEST_BATCH, read_input};
+use crate::read_input::{LONGEST_BATCH, read_more};
 use crate::read_log::ReadFault;
 use std::alloc::{AllocError, Global};
 use std::thread::Threads;
-use vyrd_base::Source;
-use vyrd_batch::{
-    BatchFault, Span, judge_batch, read_batch, status_of, write_refusal, write_verdicts,
-};
+use vyrd_base::{Source, Verdict};
+use vyrd_batch::{BatchFault, BatchJudge, status_of, write_refusal, write_verdicts};
+
+/// How many bytes more are read before the logs that are whole by then are judged: 4 MiB. So threads have enough to do for the
+/// time that it takes to start them, and the bytes are few enough to stay near the processor.
+const ROUND: usize = 4_194_304;
 
 /// The answer to a batch: a line for each log's verdict and one that counts them; or that it is refused; or nothing after a
 /// failed read or out of memory.
+///
+/// Logs are judged while later ones are still to be read. So the memory is that of a round, of the longest log, and of the
+/// verdicts. Of an input that is no batch, all is kept from the log on at which it is refused.
 pub fn batch<R: Threads + Sync, S: Source>(rt: &R, alloc: Global, source: &mut S) -> Answer
     ensures statuses { IsBatchStatus result.status ⊎ (result.status ≡ 4) ⊎ (result.status ≡ 6) }
     ensures answers { IsBatchStatus result.status → AnswersBatch (S.rest source.old) result.status result.text.items }
@@ -35,8 +41,9 @@ pub fn batch<R: Threads + Sync, S: Source>(rt: &R, alloc: Global, source: &mut S
     ensures counted { S.faults source.old ≤ S.faults source.new }
     ensures sure { S.is_sure source.old ≡ true → S.faults source.new ≡ S.faults source.old }
 {
-    match read_input(alloc, LONGEST_BATCH, source) {
-        Ok(bytes) => match answer_to(rt, alloc, &bytes) {
+    let mut judge = BatchJudge::new(alloc);
+    match read_rounds(rt, alloc, &mut judge, source) {
+        Ok(rest) => match answer_to(rt, alloc, &mut judge, rest) {
             Ok(answer) => answer,
             Err(_) => Answer::silent(alloc, MEMORY),
         },
@@ -45,37 +52,87 @@ pub fn batch<R: Threads + Sync, S: Source>(rt: &R, alloc: Global, source: &mut S
     }
 }
 
-/// The answer to the bytes of a batch.
-fn answer_to<R: Threads + Sync>(rt: &R, alloc: Global, bytes: &[u8]) -> Result<Answer, AllocError>
-    ensures answer { IfOk result (λ answer. IsBatchAnswer (batch_logs bytes.now) answer.status answer.text.items) }
+/// Reads to the source's end, or as many bytes as settle what a batch says, and judges meanwhile the logs that are whole. The
+/// answer is the bytes that are left.
+fn read_rounds<R: Threads + Sync, S: Source>(
+    rt: &R,
+    alloc: Global,
+    judge: &mut BatchJudge,
+    source: &mut S,
+) -> Result<Vec<u8>, ReadFault>
+    requires fresh { IsJudged [] judge.old [] }
+    ensures read { IfOk result (λ rest. IsBatchRead (S.rest source.old) (S.rest source.new) judge.new rest.items) }
+    ensures few { IsFewTaken longest_batch_input (S.rest source.old) (S.rest source.new) }
+    ensures failed { result ≡ Err Failed → HasRisen (S.faults source.old) (S.faults source.new) }
+    ensures stopped { result ≡ Err Failed → S.rest source.new ≡ S.left_off source.new }
+    ensures failures_alone { UnlessFailed result (S.faults source.new ≡ S.faults source.old) }
+    ensures counted { S.faults source.old ≤ S.faults source.new }
+    ensures sure { S.is_sure source.old ≡ true → S.faults source.new ≡ S.faults source.old }
+{
+    let mut bytes = Vec::new(alloc);
+    let mut count = 0;
+    let mut next = ROUND;
+    while count < LONGEST_BATCH {
+        let n = read_more(LONGEST_BATCH - count, &mut bytes, source)?;
+        if n == 0 {
+            break;
+        }
+        count += n;
+        next = judge_round(rt, next, judge, &mut bytes)?;
+    }
+    Ok(bytes)
+}
+
+/// Judges the logs that are whole, if there are `next` bytes. The answer is how many bytes there have to be the next time.
+fn judge_round<R: Threads + Sync>(
+    rt: &R,
+    next: usize,
+    judge: &mut BatchJudge,
+    bytes: &mut Vec<u8>,
+) -> Result<usize, AllocError>
+    ensures { (input : List ℕ) → IsJudged input judge.old bytes.old.items → OnOk result (IsJudged input judge.new bytes.new.items) }
+{
+    if bytes.len() < next {
+        return Ok(next);
+    }
+    judge.judge(rt, bytes)?;
+    Ok(bytes.len().saturating_add(ROUND))
+}
+
+/// The answer to a batch of which these bytes are left.
+fn answer_to<R: Threads + Sync>(
+    rt: &R,
+    alloc: Global,
+    judge: &mut BatchJudge,
+    rest: Vec<u8>,
+) -> Result<Answer, AllocError>
+    ensures answer { (input : List ℕ) → IsJudged input judge.old rest.items →
+        IfOk result (λ answer. IsBatchAnswer (batch_logs input) answer.status answer.text.items) }
+    ensures statuses { IfOk result (λ answer. IsBatchStatus answer.status) }
     ensures run { IfOk result (λ answer. answer.run ≡ None) }
     ensures spent { IfOk result (λ answer. answer.spent ≡ None) }
 {
-    match read_batch(alloc, bytes) {
-        Ok(spans) => tell(rt, alloc, bytes, &spans),
+    let mut bytes = rest;
+    match judge.finish(rt, &mut bytes) {
+        Ok(()) => tell(alloc, judge.verdicts()),
         Err(BatchFault::Refused { log }) => refuse(alloc, log),
         Err(BatchFault::Memory) => Err(AllocError),
     }
 }
 
-/// The verdicts about the logs that stand in these spans.
-fn tell<R: Threads + Sync>(
-    rt: &R,
-    alloc: Global,
-    bytes: &[u8],
-    spans: &[Span],
-) -> Result<Answer, AllocError>
-    requires { AllByRecursion (LiesWithin (length bytes.now)) spans.now }
-    ensures answer { IfOk result (λ answer. IsBatchAnswer (Ok (map (bytes_of bytes.now) spans.now)) answer.status answer.text.items) }
+/// The verdicts about the logs of a batch.
+fn tell(alloc: Global, verdicts: &[Verdict]) -> Result<Answer, AllocError>
+    requires { length verdicts.now < 2 ^ 62 }
+    ensures status { IfOk result (λ answer. answer.status ≡ batch_status verdicts.now) }
+    ensures low { IfOk result (λ answer. answer.status ≤ 2) }
+    ensures text { IfOk result (λ answer. answer.text.items ≡ batch_text verdicts.now) }
     ensures run { IfOk result (λ answer. answer.run ≡ None) }
     ensures spent { IfOk result (λ answer. answer.spent ≡ None) }
 {
-    let verdicts = judge_batch(rt, alloc, bytes, spans)?;
     let mut text = Vec::new(alloc);
-    write_verdicts(&verdicts, &mut text)?;
-    let status = status_of(&verdicts);
+    write_verdicts(verdicts, &mut text)?;
     Ok(Answer {
-        status,
+        status: status_of(verdicts),
         text,
         run: None,
         spent: None,

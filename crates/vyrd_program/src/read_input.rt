@@ -1,8 +1,8 @@
-//! Reading an input whole.
+//! Reading an input, whole or read by read.
 
 ghost use Rattle.std.specs.Prelude.{◌≡◌, ◌+◌, ◌≤◌, ◌<◌, true, take, drop, vec_len, IfOk, OnOk, OnErr, Ok, Err};
 ghost use Rattle.vyrd_base.specs.Devices.{HasRisen, Gives, IsAtEnd};
-ghost use Rattle.vyrd_program.specs.Inputs.{IsInputRead, IsFewTaken, longest_read, UnlessFailed};
+ghost use Rattle.vyrd_program.specs.Inputs.{IsInputRead, IsMoreRead, IsFewTaken, longest_read, UnlessFailed};
 ghost use Rattle.vyrd_program.specs.declared.read_log.ReadFault.TheVariants.{Failed};
 
 use crate::read_log::{LONGEST_READ, ReadFault};
@@ -43,6 +43,32 @@ pub fn read_input<S: Source>(
     }
     bytes.truncate(count);
     Ok(bytes)
+}
+
+/// Reads once, at most `most` bytes, and appends what came. The answer says how much that is; it is 0 at the source's end.
+///
+/// The read takes at most 65,536 bytes. After an error nothing is known of `bytes`.
+pub fn read_more<S: Source>(
+    most: usize,
+    bytes: &mut Vec<u8>,
+    source: &mut S,
+) -> Result<usize, ReadFault>
+    requires { 0 < most }
+    ensures more { IfOk result (IsMoreRead most (S.rest source.old) (S.rest source.new) bytes.old.items bytes.new.items) }
+    ensures at_end { result ≡ Ok 0 → IsAtEnd (S.rest source.new) }
+    ensures kept { OnErr result (S.rest source.new ≡ S.rest source.old) }
+    ensures failed { result ≡ Err Failed → HasRisen (S.faults source.old) (S.faults source.new) }
+    ensures stopped { result ≡ Err Failed → S.rest source.new ≡ S.left_off source.new }
+    ensures failures_alone { UnlessFailed result (S.faults source.new ≡ S.faults source.old) }
+    ensures counted { S.faults source.old ≤ S.faults source.new }
+    ensures sure { S.is_sure source.old ≡ true → S.faults source.new ≡ S.faults source.old }
+    ensures stays_sure { S.is_sure source.old ≡ true → S.is_sure source.new ≡ true }
+{
+    let count = bytes.len();
+    bytes.resize(count + LONGEST_READ.min(most), 0)?;
+    let n = read_behind(count, bytes, source)?;
+    bytes.truncate(count + n);
+    Ok(n)
 }
 
 /// Makes room for a read after the first `count` bytes, which stay. There are at most `most` bytes.
