@@ -1,4 +1,4 @@
--- Parts that are added to amounts, and that it doesn't matter in which order.
+-- Parts that are added to amounts, in whatever order.
 use Rattle.std.proofs.Common.{◌≡◌, ℕ, ◌+◌, List, [], ◌∷◌, ◌++◌, refl, ap, ◌∙◌, sym, arith}
 use Rattle.std.specs.Prelude.{flat_map}
 use Rattle.std.proofs.lemmas.List.Concat.{flat_map-append}

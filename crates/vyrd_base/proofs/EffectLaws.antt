@@ -1,5 +1,6 @@
--- What the effects of the entries owe to one more entry behind them: nothing, but where it ends a block with a lone commit in
--- it. Then the writes of that block take effect at that commit, and all else stays.
+-- What the effects of the entries owe to one more entry after them: nothing, but where it ends a
+-- block with a lone commit in it. Then the writes of that block take effect at that commit, and all
+-- else stays.
 use Rattle.std.proofs.Common.{◌≡◌, ℕ, Bool, true, false, cond, ◌&&◌, ◌||◌, List, [], ◌∷◌, ◌++◌, Option, Some, None, refl, ap, subst, ◌∙◌, sym, append_assoc}
 use Rattle.std.specs.Prelude.{◌==◌, unwrap_or}
 use Rattle.std.specs.Option.{option_or, option_map_or}
@@ -24,7 +25,7 @@ ends_block BlockClose = true
 ends_block BlockCommit = true
 ends_block _ = false
 
--- Each entry has the same effects, with these entries behind them or with those.
+-- Each entry has the same effects, with these entries after them or with those.
 abbrev pub SameEffects : List Entry → List Entry → List Entry → Type 0
 SameEffects [] later later' = Unit {0}
 SameEffects (e ∷ earlier) later later' =
@@ -44,7 +45,7 @@ same_effects_of_others c (e ∷ earlier) later later' same =
     let before = same_effects_of_others c earlier (e ∷ later) (e ∷ later') same.1 in
     λ i. cond (e.caller == c) (cond (is_lone_commit e.kind) [] (before i)) (same.0 i ++ before i)
 
--- an entry's effects look at the writes that its caller still makes, and at nothing else behind it
+-- an entry's effects look at the writes that its caller still makes, and at nothing else after it
 pub effects_by_ahead : (earlier : List Entry) (c : ℕ) (kind : Kind) (later later' : List Entry) → writes_ahead c later ≡ writes_ahead c later'
     → effects_at earlier c kind later ≡ effects_at earlier c kind later'
 effects_by_ahead earlier c (Call method args) later later' same = refl
@@ -153,7 +154,8 @@ same_from_end earlier c end kind later ends = same_behind earlier c kind (entry 
     (ahead_own c end (later ++ entry c kind ∷ []) ∙ ends (writes_ahead c (later ++ entry c kind ∷ []))
     ∙ sym (ends (writes_ahead c later)) ∙ sym (ahead_own c end later))
 
--- where the caller's open block, if there is one, has no lone commit in it, what is said of its writes changes no effects
+-- if the caller's open block, if there is one, has no lone commit in it, what is said of its writes
+-- changes no effects
 abbrev SameBehind : ℕ → Kind → List Entry → Type 0
 SameBehind c kind earlier = (later : List Entry) → has_inner_commit c earlier ≡ false → SameEffects earlier later (later ++ entry c kind ∷ [])
 
@@ -191,7 +193,7 @@ same_without_inner h c kind (e ∷ earlier) wf = step (same_without_inner h c ki
 abbrev pub ends_committed_block : List Entry → Entry → Bool
 ends_committed_block earlier e = ends_block e.kind && has_inner_commit e.caller earlier
 
--- Any other entry behind the entries leaves their effects alone.
+-- Any other entry after the entries leaves their effects alone.
 pub same_after : (h : Header) (earlier : List Entry) (e : Entry) → WellFormed h earlier → ends_committed_block earlier e ≡ false
     → SameEffects earlier [] (e ∷ [])
 same_after h earlier e wf none = by_end (ends_block e.kind) refl none

@@ -71,7 +71,7 @@ pub once_returned_replied : {B : Type 0} (f : Called → ℕ → Option B) (x : 
     → (r : ℕ) × (x.reply ≡ Some r)
 once_returned_replied f x b e = with_reply_replied f x.called x.reply b e
 
--- where one thing was given, nothing changes any more
+-- if one thing was given, nothing changes any more
 with_reply_decided : {B C : Type 0} (f : Called → ℕ → Option B) (g : Called → ℕ
     → Option C) (called : Option Called) (reply later_reply : Option ℕ) (b : B)
     → ((r : ℕ) → reply ≡ Some r → later_reply ≡ Some r) → with_reply f called reply ≡ Some b

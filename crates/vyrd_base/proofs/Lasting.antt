@@ -59,8 +59,8 @@ uncounted : (p : ℕ) (b : Bool) → b ≡ false → cond b 1 0 + p ≡ p
 uncounted p true e = cc
 uncounted p false e = omega arith
 
--- Where the first fault of some places is known, it is the first fault of these places as the front goes on.
--- The states before these places are `pre`, and s is the state at the first of them.
+-- If the first fault of some places is known, it is the first fault of these places as the front
+-- goes on. The states before these places are `pre`, and s is the state at the first of them.
 pub first_fault_lasts : (h : Header) (starting : List StartWord) (earlier xs later : List Entry) (pre states more : List Amounts) (s : Amounts) (v : Verdict)
     → Settled earlier xs → length pre ≡ commit_count earlier → states ≡ pre ++ states_from s (commits_after earlier xs)
     → first_answer (violation_at h starting states) (places_after earlier xs) ≡ Some v

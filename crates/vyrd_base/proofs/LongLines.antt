@@ -98,7 +98,7 @@ short_entry subject e is =
     let kind = short_kind subject e.kind (second_true (nat_lt e.caller (2 ^ 32)) _ is) in
     omega (arith, length-join 32 (decimal e.caller ∷ kind_fields e.kind), caller, kind)
 
--- a longer line is no entry
+-- a longer line isn't an entry
 pub long_entry : (subject : Subject) (line : List ℕ) → 64 < length line → entry_in subject line ≡ None
 unfolding entry_in
 long_entry subject line long = by_guess (guessed_entry subject (fields_of line))
@@ -121,7 +121,7 @@ short_start s is =
     let value = short_64 s.value (second_true (nat_lt s.word (2 ^ 32)) _ is) in
     omega (arith, length-join 32 (codes "start" ∷ start_numbers s), word, value)
 
--- a longer line is no starting word
+-- a longer line isn't a starting word
 pub long_start : (line : List ℕ) → 64 < length line → start_in line ≡ None
 long_start line long = by_found (start_in line) refl
   where
@@ -175,7 +175,7 @@ long_from line (a ∷ b ∷ c ∷ []) long = refl
 long_from line (a ∷ b ∷ c ∷ d ∷ []) long = refl
 long_from line (a ∷ b ∷ c ∷ d ∷ e ∷ more) long = long_spelled line (number_of b) (subject_called c) (number_of d) (number_of e) long
 
--- a longer line is no header
+-- a longer line isn't a header
 pub long_header : (line : List ℕ) → 64 < length line → header_in line ≡ Err BadHeader
 unfolding header_in
 long_header line long = long_from line (fields_of line) long

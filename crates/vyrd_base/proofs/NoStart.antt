@@ -59,6 +59,6 @@ unfolding end_verdict
 end_verdict-none h es =
     ap (λ o. option_or o (then_some (is_call_open h (newest_first es)) (Malformed (line_of [] (length es)) CallOpen))) (start_verdict-none h)
 
--- without starting words an entry stands two lines behind its position
+-- without starting words an entry stands two lines after its position
 pub line_of-none : (position : ℕ) → line_of [] position ≡ position + 2
 line_of-none position = omega arith

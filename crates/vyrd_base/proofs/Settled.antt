@@ -52,7 +52,7 @@ effects_at_stays earlier c BlockOpen later more is = refl
 effects_at_stays earlier c BlockClose later more is = refl
 effects_at_stays earlier c BlockCommit later more is = refl
 
--- the effects of the entries before a place stay, whatever comes behind what stands after it
+-- the effects of the entries before a place stay, whatever comes after what stands after it
 abbrev pub Settled : List Entry → List Entry → Type 0
 Settled earlier later = (more : List Entry) → effects earlier (later ++ more) ≡ effects earlier later
 

@@ -23,7 +23,7 @@ use Rattle.vyrd_base.proofs.ShadowLaws.{all_kept, write_kept, close_kept, block_
 use Rattle.vyrd_base.proofs.EffectLaws.{ends_block, same_effects, same_effects_of_others, same_after, same_without_end, ends_committed_block, more_after, more_effects, none_of_both, none_of_others, never, has_block_of, other_inner, own_inner}
 use Rattle.vyrd_base.proofs.TestLaws.{same_number, flipped, first_true, second_true}
 
--- who has an open block is a caller of the log
+-- a caller with an open block is a caller of the log
 pub block_is_a_callers : (h : Header) (c : ℕ) (earlier : List Entry) → WellFormed h earlier → has_block c earlier ≡ true → c < h.callers
 block_is_a_callers h c [] wf = λ inside. never refl inside
 block_is_a_callers h c (e ∷ earlier) wf = step (block_is_a_callers h c earlier wf.1)

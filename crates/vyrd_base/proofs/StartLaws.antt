@@ -26,7 +26,7 @@ use Rattle.vyrd_base.proofs.TestLaws.{first_true, second_true, at_most_of, is_sa
 abbrev pub SameWords : List ℕ → List ℕ → Type 0
 SameWords v w = (i : ℕ) → slice_index v i ≡ slice_index w i
 
--- zeros behind words change none of them
+-- zeros after words change none of them
 pub padded : (words : List ℕ) (k : ℕ) → SameWords (words ++ replicate k 0) words
 padded [] k i = zeros k i
 padded (word ∷ words) k zero = refl
@@ -147,7 +147,7 @@ all_of true false true e f = refl
 all_of false b c e f = cc
 all_of true b false e f = cc
 
--- Where all locks are 0, the state is told by the plain words alone.
+-- If all locks are 0, the state is told by the plain words alone.
 pub with_free_locks : (h : Header) (words : List ℕ) → length words ≡ plain_words h
     → state_of_words h (words ++ replicate (lock_words h) 0) ≡ then_some (is_sound h.subject h.size words) (view_of_words h words)
 unfolding state_of_words

@@ -27,8 +27,8 @@ use Rattle.vyrd_base.proofs.ListLaws.{or_none}
 abbrev pub read_lines : Reading → ℕ
 read_lines read = length read.starting + length read.entries
 
--- Where the lines from line n on stop: a fault behind `end` is two lines after the last entry, any other on the line after it.
--- Without `end` there is one.
+-- Where the lines from line n on stop: a fault after `end` is two lines after the last entry, any
+-- other on the line after it. Without `end` there is one.
 pub record Stops (n : ℕ) (read : Reading) : Type 0 where
   pub behind_end : read.ended ≡ true → (f : TextFault) → read.fault ≡ Some f → f.line ≡ n + read_lines read + 1
   pub at_fault : read.ended ≡ false → (f : TextFault) × (read.fault ≡ Some f) × (f.line ≡ n + read_lines read)
@@ -143,7 +143,7 @@ unwrap_or-or_some : {A : Type 0} (o : Option A) (a d : A) → unwrap_or (option_
 unwrap_or-or_some None a d = refl
 unwrap_or-or_some (Some x) a d = refl
 
--- whether a fault stands behind an `end`
+-- whether a fault stands after an `end`
 is_behind : (line n : ℕ) → line ≡ 2 + n + 1 → (line == n + 2 + 1) ≡ true
 is_behind line n e = grind (arith, nat_tests)
 
@@ -192,8 +192,8 @@ without_header read f none at =
     (option_map (λ g. Malformed g.line g.rule) read.fault)) (accepted read.entries)) none
     ∙ ap (λ o. unwrap_or (option_map (λ g. Malformed g.line g.rule) o) (accepted read.entries)) at
 
--- The verdict about a whole input: with a header that of its starting words, its entries and how they stop, and else its fault
--- of text.
+-- The verdict about a whole input: with a header that of its starting words, its entries and how
+-- they stop, and otherwise its fault of text.
 pub text_verdict-by_stop : (max : ℕ) (bytes : List ℕ) (h : Header) → (reading (input_of max true) bytes).header ≡ Some h
     → text_verdict max bytes ≡ verdict_at h (reading (input_of max true) bytes).starting (reading (input_of max true) bytes).entries
     (stop_of (reading (input_of max true) bytes))

@@ -26,7 +26,7 @@ pub given-append : (q : ℕ) (xs ys : List (ℕ × ℕ)) → given q (xs ++ ys) 
 given-append q [] ys = omega arith
 given-append q (x ∷ xs) ys = omega (arith, given-append q xs ys)
 
--- what numbers in a row give, where each gives so much at most
+-- what numbers in a row give, if each gives this much at most
 pub given_at_most : (f : ℕ → List (ℕ × ℕ)) (most q k n : ℕ) → ((j : ℕ) → given q (f j) ≤ most) → given q (flat_map f (numbers_from k n)) ≤ n * most
 given_at_most f most q k zero each = omega arith
 given_at_most f most q k (suc n) each =

@@ -84,7 +84,7 @@ amounts_formed [] rest formed = formed
 amounts_formed (p ∷ places) rest formed =
     IsAmounts-with_amount (amounts_in places rest) p.0 (amount_of (amounts_in places rest) p.0 + p.1) (amounts_formed places rest formed)
 
--- amounts that are the old ones but for a key
+-- amounts that are the old ones except for a key
 pub amounts_are : (s t : Amounts) (q a : ℕ) → IsAmounts s → IsAmounts t → ((r : ℕ) → amount_of t r ≡ cond (r == q) a (amount_of s r)) → t ≡ with_amount s q a
 amounts_are s t q a is it each = same_amounts t (with_amount s q a) it (IsAmounts-with_amount s q a is) (λ r. each r ∙ sym (amount_of-with_amount s q a r))
 
@@ -114,7 +114,7 @@ module _ (shift : ℕ) (places : List (ℕ × ℕ)) (rest : Amounts) (table : Is
           let within = found.0 in
           table.first j taken i (omega (arith, within.0, ap (first_place shift) same)) (omega (arith, not_below_of j i e, other)) (found.1 ∙ sym same)
 
-  -- where no place of a key has its name, it has no amount in the table
+  -- if no place of a key has its name, it has no amount in the table
   pub nowhere_of : (q : ℕ) → IsFoundAt shift places q None → StandsAt places q None
   nowhere_of q missing i taken same =
       let reach = table.reach i taken in

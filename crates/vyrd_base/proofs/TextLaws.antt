@@ -37,7 +37,7 @@ and_again : (a b c : Bool) → ((a && b) && c) ≡ (a && (b && c))
 and_again true b c = refl
 and_again false b c = refl
 
--- characters, and those behind them
+-- characters, and those after them
 pub characters_split : (f : ℕ → ℕ) (n m : ℕ) → are_characters f (n + m) ≡ (are_characters f n && are_characters (λ i. f (n + i)) m)
 characters_split f n zero =
     let none : n + 0 ≡ n = omega arith in
@@ -134,7 +134,7 @@ uncut_text f n k few e high =
     ap (λ l. cond (nat_lt k l) (text_of f n % 256 ^ k) (text_of f n)) (length_of_text f n few e)
     ∙ ap (λ b. cond b (text_of f n % 256 ^ k) (text_of f n)) (isnt_below k n high)
 
--- a cut keeps the first k characters, or all where there are no more
+-- a cut keeps the first k characters, or all if there are no more
 pub cut_characters : (f : ℕ → ℕ) (n k : ℕ) → n ≤ 7 → are_characters f n ≡ true
     → cut_to k (text_of f n) ≡ text_of f (min k n)
 cut_characters f n k few e = by_length (nat_lt k n) refl

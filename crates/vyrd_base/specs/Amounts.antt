@@ -1,5 +1,5 @@
--- Amounts by key: the keys rise and no amount is 0, so a key that isn't there has the amount 0, and two lists of amounts are
--- equal where each key has the same amount in both.
+-- Amounts by key: the keys rise and no amount is 0, so a key that isn't there has the amount 0, and
+-- two lists of amounts are equal if each key has the same amount in both.
 use Rattle.std.specs.Prelude.{◌≢◌, ℕ, ◌+◌, ◌==◌, not, T, min, List, [], ◌∷◌, ◌++◌, map, filter, Option, Some, None, unwrap_or, if◌then◌else◌}
 use Rattle.std.specs.Option.{option_map_or}
 use Rattle.std.specs.Ordering.{nat_cmp}
@@ -24,7 +24,7 @@ abbrev pub with_amount : Amounts → ℕ → ℕ → Amounts
 with_amount amounts key amount =
     if amount == 0 then filter (λ entry. not (entry.0 == key)) amounts else put nat_cmp key amount amounts
 
--- the amounts with so much more for the key
+-- the amounts with this added to the key's amount
 abbrev pub plus_amount : Amounts → ℕ → ℕ → Amounts
 plus_amount amounts key more = with_amount amounts key (amount_of amounts key + more)
 

@@ -9,7 +9,7 @@ abbrev pub text_of : (ℕ → ℕ) → ℕ → ℕ
 text_of character zero = 0
 text_of character (suc n) = text_of character n + (character n + 1) * 256 ^ n
 
--- how many of the powers 256^0, 256^1 and so on to 256^(n - 1) are at most the text
+-- how many of the powers 256^0, 256^1 and so on, up to 256^(n - 1), are at most the text
 abbrev pub powers_within : ℕ → ℕ → ℕ
 powers_within zero text = 0
 powers_within (suc n) text = powers_within n text + (if nat_le (256 ^ n) text then 1 else 0)
@@ -22,11 +22,11 @@ text_length text = powers_within 7 text
 abbrev pub has_room : ℕ → ℕ → Bool
 has_room text more = nat_le (text_length text + text_length more) 7
 
--- a text, and another one behind it
+-- a text, and another one after it
 abbrev pub joined : ℕ → ℕ → ℕ
 joined text more = text + more * 256 ^ text_length text
 
--- the first n characters of a text, or all where it has no more
+-- the first n characters of a text, or all if it has no more
 abbrev pub cut_to : ℕ → ℕ → ℕ
 cut_to n text = if nat_lt n (text_length text) then text % 256 ^ n else text
 
@@ -51,12 +51,12 @@ are_characters character (suc n) = are_characters character n && nat_lt (charact
 abbrev pub is_buffer : Buffer → Bool
 is_buffer buffer = nat_le buffer.count 7 && are_characters buffer.character buffer.count
 
--- the text that a buffer shows, and none where its words are no buffer
+-- the text that a buffer shows, and none if its words aren't a buffer
 abbrev pub shown_text : Buffer → Option ℕ
 shown_text buffer = then_some (is_buffer buffer) (text_of buffer.character buffer.count)
 
--- Buffer b of this many gives the key b its text. Words that are no buffer give the key size + b, which stands for damage, 1 and
--- nothing else.
+-- Buffer b of this many gives the key b its text. Words that aren't a buffer give 1 to the key size
+-- + b, which stands for damage, and nothing else.
 abbrev pub buffer_parts : ℕ → ℕ → Buffer → List (ℕ × ℕ)
 buffer_parts size b buffer =
     if is_buffer buffer then (b, text_of buffer.character buffer.count) ∷ [] else (size + b, 1) ∷ []

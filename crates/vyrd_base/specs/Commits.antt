@@ -16,7 +16,7 @@ is_commit Commit = true
 is_commit BlockCommit = true
 is_commit _ = false
 
--- the reply, where an entry is a return
+-- the reply, if an entry is a return
 abbrev pub returned : Kind → Option ℕ
 returned (Return reply) = Some reply
 returned _ = None
@@ -51,7 +51,7 @@ commits front = commits_after [] front
 abbrev pub once_returned : {B : Type 0} → (Called → ℕ → Option B) → Committed → Option B
 once_returned f x = option_and_then (λ called. option_and_then (f called) x.reply) x.called
 
--- the state after an execution, where it has returned and its reply is allowed
+-- the state after an execution, if it has returned and its reply is allowed
 abbrev pub state_after : Amounts → Committed → Option Amounts
 state_after state x = once_returned (λ called reply. next_state called.method called.args reply state) x
 
@@ -61,7 +61,8 @@ abbrev pub states_from : Amounts → List Committed → List Amounts
 states_from state [] = state ∷ []
 states_from state (x ∷ xs) = state ∷ (elim (state_after state x) [ None ↦ [] | Some next ↦ states_from next xs ])
 
--- The states along the commits of a front, from the state at the start on: none, where the starting words stand for no state.
+-- The states along the commits of a front, from the state at the start on: none, if the starting
+-- words stand for no state.
 abbrev pub states_of : Option Amounts → List Entry → List Amounts
 states_of None front = []
 states_of (Some start) front = states_from start (commits front)

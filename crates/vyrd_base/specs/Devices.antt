@@ -12,7 +12,7 @@ pub record Gives (before : Option (List ℕ)) (n : ℕ) (buffer : List ℕ) (aft
   pub within : n ≤ length buffer
   pub bytes : before ≡ option_map (λ rest. take n buffer ++ rest) after
 
--- where the bytes are told, none is left
+-- if the bytes are told, none is left
 abbrev pub IsAtEnd : Option (List ℕ) → Type 0
 IsAtEnd rest = IfSome rest (λ bytes. bytes ≡ [])
 
@@ -26,7 +26,7 @@ pub record Takes (before : Option (List ℕ)) (n : ℕ) (piece : List ℕ) (afte
 abbrev pub next_count : ℕ → ℕ
 next_count n = min (n + 1) (2 ^ 64 - 1)
 
--- whether the call after so many has one of these numbers: calls are numbered from 1 on
+-- whether the call after that many has one of these numbers: calls are numbered from 1 on
 abbrev pub fails_next : ℕ → List ℕ → Bool
 fails_next made failing = list_any (λ n. n == next_count made) failing
 

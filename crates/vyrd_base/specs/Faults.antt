@@ -20,8 +20,8 @@ use Rattle.vyrd_base.specs.Words.{words_at}
 use Rattle.vyrd_base.specs.Views.{view_of_words}
 use Rattle.vyrd_base.specs.Commits.{Committed, committed_at, once_returned, commit_count}
 
--- What a commit shows: a reply that isn't allowed in the state before it, or else a view of the words that isn't the state
--- after it.
+-- What a commit shows: a reply that isn't allowed in the state before it, or otherwise a view of
+-- the words that isn't the state after it.
 abbrev pub step_fault : Amounts → Called → ℕ → Amounts → Option Why
 step_fault shown called reply before = elim (next_state called.method called.args reply before) [
   | None ↦ Some (Reply reply)

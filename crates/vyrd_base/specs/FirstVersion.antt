@@ -69,7 +69,7 @@ abbrev pub old_effects : List Entry → List (ℕ × ℕ)
 old_effects [] = []
 old_effects (e ∷ earlier) = old_effects_at earlier e.caller e.kind ++ old_effects earlier
 
--- the value of the last effect on the word, and 0 where there is none
+-- the value of the last effect on the word, and 0 if there is none
 abbrev pub old_value_after : List (ℕ × ℕ) → ℕ → ℕ
 old_value_after writes word = unwrap_or (first_answer (given_to word) writes) 0
 
@@ -96,12 +96,12 @@ old_first_fault h well_formed = first_answer
     (old_fault_of_kind h (states_from start (commits well_formed)) place place.here.kind))
     (places well_formed)
 
--- the verdict that stands already: the first fault in the front, or else the break after it
+-- the verdict that stands already: the first fault in the front, or otherwise the break after it
 abbrev pub old_verdict_so_far : Header → List Entry → Option Verdict
 old_verdict_so_far h entries = option_or (old_first_fault h (old_front h entries))
     (option_map (Malformed (length (old_front h entries) + 2)) (old_first_break h entries))
 
--- the verdict where `end` stands after the entries while a call is open
+-- the verdict if `end` stands after the entries while a call is open
 abbrev pub old_end_verdict : Header → List Entry → Option Verdict
 old_end_verdict h entries = then_some (is_call_open h (newest_first entries)) (Malformed (length entries + 2) CallOpen)
 

@@ -23,7 +23,7 @@ front h entries = front_after h [] entries
 unfoldable pub first_break : Header → List Entry → Option Rule
 first_break h entries = first_answer (λ place. broken_rule h place.earlier place.here) (places entries)
 
--- what comes after a part of a log, where no rule is broken in that part
+-- what comes after a part of a log, if no rule is broken in that part
 abbrev pub unless_broken : Option Rule → List Entry → List Entry
 unless_broken None more = more
 unless_broken (Some rule) more = []

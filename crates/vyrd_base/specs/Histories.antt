@@ -30,7 +30,7 @@ is_plain cells cell = nat_lt cell cells.plain
 abbrev pub is_lock : Cells → ℕ → Bool
 is_lock cells cell = nat_le cells.plain cell && nat_lt cell (cells.plain + cells.locks)
 
--- what an event makes of the cell, where it changes it: a held lock has its holder's number plus 1
+-- what an event makes of the cell, if it changes it: a held lock has its holder's number plus 1
 abbrev pub made_of : ℕ → ℕ → Did → Option ℕ
 made_of cell caller (Read other value) = None
 made_of cell caller (Wrote other value) = if other == cell then Some value else None
@@ -46,7 +46,7 @@ value_in earlier cell = unwrap_or (first_answer (λ e. made_of cell e.caller e.d
 unfoldable pub words_of_history : Header → List Stamped → List ℕ
 words_of_history h history = map (value_in (newest_first history)) (numbers_below (plain_words h))
 
--- whether an entry is a write, which is no mark
+-- whether an entry is a write, which isn't a mark
 abbrev pub is_write : Kind → Bool
 is_write (Write word value) = true
 is_write _ = false

@@ -4,8 +4,9 @@ use Rattle.vyrd_base.specs.declared.header.Header.{Header}
 use Rattle.vyrd_base.specs.declared.subject.Subject.{Subject}
 use Rattle.vyrd_base.specs.declared.subject.Subject.TheVariants.{Multiset, Cache, Tree, Buffers}
 
--- A multiset has 4 slots of 2 words in each bucket, a cache 5 words in each chunk, and a tree 12 words in each node and
--- 2 more: the root's number, and the count of nodes in use beside node 0. A buffer has 8 words.
+-- A multiset has 4 slots of 2 words in each bucket, a cache 5 words in each chunk, and a tree 12
+-- words in each node and 2 more: the root's number, and the count of nodes in use besides node 0. A
+-- buffer has 8 words.
 abbrev pub plain_words_of : Subject → ℕ → ℕ
 plain_words_of Multiset n = 8 * n
 plain_words_of Cache n = 5 * n

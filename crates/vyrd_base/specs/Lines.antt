@@ -1,4 +1,4 @@
--- What a line spells: a guess from its fields, which counts only where its one spelling is the line.
+-- What a line spells: a guess from its fields, which counts only if its one spelling is the line.
 use Rattle.std.specs.Prelude.{◌≡◌, ℕ, ◌^◌, Bool, true, false, ◌==◌, ◌&&◌, nat_lt, List, [], ◌∷◌, find, Option, Some, None, option_map, option_and_then, Result, Err, ok_or, codes, refl, if◌then◌else◌}
 use Rattle.std.specs.Str.{bytes_eq}
 use Rattle.std.specs.Str.Parse.{digits_value}
@@ -88,11 +88,11 @@ abbrev pub header_if : (version : ℕ) (subject : Subject) (size callers : ℕ) 
 header_if version subject size callers true e = Some (record { version = version; subject = subject; size = size; callers = callers; within = e })
 header_if version subject size callers false e = None
 
--- the header with these numbers, where they are within the limits
+-- the header with these numbers, if they are within the limits
 abbrev pub header_of : ℕ → Subject → ℕ → ℕ → Option Header
 header_of version subject size callers = header_if version subject size callers (is_within version size callers) refl
 
--- the header with these numbers, where they are within the limits and the line is its spelling
+-- the header with these numbers, if they are within the limits and the line is its spelling
 abbrev pub header_spelled : List ℕ → ℕ → Option Subject → ℕ → ℕ → Result Header Rule
 header_spelled line version (Some subject) size callers =
     if nat_lt version (2 ^ 32) && is_sized size callers && bytes_eq (header_line version subject size callers) line

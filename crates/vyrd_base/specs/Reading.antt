@@ -1,7 +1,8 @@
--- What the bytes of a log say, and the first fault of their text. The bytes are cut at their line feeds. Line 1 has to spell a
--- header. In version 2 the lines after it that spell starting words, up to the first that doesn't, are starting lines. Each later
--- line has to spell an entry of the subject or `end`, after which nothing follows. Reading stops at the first line that breaks a
--- rule of text, and where that line breaks several, the first in the order of the rules is named.
+-- What the bytes of a log say, and the first fault of their text. The bytes are cut at their line
+-- feeds. Line 1 has to spell a header. In version 2 the lines after it that spell starting words,
+-- up to the first that doesn't, are starting lines. Each later line has to spell an entry of the
+-- subject or `end`, after which nothing follows. Reading stops at the first line that breaks a rule
+-- of text, and if that line breaks several, the first in the order of the rules is named.
 use Rattle.std.specs.Prelude.{ℕ, ◌+◌, ◌==◌, Bool, true, false, ◌&&◌, ◌||◌, nat_lt, List, [], ◌∷◌, length, Option, Some, None, option_map, Ok, Err, if◌then◌else◌}
 use Rattle.std.specs.Str.{bytes_eq}
 use Rattle.std.specs.List.{slice_split}
@@ -37,8 +38,8 @@ fault_on n rule = option_map (λ r. record { line = n; rule = r }) rule
 abbrev pub stopped : ℕ → Option Rule → Reading
 stopped n rule = record { header = None; starting = []; entries = []; ended = false; fault = fault_on n rule }
 
--- How many lines there may be, at least 1, and whether the bytes are the whole input: where they may go on, a line without its
--- line feed and an `end` that wasn't read are no faults yet.
+-- How many lines there may be, at least 1, and whether the bytes are the whole input: if they may
+-- go on, a line without its line feed and an `end` that wasn't read aren't faults yet.
 pub record Input : Type 0 where
   pub max_lines : ℕ
   pub is_whole : Bool
@@ -56,7 +57,7 @@ unfinished_rule input n bad rest = first_broken (
     ∷ (has_any rest && input.is_whole breaks NoLineFeed)
     ∷ (input.is_whole breaks NoEnd) ∷ [])
 
--- any byte after the line `end`, where the next line has the number n
+-- any byte after the line `end`, if the next line has the number n
 abbrev pub after_end_rule : Input → ℕ → List ℕ → List (List ℕ) → Option Rule
 after_end_rule input n line lines = first_broken (
     ((has_any line || has_any lines) && nat_lt input.max_lines n breaks TooManyLines)

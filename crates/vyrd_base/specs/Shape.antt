@@ -1,5 +1,6 @@
--- The rules of shape, for an entry and the entries before it, the nearest first. An entry is well formed where it breaks none
--- of them, and its broken rule is the first that it breaks, in the order in which they stand here.
+-- The rules of shape, for an entry and the entries before it, the nearest first. An entry is well
+-- formed if it breaks none of them, and its broken rule is the first that it breaks, in the order
+-- in which they stand here.
 use Rattle.std.specs.Prelude.{ℕ, Bool, false, not, cond, ◌&&◌, ◌||◌, ◌==◌, ◌^◌, nat_le, List, [], ◌∷◌, Option, Some, None, is_some, is_none}
 use Rattle.std.specs.Option.{option_map_or}
 use Rattle.std.specs.List.{list_any}

@@ -25,15 +25,17 @@ by_reply (suc zero) at_0 at_1 at_2 = at_1
 by_reply (suc (suc zero)) at_0 at_1 at_2 = at_2
 by_reply _ at_0 at_1 at_2 = None
 
--- The state after a text was appended to buffer b with this reply: 1 where the buffer has room for it, and 0 where it hasn't.
+-- The state after a text was appended to buffer b with this reply: 1 if the buffer has room for it,
+-- and 0 if it hasn't.
 abbrev pub after_append : ℕ → Amounts → ℕ → ℕ → Option Amounts
 after_append reply state b more = by_reply reply
     (then_some (not (has_room (amount_of state b) more)) state)
     (then_some (has_room (amount_of state b) more) (with_amount state b (joined (amount_of state b) more)))
     None
 
--- The state after a call of the method with this reply, or none where the reply is refused. An insert may always give up with
--- the reply 0 and change nothing. An observer has no next state: it never commits.
+-- The state after a call of the method with this reply, or none if the reply is refused. An insert
+-- may always give up with the reply 0 and change nothing. An observer has no next state: it never
+-- commits.
 abbrev pub next_state : Method → Args → ℕ → Amounts → Option Amounts
 next_state MsInsert args reply state = by_reply reply (Some state) (Some (plus_amount state args.a 1)) None
 next_state MsInsertPair args reply state =
@@ -62,8 +64,9 @@ next_state TrLookup args reply state = None
 next_state BuLength args reply state = None
 next_state BuRead args reply state = None
 
--- what an observer answers in a state: whether the value is there, the chunk's pair, the key's value plus 1 and else 0, how many
--- characters the buffer has, or its text as one number
+-- what an observer answers in a state: whether the value is there, the chunk's pair, the key's
+-- value plus 1 (0 if the key isn't there), how many characters the buffer has, or its text as one
+-- number
 abbrev pub answer_in : Amounts → Method → Args → ℕ
 answer_in state MsLookup args = if is_present state args.a then 1 else 0
 answer_in state CaRead args = amount_of state args.a

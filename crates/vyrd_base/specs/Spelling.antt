@@ -22,14 +22,14 @@ spaced fields = join_with_byte 32 fields
 abbrev pub ended_line : List ℕ → List ℕ
 ended_line line = line ++ 10 ∷ []
 
--- how a subject is called
+-- the name of a subject
 abbrev pub subject_name : Subject → List ℕ
 subject_name Multiset = codes "multiset"
 subject_name Cache = codes "cache"
 subject_name Tree = codes "tree"
 subject_name Buffers = codes "buffers"
 
--- how a method is called, which says what it is only beside its subject
+-- the name of a method, which identifies it only together with its subject
 abbrev pub method_name : Method → List ℕ
 method_name MsInsert = codes "insert"
 method_name MsInsertPair = codes "insert_pair"

@@ -1,5 +1,5 @@
--- The starting words of a log: the plain words that aren't 0 where it begins, by rising numbers. The specification starts in the
--- state for which they stand.
+-- The starting words of a log: the plain words that aren't 0 at its beginning, in the order of
+-- their numbers. The specification starts in the state for which they stand.
 use Rattle.std.specs.Prelude.{ℕ, Bool, true, false, not, ◌&&◌, ◌||◌, ◌==◌, ◌^◌, nat_le, List, [], ◌∷◌, ◌++◌, replicate, Option, Some, None}
 use Rattle.std.specs.Option.{option_map_or}
 use Rattle.vyrd_base.specs.declared.header.Header.{Header}
@@ -16,7 +16,7 @@ use Rattle.vyrd_base.specs.Represented.{state_of_words}
 abbrev pub is_out_of_range : Header → StartWord → Bool
 is_out_of_range h s = nat_le (plain_words h) s.word || s.value == 0 || nat_le (2 ^ 63) s.value
 
--- whether the word isn't greater than the last one, where there is one
+-- whether the word isn't greater than the last one, if there is one
 abbrev pub is_out_of_order : Option StartWord → StartWord → Bool
 is_out_of_order last s = option_map_or (λ l. nat_le s.word l.word) last false
 

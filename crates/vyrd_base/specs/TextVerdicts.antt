@@ -12,7 +12,8 @@ use Rattle.vyrd_base.specs.Reading.{Reading, reading}
 use Rattle.vyrd_base.specs.VerdictText.{verdict_text}
 use Rattle.vyrd_base.specs.Verdicts.{verdict_so_far, end_verdict, accepted}
 
--- what is wrong with the starting words and entries that were read, and with their end where `end` was read
+-- what is wrong with the starting words and entries that were read, and with their end if `end` was
+-- read
 abbrev pub entries_verdict : Reading → Header → Option Verdict
 entries_verdict read h = option_or (verdict_so_far h read.starting read.entries)
     (if read.ended then end_verdict h read.starting read.entries else None)

@@ -15,11 +15,11 @@ level_of words n = node_word words n 0
 abbrev pub count_of : List ℕ → ℕ → ℕ
 count_of words n = node_word words n 1
 
--- the high key plus 1, and 0 where there is no high key
+-- the high key plus 1, and 0 if there is no high key
 abbrev pub bound_of : List ℕ → ℕ → ℕ
 bound_of words n = node_word words n 2
 
--- the node on the right, and 0 where there is none
+-- the node on the right, and 0 if there is none
 abbrev pub right_of : List ℕ → ℕ → ℕ
 right_of words n = node_word words n 3
 

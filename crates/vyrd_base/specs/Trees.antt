@@ -10,7 +10,7 @@ use Rattle.vyrd_base.specs.TreeView.{level_of, count_of, bound_of, right_of, ent
 abbrev pub root_of : ℕ → List ℕ → ℕ
 root_of size words = slice_index words (12 * size)
 
--- the count of nodes in use beside node 0, which is the last node in use
+-- the count of nodes in use besides node 0, which is the last node in use
 abbrev pub last_of : ℕ → List ℕ → ℕ
 last_of size words = slice_index words (12 * size + 1)
 
@@ -39,7 +39,8 @@ abbrev pub is_linked : ℕ → List ℕ → ℕ → Bool
 is_linked last words n = nat_le (count_by (leads_to words n) (nodes last)) 1
     && (right_of words n == 0 || nat_le (right_of words n) last && level_of words (right_of words n) == level_of words n)
 
--- The bound is 0 just at a chain's end, and else above the low. So bounds rise along a chain, and it never comes back to a node.
+-- The bound is 0 exactly at a chain's end, and otherwise above the low. So bounds rise along a
+-- chain, and it never comes back to a node.
 abbrev pub is_bounded : ℕ → List ℕ → ℕ → Bool
 is_bounded last words n = (bound_of words n == 0 && right_of words n == 0)
     || (not (right_of words n == 0) && nat_lt (low_of last words n) (bound_of words n))
@@ -79,7 +80,7 @@ has_sound_entries last words n =
     || (nat_lt 0 (level_of words n) && nat_le 2 (count_of words n) && begins_with (low_of last words n) (keys_at words n)
     && list_all (is_child_entry last words (level_of words n)) (entries_of words n))
 
--- Each level has one chain: just one of its nodes in use is a chain's first.
+-- Each level has one chain: exactly one of its nodes in use is a chain's first.
 abbrev pub is_only_first : ℕ → List ℕ → ℕ → Bool
 is_only_first last words n = count_by (λ m. level_of words m == level_of words n && is_first last words m) (nodes last) == 1
 

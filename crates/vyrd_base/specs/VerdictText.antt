@@ -8,7 +8,7 @@ use Rattle.vyrd_base.specs.declared.verdict.Verdict.{Verdict}
 use Rattle.vyrd_base.specs.declared.verdict.Verdict.TheVariants.{Accepted, Violation, Malformed}
 use Rattle.vyrd_base.specs.Spelling.{ended_line}
 
--- how a rule is called
+-- the name of a rule
 abbrev pub rule_text : Rule → List ℕ
 rule_text TooManyLines = codes "too many lines"
 rule_text AfterEnd = codes "text after end"

@@ -1,6 +1,6 @@
--- The verdict about a log, and what is known of it so far. The first that applies is the verdict: starting words that stand for
--- no state, the first fault of the well-formed front, the first entry that isn't well formed, an execution that is open at the
--- end; else the log is accepted.
+-- The verdict about a log, and what is known of it so far. The first that applies is the verdict:
+-- starting words that stand for no state, the first fault of the well-formed front, the first entry
+-- that isn't well formed, an execution that is open at the end; otherwise the log is accepted.
 use Rattle.std.specs.Prelude.{ℕ, Bool, true, false, ◌+◌, ◌&&◌, ◌==◌, None, if◌then◌else◌, List, [], ◌∷◌, length, Option, is_some, is_none, option_map, unwrap_or, count_by}
 use Rattle.std.specs.Option.{option_or}
 use Rattle.std.specs.Bool.{then_some}
@@ -55,7 +55,8 @@ abbrev pub begun_verdict : Header → List StartWord → List Entry → Option V
 begun_verdict h starting [] = None
 begun_verdict h starting (e ∷ entries) = start_verdict h starting
 
--- the verdict that stands already: about the starting words, or the first fault in the front, or else the break after it
+-- the verdict that stands already: about the starting words, or the first fault in the front, or
+-- otherwise the break after it
 unfoldable pub verdict_so_far : Header → List StartWord → List Entry → Option Verdict
 verdict_so_far h starting entries = option_or (begun_verdict h starting entries)
     (option_or (first_fault h starting (front h entries)) (shape_verdict h starting entries))
@@ -64,7 +65,7 @@ verdict_so_far h starting entries = option_or (begun_verdict h starting entries)
 abbrev pub is_call_open : Header → List Entry → Bool
 is_call_open h earlier = list_any (λ c. is_some (open_call c earlier)) (numbers_below h.callers)
 
--- the verdict where `end` stands after the entries: about the starting words, or an open call
+-- the verdict if `end` stands after the entries: about the starting words, or an open call
 unfoldable pub end_verdict : Header → List StartWord → List Entry → Option Verdict
 end_verdict h starting entries = option_or (start_verdict h starting)
     (then_some (is_call_open h (newest_first entries)) (Malformed (line_of starting (length entries)) CallOpen))
@@ -88,8 +89,8 @@ unfoldable pub verdict : Header → List StartWord → List Entry → Verdict
 verdict h starting entries =
     unwrap_or (option_or (verdict_so_far h starting entries) (end_verdict h starting entries)) (accepted entries)
 
--- The verdict where the text of the log stops so after the entries. A rule of text that is broken two lines after the last
--- entry is broken behind an `end`.
+-- The verdict if the text of the log stops in this way after the entries. A rule of text that is
+-- broken two lines after the last entry is broken after an `end`.
 unfoldable pub verdict_at : Header → List StartWord → List Entry → Stop → Verdict
 verdict_at h starting entries End = verdict h starting entries
 verdict_at h starting entries (Text line rule) = unwrap_or

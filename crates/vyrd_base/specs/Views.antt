@@ -9,8 +9,8 @@ use Rattle.vyrd_base.specs.Amounts.{Amounts, collected}
 use Rattle.vyrd_base.specs.TreeView.{chain_parts}
 use Rattle.vyrd_base.specs.Buffers.{buffer_at, buffer_parts}
 
--- Slot i has its state (0 free, 1 reserved, 2 valid) in word 2i and its value in word 2i + 1. Where it is valid it gives its
--- value 1, and else it gives nothing.
+-- Slot i has its state (0 free, 1 reserved, 2 valid) in word 2i and its value in word 2i + 1. If it
+-- is valid, it gives 1 to its value, and otherwise it gives nothing.
 abbrev pub slot_parts : List ℕ → ℕ → List (ℕ × ℕ)
 slot_parts words i = if slice_index words (2 * i) == 2 then (slice_index words (2 * i + 1), 1) ∷ [] else []
 
@@ -49,9 +49,10 @@ cached_pair c = pair_amount c.cached_lo c.cached_hi
 abbrev pub stored_pair : Chunk → ℕ
 stored_pair c = pair_amount c.stored_lo c.stored_hi
 
--- Chunk h of a cache of this size gives the key h its pair: the stored one where it is absent, and else the cached one. The
--- key size + h stands for damage: a clean chunk whose cached pair isn't the stored one gives it 1 beside that, and words that
--- are no chunk give it 2 and nothing else.
+-- Chunk h of a cache of this size gives the key h its pair: the stored one if it is absent, and
+-- otherwise the cached one. The key size + h stands for damage: a clean chunk whose cached pair
+-- isn't the stored one gives it 1 besides, and words that aren't a chunk give it 2 and nothing
+-- else.
 abbrev pub chunk_parts : ℕ → ℕ → Chunk → List (ℕ × ℕ)
 chunk_parts size h c =
     if not (is_chunk c) then (size + h, 2) ∷ []

@@ -1,8 +1,9 @@
--- The words as the effects of the logged writes leave them, from the starting words on. A write outside a block takes effect
--- where it stands. The writes of a block take effect together, one after the other: at the lone commit inside the block, those
--- that are written after it too, and where there is none at the block's end. Those of a block that doesn't end take no effect.
--- A word has the value of the last effect on it. Entries before a place are given the newest first, and those after it the
--- oldest first.
+-- The words as the effects of the logged writes leave them, from the starting words on. A write
+-- outside a block takes effect where it stands. The writes of a block take effect together, one
+-- after the other: at the lone commit inside the block, those that are written after it too, and if
+-- there is none, at the block's end. Those of a block that doesn't end take no effect. A word has
+-- the value of the last effect on it. Entries before a place are given the newest first, and those
+-- after it the oldest first.
 use Rattle.std.specs.Prelude.{ℕ, Bool, true, false, ◌&&◌, ◌==◌, List, [], ◌∷◌, ◌++◌, map, Option, Some, None, option_map, unwrap_or, if◌then◌else◌}
 use Rattle.std.specs.List.{list_any}
 use Rattle.std.specs.Option.{option_map_or}
@@ -34,17 +35,19 @@ ahead_at (Return reply) ahead = None
 ahead_at (Write word value) ahead = option_map (λ writes. writes ++ (word, value) ∷ []) ahead
 ahead_at _ ahead = ahead
 
--- The writes that the caller's open block still makes, the newest first, where it ends. No block goes on past a return.
+-- The writes that the caller's open block still makes, the newest first, if it ends. No block goes
+-- on past a return.
 abbrev pub writes_ahead : ℕ → List Entry → Option (List (ℕ × ℕ))
 writes_ahead c [] = None
 writes_ahead c (e ∷ later) = if e.caller == c then ahead_at e.kind (writes_ahead c later) else writes_ahead c later
 
--- The writes of a block that take effect at the lone commit inside it, the newest first: all of them, where the block ends.
+-- The writes of a block that take effect at the lone commit inside it, the newest first: all of
+-- them, if the block ends.
 abbrev pub effects_of_commit : List Entry → ℕ → List Entry → List (ℕ × ℕ)
 effects_of_commit earlier c later =
     if has_block c earlier then option_map_or (λ ahead. ahead ++ block_writes c earlier) (writes_ahead c later) [] else []
 
--- The writes that take effect at the block's end: none where they did so at the commit inside it.
+-- The writes that take effect at the block's end: none if they did so at the commit inside it.
 abbrev pub effects_of_end : List Entry → ℕ → List (ℕ × ℕ)
 effects_of_end earlier c = if has_inner_commit c earlier then [] else block_writes c earlier
 
@@ -65,11 +68,11 @@ effects (e ∷ earlier) later = effects_at earlier e.caller e.kind later ++ effe
 abbrev pub given_to : ℕ → ℕ × ℕ → Option ℕ
 given_to word (other, value) = if other == word then Some value else None
 
--- the word's starting value, which is 0 where none is given
+-- the word's starting value, which is 0 if none is given
 abbrev pub value_at_start : List StartWord → ℕ → ℕ
 value_at_start starting word = unwrap_or (first_answer (λ s. given_to word (s.word, s.value)) starting) 0
 
--- the value of the last effect on the word, and its starting value where there is none
+-- the value of the last effect on the word, and its starting value if there is none
 abbrev pub value_after : List StartWord → List (ℕ × ℕ) → ℕ → ℕ
 value_after starting writes word = unwrap_or (first_answer (given_to word) writes) (value_at_start starting word)
 
@@ -97,7 +100,8 @@ effects_of_others c (e ∷ earlier) later =
     if e.caller == c then (if is_lone_commit e.kind then [] else effects_of_others c earlier (e ∷ later))
     else effects_at earlier e.caller e.kind later ++ effects_of_others c earlier (e ∷ later)
 
--- Whether the word is passed for the caller: its open block has a lone commit, after which a write of another caller took effect
--- on the word. Of what stands before a place alone the effects are looked at here.
+-- Whether the word is passed for the caller: its open block has a lone commit, after which a write
+-- of another caller took effect on the word. Here only the effects of what stands before a place
+-- are looked at.
 abbrev pub is_passed : ℕ → ℕ → List Entry → Bool
 is_passed c w earlier = has_inner_commit c earlier && list_any (λ write. write.0 == w) (effects_of_others c earlier [])

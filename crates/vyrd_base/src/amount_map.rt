@@ -8,8 +8,8 @@ use std::alloc::{AllocError, Global};
 use std::collections::BTreeMap;
 use std::marker::Model;
 
-/// Amounts by key, to be looked up and changed. A key that isn't there has the amount 0, and takes no memory. Each call
-/// but `view` costs the logarithm of the number of keys.
+/// Amounts by key, to be looked up and changed. A key that isn't there has the amount 0, and takes
+/// no memory. Each call except `view` takes time in the logarithm of the number of keys.
 #[derive(Drop)]
 pub struct AmountMap {
     pairs: BTreeMap<u64, u64>,
@@ -35,7 +35,7 @@ impl AmountMap {
         }
     }
 
-    /// The amount of the key, and 0 where it isn't there.
+    /// The amount of the key, and 0 if it isn't there.
     pub fn amount(&self, key: u64) -> u64
         ensures amount { result ≡ amount_of self.now key }
         ensures formed { IsAmounts self.now }
@@ -43,8 +43,8 @@ impl AmountMap {
         self.pairs.get(&key).copied().unwrap_or(0)
     }
 
-    /// Gives the key this amount, where 0 takes the key out. Only a key that isn't there yet wants memory, and where there
-    /// is none the map is as it was.
+    /// Gives the key this amount; 0 takes the key out. Only a key that isn't there yet takes
+    /// memory; if there is none, the map is as it was.
     pub fn set(&mut self, key: u64, amount: u64) -> Result<(), AllocError>
         ensures ok { OnOk result (self.new ≡ with_amount self.old key amount) }
         ensures err { OnErr result (self.new ≡ self.old) }
@@ -59,14 +59,15 @@ impl AmountMap {
         Ok(())
     }
 
-    /// Takes the key out, where it is there.
+    /// Takes the key out, if it is there.
     pub fn remove(&mut self, key: u64)
         ensures { self.new ≡ with_amount self.old key 0 }
     {
         self.pairs.remove(&key);
     }
 
-    /// So much more for the key, where the sum fits 64 bits. After want of memory the map is as it was.
+    /// Adds to the amount of the key; the sum has to fit 64 bits. If memory runs out, the map is as
+    /// it was.
     pub fn add(&mut self, key: u64, more: u64) -> Result<(), AllocError>
         requires { amount_of self.old key + more < 2 ^ 64 }
         ensures ok { OnOk result (self.new ≡ plus_amount self.old key more) }
@@ -79,7 +80,7 @@ impl AmountMap {
         self.set(key, before + more)
     }
 
-    /// One less for a key that is there. It takes no memory.
+    /// Takes 1 from the amount of a key that is there. It takes no memory.
     pub fn take_one(&mut self, key: u64)
         requires { amount_of self.old key ≢ 0 }
         ensures { self.new ≡ with_amount self.old key (amount_of self.old key - 1) }

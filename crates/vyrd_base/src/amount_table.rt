@@ -23,9 +23,10 @@ const MOST_BITS: u32 = 20;
 
 /// Amounts by key, to be looked up and changed. A key that isn't there has the amount 0.
 ///
-/// A key with an amount stands in one of four places of a table, and where these are taken by others it is in an ordered map. So
-/// the time that a key costs doesn't grow with the keys as long as these aren't many more than the table was made for, and it is
-/// the logarithm of their number in any case, also for keys that were chosen to share a place.
+/// A key with an amount stands in one of four places of a table, and if these are taken by others,
+/// it is in an ordered map. So the time that a key costs doesn't grow with the keys as long as
+/// these aren't many more than the table was made for, and it is the logarithm of their number in
+/// any case, also for keys that were chosen to share a place.
 #[derive(Drop)]
 pub struct AmountTable {
     places: Vec<(u64, u64)>,
@@ -45,8 +46,8 @@ impl Model for AmountTable {
 }
 
 impl AmountTable {
-    /// The table with no key, with two to four places for each of so many keys. It takes 16 bytes a place, and no further
-    /// memory for the keys that find a place there.
+    /// The table with no key, with two to four places for each of that many keys. It takes 16 bytes
+    /// for each place, and no further memory for the keys that find a place there.
     pub fn new(alloc: Global, keys: usize) -> Result<AmountTable, AllocError>
         ensures { IfOk result (λ t. t ≡ []) }
     {
@@ -58,7 +59,7 @@ impl AmountTable {
         })
     }
 
-    /// The amount of the key, and 0 where it isn't there.
+    /// The amount of the key, and 0 if it isn't there.
     #[inline(always)]
     pub fn amount(&self, key: u64) -> u64
         ensures amount { result ≡ amount_of self.now key }
@@ -70,8 +71,8 @@ impl AmountTable {
         }
     }
 
-    /// Gives the key this amount, where 0 takes the key out. Only a key that isn't there yet wants memory, and where there
-    /// is none the table is as it was.
+    /// Gives the key this amount; 0 takes the key out. Only a key that isn't there yet takes
+    /// memory; if there is none, the table is as it was.
     #[inline(always)]
     pub fn set(&mut self, key: u64, amount: u64) -> Result<(), AllocError>
         ensures ok { OnOk result (self.new ≡ with_amount self.old key amount) }
@@ -87,7 +88,7 @@ impl AmountTable {
         }
     }
 
-    /// Takes the key out, where it is there.
+    /// Takes the key out, if it is there.
     #[inline(always)]
     pub fn remove(&mut self, key: u64)
         ensures { self.new ≡ with_amount self.old key 0 }
@@ -98,7 +99,8 @@ impl AmountTable {
         }
     }
 
-    /// So much more for the key, where the sum fits 64 bits. After want of memory the table is as it was.
+    /// Adds to the amount of the key; the sum has to fit 64 bits. If memory runs out, the table is
+    /// as it was.
     pub fn add(&mut self, key: u64, more: u64) -> Result<(), AllocError>
         requires { amount_of self.old key + more < 2 ^ 64 }
         ensures ok { OnOk result (self.new ≡ plus_amount self.old key more) }
@@ -109,7 +111,7 @@ impl AmountTable {
         self.set(key, before + more)
     }
 
-    /// One less for a key that is there. It takes no memory.
+    /// Takes 1 from the amount of a key that is there. It takes no memory.
     pub fn take_one(&mut self, key: u64)
         requires { amount_of self.old key ≢ 0 }
         ensures { self.new ≡ with_amount self.old key (amount_of self.old key - 1) }
@@ -207,7 +209,7 @@ fn set_anew(
     rest.set(key, amount)
 }
 
-/// Sets the amount of each pair's key, where it isn't 0.
+/// Sets the amount of each pair's key, if it isn't 0.
 fn put_all(sums: &mut AmountMap, pairs: &[(u64, u64)]) -> Result<(), AllocError>
     requires formed { IsAmounts sums.old }
     requires all { HasAll sums.old pairs.now }
@@ -221,7 +223,7 @@ fn put_all(sums: &mut AmountMap, pairs: &[(u64, u64)]) -> Result<(), AllocError>
     Ok(())
 }
 
-/// The table for so many keys has 2^bits places: two to four for each key.
+/// The table for that many keys has 2^bits places: two to four for each key.
 fn table_bits(keys: usize) -> u32
     ensures { (1 ≤ result) × (result ≤ 20) }
 {

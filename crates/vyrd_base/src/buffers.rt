@@ -15,8 +15,8 @@ const CHARACTER_END: u64 = 255;
 /// The base to which the digits of a text are its characters, each plus 1.
 pub const TEXT_BASE: u64 = 256;
 
-/// The text of the buffer with this number, counted from 0. It is `None` when the words are no buffer: the count is above 7,
-/// or a character below the count isn't below 255.
+/// The text of the buffer with this number, counted from 0. It is `None` when the words aren't a
+/// buffer: the count is above 7, or a character below the count isn't below 255.
 pub fn buffer_text(words: &[u64], number: usize) -> Option<u64>
     requires { 8 * number + 7 < length words.now }
     ensures { result ≡ shown_text (buffer_at words.now number) }

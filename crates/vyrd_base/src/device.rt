@@ -20,13 +20,13 @@ impl Error for Failed {}
 
 /// Where the bytes of an input come from. A read waits for as long as the source does.
 pub trait Source {
-    /// The bytes that it will still give, where it tells them.
+    /// The bytes that it will still give, if it tells them.
     ghost rest: { Self → Option (List ℕ) };
 
     /// A count that rises with each read that fails, and with no other. It stays at 2^64 - 1.
     ghost faults: { Self → ℕ };
 
-    /// What was still to come when a read last failed, where the source tells its bytes.
+    /// What was still to come when a read last failed, if the source tells its bytes.
     ghost left_off: { Self → Option (List ℕ) };
 
     /// Whether it is known that no read will fail.
@@ -54,13 +54,13 @@ pub trait Source {
 
 /// Where the bytes of an answer go. A write waits for as long as the sink does.
 pub trait Sink {
-    /// All bytes that it has taken so far, where it tells them.
+    /// All bytes that it has taken so far, if it tells them.
     ghost taken: { Self → Option (List ℕ) };
 
     /// A count that rises with each write that fails, and with no other. It stays at 2^64 - 1.
     ghost faults: { Self → ℕ };
 
-    /// What it had taken when a write last failed, where the sink tells its bytes.
+    /// What it had taken when a write last failed, if the sink tells its bytes.
     ghost left_off: { Self → Option (List ℕ) };
 
     /// How many bytes more it is known to take with no fault.
@@ -78,7 +78,8 @@ pub trait Sink {
         ensures cause { OnErr result (HasRisen (faults self.old) (faults self.new)) }
         ensures failures_alone { IfOk result (λ _. faults self.new ≡ faults self.old) }
 
-        // Where there is sure room for the piece, it takes of it, counts no fault, and has room for the rest.
+        // If there is sure room for the piece, it takes some of it, counts no fault, and has room
+        // for the rest.
         ensures sure { length piece.now ≤ sure_room self.old → IfOk result (λ n. sure_room self.old ≤ sure_room self.new + n) }
         ensures never { length piece.now ≤ sure_room self.old → IsOk result }
         ensures uncounted { length piece.now ≤ sure_room self.old → faults self.new ≡ faults self.old };

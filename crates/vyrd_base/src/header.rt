@@ -17,8 +17,8 @@ pub struct Header {
 }
 
 impl Header {
-    /// The header with these numbers, where they are within the limits: the version is 1 or 2, the size is from 1 to 1,024, and
-    /// there are 1 to 64 callers.
+    /// The header with these numbers, if they are within the limits: the version is 1 or 2, the
+    /// size is from 1 to 1,024, and there are 1 to 64 callers.
     #[tactic(auto, using(crate::proofs::VersionNumbers::known_versions))]
     pub fn new(version: u32, subject: Subject, size: u32, callers: u32) -> Option<Header>
         ensures within { IsSome result ↔ IsTrue (is_within version size callers) }
@@ -44,7 +44,8 @@ impl Header {
         }
     }
 
-    /// The version of the log's rules: 1, or 2 where a lone commit may stand inside a block and starting words are given.
+    /// The version of the log's rules: 1, or 2, in which a lone commit may stand inside a block and
+    /// starting words are given.
     pub fn version(&self) -> u32
         ensures { result ≡ self.now.version }
     {

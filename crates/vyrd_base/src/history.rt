@@ -13,7 +13,7 @@ pub enum Did {
     Took(u32),
     /// The lock, which the caller held, was given back.
     Gave(u32),
-    /// The log got this entry, which is no write.
+    /// The log got this entry, which isn't a write.
     Marked(Kind),
 }
 

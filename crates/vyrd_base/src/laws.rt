@@ -27,7 +27,7 @@ ghost use Rattle.vyrd_base.specs.Starts.{may_start, state_at_start};
 ghost use Rattle.vyrd_base.specs.Specification.{start};
 ghost use Rattle.vyrd_base.specs.FirstVersion.{old_verdict_so_far, old_verdict};
 
-/// One more entry is in the front where no rule is broken before it and it breaks none itself.
+/// One more entry is in the front if no rule is broken before it and it breaks none itself.
 #[tactic(auto, using(crate::proofs::Answers::front_laws))]
 pub fn front_grows()
     ensures { (h : Header) (es : List Entry) (e : Entry) →

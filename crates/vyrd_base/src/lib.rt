@@ -16,14 +16,16 @@
 //! - `Source`, `Sink`, `Gate`: where bytes come from and go to, and what a live run asks. Each has a device in memory
 //!   whose calls can be made to fail, or one over std's readers and writers.
 //!
-//! What stands in `specs/`, one file a notion: the limits of a header (`Limits`, `Subjects`, `Layout`), the places of a
-//! list (`Places`), what a caller is in the middle of (`Callers`), the rules of shape and the well-formed front (`Shape`,
-//! `Front`), the words (`Words`), what they show (`Views`, `TreeView`, `Amounts`), amounts in a table (`Tables`), the
-//! specification (`Specification`), the words and the state at the start (`Starts`), commit order and its states
-//! (`Commits`), the faults (`Faults`), the verdict (`Verdicts`), the verdict as it was while version 1 was the only one
-//! (`FirstVersion`), the text of a log and what its bytes say (`Spelling`, `Lines`, `Reading`), the verdict about bytes
-//! and its line (`TextVerdicts`, `VerdictText`), histories (`Histories`), words that represent a state (`Represented`,
-//! `Trees`), and devices (`Devices`).
+//! What stands in `specs/`, one file for each notion: the limits of a header (`Limits`, `Subjects`,
+//! `Layout`), the places of a list (`Places`), what a caller is in the middle of (`Callers`), the
+//! rules of shape and the well-formed front (`Shape`, `Front`), the words (`Words`), what they show
+//! (`Views`, `TreeView`, `Amounts`), amounts in a table (`Tables`), the specification
+//! (`Specification`), the words and the state at the start (`Starts`), commit order and its states
+//! (`Commits`), the faults (`Faults`), the verdict (`Verdicts`), the verdict as it was while
+//! version 1 was the only one (`FirstVersion`), the text of a log and what its bytes say
+//! (`Spelling`, `Lines`, `Reading`), the verdict about bytes and its line (`TextVerdicts`,
+//! `VerdictText`), histories (`Histories`), words that represent a state (`Represented`, `Trees`),
+//! and devices (`Devices`).
 //!
 //! A definition alone claims nothing. So each law of the definitions is a clause of an empty function in `laws`, and
 //! small cases are worked out in `worked`, as lists of entries, and in `worked_text`, and for version 2 in

@@ -23,7 +23,8 @@ pub enum Kind {
     BlockCommit,
 }
 
-/// A word that isn't 0 where a log begins. In the log's text it has a line of its own before the first entry.
+/// A word that isn't 0 at the beginning of a log. In the log's text it has a line of its own before
+/// the first entry.
 #[derive(Clone, Copy, Debug, PartialEq, Eq)]
 pub struct StartWord {
     /// Which plain word.

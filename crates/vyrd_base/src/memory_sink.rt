@@ -39,10 +39,10 @@ impl Model for MemorySink {
 }
 
 impl MemorySink {
-    /// A sink that takes at most `room` bytes in all and at most `cut` in each write. Writes are numbered from 1 to
-    /// 2^64 - 1, which every later write keeps as its number. Those named in `failing` fail, and so does one that finds
-    /// no room left. `cut` is at least 1. All of its memory is taken here, and a write takes none. Want of memory is the
-    /// one error.
+    /// A sink that takes at most `room` bytes in all and at most `cut` in each write. Writes are
+    /// numbered from 1 to 2^64 - 1, which every later write keeps as its number. Those named in
+    /// `failing` fail, and so does one that finds no room left. `cut` is at least 1. All of its
+    /// memory is taken here, and a write takes none. The only error is out of memory.
     pub fn new(
         alloc: Global,
         room: usize,
@@ -91,7 +91,8 @@ impl Sink for MemorySink {
         ensures stopped { OnErr result (self.new.left_off ≡ self.new.taken) }
         ensures goes_on { IfOk result (λ _. self.new.left_off ≡ self.old.left_off) }
 
-        // It fails just where it finds no room, or where the number of this write is one of those that were given.
+        // It fails exactly when it finds no room, or when the number of this write is one of those
+        // that were given.
         ensures fails { is_err result ≡ write_fails self.old }
         ensures made { self.new.made ≡ next_count self.old.made }
         ensures failing { self.new.failing ≡ self.old.failing }

@@ -38,9 +38,10 @@ impl Model for MemorySource {
 }
 
 impl MemorySource {
-    /// A source of these bytes, of which each read gives at most `cut`. Reads are numbered from 1 to 2^64 - 1, which
-    /// every later read keeps as its number; those named in `failing` fail. `cut` is at least 1. The bytes are copied
-    /// here, and a read takes no memory. Want of memory is the one error.
+    /// A source of these bytes, of which each read gives at most `cut`. Reads are numbered from 1
+    /// to 2^64 - 1, which every later read keeps as its number; those named in `failing` fail.
+    /// `cut` is at least 1. The bytes are copied here, and a read takes no memory. The only error
+    /// is out of memory.
     pub fn new(
         alloc: Global,
         bytes: &[u8],
@@ -82,7 +83,7 @@ impl Source for MemorySource {
         ensures stopped { OnErr result (self.new.left_off ≡ self.new.rest) }
         ensures goes_on { IfOk result (λ _. self.new.left_off ≡ self.old.left_off) }
 
-        // It fails just where the number of this read is one of those that were given.
+        // It fails exactly when the number of this read is one of those that were given.
         ensures fails { is_err result ≡ fails_next self.old.made self.old.failing }
         ensures made { self.new.made ≡ next_count self.old.made }
         ensures failing { self.new.failing ≡ self.old.failing }

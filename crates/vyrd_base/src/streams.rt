@@ -7,7 +7,7 @@ ghost use Rattle.vyrd_base.specs.Devices.{HasRisen, Gives, Takes};
 use crate::device::{Failed, Sink, Source};
 use std::io::{Read, Write};
 
-/// A source over a reader. What its bytes are is the reader's word.
+/// A source over a reader. Its bytes are those that the reader tells.
 #[derive(Debug, Drop)]
 pub struct StdSource<R> {
     /// The reader.
@@ -34,7 +34,7 @@ impl<R: Read> Source for StdSource<R> {
 
     ghost is_sure = { λ _. false };
 
-    /// Where the reader tells its bytes, they are what is given.
+    /// If the reader tells its bytes, they are what is given.
     fn read(&mut self, buf: &mut [u8]) -> Result<usize, Failed>
         ensures given { IfOk result (λ n. Gives None n buf.new None) }
         ensures counted { self.old.faults ≤ self.new.faults }
@@ -52,7 +52,7 @@ impl<R: Read> Source for StdSource<R> {
     }
 }
 
-/// A sink over a writer. What becomes of its bytes is the writer's word.
+/// A sink over a writer. Its bytes are those that the writer tells.
 #[derive(Debug, Drop)]
 pub struct StdSink<W> {
     /// The writer.
@@ -79,7 +79,8 @@ impl<W: Write> Sink for StdSink<W> {
 
     ghost sure_room = { λ _. 0 };
 
-    /// A writer that takes no byte has failed. Where the writer tells its bytes, what is taken is added to them.
+    /// A writer that takes no byte has failed. If the writer tells its bytes, what is taken is
+    /// added to them.
     fn write(&mut self, piece: &[u8]) -> Result<usize, Failed>
         ensures taken { IfOk result (λ n. Takes None n piece.now None) }
         ensures counted { self.old.faults ≤ self.new.faults }

@@ -23,31 +23,32 @@ pub enum Method {
     MsInsert,
     /// `insert_pair x y` adds one x and one y and replies 1, or changes nothing and replies 0.
     MsInsertPair,
-    /// `delete x` removes one x and replies 1, or replies 0 where there is none.
+    /// `delete x` removes one x and replies 1, or replies 0 if there is none.
     MsDelete,
-    /// `lookup x` observes whether x is there: 1, or else 0.
+    /// `lookup x` observes whether x is there: 1 if it is, and 0 otherwise.
     MsLookup,
     /// `write h lo hi` gives the chunk h its pair and replies 1.
     CaWrite,
-    /// `flush h` stores the chunk where it is dirty, changes no pair, and replies 1.
+    /// `flush h` stores the chunk if it is dirty, changes no pair, and replies 1.
     CaFlush,
     /// `evict h` drops the chunk from the cache, changes no pair, and replies 1.
     CaEvict,
     /// `read h` observes the chunk's pair, as hi * 2^32 + lo.
     CaRead,
-    /// `insert k v` gives the key k the value v and replies 1 where the key is new, and 2 where it was there; or it
-    /// changes nothing and replies 0.
+    /// `insert k v` gives the key k the value v and replies 1 if the key is new, and 2 if it was
+    /// there; or it changes nothing and replies 0.
     TrInsert,
-    /// `delete k` removes the key and replies 1, or replies 0 where it isn't there.
+    /// `delete k` removes the key and replies 1, or replies 0 if it isn't there.
     TrDelete,
-    /// `lookup k` observes the key's value plus 1, or 0 where the key isn't there.
+    /// `lookup k` observes the key's value plus 1, or 0 if the key isn't there.
     TrLookup,
-    /// `append b x` puts the character x at the end of buffer b and replies 1, or replies 0 where the buffer is full.
+    /// `append b x` puts the character x at the end of buffer b and replies 1, or replies 0 if the
+    /// buffer is full.
     BuAppend,
-    /// `append_from b s` puts the characters of buffer s at the end of buffer b and replies 1, or replies 0 where b hasn't room
-    /// for them.
+    /// `append_from b s` puts the characters of buffer s at the end of buffer b and replies 1, or
+    /// replies 0 if b has no room for them.
     BuAppendFrom,
-    /// `cut b n` keeps the first n characters of buffer b, where there are more, and replies 1.
+    /// `cut b n` keeps the first n characters of buffer b, if there are more, and replies 1.
     BuCut,
     /// `length b` observes how many characters buffer b has.
     BuLength,
@@ -89,7 +90,7 @@ impl Method {
         }
     }
 
-    /// Whether the arguments are in their ranges, where there are `size` chunks or buffers.
+    /// Whether the arguments are in their ranges, given that there are `size` chunks or buffers.
     pub(crate) fn are_ranged(self, size: u32, args: Args) -> bool
         ensures { result ≡ are_ranged size self args }
     {

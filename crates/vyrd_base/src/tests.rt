@@ -1,4 +1,5 @@
-//! Values from outside: the limits of a header, its words and methods at one header a subject, and devices call by call.
+//! Values from outside: the limits of a header, its words and methods at one header for each
+//! subject, and devices call by call.
 
 ghost use Rattle.std.specs.Prelude.{◌≡◌, IfOk};
 

@@ -1,7 +1,8 @@
 //! The rules of text and of shape, and the verdict. Lines are counted from 1, where the header stands.
 
-/// A rule that a log can break: the rules of text, which lines break, and then those of shape, which entries break.
-/// Where a line or an entry breaks several, the rule that is named is the first in the order of its table.
+/// A rule that a log can break: the rules of text, which lines break, and then those of shape,
+/// which entries break. If a line or an entry breaks several, the rule that is named is the first
+/// in the order of its table.
 #[derive(Clone, Copy, Debug, PartialEq, Eq)]
 pub enum Rule {
     /// Text: the line's number is above the reader's limit.
@@ -56,7 +57,7 @@ pub enum Rule {
     BlockInBlock,
     /// A block ends while the caller has none open.
     NoBlock,
-    /// `end` stands where some execution is open. The line is that of `end`.
+    /// `end` stands while some execution is open. The line is that of `end`.
     CallOpen,
 }
 

@@ -6,7 +6,8 @@ ghost use Rattle.vyrd_base.specs.Amounts.{IsAmounts};
 use std::alloc::{AllocError, Global};
 use std::marker::Model;
 
-/// The keys whose amount isn't 0, rising, each with its amount. Two views are equal exactly where their lists are.
+/// The keys whose amount isn't 0, in ascending order, each with its amount. Two views are equal
+/// exactly when their lists are.
 #[derive(Debug, Drop)]
 pub struct View {
     pairs: Vec<(u64, u64)>,
@@ -32,8 +33,8 @@ impl View {
         }
     }
 
-    /// Puts a key with its amount at the end: the key is above all others, and the amount isn't 0. After want of memory
-    /// the view is as it was. It costs constant time, and memory now and then.
+    /// Puts a key with its amount at the end: the key is above all others, and the amount isn't 0.
+    /// If memory runs out, the view is as it was. It takes constant time, and memory now and then.
     pub fn push(&mut self, key: u64, amount: u64) -> Result<(), AllocError>
         requires greater { All (λ p. p.0 < key) self.old }
         requires some { amount ≢ 0 }

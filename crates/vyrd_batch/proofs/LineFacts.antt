@@ -26,7 +26,7 @@ one_line (b ∷ line) rest e =
     (not-true (b == 10) (first_true _ _ e))
     ∙ ap (option_map (longer b)) (one_line line rest (second_true (not (b == 10)) _ e))
 
--- the number in the line before a log of so many bytes
+-- the number in the line before a log of that many bytes
 size_of_word : (n : ℕ) → n < 2 ^ 64 → size_in (log_word n) ≡ cond (nat_le n most_bytes && bytes_eq (log_word n) (log_word n)) (Some n) None
 size_of_word n small =
     let same : number_of (drop 4 (log_word n)) ≡ n = number_of_decimal n small in
@@ -44,7 +44,7 @@ size_too_high n line small is high = sym (ap size_in is ∙ size_of_word n (omeg
 pub no_log : (place : ℕ) (bytes : List ℕ) → is_one_line bytes ≡ true → log_at place bytes ≡ None
 no_log place bytes e = ap (λ o. elim o as (λ _. Option Span) [ None ↦ None | Some cut ↦ span_of (place + length cut.line + 1) cut.rest (size_in cut.line) ]) (no_line bytes e)
 
--- a line, and what stands behind it
+-- a line, and what stands after it
 behind_line : (place : ℕ) (bytes line rest : List ℕ) → is_one_line line ≡ true → bytes ≡ line ++ 10 ∷ rest
     → log_at place bytes ≡ span_of (place + length line + 1) rest (size_in line)
 behind_line place bytes line rest e is =
@@ -82,7 +82,7 @@ is_log place size bytes line rest e is some fits near =
     ∙ ap (λ t. cond t (Some (record { first = place + length line + 1; past = place + length line + 1 + size })) None)
     (both_true _ _ (is_at_most size (length rest) fits) (is_at_most _ logs_end_within near))
 
--- what stands behind the log's bytes
+-- what stands after the log's bytes
 pub behind_log : (place size : ℕ) (bytes line rest next : List ℕ) → bytes ≡ line ++ 10 ∷ rest → next ≡ drop size rest
     → next ≡ drop (place + length line + 1 + size - place) bytes
 behind_log place size bytes line rest next is behind =

@@ -1,4 +1,4 @@
--- A batch that is cut behind some of its logs: it says these logs, and then what its rest says.
+-- A batch that is cut after some of its logs: it says these logs, and then what its rest says.
 use Rattle.std.proofs.Common.{◌≡◌, ℕ, zero, suc, ◌+◌, ◌-◌, ◌<◌, ◌≤◌, Bool, true, false, cond, List, [], ◌∷◌, ◌++◌, length, map, take, drop, Option, Some, None, Result, Ok, Err, refl, ap, ◌∙◌, sym, subst, arith, append_assoc, append-nil, length-append, length-take, inl, inr}
 use Rattle.std.specs.Prelude.{◌⊎◌, get_or}
 use Rattle.std.specs.Str.{bytes_eq}
@@ -187,7 +187,7 @@ cut_more bytes log place spans new span taken cut room found grown =
         cut.goes_on front more len ∙ ap (logs_before logs) one ∙ logs_joined logs (bytes_of bytes here ∷ []) behind
         ∙ ap (λ logs. logs_before logs behind) (sym (map-append (bytes_of bytes) spans (here ∷ [])))
 
--- what comes behind the logs
+-- what comes after the logs
 pub cut_rest : (bytes rest next : List ℕ) (place taken : ℕ) (span : Span) → log_at (place + taken) rest ≡ Some span → rest ≡ drop taken bytes
     → next ≡ drop (span.past - (place + taken)) rest → next ≡ drop (span.past - place) bytes
 cut_rest bytes rest next place taken span found is behind =

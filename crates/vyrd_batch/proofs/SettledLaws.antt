@@ -70,7 +70,7 @@ cut_len (b ∷ bytes) cut e = by_test (b == 10) (first_line bytes) (cut_len byte
         let rest : length one.rest ≡ length cut.rest = ap (λ c. length c.rest) at in
         omega (arith, inner one refl, line, rest)
 
--- a span begins behind the place, and ends within the limit and the bytes
+-- a span begins after the place, and ends within the limit and the bytes
 pub record IsNear (place len : ℕ) (span : Span) : Type 0 where
   pub later : place ≤ span.past
   pub near : span.past ≤ logs_end_within

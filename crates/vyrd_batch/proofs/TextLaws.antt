@@ -105,7 +105,7 @@ stands_at place bytes span e = by_cut (first_line bytes) (cut_is bytes) e
                 }
             by_test false t e = cc
 
--- the bytes of such a log, and what stands behind them
+-- the bytes of such a log, and what stands after them
 pub log_bytes : (front bytes : List ℕ) (place : ℕ) (span : Span) (s : StandsAt place bytes span) → length front ≡ place
     → bytes_of (front ++ bytes) span ≡ take s.size s.rest
 log_bytes front bytes place span s len =
@@ -251,7 +251,7 @@ one_line_word n small = lacks-append 10 (codes "log ") (decimal n) refl (decimal
 log_isnt_end : (log more : List ℕ) → (log_text log ++ more ≡ last_line → ⊥)
 log_isnt_end log more e = let head : 108 ≡ 101 = ap (λ bytes. get_or bytes 0 0) e in omega (arith, head)
 
--- a log's text and what stands behind it
+-- a log's text and what stands after it
 text_is : (log next : List ℕ) → log_text log ++ next ≡ log_word (length log) ++ 10 ∷ (log ++ next)
 text_is log next =
     append_assoc (ended_line (log_word (length log))) log next ∙ append_assoc (log_word (length log)) (10 ∷ []) (log ++ next)

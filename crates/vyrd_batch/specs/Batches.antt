@@ -1,6 +1,6 @@
--- What the bytes of a batch say: where the bytes of its logs stand, or at which log it is refused. The first line is `batch`.
--- Then come the logs one by one, each as the line `log B` with exactly B bytes behind it, and then the line `end`, with nothing
--- after it.
+-- What the bytes of a batch say: where the bytes of its logs stand, or at which log it is refused.
+-- The first line is `batch`. Then come the logs one by one, each as the line `log B` with exactly B
+-- bytes after it, and then the line `end`, with nothing after it.
 use Rattle.std.specs.Prelude.{ℕ, zero, suc, ◌+◌, ◌-◌, ◌≤◌, ◌==◌, ◌&&◌, nat_le, List, [], ◌∷◌, ◌++◌, length, map, drop, slice_range, Option, Some, None, option_map, option_and_then, Result, Ok, Err, codes, decimal, if◌then◌else◌, flat_map}
 use Rattle.std.specs.Str.{bytes_eq}
 use Rattle.std.specs.List.{AllByRecursion}
@@ -28,7 +28,7 @@ log_word size = codes "log " ++ decimal size
 abbrev pub last_line : List ℕ
 last_line = codes "end\n"
 
--- a line without its line feed, and what stands behind that
+-- a line without its line feed, and what stands after that
 pub record Cut : Type 0 where
   pub line : List ℕ
   pub rest : List ℕ
@@ -37,17 +37,17 @@ pub record Cut : Type 0 where
 abbrev pub longer : ℕ → Cut → Cut
 longer b cut = record { line = b ∷ cut.line; rest = cut.rest }
 
--- the first line, where there is a line feed
+-- the first line, if there is a line feed
 abbrev pub first_line : List ℕ → Option Cut
 first_line [] = None
 first_line (b ∷ bytes) = if b == 10 then Some (record { line = []; rest = bytes }) else option_map (longer b) (first_line bytes)
 
--- how many bytes the line before a log says, where it is such a line
+-- how many bytes the line before a log says, if it is such a line
 abbrev pub size_in : List ℕ → Option ℕ
 size_in line = let size = number_of (drop 4 line) in
     if nat_le size most_bytes && bytes_eq (log_word size) line then Some size else None
 
--- a span of `size` bytes from a place on, where that many follow, and they lie within the limit
+-- a span of `size` bytes from a place on, if that many follow, and they lie within the limit
 abbrev pub span_of : ℕ → List ℕ → Option ℕ → Option Span
 span_of first rest None = None
 span_of first rest (Some size) =
@@ -70,7 +70,7 @@ logs_from (suc more) log place bytes = if bytes_eq bytes last_line then Ok [] el
   | Some span ↦ span_before span (logs_from more (log + 1) span.past (drop (span.past - place) bytes))
 ]
 
--- the logs behind the first line
+-- the logs after the first line
 abbrev pub logs_behind : Cut → Result (List Span) ℕ
 logs_behind cut = if bytes_eq cut.line first_word then logs_from most_logs 0 (length cut.line + 1) cut.rest else Err 0
 

@@ -22,7 +22,7 @@ pub fn write_verdicts(verdicts: &[Verdict], out: &mut Vec<u8>) -> Result<(), All
     written
 }
 
-/// Appends all of that, or a part of it where memory ran out.
+/// Appends all of that, or a part of it if memory ran out.
 #[tactic(auto, unfolding(crate::specs::BatchAnswers::batch_text))]
 fn write_all(verdicts: &[Verdict], out: &mut Vec<u8>) -> Result<(), AllocError>
     requires { length verdicts.now < 2 ^ 62 }
@@ -33,7 +33,7 @@ fn write_all(verdicts: &[Verdict], out: &mut Vec<u8>) -> Result<(), AllocError>
     write_count(verdicts.len() as u64, out)
 }
 
-/// Appends a line for each verdict, or a part of them where memory ran out.
+/// Appends a line for each verdict, or a part of them if memory ran out.
 fn write_lines(verdicts: &[Verdict], out: &mut Vec<u8>) -> Result<(), AllocError>
     requires { length verdicts.now < 2 ^ 62 }
     ensures ok { OnOk result (out.new.items ≡ out.old.items ++ lines_from 0 verdicts.now) }
@@ -57,7 +57,7 @@ fn write_count(logs: u64, out: &mut Vec<u8>) -> Result<(), AllocError>
     out.extend_from_slice(line.as_slice())
 }
 
-/// Appends the line of a log's verdict, or a part of it where memory ran out.
+/// Appends the line of a log's verdict, or a part of it if memory ran out.
 fn write_log_line(log: u64, verdict: &Verdict, out: &mut Vec<u8>) -> Result<(), AllocError>
     ensures ok { OnOk result (out.new.items ≡ out.old.items ++ log_line log verdict.now) }
     ensures err { OnErr result (take (length out.old.items) out.new.items ≡ out.old.items) }
@@ -82,8 +82,8 @@ pub fn write_refusal(log: u64, out: &mut Vec<u8>) -> Result<(), AllocError>
     out.extend_from_slice(line.as_slice())
 }
 
-/// The status that the verdicts about a batch's logs end with: 1 where some is a violation, otherwise 2 where some is malformed,
-/// and otherwise 0.
+/// The status that the verdicts about a batch's logs end with: 1 if some is a violation, otherwise
+/// 2 if some is malformed, and otherwise 0.
 pub fn status_of(verdicts: &[Verdict]) -> u8
     ensures { result ≡ batch_status verdicts.now }
 {

@@ -5,7 +5,8 @@ use std::alloc::AllocError;
 /// Why the logs of a batch weren't found.
 #[derive(Clone, Copy, Debug, PartialEq, Eq)]
 pub enum BatchFault {
-    /// The bytes are no batch. This many logs are framed in them, and then neither a log nor the end stands there.
+    /// The bytes aren't a batch. This many logs are framed in them, and then neither a log nor the
+    /// end stands there.
     Refused { log: u64 },
     /// There was no memory for the spans.
     Memory,

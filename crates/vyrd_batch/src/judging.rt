@@ -21,9 +21,9 @@ const MOST_LINES: u64 = 268_435_456;
 
 /// The verdicts about the bytes of each span as a whole input, in the order of the spans.
 ///
-/// The spans are cut into parts of about the same weight, two for each processor, and the parts are judged on threads of their
-/// own. The bytes are read where they lie. The memory is that of the logs that are judged at one time. The only error is want
-/// of memory.
+/// The spans are cut into parts of about the same weight, two for each processor, and the parts are
+/// judged on threads of their own. The bytes are read where they lie. The memory is that of the
+/// logs that are judged at one time. The only error is out of memory.
 pub fn judge_batch<R: Threads + Sync>(
     rt: &R,
     alloc: Global,

@@ -9,7 +9,7 @@ pub fn long_inputs_are_settled()
     ensures { (bytes more : List ℕ) → longest_batch_input ≤ length bytes → batch_reading (bytes ++ more) ≡ batch_reading bytes }
 {}
 
-/// So long an input is no batch.
+/// An input of that length isn't a batch.
 pub fn long_inputs_are_refused()
     ensures { (bytes : List ℕ) → longest_batch_input ≤ length bytes → (log : ℕ) × (batch_reading bytes ≡ Err log) }
 {}

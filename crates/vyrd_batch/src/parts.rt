@@ -5,10 +5,11 @@ ghost use Rattle.std.specs.Prelude.{◌≡◌, ◌<◌, ◌≤◌, length, flat_
 use crate::span::Span;
 use std::alloc::{AllocError, Global};
 
-/// What a log weighs beside its bytes: judging the shortest one takes some time too.
+/// What a log weighs besides its bytes: judging the shortest one takes some time too.
 const WEIGHT: usize = 64;
 
-/// The spans in their order, in parts that weigh `most` or just more, but for the last. No part is empty.
+/// The spans in their order, in parts that weigh `most` or slightly more, except the last. No part
+/// is empty.
 pub fn parts_of<'a>(
     alloc: Global,
     most: usize,
@@ -47,7 +48,7 @@ fn weight_of(span: Span) -> usize {
     span.past.saturating_sub(span.first).saturating_add(WEIGHT)
 }
 
-/// How much a part weighs where the bytes and the logs make this many parts.
+/// How much a part weighs if the bytes and the logs make this many parts.
 pub fn part_weight(bytes: usize, logs: usize, parts: usize) -> usize
     requires { 0 < parts }
 {

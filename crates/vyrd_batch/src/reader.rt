@@ -22,8 +22,9 @@ const LOGS_END_WITHIN: usize = 67_108_864;
 
 /// Where the logs stand in the bytes of a batch, in their order.
 ///
-/// `Refused` comes exactly when the bytes are no batch, with the number of the first log that isn't framed, counted from 0.
-/// `Memory` may come at any time. The logs' own bytes aren't looked at. The memory is that of the spans.
+/// `Refused` comes exactly when the bytes aren't a batch, with the number of the first log that
+/// isn't framed, counted from 0. `Memory` may come at any time. The logs' own bytes aren't looked
+/// at. The memory is that of the spans.
 pub fn read_batch(alloc: Global, bytes: &[u8]) -> Result<Vec<Span>, BatchFault>
     ensures spans { IfOk result (λ spans. batch_reading bytes.now ≡ Ok spans.items) }
     ensures within { IfOk result (λ spans. AllByRecursion (LiesWithin (length bytes.now)) spans.items) }
@@ -65,7 +66,7 @@ fn read_logs(alloc: Global, first: usize, bytes: &[u8]) -> Result<Vec<Span>, Bat
 
 /// The logs that some bytes begin with.
 pub(crate) struct Whole {
-    /// Where their bytes stand, counted from the first of these bytes.
+    /// If their bytes stand, counted from the first of these bytes.
     pub(crate) spans: Vec<Span>,
     /// How many bytes they take, their lines included.
     pub(crate) taken: usize,
@@ -113,8 +114,8 @@ fn keep(span: Span, spans: &mut Vec<Span>) -> Result<(), AllocError>
     Ok(())
 }
 
-/// Where the bytes of a log stand whose line begins at a place of the input, with these bytes from there on; and what stands
-/// behind them.
+/// Where the bytes of a log stand whose line begins at a place of the input, with these bytes from
+/// there on; and what stands after them.
 fn log_at(place: usize, bytes: &[u8]) -> Option<(Span, &[u8])>
     requires { place + length bytes.now < 2 ^ 63 + 2 ^ 62 }
     ensures { MatchOption result (log_at place bytes.now ≡ None)
@@ -132,7 +133,7 @@ fn log_at(place: usize, bytes: &[u8]) -> Option<(Span, &[u8])>
     Some((Span { first, past }, next))
 }
 
-/// How many bytes the line before a log says, where it is such a line.
+/// How many bytes the line before a log says, if it is such a line.
 fn size_in(line: &[u8]) -> Option<usize>
     ensures { result ≡ size_in line.now }
 {
@@ -141,7 +142,7 @@ fn size_in(line: &[u8]) -> Option<usize>
     in_range(size)
 }
 
-/// The size, where a log may have that many bytes.
+/// The size, if a log may have that many bytes.
 fn in_range(size: u32) -> Option<usize>
     ensures { (line : List ℕ) → line ≡ log_word size → result ≡ size_in line }
 {

@@ -88,8 +88,8 @@ impl BatchJudge {
 
     /// Judges the last logs, if `bytes` are all that come after the logs that were judged.
     ///
-    /// `Refused` comes exactly when the input is no batch, with the number of the first log that isn't framed, counted from 0.
-    /// `Memory` may come at any time.
+    /// `Refused` comes exactly when the input isn't a batch, with the number of the first log that
+    /// isn't framed, counted from 0. `Memory` may come at any time.
     pub fn finish<R: Threads + Sync>(
         &mut self,
         rt: &R,

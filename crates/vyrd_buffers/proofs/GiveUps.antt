@@ -40,7 +40,7 @@ only_zero (suc zero) state b more full some =
 only_zero (suc (suc zero)) state b more full some = absurd (no_state None refl some)
 only_zero (suc (suc (suc reply))) state b more full some = absurd (no_state None refl some)
 
--- so it gives up exactly where there is no room
+-- so it gives up exactly when there is no room
 append_meets : (h : Header) (op : Op) (script : Script) (c : ℕ) (memory : Memory) (state : Amounts) (b more : ℕ) → Appends op state b more
     → MeetsSpecification h op script c memory state → (P : Type 0)
     → (has_room (amount_of state b) more ≡ false → P) → (P → has_room (amount_of state b) more ≡ false)

@@ -26,7 +26,8 @@ append_at h b x count = if nat_le 7 count
 abbrev pub append : Header → ℕ → ℕ → Script
 append h b x = lock h b (step (Load (count_cell b)) (append_at h b x))
 
--- load so many characters of a buffer that are left, from character i on, and go on with them and those that are held
+-- load that many characters of a buffer that are left, from character i on, and go on with them and
+-- those that are held
 abbrev pub load_from : ℕ → ℕ → ℕ → List ℕ → (List ℕ → Script) → Script
 load_from zero s i held loaded = loaded held
 load_from (suc left) s i held loaded =
@@ -47,7 +48,7 @@ abbrev pub append_held : Header → ℕ → ℕ → ℕ → ℕ → ℕ → List
 append_held h first second b count more held = perform (Mark BlockOpen)
     (store_from held b count (commit_count b (count + more) (unlock_both h first second (returns 1))))
 
--- with these two locked, append the first characters of s to b, where b has room for them
+-- with these two locked, append the first characters of s to b, if b has room for them
 abbrev pub append_all : Header → ℕ → ℕ → ℕ → ℕ → ℕ → ℕ → Script
 append_all h first second b s count more = if nat_le (count + more) 7
     then load_from more s 0 [] (append_held h first second b count more)
@@ -77,7 +78,8 @@ cut h b n = lock h b (step (Load (count_cell b)) (cut_at h b n))
 abbrev pub length_of : Header → ℕ → Script
 length_of h b = lock h b (step (Load (count_cell b)) (λ count. unlock h b (returns (min count 7))))
 
--- load so many characters of buffer b that are left, from character i on, and return the text that they make behind this one
+-- load that many characters of buffer b that are left, from character i on, and return the text
+-- that they make after this one
 abbrev pub read_from : Header → ℕ → ℕ → ℕ → ℕ → Script
 read_from h zero b i text = unlock h b (returns text)
 read_from h (suc left) b i text = step (Load (character_cell b i)) (λ character.

@@ -96,9 +96,9 @@ pub(crate) enum Counting {
 /// The places of appending the characters of another buffer, with the counts known.
 #[derive(Clone, Copy)]
 pub(crate) enum Joining {
-    /// Load the next character to append to this many, or open the block where none is left.
+    /// Load the next character to append to this many, or open the block if none is left.
     Load(u32, Held),
-    /// Store the character of this number behind this many, or the count where none is left.
+    /// Store the character of this number after this many, or the count if none is left.
     Store(u32, Held, u32),
     /// Close the block and commit.
     Close,

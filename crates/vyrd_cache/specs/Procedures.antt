@@ -43,7 +43,7 @@ put_cached_bare h chunk low high = in_order
     ∷ Mark Commit
     ∷ Mark (Return 1) ∷ [])
 
--- a write: the broken one goes wrong where the chunk is dirty already
+-- a write: the broken one goes wrong if the chunk is dirty already
 abbrev pub write : Header → Variant → ℕ → ℕ → ℕ → Script
 write h Correct chunk low high = lock h chunk (put_cached h chunk low high)
 write h Broken chunk low high = lock h chunk (step (Load (state_cell chunk)) (λ state.

@@ -1,4 +1,4 @@
-//! The acts of each operation, where each load finds the same value.
+//! The acts of each operation, if each load finds the same value.
 
 ghost use Rattle.std.specs.Prelude.{◌≡◌, ◌<◌, ◌^◌, true};
 ghost use Rattle.vyrd_base.specs.declared.subject.Subject.TheVariants.{Cache};

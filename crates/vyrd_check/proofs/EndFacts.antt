@@ -1,4 +1,4 @@
--- What is wrong where `end` stands after entries with which nothing is wrong.
+-- What is wrong if `end` stands after entries with which nothing is wrong.
 use Rattle.std.proofs.Common.{◌≡◌, Bool, true, false, List, length, Option, Some, None, Result, Ok, Err, IfOk, refl, ap, ◌∙◌}
 use Rattle.std.specs.Prelude.{unwrap_or, is_none}
 use Rattle.std.specs.Option.{option_or}

@@ -133,8 +133,7 @@ judging_on old new read log more done ready same followed none = record {
   begun = ready.before.begun;
 }
 
--- Where the starting words stand for no state, that is what is wrong once an entry or `end` was
--- read.
+-- If the starting words stand for no state, that is what is wrong once an entry or `end` was read.
 start_wrong : (h : Header) (starting : List StartWord) (entries : List Entry) (done : Bool)
     → is_none (state_at_start h starting) ≡ true
     → (has_any entries || done) ≡ true
@@ -179,7 +178,7 @@ nothing_wrong read e =
     by_header None = refl
     by_header (Some h) = ap (λ o. option_or o None) (nothing_so_far h read.starting)
 
--- what is wrong where there is no judge
+-- what is wrong if there is no judge
 pub wrong_without : (read : Reading) (log more : List Entry) (done : Bool)
     → IsReady None read log more done
     → then_some (has_any more || done) (Malformed 2 StartState) ≡ wrong_in read

@@ -131,7 +131,7 @@ pub headless_empty : (max : ℕ) (bytes : List ℕ) → (read_so_far max bytes).
 unfolding reading
 headless_empty max bytes none = headless_parts max (slice_split (λ b. b == 10) bytes) none
 
--- what is known of bytes is what is wrong with what was read, or else their fault of text
+-- what is known of bytes is what is wrong with what was read, or otherwise their fault of text
 pub known_so_far : (max : ℕ) (bytes : List ℕ) (wrong fault : Option Verdict)
     → wrong ≡ wrong_in (read_so_far max bytes)
     → fault ≡ option_map (λ fault. Malformed fault.line fault.rule) (read_so_far max bytes).fault
@@ -170,7 +170,7 @@ text_right max bytes nothing = by_fault (read_so_far max bytes).fault (second_no
     by_fault None e = refl
     by_fault (Some fault) e = cc
 
--- where `end` was read and nothing is wrong, the log is accepted
+-- if `end` was read and nothing is wrong, the log is accepted
 pub ended_right : (max : ℕ) (bytes : List ℕ) (h : Header) → text_verdict_so_far max bytes ≡ None → (read_so_far max bytes).header ≡ Some h
     → (read_so_far max bytes).ended ≡ true
     → verdict h (read_so_far max bytes).starting (read_so_far max bytes).entries
@@ -184,7 +184,8 @@ ended_right max bytes h nothing has done =
     (cond b (end_verdict h r.starting r.entries) None)) (sym done) ∙ wrong in
     ap (λ o. unwrap_or o (accepted r.entries)) none
 
--- Where nothing is known of the bytes, the verdict about them as the whole input is their fault of text, or else acceptance.
+-- If nothing is known of the bytes, the verdict about them as the whole input is their fault of
+-- text, or otherwise acceptance.
 pub whole_right : (max : ℕ) (bytes : List ℕ) → text_verdict_so_far max bytes ≡ None
     → text_verdict max bytes
     ≡ unwrap_or (option_map (λ fault. Malformed fault.line fault.rule) (read_whole max bytes).fault) (accepted (read_so_far max bytes).entries)
@@ -216,7 +217,7 @@ whole_accepted max bytes h nothing fault done has =
     ∙ sym (whole_right max bytes nothing
     ∙ ap (λ o. unwrap_or (option_map (λ fault. Malformed fault.line fault.rule) o) (accepted (read_so_far max bytes).entries)) fault)
 
--- where `end` isn't read so far, it isn't in the whole input either
+-- if `end` isn't read so far, it isn't in the whole input either
 pub not_ended : (max : ℕ) (bytes : List ℕ) → (read_so_far max bytes).ended ≡ false
     → (read_whole max bytes).ended ≡ true → ⊥
 not_ended max bytes none done = never (sym none ∙ (whole_same max bytes).ended ∙ done)

@@ -20,8 +20,8 @@ pub record IsLimit (max : ℕ) : Type 0 where
   pub low : 1 ≤ max
   pub high : max ≤ most_lines
 
--- what is wrong with the starting words and entries that were read, and with their end where
--- `end` was read
+-- what is wrong with the starting words and entries that were read, and with their end if `end` was
+-- read
 abbrev pub wrong_in : Reading → Option Verdict
 wrong_in read = option_and_then (entries_verdict read) read.header
 
@@ -47,8 +47,8 @@ abbrev pub StandsForNone : Reading → Type 0
 StandsForNone read =
     (h : Header) × (read.header ≡ Some h) × (is_none (state_at_start h read.starting) ≡ true)
 
--- The judge that has followed the entries from before. Where there is none, no entry came before,
--- and the starting words stand for no state if an entry or `end` was read.
+-- The judge that has followed the entries from before. If there is none, no entry came before, and
+-- the starting words stand for no state if an entry or `end` was read.
 abbrev pub IsBefore : Option JudgeView → Reading → List Entry → Type 0
 IsBefore None read log = (log ≡ []) × (has_begun read ≡ true → StandsForNone read)
 IsBefore (Some j) read log = IsAt j read log
@@ -65,12 +65,12 @@ abbrev pub HasRoom : Option JudgeView → List Entry → Type 0
 HasRoom None entries = Unit {0}
 HasRoom (Some j) entries = j.kept.entries + length entries ≤ 2 ^ 62
 
--- the judge that was made where the starting words stand for a state: it has followed no entry
+-- the judge that was made if the starting words stand for a state: it has followed no entry
 abbrev pub IsMade : Header → List StartWord → Option JudgeView → Type 0
 IsMade h starting None = is_none (state_at_start h starting) ≡ true
 IsMade h starting (Some j) = (j.kept.header ≡ h) × HasFollowed j starting [] × (j.so_far ≡ None)
 
--- The judge before and after a piece, in which an entry or `end` was read or not: a new one where
+-- The judge before and after a piece, in which an entry or `end` was read or not: a new one if
 -- there was none.
 abbrev pub IsBegun
     : Bool → Option Header → List StartWord → Option JudgeView → Option JudgeView → Type 0

@@ -35,7 +35,8 @@ impl Model for Checker {
 }
 
 impl Drop for Checker {
-    /// By hand, so that whoever lets a checker go has one call to prove and not the letting go of each of its parts.
+    /// By hand, so that dropping a checker is one call to prove, and not the drop of each of its
+    /// parts.
     fn drop(self) {
         let Checker {
             text,
@@ -64,8 +65,8 @@ impl Checker {
         }
     }
 
-    /// Follows the next piece. The answer is the verdict so far of all bytes: `None` where nothing stands yet. Once there is a
-    /// verdict it is answered again, and nothing more is read.
+    /// Follows the next piece. The answer is the verdict so far of all bytes: `None` if nothing
+    /// stands yet. Once there is a verdict it is answered again, and nothing more is read.
     pub fn feed(&mut self, piece: &[u8]) -> Result<Option<Verdict>, AllocError>
         ensures answer { (bytes : List ℕ) → HasChecked self.old bytes →
             IfOk result (λ v. v ≡ text_verdict_so_far self.old.kept.reader.max_lines (bytes ++ piece.now)) }
@@ -105,7 +106,7 @@ impl Checker {
         }
     }
 
-    /// Follows a part of a piece, where no verdict stands.
+    /// Follows a part of a piece, while no verdict stands.
     fn feed_part(&mut self, part: &[u8]) -> Result<(), AllocError>
         requires works { self.old.has_failed ≡ false }
         requires undecided { self.old.so_far ≡ None }

@@ -13,7 +13,7 @@ const MAX_LINES: u64 = 12;
 /// An absent element is deleted with the reply 1, and text stands after the end.
 const WRONG: &[u8] = b"vyrd 1 multiset 1 1\n0 call delete 5\n0 commit\n0 return 1\nend\nx";
 
-/// The element of a slot in the first bucket belongs into the second.
+/// The element of a slot in the first bucket belongs in the second.
 const STATELESS: &[u8] = b"vyrd 2 multiset 2 1\nstart 0 2\nstart 1 5\nend\n";
 
 /// A log, and the line that is answered about it.
@@ -55,7 +55,7 @@ fn whole_inputs(rt: HostRuntime) -> Result<(), Fail> {
     Ok(())
 }
 
-/// The verdict stands with the line feed of the return, and what comes behind it isn't read.
+/// The verdict stands with the line feed of the return, and what comes after it isn't read.
 #[test]
 fn verdict_at_the_byte_that_decides(rt: HostRuntime) -> Result<(), Fail> {
     let violation = Verdict::Violation {
@@ -72,7 +72,7 @@ fn verdict_at_the_byte_that_decides(rt: HostRuntime) -> Result<(), Fail> {
     Ok(())
 }
 
-/// More starting words may come, until a line is whole that is none.
+/// More starting words may come, until a whole line isn't one.
 #[test]
 fn start_is_judged_behind_its_last_word(rt: HostRuntime) -> Result<(), Fail> {
     let stateless = Verdict::Malformed {

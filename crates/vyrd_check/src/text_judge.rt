@@ -125,8 +125,8 @@ fn has_begun(entries: &[Entry], ended: bool) -> bool
     ended || !entries.is_empty()
 }
 
-/// Makes the judge once an entry or `end` was read, where there is none. There is none either where
-/// the starting words stand for no state.
+/// Makes the judge, if there is none, once an entry or `end` was read. There is still none if the
+/// starting words stand for no state.
 fn begin(
     alloc: Global,
     reader: &LogReader,
@@ -148,7 +148,8 @@ fn begin(
     Ok(())
 }
 
-/// Judges further entries, and that no call is open where `end` was read. The answer is what is wrong with all of them.
+/// Judges further entries, and whether a call is open if `end` was read. The answer is what is
+/// wrong with all of them.
 fn judge_entries(
     judge: &mut Option<AnyJudge>,
     entries: &[Entry],
@@ -167,7 +168,7 @@ fn judge_entries(
     }
 }
 
-/// What is wrong where there is no judge: the starting words, once an entry or `end` was read.
+/// What is wrong if there is no judge: the starting words, once an entry or `end` was read.
 fn wrong_start(entries: &[Entry], ended: bool) -> Option<Verdict>
     ensures { result ≡ then_some (has_any entries.now || ended) (Malformed 2 StartState) }
 {
@@ -181,7 +182,8 @@ fn wrong_start(entries: &[Entry], ended: bool) -> Option<Verdict>
     }
 }
 
-/// Follows further entries, and then the line `end` where it was read. The answer is what is wrong with all of them.
+/// Follows further entries, and then the line `end` if it was read. The answer is what is wrong
+/// with all of them.
 fn follow(
     judge: &mut AnyJudge,
     entries: &[Entry],
@@ -200,7 +202,7 @@ fn follow(
     if ended { open_call(judge) } else { Ok(None) }
 }
 
-/// What is wrong where `end` stands after the entries, given that nothing is wrong with them.
+/// What is wrong if `end` stands after the entries, given that nothing is wrong with them.
 fn open_call(judge: &AnyJudge) -> Result<Option<Verdict>, AllocError>
     ensures { (starting : List StartWord) (log : List Entry) → HasFollowed judge.now starting log →
         verdict_so_far judge.now.kept.header starting log ≡ None →

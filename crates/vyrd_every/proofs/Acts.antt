@@ -90,7 +90,7 @@ returns_right S k shown committed called reply none answer = (
     over : Locals
     over = record { owned = k.owned; pending = k.pending; called = None; answered = None }
 
--- the call's method is no observer's
+-- the call's method isn't an observer's
 pub mutates : (k : Locals) (called : Called) (reply : ℕ) → k.called ≡ Some called → is_observer called.method ≡ false
     → (c : Called) → k.called ≡ Some c → is_observer c.method ≡ true → k.answered ≡ Some reply
 mutates k called reply is mutator c is' observes =

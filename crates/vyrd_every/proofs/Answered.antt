@@ -55,7 +55,7 @@ call_before c (e ∷ log) = subst (λ n. commit_count (entries_before_call c (e 
     by_test true low = omega arith
     by_test false low = omega (arith, low)
 
--- the caller's last call is the same after an event that is no call of its own
+-- the caller's last call is the same after an event that isn't a call of its own
 pub call_other : (c d : ℕ) (did : Did) (log : List Entry) → (c == d) ≡ false → entries_before_call d (cons_option (logged c did) log) ≡ entries_before_call d log
 call_other c d (Read cell value) log apart = refl
 call_other c d (Took lock) log apart = refl

@@ -48,7 +48,7 @@ states_begin state (x ∷ xs) = refl
 state_here : (passed later : List Amounts) (state : Amounts) (n : ℕ) → length passed ≡ n → slice_get (passed ++ state ∷ later) n ≡ Some state
 state_here passed later state n e = slice_get_seam passed (state ∷ later) n e
 
--- a commit after which the words show the next state is no fault
+-- a commit after which the words show the next state isn't a fault
 pub commit_is_right : (h : Header) → h.version ≡ 1 → (passed later : List Amounts) (state next : Amounts) (place : Place Entry) (called : Called) (reply : ℕ)
     → WellFormed h (place.here ∷ place.earlier) → view_of_words h (old_words_after h (place.here ∷ place.earlier)) ≡ next
     → length passed ≡ commit_count place.earlier
@@ -76,7 +76,7 @@ state_goes_on passed state next x xs called reply call returns allowed =
     after : state_after state x ≡ Some next
     after = (λ i. once_returned (λ c r. next_state c.method c.args r state) (record { caller = x.caller; called = call i; reply = returns i })) ∙ allowed
 
--- an observer's return with an answer that was seen is no fault
+-- an observer's return with an answer that was seen isn't a fault
 and_none : {A B : Type 0} (o : Option A) → option_and {T = A} {U = B} o None ≡ None
 and_none None = refl
 and_none (Some x) = refl

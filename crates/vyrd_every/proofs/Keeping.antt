@@ -40,7 +40,7 @@ pub record Keeping (h : Header) (scripts : List Script) : Type 1 where
   pub count : (earlier : List Stamped) (passed : List Amounts) (state : Amounts) → Holds earlier passed state → length passed ≡ commit_count (log_in earlier)
   pub view : (earlier : List Stamped) (passed : List Amounts) (state : Amounts) → IsRun h scripts earlier → Holds earlier passed state
       → view_of_words h (old_words_after h (log_in earlier)) ≡ state
-  -- who takes a lock holds only lower ones, and who is done holds none
+  -- a caller that takes a lock holds only lower ones, and one that is done holds none
   pub upward : (earlier : List Stamped) (passed : List Amounts) (state : Amounts) → IsRun h scripts earlier → Holds earlier passed state
       → (c : ℕ) → c < h.callers → (lock : ℕ) → act_of scripts c earlier ≡ Take lock
       → (held : ℕ) → holds (situation_after (part_of c earlier)) held ≡ true → held < lock

@@ -147,7 +147,7 @@ write_unraced h c word value log one wf free only =
     (λ i. free i || (no_inner_commit h c log one wf i && list_any (λ write. write.0 == word) (effects_of_others c log []))) in
     none_raced (checks_at h log (entry c (Write word value))) (λ b e. cc, (λ b e. cc, (λ b e. cc, (λ b e. cc, (λ b e. never unraced b, tt))))) only
 
--- a mark that is no write
+-- a mark that isn't a write
 abbrev pub IsNoWrite : Kind → Type 0
 IsNoWrite (Write word value) = ⊥
 IsNoWrite _ = Unit {0}

@@ -209,7 +209,7 @@ same_reply x y e = cc
 pub no_reply : (o : Option ℕ) (reply : ℕ) → o ≡ None → o ≡ Some reply → ⊥
 no_reply o reply e f = cc
 
--- an event that is no call of the caller and finds no answer
+-- an event that isn't a call of the caller and finds no answer
 pub seen_quiet : (c : ℕ) (did : Did) (k next : Locals) (log : List Entry) (states more : List Amounts) → calls_now did ≡ false → next.called ≡ k.called
     → next.answered ≡ k.answered → SeenBy k c log states → SeenBy next c (cons_option (logged c did) log) (states ++ more)
 seen_quiet c did k next log states more none same_call same_answer seen called is reply answer =

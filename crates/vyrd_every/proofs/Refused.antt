@@ -107,7 +107,7 @@ no_node_lock h s k g m node place rest fits low some free right = by_word right.
     by_word (inr (inl is)) = omega (arith, is, low, fits)
     by_word (inr (inr is)) = let at = is.0 in omega (arith, at, low, fits)
 
--- the root's word is no node's, and not the count of nodes in use
+-- the root's word isn't a node's, and not the count of nodes in use
 pub no_root_lock : (h : Header) (s : Situation) (k : TreeLocals) (g : Shape) (m : Memory) (root : ℕ) (later : Script) → k.fresh ≡ None
     → holds s (root_lock h) ≡ false → TreeRight h s k g m (perform (Store (root_cell h) root) later) → ⊥
 no_root_lock h s k g m root later none free right = by_block right.2.reaches

@@ -1,5 +1,5 @@
--- The run by turns isn't stuck: a caller that waits for a lock has only lower ones, and whoever holds that lock waits for a
--- higher one.
+-- The run by turns isn't stuck: a caller that waits for a lock has only lower ones, and the caller
+-- that holds that lock waits for a higher one.
 use Rattle.std.proofs.Common.{◌≡◌, ℕ, zero, suc, ◌+◌, ◌^◌, ◌<◌, ◌≤◌, ◌⊎◌, inl, inr, Bool, true, false, cond, not, ◌&&◌, ◌||◌, List, [], ◌∷◌, Some, None, length, refl, ap, ◌∙◌, sym, subst, arith}
 use Rattle.std.specs.Prelude.{◌==◌, nat_lt, nat_le, unwrap_or}
 use Rattle.std.specs.Option.{option_or}
@@ -78,7 +78,7 @@ abbrev AllWait : Header → List Script → List Stamped → Type 0
 AllWait h scripts earlier = (c : ℕ) → c < h.callers
     → (is_done (act_of scripts c earlier) || is_held_up earlier (act_of scripts c earlier)) ≡ true
 
--- nobody waits for a lock that is so near the last
+-- nobody waits for a lock that is that near the last
 none_waits : (h : Header) (scripts : List Script) (keeping : Keeping h scripts) (earlier : List Stamped) (n c lock : ℕ) → IsRun h scripts earlier
     → AllWait h scripts earlier → c < h.callers → act_of scripts c earlier ≡ Take lock → (value_in earlier lock == 0) ≡ false
     → (cells_of h).plain + (cells_of h).locks ≤ lock + n → ⊥
@@ -131,7 +131,7 @@ none_waits h scripts keeping earlier (suc n) c lock run wait low takes taken nea
         by_wait again holder.0 holder.1 (its holder.0 holder.1 holder.2) (is_done (act_of scripts holder.0 earlier))
         (is_held_up earlier (act_of scripts holder.0 earlier)) refl refl (wait holder.0 holder.1)
 
--- what isn't all done and each waits, somebody waits
+-- if not all are done and each waits, somebody waits
 some_wait : (h : Header) (scripts : List Script) (keeping : Keeping h scripts) (earlier : List Stamped) → IsRun h scripts earlier → AllWait h scripts earlier
     → (k n : ℕ) → k + n ≤ h.callers → list_all (λ c. is_done (act_of scripts c earlier)) (numbers_from k n) ≡ false → ⊥
 some_wait h scripts keeping earlier run wait k zero fits e = cc

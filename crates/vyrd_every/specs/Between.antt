@@ -20,7 +20,7 @@ use Rattle.vyrd_every.specs.Locals.{Locals, Access}
 use Rattle.vyrd_every.specs.Others.{Rely}
 use Rattle.vyrd_every.specs.RightScripts.{DoesRight}
 
--- the log of a history, where the newest stands first in both
+-- the log of a history; the newest stands first in both
 abbrev pub log_in : List Stamped → List Entry
 log_in earlier = filter_map log_entry earlier
 

@@ -12,9 +12,10 @@ use Rattle.vyrd_every.specs.Structures.{Structure}
 pub zero_one : (n : ℕ) → n ≡ 0 → n ≡ 1 → ⊥
 zero_one n e f = omega (arith, e, f)
 
--- The multiset has four slots in each bucket, of two words each. A bucket's lock guards the words of its
--- slots. A slot is free where its state is 0. An insert that has found it gives it the value and the
--- state 1, and gives the lock back: the slot is reserved then, until it gets the state 2 or 0 again.
+-- The multiset has four slots in each bucket, of two words each. A bucket's lock guards the words
+-- of its slots. A slot is free if its state is 0. An insert that has found it gives it the value
+-- and the state 1, and gives the lock back: the slot is reserved then, until it gets the state 2 or
+-- 0 again.
 abbrev pub multiset : Header → Structure
 multiset h = record {
   header = h;
@@ -30,8 +31,8 @@ multiset h = record {
   apart = λ a slot free one. zero_one (a (2 * slot)) free one;
 }
 
--- The cache has five words a chunk, and the chunk's lock guards them. Nothing is reserved: what an
--- operation does to a chunk it does while it holds the lock.
+-- The cache has five words for each chunk, and the chunk's lock guards them. Nothing is reserved:
+-- what an operation does to a chunk it does while it holds the lock.
 abbrev pub cache : Header → Structure
 cache h = record {
   header = h;

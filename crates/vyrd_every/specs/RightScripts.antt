@@ -93,7 +93,7 @@ DoesRight S s k shown (step act rest) = (next : Locals) × ActsRight S s k shown
     × ((now : Memory) → Rely S (after_act s act) next (shown_after s k shown act) now
     → DoesRight S (after_act s act) next now (rest (answer_at shown act)))
 
--- the procedure of an operation does right, where it was just called and nothing is reserved, from any
+-- the procedure of an operation does right, if it was just called and nothing is reserved, from any
 -- memory on
 abbrev pub IsRight : Structure → (Op → Script) → Op → Type 0
 IsRight S procedure op = (k : Locals) (shown : Memory) → ((slot : ℕ) → k.owned slot ≡ false)

@@ -26,8 +26,8 @@ pub record IsSchedule (w : Workload) (history : List Stamped) : Type 0 where
 abbrev pub IsCorrect : Workload → Type 0
 IsCorrect w = w.variant ≡ Correct
 
--- Whether an operation of the subject has few events, however large the structure is. A tree's walk is longer where the tree is
--- larger.
+-- Whether an operation of the subject has few events, however large the structure is. A tree's walk
+-- is longer if the tree is larger.
 abbrev pub has_few_events : Subject → Bool
 has_few_events Multiset = true
 has_few_events Cache = true

@@ -16,7 +16,7 @@ use Rattle.vyrd_base.specs.Views.{view_of_words}
 use Rattle.vyrd_base.specs.Histories.{cells_of, is_lock}
 use Rattle.vyrd_memory.specs.Alone.{Memory}
 
--- the memory that a log shows, where the newest entry stands first
+-- the memory that a log shows; the newest entry stands first
 abbrev pub shown_by : List Entry → Memory
 shown_by log = λ w. old_value_after (old_effects log) w
 

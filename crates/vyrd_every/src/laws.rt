@@ -48,8 +48,8 @@ pub fn turns_arent_stuck()
     ensures { (w : Workload) → KeepsLimits w → IsCorrect w → GetsStuck (work_scripts w) w.turns → ⊥ }
 {}
 
-/// The operations of a caller of the multiset or of string buffers have at most 6,400,000 events, and those of a caller of the
-/// cache half as many. A tree's walk is longer where the tree is larger.
+/// The operations of a caller of the multiset or of string buffers have at most 6,400,000 events,
+/// and those of a caller of the cache half as many. A tree's walk is longer if the tree is larger.
 pub fn bounds_are_few()
     ensures of_multiset { (w : Workload) (c : ℕ) → KeepsLimits w → w.header.subject ≡ Multiset →
         bounds_of w.header (ops_of c w.ops) ≤ 6400000 }

@@ -37,27 +37,27 @@ pub fn tree_begins_linked()
     ensures empty { ShowsState first_shape (shown_by []) start }
 {}
 
-/// Where the memory that a log shows holds a linked tree, the state that the tree shows is the view of the
-/// log's words. The newest entry stands first.
+/// If the memory that a log shows holds a linked tree, the state that the tree shows is the view of
+/// the log's words. The newest entry stands first.
 pub fn linked_trees_show_the_view()
     ensures { (h : Header) (g : Shape) (log : List Entry) (state : Amounts) → h.subject ≡ Tree →
         IsLinked h.size g (shown_by log) → ShowsState g (shown_by log) state →
         view_of_words h (old_words_after h log) ≡ state }
 {}
 
-/// The whole script of any caller of the correct tree does right, from any memory that holds a linked
-/// tree on, whatever the others do between its acts within what it relies on: so lookups, deletes and
-/// inserts, with their splits, ascents and new roots.
+/// The whole script of any caller of the correct tree does right, from any memory that holds a
+/// linked tree on, whatever the others do between its acts within what it relies on. That covers
+/// lookups, deletes and inserts, with their splits, ascents and new roots.
 pub fn tree_operations_do_right()
     ensures { (w : Workload) (c : ℕ) (g : Shape) (m : Memory) → KeepsLimits w → IsCorrectTree w →
         c < w.header.callers → IsLinked w.header.size g m →
         TreeRight w.header at_rest empty_tree_locals g m (script_of (work_scripts w) c) }
 {}
 
-/// An act that does right is within what each other caller relies on: one that holds other locks, whose
-/// locals are right and share no node with those of the act's caller, and that sees the root that the log
-/// shows where it holds the root's lock and its own block isn't seen. One such act after another is
-/// within it too.
+/// An act that does right is within what each other caller relies on: one that holds other locks,
+/// whose locals are right and share no node with those of the act's caller, and that sees the root
+/// that the log shows if it holds the root's lock and its own block isn't seen. One such act after
+/// another is within it too.
 pub fn tree_acts_are_relied_on()
     ensures relied { (h : Header) (s its : Situation) (k other : TreeLocals) (g : Shape) (m : Memory) (act : Act)
         (rest : Script) (next : TreeLocals) (grown : Shape) → IsLinked h.size g m →

@@ -78,7 +78,7 @@ words_further h starting ws effects before alike =
     ∙ (λ i. unwrap_or (alike x i) (word_with h starting before x low i))
     ∙ sym (value_append starting effects before x) ∙ ap (value_after starting (effects ++ before)) there)
 
--- the word has its last value, where there is one
+-- the word has its last value, if there is one
 pub word_is : (h : Header) (starting : List StartWord) (effects before : List (ℕ × ℕ)) (x v : ℕ) → x < plain_words h
     → first_answer (given_to x) effects ≡ Some v → get_or (words_with h starting (effects ++ before)) x 0 ≡ v
 word_is h starting effects before x v low given =

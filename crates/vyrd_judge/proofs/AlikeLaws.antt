@@ -97,7 +97,7 @@ alike_cut true since parts all = pushed since parts all
     pushed (x ∷ xs) [] a = absurd a
     pushed (x ∷ xs) (y ∷ ys) a = (a.0, pushed xs ys a.1)
 
--- no part has so many behind it
+-- no part has that many after it
 beyond : (behind : ℕ) (writes : List (ℕ × ℕ)) (since : List (List (ℕ × ℕ))) → length since ≤ behind → with_part behind writes since ≡ since
 beyond behind writes [] short = refl
 beyond behind writes (old ∷ since) short =

@@ -223,7 +223,7 @@ drop_before (suc k) place new (x ∷ ws) within =
     let e : suc k + place ≡ suc (k + place) = omega arith in
     ap (λ n. drop (suc k) (put_at n new (x ∷ ws))) e ∙ drop_before k place new ws (omega (arith, within))
 
--- the place behind the writes of a commit
+-- the place after the writes of a commit
 abbrev pub place_of_cut : List ℕ → ℕ → ℕ
 place_of_cut ks i = sum (take (suc i) ks)
 
@@ -238,7 +238,7 @@ sum-take (suc n) (k ∷ ks) = omega (arith, sum-cons k (take n ks), sum-cons k k
 pub place_within : (ks : List ℕ) (i : ℕ) → place_of_cut ks i ≤ sum ks
 place_within ks i = sum-take (suc i) ks
 
--- writes are put behind those of a commit
+-- writes are put after those of a commit
 split_late : (ks : List ℕ) (i : ℕ) (new ws : List (ℕ × ℕ)) → i < length ks → sum ks ≤ length ws
     → split_at (set ks i (get_or ks i 0 + length new)) (put_at (place_of_cut ks i) new ws) ≡ with_part (length ks - i) new (split_at ks ws)
 split_late [] i new ws low within = absurd (omega (arith, low))
@@ -310,7 +310,7 @@ length-put zero new ws = length-append new ws ∙ omega arith
 length-put (suc place) new [] = length-append new [] ∙ omega arith
 length-put (suc place) new (x ∷ ws) = let rest = length-put place new ws in omega (arith, rest)
 
--- no commit that waits has so many behind it
+-- no commit that waits has that many after it
 pub first_far : (behind : ℕ) (new : List (ℕ × ℕ)) (first : List ℕ) (since : List (List (ℕ × ℕ))) → length since < behind
     → first ≡ first_with behind new first since
 first_far behind new first since far =
@@ -326,7 +326,7 @@ sum-past zero (k ∷ ks) past = absurd (omega (arith, past))
 sum-past (suc n) [] past = refl
 sum-past (suc n) (k ∷ ks) past = sum-past n ks (omega (arith, past))
 
--- one more write is put behind those that were put there
+-- one more write is put after those that were put there
 pub put_more : (place : ℕ) (new ws : List (ℕ × ℕ)) (x : ℕ × ℕ) → place ≤ length ws
     → insert (put_at place new ws) (place + length new) x ≡ put_at place (new ++ x ∷ []) ws
 put_more place new ws x within =
@@ -478,7 +478,7 @@ unwritten words ((w, v) ∷ ws) x none =
     let parts = neither_true (w == x) (list_any (λ y. y == x) (map (λ write. write.0) ws)) none in
     unwritten (set words w v) ws x parts.1 ∙ get_or-set_other words w x v 0 (λ same. apart_of w x parts.0 (sym same))
 
--- what was compared is known but for the changed words, with further writes
+-- what was compared is known except for the changed words, with further writes
 pub agree_more : (before words changed : List ℕ) (ws : List (ℕ × ℕ)) → AgreeElsewhere before words changed
     → AgreeElsewhere before (with_writes words ws) (changed ++ map (λ write. write.0) ws)
 agree_more before words changed ws agree = λ x none.

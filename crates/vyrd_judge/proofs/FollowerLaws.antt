@@ -407,7 +407,7 @@ keeps_by {k} {n} e h shape_is is shape starting log f = record {
 pub answer_with : {k : Kept} {starting : List StartWord} {log : List Entry} (v : Option Verdict) → HasTakenIn k starting log → v ≡ first_fault k.header starting log → v ≡ verdict_so_far k.header starting log
 answer_with v t is = is ∙ sym (so_far_is t)
 
--- the verdict where `end` stands after the entries
+-- the verdict if `end` stands after the entries
 pub end_open : {k : Kept} {starting : List StartWord} {log : List Entry} → IsFaultless k starting log
     → is_call_open k.shape.header (newest_first log) ≡ true
     → Malformed (k.started + k.entries + 2) CallOpen ≡ verdict k.header starting log

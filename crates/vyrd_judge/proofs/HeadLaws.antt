@@ -51,7 +51,7 @@ onward_as {h} {starting} {log} {d} {e} {earlier} {later} {state} {watches} same 
 named : (e : Entry) (kind : Kind) → e.kind ≡ kind → entry e.caller kind ≡ e
 named e kind is = ap (entry e.caller) (sym is)
 
--- an entry that is no commit needs no return
+-- an entry that isn't a commit needs no return
 no_return : (c : ℕ) (kind : Kind) (later : List Entry) → is_commit kind ≡ false → IsReturned c kind later
 no_return c kind later isnt commits = absurd (apart isnt commits)
   where
@@ -203,7 +203,7 @@ commit_fits {h} {method = method} {args = args} at is =
     some_same : {a b : Called} → Some a ≡ Some b → a ≡ b
     some_same e = cc
 
--- the words at a commit are those that wait first, and the next ones wait behind them
+-- the words at a commit are those that wait first, and the next ones wait after them
 words_here : {h : Header} {starting : List StartWord} {log : List Entry} {state : Amounts} {made : ℕ} {watches : List Seen} {x : Waiting} {xs : List Waiting}
     {first : List ℕ} {since : List (List (ℕ × ℕ))} {method : Method} {args : Args} {o : Option ℕ} (at : AtHead h starting log state made watches x xs first since)
     → IsCommit at.here at.earlier at.later x method args o

@@ -87,7 +87,7 @@ judged_more h starting log e state made watches queue first since writes well_fo
         (ap (λ all. broken_rule h all e) j.whole ∙ keeps) j.ended)
         ∙ ap (λ ws. effect_parts ws j.earlier (j.later ++ e ∷ [])) (sym (j.settled (e ∷ [])))
 
--- What a place leads to, however the log goes on: it is no fault, and the next one is reached.
+-- What a place leads to, however the log goes on: it isn't a fault, and the next one is reached.
 pub record Onward (h : Header) (starting : List StartWord) (log : List Entry) (e : Entry) (earlier later : List Entry) (state : Amounts) (watches : List Seen) : Type 0 where
   pub fault : (more : List Entry) → fault_at h starting (states_along h starting (log ++ more)) (place_of e earlier (later ++ more)) ≡ None
   pub reached : (more : List Entry) → Reached h (states_along h starting (log ++ more)) (e ∷ earlier) (later ++ more) state watches
@@ -175,7 +175,7 @@ quiet_on h starting log e earlier later state watches keeps quiet r = by_kind e.
     by_kind Commit keeps' none r' = at_commit (open_call c earlier) _ (commit_kept h c earlier keeps') (unwaiting (place Commit) _ none)
     by_kind BlockCommit keeps' none r' = at_commit (open_call c earlier) _ (block_commit_runs h c earlier keeps') (unwaiting (place BlockCommit) _ none)
 
--- an entry that isn't judged is no commit
+-- an entry that isn't judged isn't a commit
 uncommitted : (h : Header) (e : Entry) (earlier later : List Entry) → broken_rule h earlier e ≡ None → waiting_at (place_of e earlier later) ≡ None
     → is_commit e.kind ≡ false
 uncommitted h e earlier later keeps quiet = by_kind e.kind keeps quiet

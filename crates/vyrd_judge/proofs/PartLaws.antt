@@ -21,7 +21,8 @@ use Rattle.vyrd_base.proofs.Lasting.{commit_count-cons}
 use Rattle.vyrd_base.proofs.TestLaws.{is_same, isnt_same, lower_isnt, flipped, first_true, second_true}
 use Rattle.vyrd_judge.specs.Effects.{effect_parts, with_effects, cut_if, number_at, inner_number, parts_since, parts_behind, ends_block, is_ended}
 
--- The effects at the entries from a place on, in parts as `effect_parts` has them, where these entries stand behind them all.
+-- The effects at the entries from a place on, in parts as `effect_parts` has them, where these
+-- entries stand after them all.
 abbrev pub parts_in : List (ℕ × ℕ) → List Entry → List Entry → List Entry → List (List (ℕ × ℕ))
 parts_in before earlier [] tail = before ∷ []
 parts_in before earlier (e ∷ later) tail =
@@ -112,7 +113,8 @@ parts_push before earlier (x ∷ later) e =
         (sym (flipped 0 (length rest) (lower_isnt 0 (length rest) (some_parts [] (x ∷ earlier) later (e ∷ [])))))
     by_test false apart joined = joined
 
--- Each entry from the place on has the same effects, with these entries behind them all or with those.
+-- Each entry from the place on has the same effects, with these entries after them all or with
+-- those.
 abbrev pub SameFrom : List Entry → List Entry → List Entry → List Entry → Type 0
 SameFrom earlier [] tail tail' = Unit {0}
 SameFrom earlier (x ∷ later) tail tail' =
@@ -136,8 +138,8 @@ same_from earlier [] tail tail' same = (tt, same)
 same_from earlier (x ∷ later) tail tail' same =
     let rest = same_from (x ∷ earlier) later tail tail' same in ((rest.1.0, rest.0), rest.1.1)
 
--- What the two say of the entries from one on: the writes take effect at a commit, before which so many commits stand, with
--- `tail'` behind and not with `tail`, and all else is the same.
+-- What the two say of the entries from one on: the writes take effect at a commit, before which
+-- that many commits stand, with `tail'` behind and not with `tail`, and all else is the same.
 pub data MoreHere (m : ℕ) (writes : List (ℕ × ℕ)) (earlier : List Entry) (x : Entry) (later tail tail' : List Entry) (rest : Type 0) : Type 0 where
   here : is_commit x.kind ≡ true → m ≡ commit_count earlier
       → effects_at earlier x.caller x.kind (later ++ tail) ≡ [] → effects_at earlier x.caller x.kind (later ++ tail') ≡ writes
@@ -297,7 +299,7 @@ find_commit h c writes earlier (x ∷ later) tail tail' wf inner more =
     step kept (from_here m number more' same) = from_here m number (next same.0 more') same.1
     step kept (before_here inside ended number after onward) = at kept inside ended number after onward
 
--- where no lone commit stands since the open, there is no number
+-- if no lone commit stands since the open, there is no number
 no_number : (c : ℕ) (earlier : List Entry) → committed_since_open c earlier ≡ false → inner_number c earlier ≡ 0
 no_number c [] none = refl
 no_number c (e ∷ earlier) none = by_test (e.caller == c) e.kind (no_number c earlier) none
@@ -350,7 +352,7 @@ quiet_effects h earlier e kept none = by_kind e.kind kept none
         )
     by_kind BlockCommit kept' none' = (ap (λ b. cond b [] (block_writes c earlier)) none', refl)
 
--- the end of a block with a lone commit in it is no commit
+-- the end of a block with a lone commit in it isn't a commit
 ends_alone : (h : Header) (earlier : List Entry) (e : Entry) → WellFormed h earlier → broken_rule h earlier e ≡ None
     → ends_committed_block earlier e ≡ true → e.kind ≡ BlockClose
 ends_alone h earlier e wf kept ends = by_kind e.kind kept ends

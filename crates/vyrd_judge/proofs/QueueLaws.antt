@@ -98,7 +98,7 @@ commits_called : (kind : Kind) → Committing kind → commit_or_call kind ≡ S
 commits_called _ alone = refl
 commits_called _ with_block = refl
 
--- an entry that is no return leaves replies as they are
+-- an entry that isn't a return leaves replies as they are
 unreplied : (e : Entry) → returned e.kind ≡ None → (xs : List Waiting) → map (replied e) xs ≡ xs
 unreplied e none [] = refl
 unreplied e none (x ∷ xs) = ap (λ y. y ∷ map (replied e) xs) (same x.event refl) ∙ ap (λ ys. x ∷ ys) (unreplied e none xs)
@@ -178,7 +178,7 @@ by_place [] x (suc i) y here before last = absurd (no_some here)
 by_place (z ∷ xs) x zero y here before last = before here
 by_place (z ∷ xs) x (suc i) y here before last = by_place xs x i y here before (λ p q. last (ap suc p) q)
 
--- what waits goes on with an entry that is no return and doesn't wait itself
+-- what waits goes on with an entry that isn't a return and doesn't wait itself
 quiet_up : {h : Header} {waiting : List Waiting} {taken : ℕ} {callers : List Caller} {earlier : List Entry} (c : ℕ) (kind : Kind)
     → call_or_return kind ≡ None → commit_or_call kind ≡ None → returned kind ≡ None → waiting_at (place_of (entry c kind) earlier []) ≡ None
     → HasQueued h waiting taken callers earlier → HasTakenUp h waiting waiting taken callers (entry c kind) earlier
@@ -703,7 +703,7 @@ return_up {h = h} {old} {taken} {callers} {earlier} r new taken' callers' c posi
         all_ok r (mutator known.caller known.here (ap is_observer known.method ∙ mutates) p.commit p.here) same_callers same (λ new_is of_callers of_taken.
         mutator_up c reply called.0 known.caller known.here called.1 mutates keeps q known.method known.args p of_callers new_is of_taken)
 
--- an observer returns exactly where what is known of the caller says so
+-- an observer returns exactly when what is known of the caller says so
 pub observer_is : {h : Header} {waiting : List Waiting} {taken : ℕ} {callers : List Caller} {earlier : List Entry} {e : Entry} {reply : ℕ} (caller : Caller)
     → e.kind ≡ Return reply → caller ≡ get_or callers e.caller caller → Keeps h earlier e → HasQueued h waiting taken callers earlier
     → is_observer caller.method ≡ (is_return e.kind && is_observing e.caller earlier)

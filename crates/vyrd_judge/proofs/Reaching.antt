@@ -38,7 +38,7 @@ or_false : (b : Bool) → (b || false) ≡ b
 or_false true = refl
 or_false false = refl
 
--- an entry that is no call, no return and no commit
+-- an entry that is neither a call nor a return nor a commit
 pub reached_inside : (h : Header) (states : List Amounts) (c : ℕ) (kind : Kind) (earlier later : List Entry) (state : Amounts)
     (watches : List Seen) → call_or_return kind ≡ None → is_call kind ≡ false → is_commit kind ≡ false
     → Reached h states earlier (entry c kind ∷ later) state watches → Reached h states (entry c kind ∷ earlier) later state watches

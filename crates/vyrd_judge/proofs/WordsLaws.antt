@@ -309,7 +309,7 @@ block_commit_taken k l m inner v w u starting earlier c has low inside f header 
     (block_beside k l starting earlier c has.followed has.unchanged low inside changed))
     (same ∙ first) (cut ∙ ap (λ ws. ws ++ [] ∷ []) since)
 
--- how many lists of writes stand behind those of the commit with this number
+-- how many lists of writes stand after those of the commit with this number
 pub parts_since_none : (inner : List ℕ) (c number : ℕ) (earlier : List Entry) → slice_get inner c ≡ Some number → slice_get inner c ≡ Some (inner_number c earlier)
     → number ≡ 0 → 0 ≡ parts_since (commit_count earlier) (inner_number c earlier)
 parts_since_none inner c number earlier here has none =

@@ -7,9 +7,10 @@ use Rattle.vyrd_base.specs.Layout.{plain_words}
 use Rattle.vyrd_shadow.specs.Blocks.{with_writes, AreInRange}
 use Rattle.vyrd_view.specs.Comparing.{Comparison, AgreeElsewhere}
 
--- The header; the words at the last commit that doesn't wait, or later ones; the words at the first commit that waits, and those
--- now where none waits; for each commit that waits the writes that took effect after it, up to the next one and in their order;
--- the words and the specification's amounts that were compared last; and whether memory was refused.
+-- The header; the words at the last commit that doesn't wait, or later ones; the words at the first
+-- commit that waits, and those now if none waits; for each commit that waits the writes that took
+-- effect after it, up to the next one and in their order; the words and the specification's amounts
+-- that were compared last; and whether memory was refused.
 pub record Cuts : Type 0 where
   pub header : Header
   pub base : List ℕ
@@ -34,13 +35,13 @@ abbrev pub since_of : List ℕ → List (ℕ × ℕ) → List (List (ℕ × ℕ)
 since_of [] writes = []
 since_of (n ∷ ns) writes = split_at ns (drop n writes)
 
--- further writes at the end of the list behind which that many stand
+-- further writes at the end of the list after which that many stand
 abbrev pub with_part : ℕ → List (ℕ × ℕ) → List (List (ℕ × ℕ)) → List (List (ℕ × ℕ))
 with_part behind writes [] = []
 with_part behind writes (part ∷ parts) =
     if length parts == behind then (part ++ writes) ∷ parts else part ∷ with_part behind writes parts
 
--- the first words, where that many lists of writes stand behind the further ones
+-- the first words, if that many lists of writes stand after the further ones
 abbrev pub first_with : ℕ → List (ℕ × ℕ) → List ℕ → List (List (ℕ × ℕ)) → List ℕ
 first_with behind writes first since = if length since == behind then with_writes first writes else first
 
@@ -55,7 +56,7 @@ pub record AreCuts (h : Header) (words counts : List ℕ) (writes : List (ℕ ×
   pub in_range : AreInRange (plain_words h) writes
   pub counted : sum counts + tail ≡ length writes
 
--- the words that were compared last are these but for the changed ones
+-- the words that were compared last are these except for the changed ones
 pub record AreKnown (h : Header) (words changed : List ℕ) (compared : Comparison) : Type 0 where
   pub same_header : compared.header ≡ h
   pub within : All (λ w. w < plain_words h) changed

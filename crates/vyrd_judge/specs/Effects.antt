@@ -11,8 +11,8 @@ use Rattle.vyrd_base.specs.Places.{first_answer}
 use Rattle.vyrd_base.specs.Words.{effects_at, given_to, words_with}
 use Rattle.vyrd_base.specs.Commits.{is_commit, commit_count}
 
--- The effects at the entries from a place on, the last to take effect first, after some effects before. They are parted behind
--- each commit, and so the last part are those after the last commit.
+-- The effects at the entries from a place on, the last to take effect first, after some effects
+-- before. They are parted after each commit, and so the last part are those after the last commit.
 abbrev pub effect_parts : List (ℕ × ℕ) → List Entry → List Entry → List (List (ℕ × ℕ))
 effect_parts before earlier [] = before ∷ []
 effect_parts before earlier (e ∷ later) =
@@ -20,7 +20,7 @@ effect_parts before earlier (e ∷ later) =
     then (effects_at earlier e.caller e.kind later ++ before) ∷ effect_parts [] (e ∷ earlier) later
     else effect_parts (effects_at earlier e.caller e.kind later ++ before) (e ∷ earlier) later
 
--- further effects, in the part behind which that many stand
+-- further effects, in the part after which that many stand
 abbrev pub with_effects : ℕ → List (ℕ × ℕ) → List (List (ℕ × ℕ)) → List (List (ℕ × ℕ))
 with_effects behind effects [] = []
 with_effects behind effects (part ∷ parts) =
@@ -63,12 +63,13 @@ inner_number c [] = 0
 inner_number c (e ∷ earlier) =
     if e.caller == c then number_at e.kind (commit_count earlier) (inner_number c earlier) else inner_number c earlier
 
--- how many parts stand behind that of the commit with this number, where `commits` of them were made
+-- how many parts stand after that of the commit with this number, if `commits` of them were made
 abbrev pub parts_since : ℕ → ℕ → ℕ
 parts_since commits zero = 0
 parts_since commits (suc number) = commits - number
 
--- How many parts stand behind the effects of an entry: none, but at the end of a block that a lone commit stands in.
+-- How many parts stand after the effects of an entry: none, but at the end of a block that a lone
+-- commit stands in.
 abbrev pub parts_behind : List Entry → ℕ → Kind → ℕ
 parts_behind earlier c BlockClose = parts_since (commit_count earlier) (inner_number c earlier)
 parts_behind earlier c _ = 0

@@ -82,7 +82,8 @@ abbrev pub FollowsBy : Kept → List StartWord → List Entry → Option Verdict
 FollowsBy k starting log None = IsFaultless k starting log
 FollowsBy k starting log (Some v) = verdict_so_far k.header starting log ≡ Some v
 
--- The judge has followed the log, which begins with these words. They stand for a state, for there is no judge where they don't.
+-- The judge has followed the log, which begins with these words. They stand for a state, since
+-- there is no judge if they don't.
 pub record HasFollowed (j : JudgeView) (starting : List StartWord) (log : List Entry) : Type 0 where
   pub follows : FollowsBy j.kept starting log j.so_far
 

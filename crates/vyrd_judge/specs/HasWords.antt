@@ -25,9 +25,10 @@ abbrev pub MayFollow : Kept → List ℕ → Entry → ℕ → Type 0
 MayFollow shadow inner e commits = ∥ ((starting : List StartWord) × (earlier : List Entry) × HasWords shadow inner starting earlier
     × Keeps shadow.header earlier e × (commits ≡ commit_count earlier)) ∥₁
 
--- The entry was taken in: what is kept stands for the entries with it. Its effects are among the writes since the commits that
--- wait: at the end of those between two commits, where a lone commit stands in the block that it ends, and otherwise at the end
--- of all. After a commit no write has taken effect.
+-- The entry was taken in: what is kept stands for the entries with it. Its effects are among the
+-- writes since the commits that wait: at the end of those between two commits, if a lone commit
+-- stands in the block that it ends, and otherwise at the end of all. After a commit no write has
+-- taken effect.
 pub record HasTaken (shadow : Kept) (inner : List ℕ) (old new : Cuts) (starting : List StartWord) (e : Entry) (earlier : List Entry) : Type 0 where
   pub words : HasWords shadow inner starting (e ∷ earlier)
   pub writes : List (ℕ × ℕ)

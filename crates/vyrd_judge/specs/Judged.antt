@@ -71,7 +71,7 @@ pub record CommitRight (h : Header) (first : List ℕ) (part : List (ℕ × ℕ)
   pub words : next_first ≡ with_writes first part
   pub since : next_since ≡ rest
 
--- what a commit leads to, where these are the words there
+-- what a commit leads to, if these are the words there
 abbrev pub CommitLeads : Header → List ℕ → List (ℕ × ℕ) → List (List (ℕ × ℕ)) → Called → ℕ → Amounts → ℕ → List Seen → Amounts → ℕ
     → List Seen → List ℕ → List (List (ℕ × ℕ)) → Outcome → Type 0
 CommitLeads h first part rest called reply before made old after more new next_first next_since Goes =

@@ -55,6 +55,6 @@ pub record HasTakenUp (h : Header) (old new : List Waiting) (taken : ℕ) (calle
   pub queued : HasQueued h new taken callers (e ∷ earlier)
   pub waiting : new ≡ map (replied e) old ++ cons_option (waiting_at (place_of e earlier [])) []
 
--- the entry is no commit that hasn't returned
+-- the entry isn't a commit that hasn't returned
 abbrev pub CanLeave : Waiting → Type 0
 CanLeave x = (method : Method) (args : Args) → x.event ≡ Commits method args None → ⊥

@@ -18,7 +18,7 @@ use Rattle.vyrd_judge.specs.declared.waiting.Waiting.{Waiting}
 abbrev pub commit_of : Option ℕ → Called → Event
 commit_of reply called = Commits called.method called.args reply
 
--- the event of an entry of this kind, where it is one that is judged
+-- the event of an entry of this kind, if it is one that is judged
 abbrev pub event_of : Place Entry → Kind → Option Event
 event_of place (Call method args) = then_some (is_observer method) (Begins method args)
 event_of place (Return reply) = then_some (is_observing place.here.caller place.earlier) (Returns reply)
@@ -26,7 +26,7 @@ event_of place Commit = option_map (commit_of (next_reply place.here.caller plac
 event_of place BlockCommit = option_map (commit_of (next_reply place.here.caller place.later)) (open_call place.here.caller place.earlier)
 event_of place _ = None
 
--- the entry at a place, where it is one that is judged
+-- the entry at a place, if it is one that is judged
 abbrev pub waiting_of : Place Entry → Event → Waiting
 waiting_of place event = record { caller = place.here.caller; position = position_of place; event = event }
 

@@ -46,7 +46,7 @@ pub record IsWatched (states : List Amounts) (c : ℕ) (earlier : List Entry) (c
   pub answers : (reply : ℕ) → has_answer seen.answers reply
       ≡ list_any (λ state. answer_in state called.method called.args == reply) (states_since_call states c earlier)
 
--- the same watch, which has seen this state too where it is open
+-- the same watch, which has seen this state too if it is open
 pub record SeesState (state : Amounts) (old new : Seen) : Type 0 where
   pub is_open : new.is_open ≡ old.is_open
   pub method : new.method ≡ old.method

@@ -17,8 +17,9 @@ use std::marker::Model;
 use vyrd_base::{Entry, Header, Rule, Stamped, StartWord, Subject, Verdict};
 use vyrd_spec::{BufferSpec, CacheSpec, MultisetSpec, TreeSpec};
 
-/// A judge that follows a log of any structure, by the specification of its header's subject. It is seen as the [`Judge`] of
-/// that specification, with the same calls, the same costs and the same answer where there is no memory.
+/// A judge that follows a log of any structure, by the specification of its header's subject. It is
+/// seen as the [`Judge`] of that specification, with the same calls, the same costs and the same
+/// answer when memory runs out.
 pub struct AnyJudge {
     judge: JudgeOf,
 }
@@ -42,7 +43,8 @@ impl Model for AnyJudge {
 }
 
 impl Drop for AnyJudge {
-    /// By hand, so that whoever lets a judge go has one call to prove and not the letting go of all that each of the four holds.
+    /// By hand, so that dropping a judge is one call to prove, and not the drop of all that each of
+    /// the four holds.
     fn drop(self) {
         let AnyJudge { judge } = self;
         drop(judge);
@@ -175,7 +177,7 @@ impl AnyJudge {
         }
     }
 
-    /// The verdict about the whole log, where `end` stands after the entries.
+    /// The verdict about the whole log, given that `end` stands after the entries.
     pub fn finish(&self) -> Result<Verdict, AllocError>
         ensures verdict { (starting : List StartWord) (log : List Entry) → HasFollowed self.now starting log → IfOk result (λ v. v ≡ verdict self.now.kept.header starting log) }
         ensures has_failed { is_err result ≡ self.now.has_failed }
@@ -188,7 +190,8 @@ impl AnyJudge {
         }
     }
 
-    /// The verdict where the text breaks a rule on this line: the one that stands, or otherwise that break.
+    /// The verdict if the text breaks a rule on this line: the one that stands, or otherwise that
+    /// break.
     pub fn stop(&self, line: u64, rule: Rule) -> Result<Verdict, AllocError>
         ensures verdict { (starting : List StartWord) (log : List Entry) → HasFollowed self.now starting log →
             IfOk result (λ v. v ≡ unwrap_or (verdict_so_far self.now.kept.header starting log) (Malformed line rule)) }

@@ -169,7 +169,7 @@ impl<S: Spec> Follower<S> {
         self.catch_up()
     }
 
-    /// The verdict where `end` stands after the entries.
+    /// The verdict if `end` stands after the entries.
     pub fn end(&self) -> Verdict
         ensures { (starting : List StartWord) (log : List Entry) → IsFaultless self.now starting log → result ≡ verdict self.now.header starting log }
     {
@@ -229,7 +229,7 @@ impl<S: Spec> Follower<S> {
     }
 }
 
-/// A count, with one more where this is true.
+/// A count, with one more if this is true.
 fn counted(count: u64, more: bool) -> u64
     requires { count + 1 < 2 ^ 64 }
     ensures { result ≡ count + (if more then 1 else 0) }

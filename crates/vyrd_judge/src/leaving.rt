@@ -8,8 +8,8 @@ ghost use Rattle.vyrd_judge.specs.Trails.{Asked, AreOn, AreAsking, moved, seen_b
 use crate::trail::Trail;
 use crate::watch::Watch;
 
-/// The earlier of a place in a trail and the one from which an observer counts, where it asks that trail. The answers of the
-/// trail end at the last place.
+/// The earlier of a place in a trail and the one from which an observer counts, if it asks that
+/// trail. The answers of the trail end at the last place.
 fn earlier(first: Option<usize>, watch: Option<Watch>, trail: usize, end: usize) -> Option<usize>
     requires within { IfSome first (λ n. n ≤ end) }
     ensures within { IfSome result (λ n. n ≤ end) }
@@ -22,7 +22,7 @@ fn earlier(first: Option<usize>, watch: Option<Watch>, trail: usize, end: usize)
     }
 }
 
-/// The place in a trail from which on its answers count for some open observer, where one asks it.
+/// The place in a trail from which on its answers count for some open observer, if one asks it.
 fn first_that_counts(watches: &[Option<Watch>], trail: usize, end: usize) -> Option<usize>
     ensures within { IfSome result (λ n. n ≤ end) }
     ensures counts { (c : ℕ) (w : Watch) → slice_get watches.now c ≡ Some (Some w) → w.trail ≡ trail → (n : ℕ) × (result ≡ Some n) × (n ≤ w.since) }
@@ -70,8 +70,9 @@ fn forget(trails: &mut [Trail], watches: &mut Vec<Option<Watch>>, trail: usize, 
     move_all(watches, trail, n);
 }
 
-/// An observer that asked this trail has returned. The trail is free where no other asks it. Otherwise the answers that count
-/// for no other are dropped where they are at least half of all, so that this takes constant time for each answer.
+/// An observer that asked this trail has returned. The trail is free if no other asks it. Otherwise
+/// the answers that count for no other are dropped if they are at least half of all, so that this
+/// takes constant time for each answer.
 pub(crate) fn let_go(trails: &mut [Trail], watches: &mut Vec<Option<Watch>>, trail: usize)
     requires trail { trail < length trails.old }
     requires on { AreOn trails.old watches.old.items }

@@ -1,14 +1,17 @@
 //! The verdict about a log: whether what concurrent callers logged refines the specification of their data structure.
 //!
-//! The central type is [`Judge`]. It takes the entries of a log one by one and never looks back, and answers after each the
-//! verdict so far that `verdict_so_far` of `vyrd_base` defines: the first fault of a commit or of an observer, or the first
-//! break of a rule of shape where no fault stands before it. [`AnyJudge`] is the judge of a structure that is known only as the
-//! program runs, and [`judge_history`] gives the verdict about the log of a history without making that log.
+//! The central type is [`Judge`]. It takes the entries of a log one by one and never looks back,
+//! and answers after each the verdict so far that `verdict_so_far` of `vyrd_base` defines: the
+//! first fault of a commit or of an observer, or the first break of a rule of shape if no fault
+//! stands before it. [`AnyJudge`] is the judge of a structure that is known only as the program
+//! runs, and [`judge_history`] gives the verdict about the log of a history without making that
+//! log.
 //!
-//! How the pieces go: a `follower` takes in each entry, and `starting` gives it the words at the start. In front, the shape,
-//! the `words` with their `views` and the `queue` follow it at once. Behind, the `replay` judges what is `waiting` in the
-//! queue, with its `watches`: each open observer has a `watch`, which is on the `trail` of its question, one of all `trails`.
-//! An observer that has returned may be `leaving` answers behind that can go.
+//! How the pieces go: a `follower` takes in each entry, and `starting` gives it the words at the
+//! start. The shape, the `words` with their `views` and the `queue` follow it at once. After them
+//! the `replay` judges what is `waiting` in the queue, with its `watches`: each open observer has a
+//! `watch`, which is on the `trail` of its question, one of all `trails`. When an observer has
+//! returned, `leaving` drops the answers that nobody needs any more.
 //!
 //! [`judge_log`] is the plain judge of `vyrd_plain`, which has all entries before it begins. It is what this one is compared
 //! with, and shares no code with it.

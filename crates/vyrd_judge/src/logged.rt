@@ -19,7 +19,7 @@ pub fn log_of(alloc: Global, history: &[Stamped]) -> Result<Vec<Entry>, AllocErr
     Ok(log)
 }
 
-/// An event as an entry, where it is a mark or a write.
+/// An event as an entry, if it is a mark or a write.
 pub fn entry_of(event: Stamped) -> Option<Entry>
     ensures { result ≡ logged event.caller event.did }
 {

@@ -23,17 +23,20 @@ use vyrd_spec::Spec;
 /// A judge that takes the entries of a log one by one, in their order, and never looks back. `S` is the specification of the
 /// header's subject.
 ///
-/// After each entry it knows the verdict that stands, however the log goes on: the first fault, or the first break of a rule of
-/// shape where no fault stands before it. A commit waits until its execution has returned, and then all commits before it have
-/// to be judged; so do observers that return behind it.
+/// After each entry it knows the verdict that stands, however the log goes on: the first fault, or
+/// the first break of a rule of shape if no fault stands before it. A commit waits until its
+/// execution has returned, and then all commits before it have to be judged; so do observers that
+/// return after it.
 ///
-/// Time: an entry takes constant time on average, beside what the specification, the words and the comparison of the views
-/// take. But a commit and an observer's call take time in proportion to the different questions of open observers, the most that
-/// there were at one time, and an observer's return in proportion to the callers and to the answers that its question has had
-/// since its call or that of another open observer. Memory: in proportion to the header's words, the keys of the
-/// specification's state and the writes of open blocks. Beside it an entry that waits is kept, and a write that takes effect
-/// while a commit waits, so that memory grows with the log only while some execution stays open; and so do the answers to what
-/// open observers ask, which are kept once for all that ask the same.
+/// Time: an entry takes constant time on average, besides what the specification, the words and the
+/// comparison of the views take. But a commit and an observer's call take time in proportion to the
+/// different questions of open observers, the most that there were at one time, and an observer's
+/// return in proportion to the callers and to the answers that its question has had since its call
+/// or that of another open observer. Memory: in proportion to the header's words, the keys of the
+/// specification's state and the writes of open blocks. Besides, an entry that waits is kept, and a
+/// write that takes effect while a commit waits, so that memory grows with the log only while some
+/// execution stays open; and so do the answers to what open observers ask, which are kept once for
+/// all that ask the same.
 ///
 /// Memory may run out in [`Judge::feed`] alone. From then on `feed`, `finish` and `stop` answer it.
 pub struct Judge<S: Spec> {
@@ -43,7 +46,8 @@ pub struct Judge<S: Spec> {
 }
 
 impl<S: Spec> Drop for Judge<S> {
-    /// By hand, so that whoever lets a judge go has one call to prove and not the letting go of each of its parts.
+    /// By hand, so that dropping a judge is one call to prove, and not the drop of each of its
+    /// parts.
     fn drop(self) {
         let Judge {
             follower,
@@ -130,8 +134,8 @@ impl<S: Spec> Judge<S> {
         })
     }
 
-    /// Follows one more entry. The answer is the verdict so far, with this entry: `None` where nothing stands yet. Once there
-    /// is a verdict it is answered again, and entries aren't looked at.
+    /// Follows one more entry. The answer is the verdict so far, with this entry: `None` if nothing
+    /// stands yet. Once there is a verdict it is answered again, and entries aren't looked at.
     #[inline(always)]
     pub fn feed(&mut self, entry: Entry) -> Result<Option<Verdict>, AllocError>
         requires few { self.old.kept.entries < 2 ^ 62 }
@@ -208,7 +212,7 @@ impl<S: Spec> Judge<S> {
         self.so_far
     }
 
-    /// The verdict about the whole log, where `end` stands after the entries.
+    /// The verdict about the whole log, given that `end` stands after the entries.
     pub fn finish(&self) -> Result<Verdict, AllocError>
         ensures verdict { (starting : List StartWord) (log : List Entry) → HasFollowed self.now starting log → IfOk result (λ v. v ≡ verdict self.now.kept.header starting log) }
         ensures has_failed { is_err result ≡ self.now.has_failed }
@@ -222,7 +226,8 @@ impl<S: Spec> Judge<S> {
         }
     }
 
-    /// The verdict where the text breaks a rule on this line: the one that stands, or otherwise that break.
+    /// The verdict if the text breaks a rule on this line: the one that stands, or otherwise that
+    /// break.
     pub fn stop(&self, line: u64, rule: Rule) -> Result<Verdict, AllocError>
         ensures verdict { (starting : List StartWord) (log : List Entry) → HasFollowed self.now starting log →
             IfOk result (λ v. v ≡ unwrap_or (verdict_so_far self.now.kept.header starting log) (Malformed line rule)) }

@@ -5,12 +5,12 @@ use vyrd_base::{Verdict, Why};
 /// What an entry that waits leads to.
 #[derive(Clone, Copy)]
 pub(crate) enum Outcome {
-    /// It is no fault, and the next entry is to be looked at.
+    /// It isn't a fault, and the next entry is to be looked at.
     Goes,
     /// It is a fault, for this reason.
     Faults(Why),
-    /// It is the commit of an execution that hasn't returned. It is no fault, and neither is anything after it, since no
-    /// later state is known.
+    /// It is the commit of an execution that hasn't returned. It isn't a fault, and neither is
+    /// anything after it, since no later state is known.
     Ends,
 }
 

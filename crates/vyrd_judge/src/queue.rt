@@ -52,8 +52,8 @@ impl Queue {
         })
     }
 
-    /// Takes in the entry at a position, which keeps the rules. It waits from then on, where it is one that is judged; and
-    /// where it is a mutator's return its commit has the reply.
+    /// Takes in the entry at a position, which keeps the rules. It waits from then on, if it is one
+    /// that is judged; and if it is a mutator's return, its commit has the reply.
     #[inline(always)]
     pub fn follow(&mut self, entry: Entry, position: u64) -> Result<(), AllocError>
         requires may { MayQueue self.old.header self.old.waiting.items self.old.taken self.old.callers.items entry position }
@@ -75,7 +75,7 @@ impl Queue {
         }
     }
 
-    /// A call is remembered, and waits where it is an observer's.
+    /// A call is remembered, and waits if it is an observer's.
     #[inline(always)]
     fn call(
         &mut self,

@@ -21,8 +21,8 @@ use std::alloc::{AllocError, Global};
 use vyrd_base::{Args, Header, Method, Why};
 use vyrd_spec::Spec;
 
-/// What is known where all entries before some place are judged: the state of the specification there, and each caller's open
-/// observer.
+/// What is known when all entries before some place are judged: the state of the specification
+/// there, and each caller's open observer.
 #[derive(Drop)]
 pub(crate) struct Replay<S: Spec> {
     pub header: Header,
@@ -35,7 +35,7 @@ pub(crate) struct Replay<S: Spec> {
 }
 
 impl<S: Spec> Replay<S> {
-    /// The place before the first entry, where the specification is in its state at the start.
+    /// The place before the first entry, with the specification in its state at the start.
     pub fn new(alloc: Global, header: Header, spec: S) -> Result<Replay<S>, AllocError>
         requires subject { header.subject ≡ S.subject }
         requires spec_header { S.header_of spec ≡ header }
@@ -114,9 +114,9 @@ impl<S: Spec> Replay<S> {
         Ok(Outcome::Goes)
     }
 
-    /// Judges the entry that waits first, where it can be judged. After `Goes` it no longer waits, and after `Ends` all is as it
-    /// was. A commit takes time in proportion to the different questions of open observers, beside that of the specification's
-    /// step and of the comparison.
+    /// Judges the entry that waits first, if it can be judged. After `Goes` it no longer waits, and
+    /// after `Ends` all is as it was. A commit takes time in proportion to the different questions
+    /// of open observers, besides that of the specification's step and of the comparison.
     #[inline(always)]
     pub fn judge(&mut self, views: &mut Views, x: Waiting) -> Result<Outcome, AllocError>
         requires header { views.old.header ≡ self.old.header }

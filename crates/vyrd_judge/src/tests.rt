@@ -226,7 +226,7 @@ fn delete_of_a_start() -> [Entry; 5] {
     logged![0 DELETE, 0 BlockOpen, 0 Write(0, 0), 0 BlockCommit, 0 Return(1)]
 }
 
-/// The verdict about a log that begins with these words, where they stand for a state.
+/// The verdict about a log that begins with these words, if they stand for a state.
 fn judged_from(
     alloc: Global,
     header: Header,

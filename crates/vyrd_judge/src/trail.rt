@@ -11,8 +11,8 @@ use std::marker::Model;
 use vyrd_base::{Args, Method};
 use vyrd_spec::Touched;
 
-/// A question that open observers ask, and what the states since the first of their calls answer. Where none asks it, it is free
-/// to be another question.
+/// A question that open observers ask, and what the states since the first of their calls answer.
+/// If none asks it, it is free to be another question.
 #[derive(Drop)]
 pub(crate) struct Trail {
     is_asked: bool,
@@ -20,7 +20,7 @@ pub(crate) struct Trail {
     args: Args,
     /// What the last state answers.
     latest: u64,
-    /// What the states before it answer, each where it differs from the one before.
+    /// What the states before it answer, each if it differs from the one before.
     others: Vec<u64>,
 }
 

@@ -12,7 +12,7 @@ use std::alloc::{AllocError, Global};
 use vyrd_base::{Args, Method};
 use vyrd_spec::{Spec, Touched};
 
-/// The trail of a question that the last state answers so, where it is asked.
+/// The trail of a question that the last state answers in this way, if it is asked.
 fn find(trails: &[Trail], method: Method, args: Args, answer: u64) -> Option<usize>
     ensures { IfSome result (λ i. (t : Asked) × (slice_get trails.now i ≡ Some t) × (t.is_asked ≡ true) × (t.method ≡ method) × (t.args ≡ args) × (t.latest ≡ answer)) }
 {
@@ -36,7 +36,7 @@ fn find_free(trails: &[Trail]) -> Option<usize>
     None
 }
 
-/// A trail that isn't asked. One more is made where all are.
+/// A trail that isn't asked. One more is made if all are.
 fn free(alloc: Global, trails: &mut Vec<Trail>) -> Result<usize, AllocError>
     ensures free { IfOk result (λ i. (t : Asked) × (slice_get trails.new.items i ≡ Some t) × (t.is_asked ≡ false)) }
     ensures kept { KeepsAsked trails.old.items trails.new.items }
@@ -50,8 +50,9 @@ fn free(alloc: Global, trails: &mut Vec<Trail>) -> Result<usize, AllocError>
     Ok(i)
 }
 
-/// An observer asks a question, in a state that answers this. It gives its trail, whose latest answer is this. All that are
-/// asked have the last state's answer, so where the question is asked already its trail has this answer.
+/// An observer asks a question, in a state that answers this. It gives its trail, whose latest
+/// answer is this. All that are asked have the last state's answer, so if the question is asked
+/// already, its trail has this answer.
 pub(crate) fn ask(
     alloc: Global,
     trails: &mut Vec<Trail>,

@@ -28,8 +28,8 @@ const MOST_CHANGED: usize = 1024;
 pub(crate) struct Views {
     header: Header,
     words: Vec<u64>,
-    /// How many of the writes took effect between each commit that waits and the commit before it. Those of a block take effect
-    /// at the lone commit inside it, where there is one.
+    /// How many of the writes took effect between each commit that waits and the commit before it.
+    /// Those of a block take effect at the lone commit inside it, if there is one.
     counts: VecDeque<usize>,
     writes: VecDeque<(u32, u64)>,
     /// How many of the writes took effect after the last commit.
@@ -59,7 +59,7 @@ impl Model for Views {
 }
 
 impl Views {
-    /// These are the words now, where all but the changed ones are 0. No commit waits.
+    /// These are the words now; all but the changed ones are 0. No commit waits.
     pub fn new(
         alloc: Global,
         header: Header,
@@ -100,7 +100,7 @@ impl Views {
         tell_amounts(&mut self.compared, state)
     }
 
-    /// A write takes effect. Where no commit waits it does so at once, and otherwise it waits too.
+    /// A write takes effect. If no commit waits, it does so at once, and otherwise it waits too.
     #[inline(always)]
     pub fn effect(&mut self, word: u32, value: u64) -> Result<(), AllocError>
         requires word { word < plain_words self.old.header }
@@ -121,7 +121,7 @@ impl Views {
         }
     }
 
-    /// A write takes effect at once, where no commit waits.
+    /// A write takes effect at once, if no commit waits.
     #[inline(always)]
     fn take_effect(&mut self, word: u32, value: u64) -> Result<(), AllocError>
         requires word { word < plain_words self.old.header }
@@ -150,8 +150,9 @@ impl Views {
         Ok(())
     }
 
-    /// The changed words have these values at a commit already, behind which that many lists of writes stand: their writes take
-    /// effect there, after all others. Where no such commit waits nothing happens. It costs time in what took effect since then.
+    /// The changed words have these values at a commit already, after which that many lists of
+    /// writes stand: their writes take effect there, after all others. If no such commit waits,
+    /// nothing happens. It costs time in what took effect since then.
     pub fn late(&mut self, behind: usize, changed: &[u32], words: &[u64]) -> Result<(), AllocError>
         requires some { 0 < behind }
         requires changed { All (λ w. w < plain_words self.old.header) changed.now }
@@ -272,7 +273,7 @@ impl Views {
     }
 }
 
-/// The comparison learns the words. Nobody asks how many steps that takes.
+/// The comparison learns the words. No contract says how many steps that takes.
 fn tell_words<L: Ledger>(
     blank: Blank,
     compared: &mut Compared,
@@ -374,7 +375,8 @@ fn write_first(
     }
 }
 
-/// The place behind the writes of the commit with this index. `all` is how many writes all commits have.
+/// The place after the writes of the commit with this index. `all` is how many writes all commits
+/// have.
 fn place_behind(counts: &VecDeque<usize>, all: usize, index: usize) -> usize
     requires index { index < length counts.now.items }
     requires all { sum counts.now.items ≡ all }

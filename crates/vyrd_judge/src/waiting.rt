@@ -7,7 +7,7 @@ use vyrd_base::{Args, Method};
 pub(crate) enum Event {
     /// An observer's execution begins.
     Begins(Method, Args),
-    /// A mutator's execution commits. Its reply is `None` where it hasn't returned yet.
+    /// A mutator's execution commits. Its reply is `None` if it hasn't returned yet.
     Commits(Method, Args, Option<u64>),
     /// An observer returns with this reply.
     Returns(u64),

@@ -17,7 +17,8 @@ use std::marker::Model;
 use vyrd_base::{Args, Header, Method};
 use vyrd_spec::{Spec, Touched};
 
-/// What is known of each caller's open observer, where a caller has one. Observers that ask the same share one trail of answers.
+/// What is known of each caller's open observer, if it has one. Observers that ask the same share
+/// one trail of answers.
 #[derive(Drop)]
 pub(crate) struct Watches {
     alloc: Global,

@@ -20,15 +20,16 @@ use vyrd_shadow::Shadow;
 pub(crate) struct Words {
     pub shadow: Shadow,
     pub views: Views,
-    /// By caller: the number of the lone commit since its last open, 0 where there is none. The first commit of a log has
-    /// number 1.
+    /// By caller: the number of the lone commit since its last open, 0 if there is none. The first
+    /// commit of a log has number 1.
     pub inner: Vec<u64>,
     ghost same_header: { views.header ≡ shadow.header },
     ghost callers: { vec_len inner ≡ shadow.header.callers },
 }
 
 impl Words {
-    /// These are the words at the start, where all but the changed ones are 0, and this is the specification's state.
+    /// These are the words at the start, of which all but the changed ones are 0, and this is the
+    /// specification's state.
     pub fn new(
         alloc: Global,
         header: Header,
@@ -57,7 +58,8 @@ impl Words {
         })
     }
 
-    /// Takes in an entry that keeps the rules, behind this many commits. A commit waits from then on.
+    /// Takes in an entry that keeps the rules, after this many commits. A commit waits from then
+    /// on.
     #[inline(always)]
     pub fn follow(&mut self, entry: Entry, commits: u64) -> Result<(), AllocError>
         requires may { MayFollow self.old.shadow self.old.inner.items entry commits }
@@ -123,7 +125,8 @@ impl Words {
         Ok(())
     }
 
-    /// What effects have changed was so at a commit already, behind which that many lists of writes stand.
+    /// What effects have changed was so at a commit already, after which that many lists of writes
+    /// stand.
     fn pass_back(&mut self, behind: usize) -> Result<(), AllocError>
         requires some { 0 < behind }
         requires sound { self.old.views.refused ≡ false }

@@ -1,4 +1,4 @@
--- What is taken in behind what was taken in beside the workers.
+-- What is taken in after what was taken in beside the workers.
 use Rattle.std.proofs.Common.{◌≡◌, ℕ, ◌+◌, ◌-◌, ◌<◌, ◌≤◌, List, ◌∷◌, [], ◌++◌, length, take, drop, get_or, sym, ap, ◌∙◌, arith, append_assoc, append-nil, length-drop, true, Option, Some, None}
 use Rattle.std.specs.Prelude.{IfSome}
 use Rattle.std.proofs.lemmas.List.{take_more, get_or-drop}
@@ -29,7 +29,7 @@ rest_more taken lane place at d from to =
     ∙ ap (λ (xs : List Stamped). taken ++ xs) (ap (λ (e : Stamped). take (at - place) (drop place lane) ++ e ∷ []) (sym here) ∙ sym more
     ∙ ap (λ (i : ℕ). take i (drop place lane)) n)
 
--- the verdict at the end, where there is one
+-- the verdict at the end, if there is one
 pub closes : (h : Header) (before after : Watch) (taken history : List Stamped) (r : Option Verdict) → before.stands ≡ true → HasWatched h before taken
     → HasWatched h after (taken ++ drop before.verifier.kept.next history)
     → ((xs : List Stamped) → HasWatched h after xs → IfSome r (λ v. v ≡ verdict h [] (log_of (in_order_below after.verifier.kept.next xs))))

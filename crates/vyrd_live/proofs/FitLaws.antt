@@ -281,7 +281,7 @@ fits_first h left hand between sound = record {
 pub fits_fresh : (h : Header) (left : Script) (hand : HandView) → is_between left ≡ true → IsSoundSomewhere h left → ∥ FitsHand h left hand ∥₁
 fits_fresh h left hand between sound = ∥∥₁_map sound (fits_first h left hand between)
 
--- where nothing comes next, nothing is left
+-- if nothing comes next, nothing is left
 nothing : (h : Header) (left : Script) (hand : HandView) → next_act left ≡ Done → FitsHand h left hand → is_stop left ≡ true
 nothing h stop hand done fits = refl
 nothing h (step act rest) hand done fits = let no : false ≡ true = sym (ap (may_act h fits.situation) done) ∙ fits.sound.0 in cc

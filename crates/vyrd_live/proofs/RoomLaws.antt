@@ -83,7 +83,7 @@ began_with_room h limit before act answer did e room = elim_did act answer did e
     elim_did (Mark BlockClose) answer did e room = let is : Marked BlockClose ≡ did = cc in subst (BeginsWithRoom h limit before) is tt
     elim_did (Mark BlockCommit) answer did e room = let is : Marked BlockCommit ≡ did = cc in subst (BeginsWithRoom h limit before) is tt
 
--- where an act is to come, there is room for one event
+-- if an act is to come, there is room for one event
 some_room : (n : ℕ) (left : Script) → next_act left ≢ Done → EndsWithin n left → nat_le 1 n ≡ true
 some_room n stop goes ends = absurd (goes refl)
 some_room n (step act rest) goes ends = let low : 1 ≤ n = ends.0 in grind (arith, nat_tests)
@@ -91,7 +91,7 @@ some_room n (step act rest) goes ends = let low : 1 ≤ n = ends.0 in grind (ari
 pub room_for_one : (n : ℕ) (left : Script) → next_act left ≢ Done → ∥ EndsWithin n left ∥₁ → 0 < n
 room_for_one n left goes ends = let e : nat_le 1 n ≡ true = ∥∥₁_elim ends (Bool-set _ _) (some_room n left goes) in grind (arith, nat_tests)
 
--- after an act that is no return one event less is to come
+-- after an act that isn't a return one event less is to come
 next_in_time : (n : ℕ) (left : Script) (answer : ℕ) → is_return (next_act left) ≡ false → IsAnswer (next_act left) answer → EndsWithin n left
     → EndsWithin (n - 1) (after_answer left answer)
 next_in_time n stop answer goes is ends = tt

@@ -60,7 +60,7 @@ kept_after k after taken e found next same kept = record {
   later = λ n l. same n (omega arith) ∙ kept.later n (omega arith);
 }
 
--- where a number wasn't had, it is from the next one on, and no event has it
+-- if a number wasn't had, it is from the next one on, and no event has it
 pub new_number : (k : Kept) (taken : List Stamped) (number : ℕ) → has k number ≡ false → AreKept k taken
     → (k.next ≤ number) × (numbered number taken ≡ None)
 new_number k taken number not_had kept = dite (dec_lt number k.next)

@@ -93,7 +93,7 @@ working_turn h script left later hand now after rests is room made w =
     subst (λ s. IsWorking h script s after) (sym made.1) (working_on h script left now after made.0 rests made.2 room
     (working_with_room h script left hand now is w room))
 
--- the hand is the same but for its lane, its room and what it found
+-- the hand is the same except for its lane, its room and what it found
 pub same_hand : (act : Act) (answer : ℕ) (hand now after : HandView) → now ≡ with_spare hand now.spare → HasActed act answer now after
     → (after.table ≡ hand.table) × (after.limit ≡ hand.limit) × (after.caller ≡ hand.caller)
 same_hand act answer hand now after is acted = (

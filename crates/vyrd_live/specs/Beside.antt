@@ -43,9 +43,10 @@ hands_left done = map (λ (d : Stopped × Outbox). d.0.hand) done
 abbrev pub lanes_left : List (Stopped × Outbox) → List Lane
 lanes_left done = map (λ (d : Stopped × Outbox). lane_sent d.1.sender) done
 
--- Of the events taken in beside the workers there is one with each number below `from`. Those of the history from that place on
--- were taken in behind them. The verdict is that of the log of the events with the numbers below `next`, all of which were taken
--- in by then, and none with that number was.
+-- Of the events taken in beside the workers there is one with each number below `from`. Those of
+-- the history from that place on were taken in after them. The verdict is that of the log of the
+-- events with the numbers below `next`, all of which were taken in by then, and none with that
+-- number was.
 pub record IsClosing (h : Header) (v : Verdict) (taken history : List Stamped) : Type 0 where
   pub from : ℕ
   pub begun : (n : ℕ) → n < from → is_some (numbered n taken) ≡ true

@@ -1,5 +1,5 @@
--- Room for operations. A caller's events are limited in all, so an operation begins only where all events up to its bound
--- have room.
+-- Room for operations. A caller's events are limited in all, so an operation begins only if all
+-- events up to its bound have room.
 use Rattle.std.specs.Prelude.{ℕ, ◌+◌, ◌<◌, ◌≤◌, ⊤, List, [], ◌∷◌, length}
 use Rattle.vyrd_base.specs.declared.header.Header.{Header}
 use Rattle.vyrd_base.specs.declared.log.Kind.TheVariants.{Call}

@@ -29,7 +29,7 @@ pub record VerifierView : Type 0 where
 abbrev pub has_failed : VerifierView → Bool
 has_failed v = is_some v.refused
 
--- whether the event with this number was taken in, where the one with the number `refused` wasn't
+-- whether the event with this number was taken in, if the one with the number `refused` wasn't
 abbrev pub is_in : Kept → Option ℕ → ℕ → Bool
 is_in kept None n = has kept n
 is_in kept (Some r) n = has kept n && not (n == r)

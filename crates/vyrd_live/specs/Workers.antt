@@ -29,8 +29,8 @@ pub record IsWorkerOf {M : Type 0} (header_of : M → Header) (script : M → Sc
   pub script_is : script machine ≡ work_script w hand.caller
   pub bound : ahead machine ≡ bounds_of w.header (ops_of hand.caller w.ops)
 
--- What a machine that was played on a hand leaves. Where it stopped for lack of room, the limit allows fewer events than the
--- machine's bound.
+-- What a machine that was played on a hand leaves. If it stopped for lack of room, the limit allows
+-- fewer events than the machine's bound.
 pub record HasWorked {M : Type 0} (header_of : M → Header) (script : M → Script) (ahead : M
     → ℕ) (traced : TracedView) (machine : M) (before after : HandView)
     (ending : Ending) : Type 0 where

@@ -38,7 +38,7 @@ pub(crate) fn act<R: Wait>(
     unreachable!()
 }
 
-/// Does the act, and answers what it found. `None` is for busy: nothing was done then.
+/// Does the act, and answers what it found. `None` means busy: nothing was done then.
 fn try_act(traced: &Traced, hand: &mut Hand, act: Act) -> Option<u64>
     requires hand { IsOf traced.now hand.old × (0 < hand.old.spare) }
     requires may { MayAct traced.now.plan hand.old act }

@@ -16,10 +16,10 @@ use std::alloc::{AllocError, Global};
 use vyrd_memory::{Ran, StepFault, run_turns};
 use vyrd_work::{Work, WorkMachine};
 
-/// Plays a workload by its turns and judges the run: what each caller does, event by event, is settled
-/// by the workload alone. There is no run where it gets stuck, as two callers do that wait for each
-/// other's lock. A correct structure doesn't get stuck, and is accepted. It takes memory for the whole
-/// history.
+/// Plays a workload by its turns and judges the run: what each caller does, event by event, is
+/// settled by the workload alone. There is no run if it gets stuck, as two callers do that wait for
+/// each other's lock. A correct structure doesn't get stuck, and is accepted. It takes memory for
+/// the whole history.
 pub fn run_by_turns<M: WorkMachine>(alloc: Global, work: &Work) -> Result<Option<Run>, AllocError>
     requires limits { KeepsLimits (workload_of work.now) }
     ensures played { IfOk result (λ run. MatchOption run

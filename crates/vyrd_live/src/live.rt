@@ -28,23 +28,27 @@ use vyrd_base::Gate;
 use vyrd_trace::{Hand, Traced};
 use vyrd_work::{AnyMachine, Work, WorkMachine};
 
-/// Plays the callers of a workload, each on a thread of its own, and judges the log of what they did. Where a thread can't be
-/// started its callers are played by the thread that would have started it. The workload's turns have no effect.
+/// Plays the callers of a workload, each on a thread of its own, and judges the log of what they
+/// did. If a thread can't be started, its callers are played by the thread that would have started
+/// it. The workload's turns have no effect.
 ///
-/// Each caller asks the gate before each of its events, again and again until the answer is true, and may have `limit` events.
-/// Before an operation it makes room for as many events as the operation may have. Where the limit leaves fewer it stops, with
-/// no operation under way and no lock held, and the run is `Spent` once the others have ended too. That doesn't come where the
+/// Each caller asks the gate before each of its events, again and again until the answer is true,
+/// and may have `limit` events. Before an operation it makes room for as many events as the
+/// operation may have. Where the limit leaves fewer it stops, with no operation under way and no
+/// lock held, and the run is `Spent` once the others have ended too. That doesn't come if the
 /// bounds of each caller's operations sum to at most `limit`. `Memory` may come at any time.
 ///
-/// A verifier takes in the events beside the callers, as far as they reach it, and the rest once all have ended. While the
-/// callers run it asks the gate before each event, as if it were one caller more, and the place is how many it has taken in.
-/// Where it has to be set aside, because there is no memory or a number comes twice, the history is judged anew at the end.
+/// A verifier takes in the events beside the callers, as far as they reach it, and the rest once
+/// all have ended. While the callers run it asks the gate before each event, as if it were one
+/// caller more, and the place is how many it has taken in. If it has to be set aside, because there
+/// is no memory or a number comes twice, the history is judged again at the end.
 ///
-/// A run of a correct structure is accepted, in whatever order its callers' events come. For each caller of one that is no tree
-/// 6,400,000 events are enough.
+/// A run of a correct structure is accepted, in whatever order its callers' events come. For each
+/// caller of one that isn't a tree, 6,400,000 events are enough.
 ///
-/// It may wait forever: where the gate never lets an event start, or where callers wait for locks that they hold crosswise. The
-/// history takes memory for each event, and what is judged takes what [`Verifier`](crate::Verifier) takes.
+/// It may wait forever: if the gate never lets an event start, or if callers wait for one another's
+/// locks. The history takes memory for each event, and what is judged takes what
+/// [`Verifier`](crate::Verifier) takes.
 pub fn run_live<R: Threads + Wait + Sync, G: Gate>(
     rt: &R,
     alloc: Global,

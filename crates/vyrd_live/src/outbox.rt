@@ -6,8 +6,8 @@ use std::sync::Wait;
 use vyrd_relay::{Relay, Sender};
 use vyrd_trace::Hand;
 
-/// How many calls of `send` pass without a try after one has found the relay full. Failed tries of many workers get in one
-/// another's way.
+/// How many calls of `send` pass without a try after one has found the relay full. Failed tries of
+/// many workers slow one another down.
 const PAUSE: u32 = 64;
 
 /// A worker's sender, and the place in its lane up to which it has sent.

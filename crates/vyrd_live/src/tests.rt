@@ -15,7 +15,7 @@ use vyrd_work::read_work;
 /// How often a gate is asked, or looks for another caller, before it gives up.
 const PATIENCE: u64 = 50_000_000;
 
-/// The live run of a workload's text, where that is one.
+/// The live run of a workload's text, if that is one.
 fn run_text<R: Threads + Wait + Sync, G: Gate>(
     rt: &R,
     alloc: Global,
@@ -31,8 +31,8 @@ fn run_text<R: Threads + Wait + Sync, G: Gate>(
     Some(run_live(rt, alloc, &work, limit, gate))
 }
 
-/// A gate that lets callers 0 and 1 begin once both want to. It looks for the other one so long, and remembers where it didn't
-/// find it.
+/// A gate that lets callers 0 and 1 begin once both want to. It looks for the other one that many
+/// times, and remembers if it didn't find it.
 #[derive(Drop)]
 struct Meeting {
     first: AtomicBool,
@@ -165,7 +165,7 @@ impl Gate for Turnstile {
     }
 }
 
-/// Whoever plays one script after the other doesn't come to this order of events.
+/// Playing one script after the other doesn't lead to this order of events.
 #[test]
 fn schedule_forced_by_the_gate(rt: HostRuntime) -> Result<(), Fail> {
     let text = b"work multiset 1 2 broken\nop 0 insert 5\nop 1 insert 6\nop 1 lookup 9\nend\n";
@@ -238,7 +238,7 @@ impl Gate for Beside {
     }
 }
 
-/// Whoever begins to take in events once the workers have ended doesn't ask in time.
+/// A verifier that begins to take in events once the workers have ended doesn't ask in time.
 #[test]
 fn verifier_beside_the_worker(rt: HostRuntime) -> Result<(), Fail> {
     let text = b"work multiset 1 1 correct\nop 0 lookup 5\nop 0 lookup 5\nend\n";
@@ -271,7 +271,7 @@ fn marked(number: u64, kind: Kind) -> Stamped
     }
 }
 
-/// Takes in an event, where none with its number was taken in.
+/// Takes in an event, if none with its number was taken in.
 fn take_new(verifier: &mut Verifier, event: Stamped) -> Result<Option<Verdict>, AllocError>
     requires { event.number < 2 ^ 62 }
 {

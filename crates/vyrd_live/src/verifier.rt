@@ -63,8 +63,9 @@ impl Verifier {
         })
     }
 
-    /// Takes in an event whose number is below 2^62 and wasn't taken in before, and judges all whose turn has come. The answer is
-    /// the verdict so far about their log: `None` where nothing stands yet.
+    /// Takes in an event whose number is below 2^62 and wasn't taken in before, and judges all
+    /// whose turn has come. The answer is the verdict so far about their log: `None` if nothing
+    /// stands yet.
     ///
     /// After out of memory the event wasn't taken in, and each later call answers the same.
     pub fn take_in(&mut self, item: Stamped) -> Result<Option<Verdict>, AllocError>
@@ -90,8 +91,8 @@ impl Verifier {
         }
     }
 
-    /// Takes in an event where that may be done, and answers whether it was: the number has to be below 2^62 and new, and there
-    /// has to be memory.
+    /// Takes in an event if that may be done, and answers whether it was: the number has to be
+    /// below 2^62 and new, and there has to be memory.
     pub(crate) fn try_take_in(&mut self, item: Stamped) -> bool
         ensures taken { (taken : List Stamped) → HasTakenIn self.old taken → result ≡ true
             → HasTakenIn self.new (taken ++ item ∷ []) }
@@ -194,7 +195,7 @@ fn advance(judge: &mut AnyJudge, reorder: &mut Reorder) -> Result<bool, AllocErr
     Ok(true)
 }
 
-/// Shows the judge an event, where it leaves an entry.
+/// Shows the judge an event, if it leaves an entry.
 fn show(judge: &mut AnyJudge, event: Stamped) -> Result<(), AllocError>
     requires few { judge.old.kept.entries < 2 ^ 62 }
     requires going { judge.old.has_failed ≡ false }

@@ -197,7 +197,7 @@ impl Watch {
         lane.len()
     }
 
-    /// The verdict about all that was taken in, where the verifier stands.
+    /// The verdict about all that was taken in, if the verifier stands.
     fn closing(&self) -> Option<Verdict>
         ensures verdict { (h : Header) (taken : List Stamped) → HasWatched h self.now taken
             → IfSome result (λ v. v ≡ verdict h [] (log_of (in_order_below self.now.verifier.kept.next taken))) }

@@ -36,7 +36,8 @@ pub(crate) struct Played {
     pub(crate) words: Vec<u64>,
     /// The least caller whose next operation had no room, if there is one.
     pub(crate) spent: Option<u32>,
-    /// The verdict about the log of the history, where no caller is spent and the verifier wasn't set aside.
+    /// The verdict about the log of the history, if no caller is spent and the verifier wasn't set
+    /// aside.
     pub(crate) verdict: Option<Verdict>,
 }
 
@@ -46,8 +47,8 @@ const RELAY_CAPACITY: u64 = 1024;
 /// Plays all workers and closes their memory. The workers have all of its hands, in the order of their callers. A verifier takes
 /// in beside them what they do.
 ///
-/// Each worker has a thread of its own. Where one can't be started, its worker is run by the thread that would have started it.
-/// The error comes where there is no memory.
+/// Each worker has a thread of its own. If one can't be started, its worker is run by the thread
+/// that would have started it. The error comes if there is no memory.
 pub(crate) fn play_all<R: Threads + Wait + Sync, G: Gate, M: Machine + Send>(
     rt: &R,
     alloc: Global,
@@ -143,8 +144,8 @@ fn beside<R: Threads + Wait + Sync, G: Gate, M: Machine + Send>(
 {
     let ended = AtomicBool::new(false);
     let over = &ended;
-    // Where no thread can be made the first closure is called last: the verifier then finds that the workers have ended. The
-    // other way round it would wait for them for ever.
+    // If no thread can be made, the first closure is called last: the verifier then finds that the
+    // workers have ended. The other way round it would wait for them for ever.
     let (watch, done) = join(
         rt,
         move || -> Watch
@@ -221,8 +222,8 @@ fn part_all(
     Ok((stopped, outboxes))
 }
 
-/// The least caller that stopped because its next operation had no room. It is an error where one stopped because there was no
-/// memory.
+/// The least caller that stopped because its next operation had no room. It is an error if one
+/// stopped because there was no memory.
 fn first_spent(stopped: &[Stopped]) -> Result<Option<u32>, AllocError>
     requires { length stopped.now ≤ 64 }
     ensures { IfOk result (λ first. IsFirstSpent (map (λ s. s.ending) stopped.now) (length stopped.now) first) }

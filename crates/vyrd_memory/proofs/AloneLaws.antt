@@ -22,7 +22,7 @@ pub ended_with : (o : Option Outcome) (says : ℕ → Memory → Type 0) → End
 ended_with None says e = absurd e
 ended_with (Some outcome) says e = (outcome, refl, e)
 
--- an operation that ends so, and where the specification allows it
+-- an operation that ends so, if the specification allows it
 pub met : (h : Header) (op : Op) (script : Script) (c : ℕ) (old new : Memory) (state next : Amounts) (reply : ℕ)
     → alone c script old ≡ Some (record { reply = reply; memory = new }) → Represents h new next
     → state_after (is_observer op.method) op reply state ≡ Some next → MeetsSpecification h op script c old state

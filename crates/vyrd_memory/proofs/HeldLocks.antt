@@ -1,4 +1,5 @@
--- A lock that is held has its holder's number plus 1. So a caller holds just the locks that have its own.
+-- A lock that is held has its holder's number plus 1. So a caller holds exactly the locks that have
+-- its own.
 use Rattle.std.proofs.Common.{◌≡◌, ℕ, ◌+◌, ◌^◌, Bool, true, false, cond, not, ◌||◌, List, [], ◌∷◌, Some, None, refl, ap, ◌∙◌, sym, subst, arith}
 use Rattle.std.specs.Prelude.{◌==◌, nat_lt, is_some, unwrap_or, filter}
 use Rattle.std.specs.Option.{option_or}

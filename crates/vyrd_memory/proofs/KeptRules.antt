@@ -1,4 +1,5 @@
--- What a caller may do in its situation breaks no rule of shape, but that its write may race for a word of a block.
+-- What a caller may do in its situation breaks no rule of shape, except that its write may race for
+-- a word of a block.
 use Rattle.std.proofs.Common.{◌≡◌, ℕ, ◌<◌, ◌^◌, Bool, true, false, cond, not, ◌&&◌, ◌||◌, List, Option, Some, None, option_map, refl, ap, ◌∙◌, sym}
 use Rattle.std.specs.Prelude.{◌==◌, nat_lt, nat_le, is_some, is_none}
 use Rattle.std.specs.Option.{option_map_or}

@@ -62,7 +62,7 @@ caller_low cells earlier e may =
 pub does : (cells : Cells) (earlier : List Stamped) (e : Stamped) → may_come cells earlier e ≡ true → may_do cells earlier e.caller e.did ≡ true
 does cells earlier e may = second_true (e.number == length earlier && nat_lt e.caller cells.callers) (may_do cells earlier e.caller e.did) may
 
--- a plain cell is no lock
+-- a plain cell isn't a lock
 pub plain_isnt : (cells : Cells) (cell lock : ℕ) → is_plain cells cell ≡ true → is_lock cells lock ≡ true → (cell == lock) ≡ false
 plain_isnt cells cell lock plain is =
     let low : nat_lt cell cells.plain ≡ true = plain in

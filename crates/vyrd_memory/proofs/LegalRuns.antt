@@ -30,7 +30,7 @@ pub record IsRun (h : Header) (scripts : List Script) (earlier : List Stamped) :
   pub legal : AreLegal (cells_of h) earlier
   pub plays : (c : ℕ) → Plays (script_of scripts c) (part_of c earlier)
 
--- a mark that may be left is no write
+-- a mark that may be left isn't a write
 is_mark : (h : Header) (s : Situation) (kind : Kind) → may_mark h s kind ≡ true → not (is_write kind) ≡ true
 is_mark h s (Call method args) may = refl
 is_mark h s (Return reply) may = refl

@@ -1,4 +1,4 @@
--- The log of a legal history of sound scripts breaks no rule, but that blocks may be raced.
+-- The log of a legal history of sound scripts breaks no rule, except that blocks may be raced.
 use Rattle.std.proofs.Common.{◌≡◌, ℕ, zero, suc, ◌+◌, ◌<◌, ◌≤◌, Bool, true, false, cond, ◌||◌}
 use Rattle.std.proofs.Common.{List, [], ◌∷◌, Option, Some, None, option_map, refl, ap, ◌∙◌, sym, subst, arith}
 use Rattle.std.specs.Prelude.{is_some, is_none, unwrap_or, filter_map, length}

@@ -39,8 +39,8 @@ abbrev pub after_kind : Kind → Memory → Option Outcome → Option Outcome
 after_kind (Return reply) memory later = Some (record { reply = reply; memory = memory })
 after_kind _ memory later = later
 
--- The outcome of the caller's operation where nobody else acts. There is none where it takes a lock that is held, or ends
--- without a return.
+-- The outcome of the caller's operation when nobody else acts. There is none if it takes a lock
+-- that is held, or ends without a return.
 abbrev pub alone : ℕ → Script → Memory → Option Outcome
 alone c stop memory = None
 alone c (step (Load cell) rest) memory = alone c (rest (memory cell)) memory

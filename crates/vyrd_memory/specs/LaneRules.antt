@@ -24,20 +24,22 @@ AreSmallReads [] = Unit {0}
 AreSmallReads (Read cell value ∷ earlier) = (value < 2 ^ 63) × AreSmallReads earlier
 AreSmallReads (did ∷ earlier) = AreSmallReads earlier
 
--- each entry of the caller breaks no rule after the entries before it, but that it may race; the newest entry stands first
+-- each entry of the caller breaks no rule after the entries before it, except that it may race; the
+-- newest entry stands first
 abbrev pub KeepsTheRules : Header → ℕ → List Entry → Type 0
 KeepsTheRules h c [] = Unit {0}
 KeepsTheRules h c (e ∷ earlier) =
     (e.caller ≡ c → (rule : Rule) → broken_rule h earlier e ≡ Some rule → rule ≡ BlockRaced) × KeepsTheRules h c earlier
 
--- Whatever else is in a history: where the caller's part plays a sound script, however far, and reads values below 2^63 alone,
--- the caller's entries in the log keep all rules of shape, but that they may race.
+-- Whatever else is in a history: if the caller's part plays a sound script, however far, and reads
+-- values below 2^63 alone, the caller's entries in the log keep all rules of shape, except that
+-- they may race.
 abbrev pub LanesKeepTheRules : Type 0
 LanesKeepTheRules = (h : Header) (c : ℕ) (script : Script) (history : List Stamped) → c < h.callers → IsSound h at_rest script
     → Plays script (part_of c (newest_first history)) → AreSmallReads (part_of c (newest_first history))
     → KeepsTheRules h c (newest_first (log_of history))
 
--- Where it plays the script to its end, the caller has no open execution.
+-- If it plays the script to its end, the caller has no open execution.
 abbrev pub EndedLanesAreClosed : Type 0
 EndedLanesAreClosed = (h : Header) (c : ℕ) (script : Script) (history : List Stamped) → c < h.callers → IsSound h at_rest script
     → PlaysToTheEnd script (part_of c (newest_first history)) → AreSmallReads (part_of c (newest_first history))

@@ -15,7 +15,7 @@ is_callable h op = same_subject (subject_of op.method) h.subject && are_args h.s
 abbrev pub are_callable : Header → List Op → Bool
 are_callable h ops = list_all (is_callable h) ops
 
--- the bound of the next operation, and 0 where there is none
+-- the bound of the next operation, and 0 if there is none
 abbrev pub first_bound : Header → List Op → ℕ
 first_bound h [] = 0
 first_bound h (op ∷ ops) = bound_of h op.method

@@ -12,7 +12,7 @@ use Rattle.vyrd_memory.specs.declared.act.Act.TheVariants.{Load, Store, Take, Gi
 use Rattle.vyrd_memory.specs.Scripts.{Script, left_after}
 use Rattle.vyrd_memory.specs.Turns.{script_of, part_of, after_turns}
 
--- the event of an act in this memory: none where there is no act, or where it takes a lock that is held
+-- the event of an act in this memory: none if there is no act, or if it takes a lock that is held
 abbrev pub event_in : List ℕ → Act → Option Did
 event_in words (Load cell) = Some (Read cell (slice_index words cell))
 event_in words (Store cell value) = Some (Wrote cell value)

@@ -1,6 +1,6 @@
--- Laws of runs of sound scripts. A run by turns is a legal history in which each caller plays its whole script, and it is a
--- function of the scripts and the turns. And a log that such a history leaves breaks no rule of shape, but that callers may
--- race for a word of a block.
+-- Laws of runs of sound scripts. A run by turns is a legal history in which each caller plays its
+-- whole script, and it is a function of the scripts and the turns. And a log that such a history
+-- leaves breaks no rule of shape, except that callers may race for a word of a block.
 use Rattle.std.specs.Prelude.{◌≡◌, ℕ, ◌<◌, Bool, true, ◌&&◌, List, [], length}
 use Rattle.std.specs.List.{AllByRecursion}
 use Rattle.vyrd_base.specs.declared.header.Header.{Header}
@@ -38,14 +38,15 @@ abbrev pub RunsByTurnsPlayToTheEnd : Type 0
 RunsByTurnsPlayToTheEnd = (h : Header) (scripts : List Script) (turns : List Turn) (history : List Stamped)
     → AreSoundScripts h scripts → RunsTo scripts turns history → PlayToTheEnd scripts history
 
--- Whatever legal history sound scripts leave when they are played to their end, by turns or all at once: where the verdict
--- about its log names a broken rule, the rule is that of a write to a word that another caller's open block has written.
+-- Whatever legal history sound scripts leave when they are played to their end, by turns or all at
+-- once: if the verdict about its log names a broken rule, the rule is that of a write to a word
+-- that another caller's open block has written.
 abbrev pub OnlyRacesAreMalformed : Type 0
 OnlyRacesAreMalformed = (h : Header) (scripts : List Script) (history : List Stamped)
     → AreSoundScripts h scripts → is_legal (cells_of h) history ≡ true → PlayToTheEnd scripts history
     → (line : ℕ) (rule : Rule) → verdict h [] (log_of history) ≡ Malformed line rule → rule ≡ BlockRaced
 
--- whether an entry, where it is a call, is one of the header's subject with arguments in range
+-- whether an entry, if it is a call, is one of the header's subject with arguments in range
 abbrev pub is_call_of : Header → Kind → Bool
 is_call_of h (Call method args) = same_subject (subject_of method) h.subject && are_args h.size method args
 is_call_of h _ = true

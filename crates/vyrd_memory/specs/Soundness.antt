@@ -1,6 +1,6 @@
--- Sound scripts: those that keep to the cells of their header, store values below 2^63, give back just the locks that they
--- hold, and leave marks that break no rule of shape. At the beginning and at the end they hold no lock and no execution is
--- open.
+-- Sound scripts: those that keep to the cells of their header, store values below 2^63, give back
+-- only the locks that they hold, and leave marks that break no rule of shape. At the beginning and
+-- at the end they hold no lock and no execution is open.
 use Rattle.std.specs.Prelude.{◌≡◌, ℕ, ◌^◌, Bool, true, false, not, ◌&&◌, ◌||◌, ◌==◌, nat_lt, List, [], ◌∷◌, filter, Option, Some, None, is_some, is_none}
 use Rattle.std.specs.List.{list_any}
 use Rattle.std.specs.Option.{option_map_or}

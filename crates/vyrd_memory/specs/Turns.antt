@@ -1,5 +1,6 @@
--- The run by turns: a history that scripts, one a caller, leave when they are played one event at a time. First come the turns
--- that are given, then rounds over all callers, until all scripts are done.
+-- The run by turns: a history that scripts, one for each caller, leave when they are played one
+-- event at a time. First come the turns that are given, then rounds over all callers, until all
+-- scripts are done.
 use Rattle.std.specs.Prelude.{◌≡◌, ℕ, zero, suc, Bool, true, false, not, ◌&&◌, ◌||◌, ◌==◌, List, [], ◌∷◌, length, flat_map, filter_map, replicate, slice_index_or}
 use Rattle.std.specs.Prelude.{Option, Some, None, if◌then◌else◌}
 use Rattle.std.specs.List.{list_all}
@@ -29,7 +30,7 @@ script_of scripts c = slice_index_or scripts c stop
 abbrev pub act_of : List Script → ℕ → List Stamped → Act
 act_of scripts c earlier = next_act (left_after (script_of scripts c) (part_of c earlier))
 
--- the event of an act: none where all is done, or where it takes a lock that is held
+-- the event of an act: none if all is done, or if it takes a lock that is held
 abbrev pub event_now : List Stamped → Act → Option Did
 event_now earlier (Load cell) = Some (Read cell (value_in earlier cell))
 event_now earlier (Store cell value) = Some (Wrote cell value)

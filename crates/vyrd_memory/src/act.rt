@@ -16,7 +16,7 @@ pub enum Act {
     Take(u32),
     /// Give back the lock, which it holds.
     Give(u32),
-    /// Leave an entry in the log, which is no write.
+    /// Leave an entry in the log, which isn't a write.
     Mark(Kind),
     /// Nothing: all operations are done.
     Done,

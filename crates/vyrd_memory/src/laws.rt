@@ -9,15 +9,17 @@ pub fn run_by_turns_is_legal()
     ensures played { RunsByTurnsPlayToTheEnd }
 {}
 
-/// A caller whose part of a history plays a sound script keeps every rule of shape in the log, but that its writes may race with
-/// other callers' blocks; also where the script isn't at its end, and whatever the others do. At its end no execution is open.
+/// A caller whose part of a history plays a sound script keeps every rule of shape in the log,
+/// except that its writes may race with other callers' blocks; also if the script isn't at its end,
+/// and whatever the others do. At its end no execution is open.
 pub fn lanes_keep_the_rules()
     ensures kept { LanesKeepTheRules }
     ensures closed { EndedLanesAreClosed }
 {}
 
-/// In the log of a legal history in which sound scripts are played to their end, no rule is broken but by a write to a word
-/// that another caller's open block has written, and no execution is open at its end. So a verdict names no other rule.
+/// In the log of a legal history in which sound scripts are played to their end, no rule is broken
+/// except by a write to a word that another caller's open block has written, and no execution is
+/// open at its end. So a verdict names no other rule.
 pub fn only_races_are_malformed()
     ensures breaks { OnlyRacesBreakRules }
     ensures closed { NoneIsOpenAtTheEnd }

@@ -14,7 +14,7 @@ use crate::act::Act;
 
 /// A caller of a structure, which plays a script one act at a time.
 ///
-/// Whoever plays the machine asks what it wants, does it in a memory, and tells it what it found.
+/// The player of the machine asks what it wants, does it in a memory, and tells it what was found.
 pub trait Machine: Drop {
     // The header that the machine was made with.
     ghost header_of: { Self → Header };
@@ -48,8 +48,8 @@ pub trait Machine: Drop {
     fn left(&self) -> u64
         ensures { result ≡ ahead self.now };
 
-    /// How many events there are at most to the end of the operation under way. Between two operations it is the bound of the
-    /// next one, and 0 where there is none.
+    /// How many events there are at most to the end of the operation under way. Between two
+    /// operations it is the bound of the next one, and 0 if there is none.
     fn op_left(&self) -> u64
         ensures { result ≡ op_ahead self.now };
 

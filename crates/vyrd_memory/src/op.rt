@@ -7,8 +7,8 @@ use vyrd_base::{Args, Method};
 pub enum Variant {
     /// Each operation, played alone, does what the specification says.
     Correct,
-    /// A mistake is built in: in a multiset and a cache one that shows only where callers meet, and in a tree a walk that doesn't
-    /// move right among the leaves.
+    /// A mistake is built in: in a multiset and a cache one that shows only when callers meet, and
+    /// in a tree a walk that doesn't move right among the leaves.
     Broken,
 }
 
@@ -21,7 +21,7 @@ pub struct Op {
     pub args: Args,
 }
 
-/// So many turns of one caller.
+/// A number of turns of one caller.
 #[derive(Clone, Copy, Debug, PartialEq, Eq)]
 pub struct Turn {
     /// Whose turns they are: a number below the header's callers.

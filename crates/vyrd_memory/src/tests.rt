@@ -122,7 +122,7 @@ fn turns(caller: u32, count: u32) -> Turn
     Turn { caller, count }
 }
 
-/// The event of the act at a place of a visit, where the load finds this value.
+/// The event of the act at a place of a visit, if the load finds this value.
 fn event(crosses: bool, place: usize, found: u64) -> Option<Did> {
     match acts(crosses).get(place) {
         Some(Act::Load(cell)) => Some(Did::Read(*cell, found)),

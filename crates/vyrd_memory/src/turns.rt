@@ -46,7 +46,8 @@ impl fmt::Display for StepFault {
 
 impl Error for StepFault {}
 
-/// Does an act of the caller in the memory. There is no event where the act is none, or where it takes a lock that is held.
+/// Does an act of the caller in the memory. There is no event if there is no act, or if it takes a
+/// lock that is held.
 fn perform(words: &mut Vec<u64>, caller: u32, act: Act) -> Option<Did>
     requires { IsWithin (vec_len words.old) act }
     ensures event { result ≡ event_in words.old.items act }
@@ -103,7 +104,7 @@ fn turn<M: Machine>(
     Ok(true)
 }
 
-/// The answer that an event gives: what was read, and else 0.
+/// The answer that an event gives: what was read, and 0 after any other event.
 fn answer(did: Did) -> u64
     ensures { result ≡ answer_of did }
 {
@@ -136,7 +137,7 @@ fn round<M: Machine>(
     Ok(moved)
 }
 
-/// So many turns of a caller.
+/// That many turns of a caller.
 fn repeat<M: Machine>(
     header: &Header,
     machines: &mut [M],
@@ -210,7 +211,7 @@ fn zeros(alloc: Global, header: &Header) -> Result<Vec<u64>, AllocError>
     Vec::from_elem(alloc, 0u64, cells)
 }
 
-/// Plays all turns and then rounds. There is nothing where the machines get stuck.
+/// Plays all turns and then rounds. There is nothing if the machines get stuck.
 fn play<M: Machine>(
     alloc: Global,
     header: &Header,

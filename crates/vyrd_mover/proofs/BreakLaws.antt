@@ -148,6 +148,6 @@ broken_lines_is free e es =
     ∙ ap (λ o. cond (is_none (break_line free es)) None o) (line_by_line e (break_of free es) ∙ ap (option_map (lines_from e)) (line_of_break free es))
     ∙ kept_line e (break_line free es)
 
--- a block is reducible exactly where it has no break
+-- a block is reducible exactly when it has no break
 pub has_cut_is_none : (free : ℕ → Bool) (es : List Stamped) → has_cut free es ≡ is_none (break_line free es)
 has_cut_is_none free es = has_cut-cuts free es ∙ cuts_is_none free es

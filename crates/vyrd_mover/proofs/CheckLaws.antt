@@ -1,4 +1,4 @@
--- Where no block is broken, each block can be gathered.
+-- If no block is broken, each block can be gathered.
 use Rattle.std.proofs.Common.{◌≡◌, ℕ, Bool, true, cond, List, [], ◌∷◌, ◌++◌, Option, Some, None, refl, ap, ◌∙◌, sym}
 use Rattle.std.specs.Option.{option_or, option_map, option_and_then, is_none}
 use Rattle.vyrd_base.specs.declared.history.Stamped.{Stamped}

@@ -24,7 +24,7 @@ onto_onto : (xs ys earlier : List Stamped) → newest_first_onto ys (newest_firs
 onto_onto [] ys earlier = refl
 onto_onto (x ∷ xs) ys earlier = onto_onto xs ys (x ∷ earlier)
 
--- what stands behind a list turned twice stands behind it
+-- what stands after a list turned twice stands after it
 behind_before : (before es : List Stamped) → behind (newest_first before) es ≡ before ++ es
 behind_before before es = onto_onto before es []
 
@@ -73,7 +73,8 @@ open_is_no_event c opening rest e =
     ap (λ b. cond ((opening.caller == c) && not b) (opening ∷ events_of c rest) (events_of c rest)) (open_is_mark opening.did e)
     ∙ ap (λ b. cond b (opening ∷ events_of c rest) (events_of c rest)) (and-false (opening.caller == c))
 
--- the events with those of others that came before the block's, the block's own, and the rest, numbered anew
+-- the events with those of others that came before the block's, the block's own, and the rest,
+-- renumbered
 split : (k : ℕ) (xs ys zs : List Stamped)
     → numbered_from k (xs ++ (ys ++ zs)) ≡ numbered_from k xs ++ (numbered_from (k + length xs) ys ++ numbered_from (k + length xs + length ys) zs)
 split k xs ys zs = numbered-append k xs (ys ++ zs) ∙ ap (λ rest. numbered_from k xs ++ rest) (numbered-append (k + length xs) ys zs)

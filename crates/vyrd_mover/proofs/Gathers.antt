@@ -57,7 +57,7 @@ pub onto_append : (xs ys p : List Stamped) → newest_first_onto (xs ++ ys) p �
 onto_append xs ys [] = refl
 onto_append xs ys (x ∷ p) = onto_append (x ∷ xs) ys p
 
--- the events behind others, which are given the newest first
+-- the events after others, which are given the newest first
 abbrev pub behind : List Stamped → List Stamped → List Stamped
 behind p es = newest_first_onto es p
 
@@ -169,7 +169,7 @@ passes_own free c x (e ∷ es) foreign left = go (e.caller == c) (is_mark e.did)
     go true false mine mark left rest =
         (differs mine, passes_left free x e (first_true (is_left_mover free e) _ left), rest (second_true (is_left_mover free e) _ left))
 
--- behind its cut, a block's events come first
+-- after its cut, a block's events come first
 gather_right : (cells : Cells) (free : ℕ → Bool) (origin : List Stamped) (c : ℕ) (p es after : List Stamped)
     → list_all (is_left_mover free) (events_of c es) ≡ true → Good cells free origin (behind p (es ++ after))
     → Good cells free origin (behind p (own c es ++ (others c es ++ after)))
@@ -217,7 +217,7 @@ stays cells free origin c p e mine after its found = (
   record { good = found.2.good; front_foreign = (its, found.2.front_foreign); back_foreign = found.2.back_foreign },
 )
 
--- the event at the cut: what follows is gathered behind it
+-- the event at the cut: what follows is gathered after it
 at_cut : (cells : Cells) (free : ℕ → Bool) (origin : List Stamped) (c : ℕ) (p : List Stamped) (e : Stamped) (es after : List Stamped)
     → list_all (is_left_mover free) (events_of c es) ≡ true → Good cells free origin (behind (e ∷ p) (es ++ after))
     → ComesApart cells free origin c p (e ∷ own c es) after

@@ -48,7 +48,7 @@ module _ (subject : Subject) (size callers : ℕ) (s : size < 2 ^ 64) (c : calle
   first_line_whole = lacks-join 10 32 (codes "history") (subject_name subject ∷ decimal size ∷ decimal callers ∷ []) refl
       (plain_line_feeds (codes "history" ∷ subject_name subject ∷ decimal size ∷ decimal callers ∷ []) plain)
 
-  -- it is read as the header with its numbers, where there is one
+  -- it is read as the header with its numbers, if there is one
   pub header_known : history_header_in (history_header_line subject size callers) ≡ header_of 1 subject size callers
   unfolding history_header_in
   header_known =
@@ -109,7 +109,7 @@ header_in_sound line h found = from (fields_of line) found
     from (a ∷ b ∷ c ∷ []) f = cc
     from (a ∷ b ∷ c ∷ d ∷ more) f = if_spelled (subject_called b) (number_of c) (number_of d) f
 
--- a line that names nothing is no first line
+-- a line that names nothing isn't a first line
 pub no_first : (line : List ℕ) → IsFirstRead line None → None ≡ history_header_in line
 no_first line none = by_answer (history_header_in line) refl
   where

@@ -13,7 +13,7 @@ use Rattle.vyrd_mover.proofs.TruthLaws.{either_true, left_true, right_true}
 use Rattle.vyrd_mover.proofs.Running.{step, may, touches, changes, step_same}
 use Rattle.vyrd_mover.proofs.FreeCells.{Free, alone, unwritten, guarded}
 
--- a plain cell is no lock
+-- a plain cell isn't a lock
 pub not_a_lock : (cells : Cells) (cell lock : ℕ) → is_plain cells cell ≡ true → is_lock cells lock ≡ true → (cell == lock) ≡ false
 not_a_lock cells cell lock plain kind =
     let high : nat_le cells.plain lock ≡ true = first_true _ _ kind in
@@ -132,7 +132,7 @@ meet cells m free k c d cell (Took x) (Gave y) other first second move clash ta 
 meet cells m free k c d cell (Gave x) (Gave y) other first second move clash ta tb ch = gave_gave cells m k c d x y cell ta tb second
 meet cells m free k c d cell (Gave x) (Took y) other first second move clash ta tb ch = never move
 
--- where one of the two changes a cell, the other doesn't touch it
+-- if one of the two changes a cell, the other doesn't touch it
 pub record Apart (a b : Did) : Type 0 where
   pub changed_first : (cell : ℕ) → changes cell a ≡ true → touches cell b ≡ true → ⊥
   pub changed_second : (cell : ℕ) → touches cell a ≡ true → changes cell b ≡ true → ⊥

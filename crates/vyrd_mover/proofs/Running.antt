@@ -71,7 +71,7 @@ runs_legal_after cells k earlier (x ∷ xs) e r =
     (runs_legal_after cells (k + 1) (x' ∷ earlier) xs (add-one k ∙ ap suc e)
     (subst (λ m. Runs cells m xs) (sym (value_step x' earlier)) r.2))
 
--- what runs from the memory of zeros is legal, numbered anew
+-- what runs from the memory of zeros is legal, renumbered
 pub runs_legal : (cells : Cells) (xs : List Stamped) → Runs cells (value_in []) xs → is_legal cells (numbered_from 0 xs) ≡ true
 unfolding is_legal
 runs_legal cells xs r = runs_legal_after cells 0 [] xs refl r

@@ -1,4 +1,5 @@
--- So many bytes settle what they say as a history: the lines that are taken in are short and few, so reading ends in them.
+-- The bytes of the longest input settle what they say as a history: the lines that are taken in are
+-- short and few, so reading ends in them.
 use Rattle.std.proofs.Common.{◌≡◌, ℕ, ◌+◌, ◌*◌, ◌<◌, ◌≤◌, Bool, true, false, cond, not, List, [], ◌∷◌, ◌++◌, length, length-append}
 use Rattle.std.proofs.Common.{Option, Some, None, refl, ap, subst, sym, ◌∙◌, arith, append_assoc, inl, inr}
 use Rattle.std.specs.Prelude.{◌⊎◌, ◌==◌, nat_lt}
@@ -116,7 +117,7 @@ long_text line more lack long = by_line (first_line more)
         (first_step (line ++ p.0) p.1 (lacks-append 10 line p.0 lack p.2)
         ∙ ap (λ o. after_first (cut p.1) (begun_or_bad o)) (long_header (line ++ p.0) (longer line p.0 long)))
 
--- the bytes from line n on, with 65 for each line before, are so many
+-- how many bytes there are from line n on, with 65 for each line before
 abbrev Enough : ℕ → List ℕ → Type 0
 Enough n text = longest_history ≤ 65 * n + length text
 
@@ -223,6 +224,6 @@ text_settled line (x ∷ todo) more lack enough = by_byte (λ begun lack enough.
         subst (λ text. history_reading (text ++ more) ≡ history_reading text) whole
         (rest (line ++ x ∷ []) lack_more (subst (λ text. longest_history ≤ length text) (sym whole) enough))
 
--- what so many bytes say doesn't change with more bytes
+-- what that many bytes say doesn't change with more bytes
 pub reading_settled : (bytes more : List ℕ) → longest_history ≤ length bytes → history_reading (bytes ++ more) ≡ history_reading bytes
 reading_settled bytes more enough = text_settled [] bytes more refl enough

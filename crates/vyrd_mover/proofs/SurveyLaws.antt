@@ -167,7 +167,7 @@ opened free e later s open_mark no_end mark is low =
 abbrev stamp : ℕ → ℕ → Did → Stamped
 stamp k c did = record { number = k; caller = c; did = did }
 
--- an event of the caller that is no mark
+-- an event of the caller that isn't a mark
 act_by : (free : ℕ → Bool) (e : Stamped) (later : List Stamped) (s : Surveyed) → is_mark e.did ≡ false → is_block_open e.did ≡ false
     → is_block_end e.did ≡ false → HasSurveyed free later s → e.caller < length s.ahead
     → HasSurveyed free (e ∷ later) (with_ahead s e.caller (option_map (with_event e (is_left_mover free e) (is_right_mover free e)) (ahead_at s e)))

@@ -12,16 +12,16 @@ use Rattle.vyrd_mover.specs.declared.ahead.Ahead.{Ahead}
 use Rattle.vyrd_mover.specs.Movers.{is_right_mover, is_left_mover}
 use Rattle.vyrd_mover.specs.Blocks.{line_of, up_to_end, events_of, block_at, broken_at}
 
--- the line of an event that is no left mover
+-- the line of an event that isn't a left mover
 abbrev pub line_of_other : (ℕ → Bool) → Stamped → Option ℕ
 line_of_other free e = if is_left_mover free e then None else Some (line_of e)
 
--- the line of the first event that is no left mover
+-- the line of the first event that isn't a left mover
 abbrev pub first_not_left : (ℕ → Bool) → List Stamped → Option ℕ
 first_not_left free events = first_answer (line_of_other free) events
 
--- the line of the last event of the shortest prefix that has no cut: after the right movers and one more event, the first that is
--- no left mover
+-- the line of the last event of the shortest prefix that has no cut: after the right movers and one
+-- more event, the first that isn't a left mover
 abbrev pub break_line : (ℕ → Bool) → List Stamped → Option ℕ
 break_line free [] = None
 break_line free (e ∷ later) = if is_right_mover free e then break_line free later else first_not_left free later
@@ -30,7 +30,7 @@ break_line free (e ∷ later) = if is_right_mover free e then break_line free la
 abbrev pub kept_of : (ℕ → Bool) → List Stamped → Ahead
 kept_of free events = record { not_left = first_not_left free events; uncut = break_line free events }
 
--- what the caller has ahead up to its next block end, where there is one
+-- what the caller has ahead up to its next block end, if there is one
 abbrev pub ahead_of : (ℕ → Bool) → ℕ → List Stamped → Option Ahead
 ahead_of free c later = option_map (λ rest. kept_of free (events_of c rest)) (up_to_end c later)
 

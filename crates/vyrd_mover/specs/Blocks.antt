@@ -29,7 +29,7 @@ is_block_end (Marked BlockClose) = true
 is_block_end (Marked BlockCommit) = true
 is_block_end _ = false
 
--- the events up to and with the next block end of the caller, where there is one
+-- the events up to and with the next block end of the caller, if there is one
 abbrev pub up_to_end : ℕ → List Stamped → Option (List Stamped)
 up_to_end c [] = None
 up_to_end c (e ∷ later) = if e.caller == c && is_block_end e.did then Some (e ∷ []) else option_map (◌∷◌ e) (up_to_end c later)
@@ -38,7 +38,7 @@ up_to_end c (e ∷ later) = if e.caller == c && is_block_end e.did then Some (e 
 abbrev pub events_of : ℕ → List Stamped → List Stamped
 events_of c history = filter (λ e. e.caller == c && not (is_mark e.did)) history
 
--- the events of the block that is opened at a place, where one is and it ends
+-- the events of the block that is opened at a place, if one is and it ends
 abbrev pub block_at : Place Stamped → Option (List Stamped)
 block_at place = if is_block_open place.here.did then option_map (events_of place.here.caller) (up_to_end place.here.caller place.later) else None
 
@@ -50,7 +50,7 @@ is_reducible cells history c block = has_cut (is_race_free cells history) (event
 abbrev pub line_of : Stamped → ℕ
 line_of e = e.number + 2
 
--- the lines of a block's open and of its break, where it isn't reducible, by its open and its events
+-- the lines of a block's open and of its break, if it isn't reducible, by its open and its events
 abbrev pub broken_lines : (ℕ → Bool) → Stamped → List Stamped → Option (ℕ × ℕ)
 broken_lines free opening events = if has_cut free events then None else option_map (λ e. (line_of opening, line_of e)) (break_of free events)
 

@@ -4,12 +4,12 @@ use Rattle.vyrd_base.specs.declared.history.Stamped.{Stamped}
 use Rattle.vyrd_mover.specs.Movers.{is_free_access, is_take, is_give}
 use Rattle.vyrd_mover.specs.Blocks.{is_mark}
 
--- the events, numbered anew from k on
+-- the events, renumbered from k on
 abbrev pub numbered_from : ℕ → List Stamped → List Stamped
 numbered_from k [] = []
 numbered_from k (e ∷ later) = record { number = k; caller = e.caller; did = e.did } ∷ numbered_from (k + 1) later
 
--- the events, numbered anew
+-- the events, renumbered
 abbrev pub numbered : List Stamped → List Stamped
 numbered history = numbered_from 0 history
 

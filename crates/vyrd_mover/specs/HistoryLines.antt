@@ -1,4 +1,5 @@
--- What a line of a history spells: a guess from its fields, which counts only where its one spelling is the line.
+-- What a line of a history spells: a guess from its fields, which counts only if its one spelling
+-- is the line.
 use Rattle.std.specs.Prelude.{ℕ, ◌^◌, Bool, ◌&&◌, nat_lt, not, List, [], ◌∷◌, Option, Some, None, codes, if◌then◌else◌}
 use Rattle.std.specs.Str.{bytes_eq}
 use Rattle.vyrd_base.specs.declared.header.Header.{Header}
@@ -12,7 +13,7 @@ use Rattle.vyrd_base.specs.Lines.{fields_of, number_of, subject_called, header_o
 use Rattle.vyrd_base.specs.Histories.{is_write}
 use Rattle.vyrd_mover.specs.HistoryText.{history_header_line, did_line}
 
--- the header with these numbers, where they are within the limits and the line is their spelling
+-- the header with these numbers, if they are within the limits and the line is their spelling
 abbrev pub history_header_if : List ℕ → Option Subject → ℕ → ℕ → Option Header
 history_header_if line None size callers = None
 history_header_if line (Some subject) size callers =
@@ -28,8 +29,8 @@ history_header_from line _ = None
 unfoldable pub history_header_in : List ℕ → Option Header
 history_header_in line = history_header_from line (fields_of line)
 
--- whether a line can say this: numbers are in the text's ranges, and a mark is no write, its method is of the subject, and
--- arguments that the method doesn't have are 0
+-- whether a line can say this: numbers are in the text's ranges, and a mark isn't a write, its
+-- method is of the subject, and arguments that the method doesn't have are 0
 abbrev pub is_did_of : Subject → Did → Bool
 is_did_of subject (Read cell value) = nat_lt cell (2 ^ 32) && nat_lt value (2 ^ 64)
 is_did_of subject (Wrote cell value) = nat_lt cell (2 ^ 32) && nat_lt value (2 ^ 64)
@@ -41,7 +42,7 @@ is_did_of subject (Marked kind) = is_kind_of subject kind && not (is_write kind)
 abbrev pub is_event_of : Subject → Stamped → Bool
 is_event_of subject e = nat_lt e.caller (2 ^ 32) && is_did_of subject e.did
 
--- the event with this number, caller and deed, where the line is its spelling
+-- the event with this number, caller and deed, if the line is its spelling
 abbrev pub event_if : Subject → List ℕ → ℕ → ℕ → Did → Option Stamped
 event_if subject line number caller did =
     if is_event_of subject (record { number = number; caller = caller; did = did }) && bytes_eq (did_line caller did) line

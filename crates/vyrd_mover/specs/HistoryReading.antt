@@ -69,7 +69,7 @@ event_read r (Some e) = unless_broken r e (broken_by r e)
 abbrev pub line_read : Recorded → List ℕ → Result Recorded HistoryRule
 line_read r line = event_read r (event_in r.header.subject (length r.history) line)
 
--- a history of which no event was read, or a line that is no header
+-- a history of which no event was read, or a line that isn't a header
 abbrev pub begun_or_bad : Option Header → Result Recorded HistoryRule
 begun_or_bad None = Err BadHeader
 begun_or_bad (Some h) = Ok (record { header = h; history = [] })
@@ -87,7 +87,8 @@ abbrev pub unfinished_rule : ℕ → HistoryRule → List ℕ → HistoryRule
 unfinished_rule n bad [] = NoEnd
 unfinished_rule n bad (b ∷ rest) = unless_too_many n (if nat_lt 64 (length (b ∷ rest)) then bad else NoLineFeed)
 
--- Nothing follows the line `end`, where line n would come after it: the lines from there on are one without bytes.
+-- Nothing follows the line `end`, after which line n would come: the lines from there on are one
+-- without bytes.
 abbrev pub ended : Recorded → ℕ → List (List ℕ) → Result Recorded Refusal
 ended r n ([] ∷ []) = Ok r
 ended r n _ = refused n (unless_too_many n AfterEnd)

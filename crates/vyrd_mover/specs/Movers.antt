@@ -1,6 +1,7 @@
--- Lipton's movers (CACM 1975), and the cuts of a list of events. A take can be exchanged with what another caller does next, a
--- give with what another caller did just before, and an access of a race-free cell with both. Where a list has a cut, all its
--- events can be brought together at the one event where it is cut.
+-- Lipton's movers (CACM 1975), and the cuts of a list of events. A take can be exchanged with what
+-- another caller does next, a give with what another caller did just before, and an access of a
+-- race-free cell with both. If a list has a cut, all its events can be brought together at the one
+-- event where it is cut.
 use Rattle.std.specs.Prelude.{ℕ, ◌+◌, Bool, true, false, ◌&&◌, ◌||◌, List, ◌∷◌, length, take, drop, Option, Some, None, if◌then◌else◌}
 use Rattle.std.specs.List.{list_all, list_any}
 use Rattle.vyrd_base.specs.declared.history.Did.{Did}
@@ -48,7 +49,7 @@ is_cut free events i = list_all (is_right_mover free) (take i events) && list_al
 unfoldable pub has_cut : (ℕ → Bool) → List Stamped → Bool
 has_cut free events = list_any (is_cut free events) (numbers_below (length events + 1))
 
--- the event at a place, where the list up to and with it has no cut
+-- the event at a place, if the list up to and with it has no cut
 abbrev pub uncut_at : (ℕ → Bool) → Place Stamped → Option Stamped
 uncut_at free place = if has_cut free (newest_first (place.here ∷ place.earlier)) then None else Some place.here
 

@@ -1,5 +1,5 @@
--- Race-free cells. No two callers can be at odds over such a cell: one caller alone uses it, or nobody writes it, or one lock is
--- held by whoever uses it.
+-- Race-free cells. No two callers can be at odds over such a cell: one caller alone uses it, or
+-- nobody writes it, or one lock is held by every caller that uses it.
 use Rattle.std.specs.Prelude.{ℕ, ◌+◌, Bool, false, not, ◌||◌, ◌==◌, List}
 use Rattle.std.specs.List.{list_all, list_any}
 use Rattle.vyrd_base.specs.declared.history.Did.{Did}
@@ -32,7 +32,7 @@ is_used_by_alone history cell caller = list_all (λ e. not (is_access_of cell e.
 abbrev pub is_unwritten : List Stamped → ℕ → Bool
 is_unwritten history cell = list_all (λ e. not (is_write_to cell e.did)) history
 
--- whether the event's caller holds the lock, where the event reads or writes the cell
+-- whether the event's caller holds the lock, if the event reads or writes the cell
 abbrev pub is_guarded_at : ℕ → ℕ → Place Stamped → Bool
 is_guarded_at cell lock place = not (is_access_of cell place.here.did) || value_in place.earlier lock == place.here.caller + 1
 

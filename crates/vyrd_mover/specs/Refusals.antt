@@ -1,4 +1,5 @@
--- How a history's rules are called, the line that says that a history is refused, and what a refusal says of a reading.
+-- The names of a history's rules, the line that says that a history is refused, and what a refusal
+-- says of a reading.
 use Rattle.std.specs.Prelude.{◌≡◌, ⊤, ℕ, List, ◌++◌, Result, Err, codes, decimal}
 use Rattle.vyrd_base.specs.Spelling.{ended_line}
 use Rattle.vyrd_mover.specs.declared.fault.HistoryRule.{HistoryRule}
@@ -8,7 +9,7 @@ use Rattle.vyrd_mover.specs.declared.fault.HistoryFault.TheVariants.{Refused, Me
 use Rattle.vyrd_mover.specs.HistoryText.{Recorded}
 use Rattle.vyrd_mover.specs.HistoryReading.{Refusal}
 
--- how a rule is called
+-- the name of a rule
 abbrev pub history_rule_text : HistoryRule → List ℕ
 history_rule_text TooManyLines = codes "too many lines"
 history_rule_text AfterEnd = codes "text after end"
@@ -23,7 +24,7 @@ history_rule_text NoEnd = codes "no end"
 abbrev pub history_refusal_text : ℕ → HistoryRule → List ℕ
 history_refusal_text line rule = ended_line (codes "history refused at line " ++ decimal line ++ codes ": " ++ history_rule_text rule)
 
--- what a refusal says of a reading; where memory ran out nothing is known
+-- what a refusal says of a reading; if memory ran out, nothing is known
 abbrev pub IsRefusal : HistoryFault → Result Recorded Refusal → Type 0
 IsRefusal (Refused line rule) reading = reading ≡ Err (record { line = line; rule = rule })
 IsRefusal Memory reading = ⊤

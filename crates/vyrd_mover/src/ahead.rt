@@ -8,7 +8,7 @@ use vyrd_base::Stamped;
 /// What a caller does from some place of a history on, up to its next block end.
 #[derive(Clone, Copy)]
 pub(crate) struct Ahead {
-    /// The line of the first event that is no left mover.
+    /// The line of the first event that isn't a left mover.
     pub not_left: Option<u64>,
     /// The line of the last event of the shortest beginning that has no cut.
     pub uncut: Option<u64>,

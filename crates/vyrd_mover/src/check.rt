@@ -16,23 +16,23 @@ use vyrd_base::{Header, Stamped};
 /// opened first (Lipton, CACM 1975).
 ///
 /// A block is an `open` with its caller's next block end, `close` or `close commit`. Its events are
-/// the reads, writes, takes and gives of its caller between them. It is reducible where takes and
+/// the reads, writes, takes and gives of its caller between them. It is reducible if takes and
 /// accesses of race-free cells come first, then any one event, then gives and accesses of race-free
-/// cells. A plain cell is race-free where one caller alone uses it, where nobody writes it, or
-/// where some lock is held by whoever uses it. A block that doesn't end isn't judged and isn't
+/// cells. A plain cell is race-free if one caller alone uses it, if nobody writes it, or if some
+/// lock is held by every caller that uses it. A block that doesn't end isn't judged and isn't
 /// counted.
 ///
-/// Where the answer is `Reducible`, each block can be gathered: in some legal history each caller
-/// does the same, and all that the block's caller does from its open to its end stands side by
-/// side. That a block isn't reducible says nothing of whether it is atomic.
+/// If the answer is `Reducible`, each block can be gathered: in some legal history each caller does
+/// the same, and all that the block's caller does from its open to its end stands side by side.
+/// That a block isn't reducible says nothing of whether it is atomic.
 ///
 /// The only error is that memory ran out. Then nothing is known of the blocks.
 ///
 /// Time: the history is gone through forward, to find the race-free cells, and once more from its
-/// end. Each event takes constant time, but for two things: a read or write looks at the locks that
-/// all users of its cell held so far, and the first use of a cell looks at all locks. Memory: in
-/// proportion to the cells and the callers of the header, and for each plain cell to the locks that
-/// its first user held. None of it grows with the history.
+/// end. Each event takes constant time, except for two things: a read or write looks at the locks
+/// that all users of its cell held so far, and the first use of a cell looks at all locks. Memory:
+/// in proportion to the cells and the callers of the header, and for each plain cell to the locks
+/// that its first user held. None of it grows with the history.
 pub fn check_blocks(
     alloc: Global,
     header: Header,

@@ -1,4 +1,4 @@
-//! Why bytes are no history. Lines are counted from 1, where the header stands.
+//! Why bytes aren't a history. Lines are counted from 1, where the header stands.
 
 ghost use Rattle.std.specs.Prelude.{◌≡◌, ◌≤◌, ◌++◌, length, OnOk, OnErr};
 ghost use Rattle.vyrd_mover.specs.Refusals.{history_rule_text, history_refusal_text};
@@ -8,8 +8,8 @@ use std::error::Error;
 use std::fmt;
 use vyrd_text::LineBuffer;
 
-/// A rule that a line of a history can break. Where a line breaks several, the first of them in
-/// this order is named.
+/// A rule that a line of a history can break. If a line breaks several, the first of them in this
+/// order is named.
 #[derive(Clone, Copy, Debug, PartialEq, Eq)]
 pub enum HistoryRule {
     /// The line's number passes 4,000,000, and the line has a byte.
@@ -31,7 +31,7 @@ pub enum HistoryRule {
 }
 
 impl HistoryRule {
-    /// How the rule is called, in plain words.
+    /// The name of the rule, in plain words.
     pub fn text(self) -> &'static [u8]
         ensures text { result.now ≡ history_rule_text self }
         ensures len { length result.now ≤ 23 }

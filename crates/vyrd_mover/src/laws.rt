@@ -13,9 +13,9 @@ ghost use Rattle.vyrd_mover.specs.HistoryReading.{history_reading};
 ghost use Rattle.vyrd_mover.specs.HistoryLimits.{KeepsLimits};
 ghost use Rattle.vyrd_mover.specs.LongHistories.{longest_history};
 
-/// Two neighbouring events of different callers may be exchanged where the first is a take, the
-/// second is a give, or one of them is a mark or an access of a race-free cell: the history stays
-/// legal, and each race-free cell stays race-free.
+/// Two neighbouring events of different callers may be exchanged if the first is a take, the second
+/// is a give, or one of them is a mark or an access of a race-free cell: the history stays legal,
+/// and each race-free cell stays race-free.
 #[tactic(auto, using(crate::proofs::Answers::exchange_laws))]
 pub fn neighbours_are_exchanged()
     ensures legal { (cells : Cells) (before after : List Stamped) (a b : Stamped) → is_legal cells (before ++ a ∷ b ∷ after) ≡ true →

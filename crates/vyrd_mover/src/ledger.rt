@@ -130,7 +130,7 @@ impl Ledger {
         }
     }
 
-    /// Puts one more event, which breaks no rule, behind the others.
+    /// Puts one more event, which breaks no rule, after the others.
     pub fn put(&mut self, event: Stamped) -> Result<(), AllocError>
         requires { broken_by self.old event ≡ None }
         ensures { OnOk result (self.new ≡ with_event self.old event) }

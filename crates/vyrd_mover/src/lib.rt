@@ -3,11 +3,10 @@
 //!
 //! The central call is `check_blocks`: it says that all blocks of a legal history that end are
 //! reducible, or names the first that isn't, and the event at which that shows. A block is
-//! reducible where its caller's events in it are takes and accesses of race-free cells, then any
-//! one event, then gives and accesses of race-free cells. Where it answers that all are, its
-//! contract says that each block can be gathered: in some legal history each caller does the same
-//! in the same order, and all that the block's caller does from its open to its end stands side by
-//! side.
+//! reducible if its caller's events in it are takes and accesses of race-free cells, then any one
+//! event, then gives and accesses of race-free cells. If it answers that all are, its contract says
+//! that each block can be gathered: in some legal history each caller does the same in the same
+//! order, and all that the block's caller does from its open to its end stands side by side.
 //!
 //! A block that isn't reducible may still be atomic. Nothing is said of that.
 //!

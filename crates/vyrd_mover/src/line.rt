@@ -9,7 +9,7 @@ ghost use Rattle.vyrd_mover.specs.HistorySpelled.{IsFirstRead, AreBoundsRead, Is
 use vyrd_base::{Did, Entry, Header, Kind, Stamped, Subject};
 use vyrd_text::{after, read_line, read_subject, read_u32, read_u32_and_space, read_u64};
 
-/// The header that the first line spells, without the line feed. None exactly where it spells none
+/// The header that the first line spells, without the line feed. `None` exactly when it spells none
 /// within the limits.
 pub(crate) fn read_first(line: &[u8]) -> Option<Header>
     ensures { result ≡ history_header_in line.now }
@@ -38,7 +38,7 @@ fn read_bounds(text: &[u8]) -> Option<(u32, u32)>
     Some((size, callers))
 }
 
-/// The event that a later line spells, without the line feed, with this number. None exactly where
+/// The event that a later line spells, without the line feed, with this number. `None` exactly when
 /// it spells none.
 pub(crate) fn read_event(subject: Subject, number: u64, line: &[u8]) -> Option<Stamped>
     ensures { result ≡ event_in subject number line.now }

@@ -23,7 +23,7 @@ const MOST_LINES: u64 = 4_000_000;
 
 /// The history that the bytes say.
 ///
-/// `Refused` comes exactly where they aren't the text of a legal history, of at most 4,000,000
+/// `Refused` comes exactly when they aren't the text of a legal history, of at most 4,000,000
 /// lines, in which each caller's blocks are opened and ended in turn. It has the first bad line and
 /// the first rule that it breaks. `Memory` says that memory ran out, and nothing of the bytes. The
 /// time grows with the bytes, the memory with the events, the cells and the callers of the header.
@@ -133,8 +133,8 @@ fn unless_too_many(number: u64, rule: HistoryRule) -> HistoryRule
     }
 }
 
-/// The rule that the bytes after the last line feed break, where a line that begins with more than
-/// 64 bytes breaks `bad`.
+/// The rule that the bytes after the last line feed break; a line that begins with more than 64
+/// bytes breaks `bad`.
 fn unfinished_rule(number: u64, bad: HistoryRule, rest: &[u8]) -> HistoryRule
     ensures { result ≡ unfinished_rule number bad rest.now }
 {

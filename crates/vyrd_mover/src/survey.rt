@@ -19,7 +19,7 @@ use vyrd_base::{Did, Header, Kind, Stamped};
 /// What each caller's block has ahead, how many blocks end, and the first that isn't reducible.
 #[derive(Drop)]
 pub(crate) struct Survey {
-    /// By caller: nothing where no block end is ahead.
+    /// By caller: nothing if no block end is ahead.
     ahead: Vec<Option<Ahead>>,
     blocks: u64,
     /// The lines of the block's open and of its break.
@@ -118,7 +118,7 @@ impl Survey {
         }
     }
 
-    /// The event is no mark: a left mover or not, and a right mover or not.
+    /// The event isn't a mark: a left mover or not, and a right mover or not.
     fn act(&mut self, event: &Stamped, is_left: bool, is_right: bool)
         requires caller { event.now.caller < length self.old.ahead }
         requires number { event.now.number < 2 ^ 63 }

@@ -79,7 +79,7 @@ fn answers_about_histories(rt: HostRuntime) -> Result<(), Fail> {
     Ok(())
 }
 
-/// The text of the history that the text says, and nothing where it says none.
+/// The text of the history that the text says, and nothing if it says none.
 fn rewritten(alloc: Global, text: &[u8]) -> Result<Vec<u8>, AllocError> {
     let mut written = Vec::new(alloc);
     if let Ok(past) = read_history(alloc, text) {

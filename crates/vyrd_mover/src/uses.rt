@@ -53,7 +53,8 @@ impl Uses {
         Ok(uses)
     }
 
-    /// Follows an event: in constant time, but for the locks that may guard the cell that is used.
+    /// Follows an event: in constant time, except for the locks that may guard the cell that is
+    /// used.
     pub fn follow(&mut self, alloc: Global, event: &Stamped) -> Result<(), AllocError>
         requires caller { event.now.caller < 2 ^ 31 }
         requires in_range { IsInRange (length self.old.cells) (length self.old.values) event.now.did }

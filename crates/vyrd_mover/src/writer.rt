@@ -13,9 +13,9 @@ use vyrd_text::{LineBuffer, name_of_subject, write_line};
 /// Appends the text of the history. A refusal leaves `out` unchanged.
 ///
 /// Arguments that the method of a call doesn't have are 0. The text is read as this history again
-/// where the history is legal, its marks are of the header's subject, its blocks are opened and
-/// ended in turn, and it has at most 3,999,998 events. That is the law `history_is_read`. The time
-/// and the memory grow with the number of events.
+/// if the history is legal, its marks are of the header's subject, its blocks are opened and ended
+/// in turn, and it has at most 3,999,998 events. That is the law `history_is_read`. The time and
+/// the memory grow with the number of events.
 pub fn write_history(
     header: Header,
     history: &[Stamped],
@@ -33,7 +33,7 @@ pub fn write_history(
     written
 }
 
-/// Appends the text of the history, or a beginning of it where memory runs out.
+/// Appends the text of the history, or a beginning of it if memory runs out.
 fn append_history(header: Header, history: &[Stamped], out: &mut Vec<u8>) -> Result<(), AllocError>
     requires { AllByRecursion (λ e. is_padded_did e.did ≡ true) history.now }
     ensures ok { OnOk result (out.new.items ≡ out.old.items ++ history_text (record { header = header; history = history.now })) }
@@ -60,7 +60,7 @@ fn append_header(header: Header, out: &mut Vec<u8>) -> Result<(), AllocError>
     out.extend_from_slice(line.as_slice())
 }
 
-/// Appends the events' lines, or a beginning of them where memory runs out.
+/// Appends the events' lines, or a beginning of them if memory runs out.
 fn append_events(history: &[Stamped], out: &mut Vec<u8>) -> Result<(), AllocError>
     requires { AllByRecursion (λ e. is_padded_did e.did ≡ true) history.now }
     ensures ok { OnOk result (out.new.items ≡ out.old.items ++ flat_map (λ e. ended_line (event_line e)) history.now) }
@@ -72,7 +72,7 @@ fn append_events(history: &[Stamped], out: &mut Vec<u8>) -> Result<(), AllocErro
     Ok(())
 }
 
-/// Appends the event's line, or a beginning of it where memory runs out.
+/// Appends the event's line, or a beginning of it if memory runs out.
 fn append_event(event: Stamped, out: &mut Vec<u8>) -> Result<(), AllocError>
     requires { is_padded_did event.did ≡ true }
     ensures ok { OnOk result (out.new.items ≡ out.old.items ++ ended_line (event_line event)) }

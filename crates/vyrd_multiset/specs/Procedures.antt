@@ -85,7 +85,7 @@ abbrev pub undo : Header → ℕ → ℕ → Script
 undo h x slot = lock h (bucket_of h x)
     (perform (Store (state_cell slot) 0) (unlock h (bucket_of h x) gives_up))
 
--- what an insert_pair does with the slot that it found for y, where it has one for x
+-- what an insert_pair does with the slot that it found for y, if it has one for x
 abbrev pub second_found : Header → Variant → ℕ → ℕ → ℕ → Option ℕ → Script
 second_found h variant x y slot_x None = undo h x slot_x
 second_found h variant x y slot_x (Some slot_y) = commit_both h
@@ -105,15 +105,15 @@ abbrev pub compare : ℕ → ℕ → Script → Script → Script
 compare slot value same other =
     step (Load (value_cell slot)) (λ loaded. if loaded == value then same else other)
 
--- Search a value from this slot on, with this many left: load the states, and the value where the state is 2. The search ends at
--- the first slot with the state 2 and the value.
+-- Search for a value from this slot on, with this many left: load the states, and the value if the
+-- state is 2. The search ends at the first slot with the state 2 and the value.
 abbrev pub search_from : ℕ → ℕ → ℕ → (Option ℕ → Script) → Script
 search_from zero slot value ended = ended None
 search_from (suc left) slot value ended = step (Load (state_cell slot)) (λ state.
     if state == 2 then compare slot value (ended (Some slot)) (search_from left (slot + 1) value ended)
     else search_from left (slot + 1) value ended)
 
--- search a value in its bucket, under the bucket's lock
+-- search for a value in its bucket, under the bucket's lock
 abbrev pub search_in : Header → ℕ → (Option ℕ → Script) → Script
 search_in h x ended = lock h (bucket_of h x) (search_from 4 (first_slot (bucket_of h x)) x ended)
 

@@ -14,7 +14,7 @@ free_from memory slot (suc left) =
 abbrev pub free_slots_for : Header → Memory → ℕ → ℕ
 free_slots_for h memory value = free_from memory (first_slot (bucket_of h value)) 4
 
--- whether two values find a slot each: two where both fall into one bucket, and else one in each
+-- whether two values find a slot each: two if both fall into one bucket, and otherwise one in each
 abbrev pub has_room_for_both : Header → Memory → ℕ → ℕ → Bool
 has_room_for_both h memory x y =
     if bucket_of h x == bucket_of h y then nat_le 2 (free_slots_for h memory x)

@@ -7,7 +7,7 @@ ghost use Rattle.std.specs.Prelude.{◌≡◌, ◌≢◌, ◌<◌, ◌+◌, ◌-
 pub(crate) enum Place {
     /// Finding a free slot.
     Find(Want, Finding),
-    /// Searching a value.
+    /// Searching for a value.
     Search(Query, Searching),
     /// Making the slot of an insert valid: lock the bucket.
     Insert(u32),
@@ -40,7 +40,7 @@ pub(crate) enum Want {
     Second(u32),
 }
 
-/// What a value is searched for.
+/// What the search for a value is for.
 #[derive(Clone, Copy)]
 pub(crate) enum Query {
     /// To delete it.

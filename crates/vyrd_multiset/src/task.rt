@@ -161,7 +161,7 @@ impl Task {
     }
 }
 
-/// Searching a value.
+/// Searching for a value.
 impl Task {
     /// What comes next of a search.
     fn searching_wants(self, header: &Header, query: Query, place: Searching) -> Act

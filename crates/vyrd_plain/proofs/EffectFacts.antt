@@ -57,7 +57,7 @@ no_effect k (suc n) = ap (λ words. 0 ∷ words) (no_effect (k + 1) n)
 pub words_without : (h : Header) → words_with h [] [] ≡ replicate (plain_words h) 0
 words_without h = no_effect 0 (plain_words h)
 
--- writes of a block that ends, behind these ones
+-- writes of a block that ends, after these ones
 abbrev pub behind : List (ℕ × ℕ) → Option (List (ℕ × ℕ)) → Option (List (ℕ × ℕ))
 behind writes ahead = option_map (λ more. more ++ writes) ahead
 
@@ -173,7 +173,7 @@ passed_next h c front from at e words before order here none so =
     (sym none)
     ∙ ap (λ ws. words_with h [] (ws ++ before)) (sym (writes_in-next c front from at e order here))
 
--- another caller's entry, and one that is no write
+-- another caller's entry, and one that isn't a write
 pub other_next : (h : Header) (c : ℕ) (front : List Entry) (from at : ℕ) (e : Entry)
     (words : List ℕ) (before : List (ℕ × ℕ))
     → from ≤ at → slice_get front at ≡ Some e → e.caller ≢ c
@@ -258,7 +258,7 @@ end_effects front at e b ends block = by_kind ends
     by_kind (inl is) = ap (λ kind. effects_at earlier e.caller kind (drop (at + 1) front)) is
     by_kind (inr is) = ap (λ kind. effects_at earlier e.caller kind (drop (at + 1) front)) is
 
--- an entry of an open block that is no commit and no end has no effects
+-- an entry of an open block that is neither a commit nor an end has no effects
 pub inner_effects : (front : List Entry) (at : ℕ) (e : Entry) (b : Block)
     → IsOpenBlock (take at front) e.caller b
     → (e.kind ≡ Commit → ⊥) → (e.kind ≡ BlockClose → ⊥) → (e.kind ≡ BlockCommit → ⊥)

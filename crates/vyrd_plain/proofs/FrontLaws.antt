@@ -19,7 +19,7 @@ pub kept-push : (h : Header) (xs : List Entry) (e : Entry) → first_break h xs 
 kept-push h xs e kept here = first_break-append h xs (e ∷ []) ∙ ap (λ o. option_or o (break_after h (newest_first xs) (e ∷ []))) kept
     ∙ ap (λ o. option_or o None) here
 
--- where no rule is broken, all is front
+-- if no rule is broken, all is front
 pub front_whole : (h : Header) (xs : List Entry) → first_break h xs ≡ None → front h xs ≡ xs
 unfolding front first_break
 front_whole h xs kept = front_after_whole h [] xs kept

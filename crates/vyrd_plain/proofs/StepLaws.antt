@@ -97,7 +97,7 @@ same_entry {o} {r} {e} {kind} is_r named is_e =
     let same : r ≡ e = cc in
     read ∙ same
 
--- the execution of the entry's caller, where it is in one
+-- the execution of the entry's caller, if it is in one
 pub running : {h : Header} {front : List Entry} {at : ℕ} {e : Entry} {state : Amounts} {executions : List (Option Execution)} {called : Called}
     → IsAt h front at e state executions → open_call e.caller (newest_first (take at front)) ≡ Some called
     → (x : Execution) × (slice_get executions e.caller ≡ Some (Some x))
@@ -173,7 +173,7 @@ fault_here h front at e o here fault =
     ∙ ap (λ es. option_or (option_map (Violation (line_of [] (length (newest_first (take at front))))) o)
     (first_answer (violation_at h [] (states_along h [] front)) (places_after es (drop (at + 1) front)))) (sym next)
 
--- a place that is no fault leads on to those after it
+-- a place that isn't a fault leads on to those after it
 pub fault_goes : (h : Header) (front : List Entry) (at : ℕ) (e : Entry) → slice_get front at ≡ Some e
     → fault_at h [] (states_along h [] front) (place_of e (newest_first (take at front)) (drop (at + 1) front)) ≡ None
     → fault_from h front at ≡ fault_from h front (at + 1)
@@ -196,7 +196,7 @@ fault_found h front at e why here fault =
     ∙ ap (λ n. Some (Violation (line_of [] n) why)) (length-newest_first front at (omega arith))
     ∙ ap (λ line. Some (Violation line why)) (line_without at)
 
--- where no later state is known, nothing later is a fault
+-- if no later state is known, nothing later is a fault
 pub fault_ends : (h : Header) (front : List Entry) (at : ℕ) (e : Entry) → slice_get front at ≡ Some e
     → fault_at h [] (states_along h [] front) (place_of e (newest_first (take at front)) (drop (at + 1) front)) ≡ None
     → length (states_along h [] front) ≤ commit_count (e ∷ newest_first (take at front)) → fault_from h front at ≡ None

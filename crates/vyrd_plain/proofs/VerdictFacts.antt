@@ -21,7 +21,7 @@ use Rattle.vyrd_base.specs.Verdicts.{line_of, first_fault, shape_verdict, start_
 use Rattle.vyrd_base.proofs.NoStart.{state_at_start-none}
 use Rattle.vyrd_plain.proofs.FrontLaws.{front_whole}
 
--- starting words that stand for a state are no fault
+-- starting words that stand for a state aren't a fault
 pub sound_start : (h : Header) (starting : List StartWord) (state : Amounts)
     → state_at_start h starting ≡ Some state
     → start_verdict h starting ≡ None
@@ -159,7 +159,7 @@ pub at_end_accepted : (h : Header) (starting : List StartWord) (entries : List E
 at_end_accepted h starting entries sound none closed =
     at_end h starting entries false sound none closed
 
--- the verdict at a fault of text, by what stands so far, whether it comes behind an `end`, and
+-- the verdict at a fault of text, by what stands so far, whether it comes after an `end`, and
 -- whether a call is open
 abbrev text_answer : List StartWord → List Entry → ℕ → Rule → Option Verdict → Bool → Bool → Verdict
 text_answer starting entries line rule so_far behind is_open =

@@ -14,7 +14,7 @@ use Rattle.vyrd_base.specs.Faults.{states_since_call}
 use Rattle.vyrd_plain.specs.declared.execution.Execution.{Execution}
 use Rattle.vyrd_plain.specs.Entries.{has_method}
 
--- whether a reply, where there is one, is this number
+-- whether a reply, if there is one, is this number
 abbrev pub is_reply : Option ℕ → ℕ → Bool
 is_reply None answer = false
 is_reply (Some reply) answer = answer == reply

@@ -31,14 +31,15 @@ pub record CommitFaults (shown : Amounts) (x : Execution) (before : Amounts) (wh
   pub returned : x.reply ≡ Some reply
   pub fault : step_fault shown (record { method = x.method; args = x.args }) reply before ≡ Some why
 
--- what a commit of the execution leads to, where the words show this
+-- what a commit of the execution leads to, if the words show this
 abbrev pub CommitGives : Amounts → Execution → Amounts → Amounts → List (Option Execution) → List (Option Execution) → Outcome → Type 0
 CommitGives shown x before after old new Goes = CommitGoes shown x before after old new
 CommitGives shown x before after old new (Faults why) = CommitFaults shown x before why
 CommitGives shown x before after old new Ends = x.reply ≡ None
 
--- What the entry at a place leads to: it is no fault, and what is kept tracks the front up to the next place; or this is its
--- fault; or no later state is known, so that nothing later is a fault either.
+-- What the entry at a place leads to: it isn't a fault, and what is kept tracks the front up to the
+-- next place; or this is its fault; or no later state is known, so that nothing later is a fault
+-- either.
 abbrev pub PlaceGives : Header → List StartWord → List Amounts → Place Entry → Amounts → List (Option Execution) → Outcome → Type 0
 PlaceGives h starting states place state executions Goes =
     (fault_at h starting states place ≡ None) × Tracks h states (place.here ∷ place.earlier) place.later state executions
@@ -46,6 +47,6 @@ PlaceGives h starting states place state executions (Faults why) = fault_at h st
 PlaceGives h starting states place state executions Ends =
     (fault_at h starting states place ≡ None) × (length states ≤ commit_count (place.here ∷ place.earlier))
 
--- what a return leads to: it is a fault where no state since the call answers an observer's reply
+-- what a return leads to: it is a fault if no state since the call answers an observer's reply
 abbrev pub return_outcome : Execution → ℕ → Outcome
 return_outcome x reply = if is_observer x.method && not x.is_answered then Faults (Observer reply) else Goes

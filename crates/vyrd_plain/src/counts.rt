@@ -42,7 +42,8 @@ fn commit_count(entries: &[Entry]) -> u64
     entries.iter().filter(|e| is_commit(e.kind)).count() as u64
 }
 
-/// How many observers have returned. An observer that is still open counts for nothing, so a call alone says too little.
+/// How many observers have returned. An observer that is still open doesn't count, so a call alone
+/// says too little.
 fn observer_count(alloc: Global, header: Header, entries: &[Entry]) -> Result<u64, AllocError>
     requires { first_break header entries.now ≡ None }
     ensures { IfOk result (λ n. n ≡ observer_count entries.now) }
@@ -75,7 +76,7 @@ fn observer_returns(observing: &mut Vec<bool>, entry: Entry) -> bool
     was_observing && matches!(entry.kind, Kind::Return(_))
 }
 
-/// The entry at a place. Where the log keeps all rules, its caller is one of the header's.
+/// The entry at a place. If the log keeps all rules, its caller is one of the header's.
 fn entry_at(entries: &[Entry], at: usize) -> Entry
     requires { at < length entries.now }
     ensures entry { (d : Entry) → slice_index_or entries.now at d ≡ result }

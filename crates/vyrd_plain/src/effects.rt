@@ -24,14 +24,13 @@ pub(crate) struct Block {
 /// The plain words at a place of a front, and each caller's open block.
 ///
 /// Nothing is kept of what a block writes: its writes are looked up in the front where they take
-/// effect. That is the lone commit inside the block, where there is one, so that the front is
-/// looked ahead in there up to the block's end; and otherwise the end. A block that doesn't end has
-/// no effect.
+/// effect. That is the lone commit inside the block, if there is one, so that the judge looks ahead
+/// from there up to the block's end; and otherwise the end. A block that doesn't end has no effect.
 #[derive(Drop)]
 pub(crate) struct Effects {
     pub header: Header,
     pub words: Vec<u64>,
-    /// By caller. `None` where a caller has no open block.
+    /// By caller. `None` if a caller has no open block.
     pub open_blocks: Vec<Option<Block>>,
     ghost all_words: { vec_len words ≡ plain_words header },
     ghost all_callers: { vec_len open_blocks ≡ header.callers },
@@ -115,7 +114,7 @@ impl Effects {
         }
     }
 
-    /// The same where the caller has an open block. Its writes take effect at a lone commit, those
+    /// The same if the caller has an open block. Its writes take effect at a lone commit, those
     /// that are still to come too, and otherwise at its end.
     fn take_effect_of(&mut self, block: Block, front: &[Entry], at: usize)
         requires within { at < length front.now }
@@ -170,7 +169,7 @@ impl Effects {
     }
 }
 
-/// How many entries stand before the end of the caller's open block, `None` where it doesn't end. It
+/// How many entries stand before the end of the caller's open block, `None` if it doesn't end. It
 /// looks no further than that end, and no further than the caller's next return.
 fn len_to_end(caller: u32, later: &[Entry]) -> Option<usize>
     ensures within { IfSome result (λ len. len < length later.now) }

@@ -11,19 +11,20 @@ use vyrd_spec::Spec;
 
 /// An execution that has begun, with the reply that it will return.
 ///
-/// The reply is known from the call on, so that an observer's can be held against each state as it comes, and no state need
-/// be kept.
+/// The reply is known from the call on, so that an observer's can be compared with each state as it
+/// comes, and no state need be kept.
 #[derive(Clone, Copy)]
 pub(crate) struct Execution {
     pub method: Method,
     pub args: Args,
-    /// `None` where it doesn't return in the front.
+    /// `None` if it doesn't return in the front.
     pub reply: Option<u64>,
     /// Whether it is an observer's, and some state since its call gives the reply.
     pub is_answered: bool,
 }
 
-/// The reply of the caller's next return, `None` where there is none. It looks no further than that return.
+/// The reply of the caller's next return, `None` if there is none. It looks no further than that
+/// return.
 pub(crate) fn next_reply(caller: u32, later: &[Entry]) -> Option<u64>
     ensures { result ≡ next_reply caller later.now }
 {

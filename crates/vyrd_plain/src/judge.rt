@@ -12,22 +12,24 @@ use std::alloc::{AllocError, Global};
 use vyrd_base::{Entry, Header, Rule, Stop, Verdict};
 use vyrd_spec::Spec;
 
-/// The verdict about the entries of a log without starting words, whose text stops so. `S` is the specification of the header's
-/// subject.
+/// The verdict about the entries of a log without starting words, whose text stops in this way. `S`
+/// is the specification of the header's subject.
 ///
-/// The lines that a verdict names count from 1, the header's: the entry at position 0 stands on line 2. Where the log has a
-/// fault and breaks a rule too, what stands first is named. An observer's reply is judged by the states since its call, and a
-/// commit by the reply that its execution returns later. So a commit whose execution never returns is no fault, and neither is
-/// anything after it.
+/// The lines that a verdict names count from 1, the header's: the entry at position 0 stands on
+/// line 2. If the log has a fault and breaks a rule too, what stands first is named. An observer's
+/// reply is judged by the states since its call, and a commit by the reply that its execution
+/// returns later. So a commit whose execution never returns isn't a fault, and neither is anything
+/// after it.
 ///
 /// The only error is that there is no memory, and then nothing is known of the log.
 ///
-/// Time: each entry is gone over a few times, once more for each call that looks forward over it to its caller's next return, and
-/// once or twice more for each block that it stands in, whose writes are looked up from its open to its end. An entry stands
-/// within at most one execution and one block of each caller, so that this is in proportion to the entries times the callers at
-/// most. Beside it a commit takes both views whole, and shows the new state to each caller's execution. Memory: in proportion to
-/// the words of the header and to the keys of the specification's state, and one execution and one block a caller. Nothing is
-/// kept of the entries.
+/// Time: each entry is gone over a few times, once more for each call that looks forward over it to
+/// its caller's next return, and once or twice more for each block that it stands in, whose writes
+/// are looked up from its open to its end. An entry stands within at most one execution and one
+/// block of each caller, so that this is in proportion to the entries times the callers at most.
+/// Besides, a commit takes both views whole, and shows the new state to each caller's execution.
+/// Memory: in proportion to the words of the header and to the keys of the specification's state,
+/// and one execution and one block for each caller. Nothing is kept of the entries.
 pub fn judge_log<S: Spec>(
     alloc: Global,
     header: Header,
@@ -50,8 +52,9 @@ pub fn judge_log<S: Spec>(
     at_stop(alloc, header, entries, front.is_open, stop)
 }
 
-/// The verdict about entries that keep all rules and are no fault. An `end` would stand on the line after the entries. So a rule
-/// of text that is broken one line further is broken behind an `end`, where an open call comes first.
+/// The verdict about entries that keep all rules and have no fault. An `end` would stand on the
+/// line after the entries. So a rule of text that is broken one line further is broken after an
+/// `end`, and there an open call comes first.
 fn at_stop(
     alloc: Global,
     header: Header,

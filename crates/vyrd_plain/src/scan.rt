@@ -35,7 +35,7 @@ pub(crate) struct Scan<S: Spec> {
     pub header: Header,
     pub spec: S,
     pub effects: Effects,
-    /// By caller. `None` where a caller is in no execution.
+    /// By caller. `None` if a caller is in no execution.
     pub executions: Vec<Option<Execution>>,
     ghost subject: { header.subject ≡ S.subject },
     ghost spec_header: { S.header_of spec ≡ header },
@@ -94,7 +94,8 @@ impl<S: Spec> Scan<S> {
         self.executions[caller as usize] = Some(execution);
     }
 
-    /// A return ends its caller's execution. It is a fault where no state since the call answered an observer's reply.
+    /// A return ends its caller's execution. It is a fault if no state since the call answered an
+    /// observer's reply.
     fn finish(&mut self, caller: u32, reply: u64) -> Outcome
         requires caller { caller < self.old.header.callers }
         ensures outcome { (x : Execution) → slice_get self.old.executions.items caller ≡ Some (Some x) → result ≡ return_outcome x reply }
@@ -113,9 +114,9 @@ impl<S: Spec> Scan<S> {
         }
     }
 
-    /// A commit takes the specification one step on by the reply that its execution will return, and compares the views. The
-    /// executions that are open, its own too, then see the state after it. Where the execution doesn't return, the step can't
-    /// be known.
+    /// A commit takes the specification one step on by the reply that its execution will return,
+    /// and compares the views. The executions that are open, its own too, then see the state after
+    /// it. If the execution doesn't return, the step can't be known.
     fn commit(&mut self, caller: u32) -> Result<Outcome, AllocError>
         requires caller { caller < self.old.header.callers }
         requires few { S.made self.old.spec < 2 ^ 62 }

@@ -10,7 +10,8 @@ use std::alloc::{AllocError, Global};
 use vyrd_base::{Entry, Header, Verdict};
 use vyrd_spec::Spec;
 
-/// The first fault of a front that keeps all rules, as a violation at the line of its entry. `None` where there is no fault.
+/// The first fault of a front that keeps all rules, as a violation at the line of its entry. `None`
+/// if there is no fault.
 pub(crate) fn first_violation<S: Spec>(
     alloc: Global,
     header: Header,

@@ -1,4 +1,4 @@
--- What a source gives is put behind the bytes that were taken before.
+-- What a source gives is put after the bytes that were taken before.
 use Rattle.std.proofs.Common.{◌≡◌, ℕ, ◌+◌, ◌≤◌, List, ◌++◌, length, take, drop, Option, ap, subst, sym, ◌∙◌, arith}
 use Rattle.std.proofs.lemmas.List.{take_all}
 use Rattle.std.proofs.Math.Seq.{take-add, take-append_seam}
@@ -12,7 +12,7 @@ taken_behind before between after count n old new told front gives =
     subst (λ bytes. IsTaken before bytes after) (ap (λ bytes. bytes ++ take n (drop count new)) (sym front) ∙ sym (take-add count n new))
     (taken_more before between after (take count old) (take n (drop count new)) told gives.bytes)
 
--- bytes that were put behind others leave these at the front
+-- bytes that were put after others leave these at the front
 pub front_kept : (old new more : List ℕ) (count many : ℕ) → length old ≡ count → count ≤ many → new ≡ take many old ++ more → take count new ≡ old
 front_kept old new more count many whole within grown =
     let all : take many old ≡ old = take_all many old (omega (arith, whole, within)) in

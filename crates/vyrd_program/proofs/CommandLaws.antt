@@ -87,7 +87,7 @@ written_answer said form input before after status own text run own_run spent ow
       written = (written other).1;
     })
 
--- Where a write failed, something was made ready to be written.
+-- If a write failed, something was made ready to be written.
 was_ready : (form : Form) (own : ℕ) (text : List ℕ) → IsStatus (Some form) own → own ≢ 5 → ((own ≡ 4) ⊎ (own ≡ 6) → text ≡ [])
     → IsAnswerStatus (Some form) own ⊎ (text ≡ [])
 was_ready form own text (inl answered) unwritten silent = inl answered

@@ -40,7 +40,7 @@ size_of_split p (x ∷ xs) = by_test (size_of_split p xs) (p x)
     by_test e true = omega arith
     by_test e false = onto (slice_split p xs) (some_parts p xs) e ∙ omega arith
 
--- the bytes after the last line feed, where they are no fault
+-- the bytes after the last line feed, if they aren't a fault
 rest_short : (max n : ℕ) (bad : Rule) (rest : List ℕ) → unfinished_rule (so_far max) n bad rest ≡ None
     → (length rest ≤ 64) × ((has_any rest && nat_lt max n) ≡ false)
 rest_short max n bad rest e = by_tests (has_any rest && nat_lt max n) (nat_lt 64 (length rest)) refl refl e

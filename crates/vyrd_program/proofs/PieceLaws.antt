@@ -28,7 +28,8 @@ verdict_there max bytes more low e =
     let v = some_verdict (text_verdict_so_far max bytes) e in
     ap is_some (text_verdict_lasts max bytes more v.0 low v.1)
 
--- Where bytes have no verdict and a piece follows, a beginning of all that has one is no shorter than they.
+-- If bytes have no verdict and a piece follows, a beginning of all that has one is no shorter than
+-- they.
 begins_later : (max : ℕ) (taken piece first more : List ℕ) → 1 ≤ max → text_verdict_so_far max taken ≡ None
     → taken ++ piece ≡ first ++ more → has_verdict max first ≡ true → length taken ≤ length first
 begins_later max taken piece first more low nothing same there = by_length (nat_le (length taken) (length first)) refl

@@ -40,7 +40,7 @@ legal_run w run limits is = run_is_legal w.header (work_scripts w) w.turns run.h
 played_run : (w : Workload) (run : Run) → KeepsLimits w → IsRunByTurns w run → PlayToTheEnd (work_scripts w) run.history.items
 played_run w run limits is = run_plays w.header (work_scripts w) w.turns run.history.items (scripts_sound w limits) is.history
 
--- a verdict about a legal history of played scripts names no rule but that of races
+-- a verdict about a legal history of played scripts names no rule except that of races
 pub names_only_races : (w : Workload) (run : Run) → KeepsLimits w → is_legal (cells_of w.header) run.history.items ≡ true
     → PlayToTheEnd (work_scripts w) run.history.items
     → run.verdict ≡ verdict w.header [] (log_of run.history.items) → NamesOnlyRaces run
@@ -100,7 +100,7 @@ pub of_match : {A : Type 0} (P : Type 0) (Q : A → Type 0) (o : Option A) (x : 
 of_match P Q None x e m = cc
 of_match P Q (Some y) x e m = let same : y ≡ x = cc in subst Q same m
 
--- where the log of a history can be written, so can the history
+-- if the log of a history can be written, so can the history
 padded_event : (subject : Subject) (caller : ℕ) (did : Did) (log : List Entry)
     → AllByRecursion (λ e. is_writable subject e ≡ true) (cons_option (logged caller did) log)
     → (is_padded_did did ≡ true) × AllByRecursion (λ e. is_writable subject e ≡ true) log

@@ -26,7 +26,8 @@ abbrev pub IsBatchAnswer : Result (List (List ℕ)) ℕ → ℕ → List ℕ →
 IsBatchAnswer (Err log) status text = (status ≡ 11) × (text ≡ refused_line log)
 IsBatchAnswer (Ok logs) status text = (status ≡ batch_status (verdicts_of logs)) × (text ≡ batch_text (verdicts_of logs))
 
--- The status and the text of an answer to an input. Where its bytes are told, what was read is what they say.
+-- The status and the text of an answer to an input. If its bytes are told, what was read is what
+-- they say.
 pub record AnswersBatch (input : Option (List ℕ)) (status : ℕ) (text : List ℕ) : Type 0 where
   pub logs : Result (List (List ℕ)) ℕ
   pub read : IfSome input (λ bytes. logs ≡ batch_logs bytes)

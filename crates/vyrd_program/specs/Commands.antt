@@ -48,8 +48,8 @@ reads (Some (asked.Gen n)) = false
 reads (Some asked.Movers) = true
 reads (Some asked.Batch) = true
 
--- The statuses that a call may end with: an answer's, 4 where the source is read, 5, and 6 where more is done than to write the
--- usage line.
+-- The statuses that a call may end with: an answer's, 4 where the source is read, 5, and 6 if more
+-- is done than to write the usage line.
 abbrev pub IsStatus : Option Form → ℕ → Type 0
 IsStatus form status = IsAnswerStatus form status ⊎ ((status ≡ 4) × (reads form ≡ true)) ⊎ (status ≡ 5) ⊎ ((status ≡ 6) × (is_some form ≡ true))
 

@@ -34,8 +34,9 @@ plays_live (Some (asked.Gen n)) = false
 plays_live (Some asked.Movers) = false
 plays_live (Some asked.Batch) = false
 
--- What a call with this form and this status hands out: nothing in those statuses, nothing where the form plays no workload, and a
--- run that the limit of events ended only where the form plays it live.
+-- What a call with this form and this status hands out: nothing in those statuses, nothing if the
+-- form plays no workload, and a run that the limit of events ended only where the form plays it
+-- live.
 pub record HandsOut (form : Option Form) (status : ℕ) (run : Option Run) (spent : Option Overrun) : Type 0 where
   pub unplayed : IsUnplayed status → HandsOutNothing run spent
   pub no_workload : plays form ≡ false → HandsOutNothing run spent

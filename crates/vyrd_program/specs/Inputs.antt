@@ -34,14 +34,15 @@ pub record IsMoreRead (most : ℕ) (before after : Option (List ℕ)) (old new :
   pub many : length piece ≡ n
   pub few : n ≤ most
 
--- The source has said its end, or as many bytes were taken of the input as are read at most, where they are told.
+-- The source has said its end, or as many bytes were taken of the input as are read at most, if
+-- they are told.
 abbrev pub IsInputTaken : ℕ → Option (List ℕ) → Option (List ℕ) → Type 0
 IsInputTaken most before after = IsAtEnd after ⊎ ((taken : List ℕ) × IsTaken before taken after × (length taken ≡ most))
 
--- At most as many bytes were taken of an input as are read at most, where they are told.
+-- At most as many bytes were taken of an input as are read at most, if they are told.
 abbrev pub IsFewTaken : ℕ → Option (List ℕ) → Option (List ℕ) → Type 0
 IsFewTaken most before after = (taken : List ℕ) × IsTaken before taken after × (length taken ≤ most)
 
--- the verdict is that of the whole input, where its bytes are told
+-- the verdict is that of the whole input, if its bytes are told
 abbrev pub IsVerdictOf : ℕ → Option (List ℕ) → Verdict → Type 0
 IsVerdictOf max input verdict = IfSome input (λ bytes. verdict ≡ text_verdict max bytes)

@@ -23,7 +23,8 @@ abbrev pub IsMoversAnswer : Result Recorded Refusal → ℕ → List ℕ → Typ
 IsMoversAnswer (Err refusal) status text = (status ≡ 10) × (text ≡ history_refusal_text refusal.line refusal.rule)
 IsMoversAnswer (Ok r) status text = (status ≡ status_of_blocks (said_of_blocks r)) × (text ≡ blocks_text (said_of_blocks r))
 
--- The status and the text of an answer to an input. Where its bytes are told, what was read is what they say.
+-- The status and the text of an answer to an input. If its bytes are told, what was read is what
+-- they say.
 pub record AnswersMovers (input : Option (List ℕ)) (status : ℕ) (text : List ℕ) : Type 0 where
   pub history : Result Recorded Refusal
   pub read : IfSome input (λ bytes. history ≡ history_reading bytes)

@@ -18,6 +18,6 @@ status_of (Accepted entries commits observers) = 0
 status_of (Violation line why) = 1
 status_of (Malformed line rule) = 2
 
--- the line that says which words there are
+-- the usage line
 abbrev pub usage_line : List ℕ
 usage_line = codes "usage: vyrd check | step [--log|--history] | run [--log|--history] | gen N | movers | batch\n"

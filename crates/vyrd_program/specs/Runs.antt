@@ -50,7 +50,8 @@ abbrev pub IsRunAnswer : Show → Result Workload Refusal → ℕ → List ℕ �
 IsRunAnswer show (Err refusal) status text run spent = (status ≡ 7) × (text ≡ refusal_text refusal.line refusal.rule) × (run ≡ None) × (spent ≡ None)
 IsRunAnswer show (Ok w) status text run spent = IsPlayedAnswer show w status text run spent
 
--- The status, the text and the run of an answer to an input. Where its bytes are told, what was read is what they say.
+-- The status, the text and the run of an answer to an input. If its bytes are told, what was read
+-- is what they say.
 pub record AnswersRun (show : Show) (input : Option (List ℕ)) (status : ℕ) (text : List ℕ) (run : Option Run) (spent : Option Overrun) : Type 0 where
   pub work : Result Workload Refusal
   pub read : IfSome input (λ bytes. work ≡ work_reading bytes)

@@ -35,7 +35,8 @@ IsStepAnswer show (Err refusal) status text run = (status ≡ 7) × (text ≡ re
 IsStepAnswer show (Ok w) status text None = (status ≡ 8) × (text ≡ stuck_line) × GetsStuck (work_scripts w) w.turns
 IsStepAnswer show (Ok w) status text (Some run) = (status ≡ status_of run.verdict) × (text ≡ run_text show w.header run) × IsRunByTurns w run
 
--- The status, the text and the run of the answer to an input. Where its bytes are told, what was read is what they say.
+-- The status, the text and the run of the answer to an input. If its bytes are told, what was read
+-- is what they say.
 pub record AnswersInput (show : Show) (input : Option (List ℕ)) (status : ℕ) (text : List ℕ) (run : Option Run) : Type 0 where
   pub work : Result Workload Refusal
   pub read : IfSome input (λ bytes. work ≡ work_reading bytes)

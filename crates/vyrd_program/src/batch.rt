@@ -25,8 +25,9 @@ const ROUND: usize = 4_194_304;
 /// The answer to a batch: a line for each log's verdict and one that counts them; or that it is refused; or nothing after a
 /// failed read or out of memory.
 ///
-/// Logs are judged while later ones are still to be read. So the memory is that of a round, of the longest log, and of the
-/// verdicts. Of an input that is no batch, all is kept from the log on at which it is refused.
+/// Logs are judged while later ones are still to be read. So the memory is that of a round, of the
+/// longest log, and of the verdicts. Of an input that isn't a batch, all is kept from the log on at
+/// which it is refused.
 pub fn batch<R: Threads + Sync, S: Source>(rt: &R, alloc: Global, source: &mut S) -> Answer
     ensures statuses { IsBatchStatus result.status ⊎ (result.status ≡ 4) ⊎ (result.status ≡ 6) }
     ensures answers { IsBatchStatus result.status → AnswersBatch (S.rest source.old) result.status result.text.items }
@@ -139,7 +140,7 @@ fn tell(alloc: Global, verdicts: &[Verdict]) -> Result<Answer, AllocError>
     })
 }
 
-/// That a batch is refused.
+/// The answer that a batch is refused.
 fn refuse(alloc: Global, log: u64) -> Result<Answer, AllocError>
     ensures status { IfOk result (λ answer. answer.status ≡ 11) }
     ensures text { IfOk result (λ answer. answer.text.items ≡ refused_line log) }

@@ -102,7 +102,7 @@ fn count_of(word: &str) -> Option<u32>
     in_range(number)
 }
 
-/// The number, where it is from 1 to 200,000.
+/// The number, if it is from 1 to 200,000.
 fn in_range(number: u32) -> Option<u32>
     ensures { (word : List ℕ) → word ≡ decimal number → result ≡ (if is_count word then Some (number_of word) else None) }
 {

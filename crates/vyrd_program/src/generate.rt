@@ -10,8 +10,9 @@ use std::alloc::{AllocError, Global};
 use vyrd_live::run_by_turns;
 use vyrd_work::{AnyMachine, generate};
 
-/// The answer to this many operations, from 1 to 200,000: the verdict about the run by turns of the workload that is generated of
-/// them; or that the run gets stuck; or nothing where there is no memory.
+/// The answer to this many operations, from 1 to 200,000: the verdict about the run by turns of the
+/// workload that is generated of them; or that the run gets stuck; or nothing if there is no
+/// memory.
 pub fn answer_generated(alloc: Global, count: u32) -> Answer
     requires some { 1 ≤ count }
     requires few { count ≤ 200000 }
@@ -27,7 +28,7 @@ pub fn answer_generated(alloc: Global, count: u32) -> Answer
     }
 }
 
-/// The same, with an error where there is no memory.
+/// The same, with an error if there is no memory.
 fn try_answer(alloc: Global, count: u32) -> Result<Answer, AllocError>
     requires some { 1 ≤ count }
     requires few { count ≤ 200000 }

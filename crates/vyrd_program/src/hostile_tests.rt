@@ -73,7 +73,8 @@ fn each_write_fails_once(rt: HostRuntime) -> Result<(), Fail> {
     Ok(())
 }
 
-/// The read behind the one that says the end would fail. It isn't made: not for a log, and not for a workload.
+/// The read after the one that says the end would fail. It isn't made, neither for a log nor for a
+/// workload.
 #[test]
 fn no_read_behind_the_end(rt: HostRuntime) -> Result<(), Fail> {
     let alloc = rt.alloc();
@@ -101,7 +102,8 @@ fn no_read_behind_the_end(rt: HostRuntime) -> Result<(), Fail> {
     Ok(())
 }
 
-/// Under a limit of four lines a log of five is malformed where nothing else is wrong, and a violation comes first.
+/// Under a limit of four lines a log of five is malformed if nothing else is wrong, and a violation
+/// comes first.
 #[test]
 fn logs_of_too_many_lines(rt: HostRuntime) -> Result<(), Fail> {
     let table: [(&[u8], u8, &[u8]); 2] = [
@@ -140,7 +142,7 @@ fn a_million_bytes_of_one_line(rt: HostRuntime) -> Result<(), Fail> {
     case.assert_over(&rt, rt.alloc(), &failing(&[], &[]))
 }
 
-/// A delete commits first and returns last, behind ten thousand other deletes.
+/// A delete commits first and returns last, after ten thousand other deletes.
 #[test]
 fn ten_thousand_wait_for_one(rt: HostRuntime) -> Result<(), Fail> {
     let alloc = rt.alloc();

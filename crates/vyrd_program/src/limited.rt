@@ -13,9 +13,10 @@ use vyrd_base::{Sink, Source};
 
 /// Reads a log of at most `max_lines` lines, from 1 to 268,435,456, and writes its verdict's line.
 ///
-/// It is `check` with that limit: the status is 0, 1 or 2 by the verdict, 4 after a failed read, 5 after a failed write and 6
-/// where memory ran out. No more is read once the verdict stands, and the line is made before its first byte is written. The
-/// time grows with the bytes that are read; what is kept doesn't, beside what the judge keeps of open executions.
+/// It is `check` with that limit: the status is 0, 1 or 2 by the verdict, 4 after a failed read, 5
+/// after a failed write and 6 if memory ran out. No more is read once the verdict stands, and the
+/// line is made before its first byte is written. The time grows with the bytes that are read; what
+/// is kept doesn't, apart from what the judge keeps of open executions.
 pub fn check_limited<S: Source, K: Sink>(
     alloc: Global,
     max_lines: u64,
@@ -29,7 +30,8 @@ pub fn check_limited<S: Source, K: Sink>(
     // 0, 1 and 2: it has written the line of the verdict of all that the source held, and the status is that verdict's.
     ensures verdict { result.status ≤ 2 → IsAnswered max_lines (S.rest source.old) result.status (K.taken sink.old) (K.taken sink.new) }
 
-    // What it takes of the source. It accepts at the source's end alone, and a read that fails behind a verdict is never made.
+    // What it takes of the source. It accepts at the source's end alone, and a read that fails
+    // after a verdict is never made.
     ensures consumed { result.status ≤ 2 → IsSettled max_lines (S.rest source.old) (S.rest source.new) }
     ensures accepted_at_end { result.status ≡ 0 → IsAtEnd (S.rest source.new) }
     ensures no_further { IsReadNoFurther max_lines (S.rest source.old) (S.rest source.new) }

@@ -71,7 +71,8 @@ fn as_text(alloc: Global, owned: &[String]) -> Result<Vec<&str>, AllocError>
     Ok(words)
 }
 
-/// The words after the program's name. Where the system doesn't give them as text, they are one empty word.
+/// The words after the program's name. If the system doesn't give them as text, they are one empty
+/// word.
 fn words_given(rt: &(impl Env + AllocGlobal)) -> Result<Vec<String>, AllocError> {
     let alloc = rt.alloc();
     let mut words = Vec::new(alloc);

@@ -23,8 +23,8 @@ use vyrd_mover::{
 /// How many bytes of a history are read at most: 256 MiB, and one byte that shows that there are more.
 const LONGEST_HISTORY: usize = 268_435_457;
 
-/// The answer to a history: whether its blocks are reducible, or the first that isn't; or that it is refused; or nothing after
-/// a failed read or where there is no memory.
+/// The answer to a history: whether its blocks are reducible, or the first that isn't; or that it
+/// is refused; or nothing after a failed read or if there is no memory.
 pub fn movers<S: Source>(alloc: Global, source: &mut S) -> Answer
     ensures statuses { IsMoversStatus result.status ⊎ (result.status ≡ 4) ⊎ (result.status ≡ 6) }
     ensures answers { IsMoversStatus result.status → AnswersMovers (S.rest source.old) result.status result.text.items }
@@ -91,7 +91,7 @@ fn status_of_blocks(blocks: Blocks) -> u8
     }
 }
 
-/// That a history is refused.
+/// The answer that a history is refused.
 fn refuse(alloc: Global, line: u64, rule: HistoryRule) -> Result<Answer, AllocError>
     ensures status { IfOk result (λ answer. answer.status ≡ 10) }
     ensures text { IfOk result (λ answer. answer.text.items ≡ history_refusal_text line rule) }

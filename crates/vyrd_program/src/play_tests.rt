@@ -42,7 +42,7 @@ fn history_of_a_raced_block() -> Case<'static> {
     }
 }
 
-/// A character into each of two buffers, then the second behind the first, and a read.
+/// A character into each of two buffers, then the second after the first, and a read.
 fn text_is_read() -> Case<'static> {
     Case {
         name: "text_is_read",

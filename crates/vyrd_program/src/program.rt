@@ -29,19 +29,20 @@ use vyrd_live::Overrun;
 /// How many lines a log may have.
 const MAX_LINES: u64 = 268_435_456;
 
-/// The line that says which words there are.
+/// The usage line.
 const USAGE_LINE: &[u8] =
     b"usage: vyrd check | step [--log|--history] | run [--log|--history] | gen N | movers | batch\n";
 
 /// How a call of the program ended.
 #[derive(Debug, Drop)]
 pub struct Ended {
-    /// 0 accepted, 1 a violation, 2 malformed, 3 arguments that are no command, 4 a failed read, 5 a failed write, 6 no memory,
-    /// 7 a workload that is refused, 8 a run by turns that gets stuck, 9 a live run in which a caller's events are spent,
-    /// 10 a history that is refused, 11 a batch that is refused. Of a history's blocks 0 says that all are reducible, and 1 that
-    /// one isn't.
+    /// 0 accepted, 1 a violation, 2 malformed, 3 arguments that aren't a command, 4 a failed read,
+    /// 5 a failed write, 6 no memory, 7 a workload that is refused, 8 a run by turns that gets
+    /// stuck, 9 a live run in which a caller's events are spent, 10 a history that is refused, 11 a
+    /// batch that is refused. Of a history's blocks 0 says that all are reducible, and 1 that one
+    /// isn't.
     pub status: u8,
-    /// The run that the answer is about, under `step`, `run` and `gen`, where it came to its end.
+    /// The run that the answer is about, under `step`, `run` and `gen`, if it came to its end.
     pub run: Option<vyrd_live::Run>,
     /// The live run that the limit of events ended, under `run`.
     pub spent: Option<Overrun>,
@@ -49,16 +50,19 @@ pub struct Ended {
 
 /// Carries out the words that stand after the program's name, over a source and a sink.
 ///
-/// `check` reads a log of at most 268,435,456 lines and writes its verdict's line. `step` reads a workload, plays it by turns
-/// over plain memory and writes the verdict's line about the log of that run. `run` plays it by callers on threads of their
-/// own, who ask the gate before each event, and may wait forever where the workload's callers do. With `--log` these two write
-/// the log before the verdict's line, and with `--history` the text of the run's history in place of both; the status stays
-/// that of the verdict. `gen N` generates a workload of N operations, from 1 to 200,000, plays it by turns, and writes how many
-/// operations and events there were and then the verdict's line. `movers` reads a history, and writes whether its commit blocks
-/// are reducible (Lipton, CACM 1975), or which of them is the first that isn't. `batch` reads many logs in one text, judges
-/// them on as many threads as there are processors, and writes a line for each log's verdict, in the order of the logs, and one
-/// that counts them. All other words are answered with the usage line, and the source is left alone. All output is made before
-/// its first byte is written.
+/// `check` reads a log of at most 268,435,456 lines and writes its verdict's line. `step` reads a
+/// workload, plays it by turns over plain memory and writes the verdict's line about the log of
+/// that run. `run` plays it by callers on threads of their own, who ask the gate before each event,
+/// and may wait forever if the workload's callers do. With `--log` these two write the log before
+/// the verdict's line, and with `--history` the text of the run's history in place of both; the
+/// status stays that of the verdict. `gen N` generates a workload of N operations, from 1 to
+/// 200,000, plays it by turns, and writes how many operations and events there were and then the
+/// verdict's line. `movers` reads a history, and writes whether its commit blocks are reducible
+/// (Lipton, CACM 1975), or which of them is the first that isn't. `batch` reads many logs in one
+/// text, judges them on as many threads as there are processors, and writes a line for each log's
+/// verdict, in the order of the logs, and one that counts them. All other words are answered with
+/// the usage line, and the source is left alone. All output is made before its first byte is
+/// written.
 pub fn vyrd<R: Threads + Wait + Sync, S: Source, K: Sink, G: Gate>(
     rt: &R,
     alloc: Global,
@@ -73,8 +77,8 @@ pub fn vyrd<R: Threads + Wait + Sync, S: Source, K: Sink, G: Gate>(
     ensures answered { IsAnswerStatus (form_said words.now) result.status →
         HasAnswered (form_said words.now) (S.rest source.old) result.status result.run result.spent (K.taken sink.old) (K.taken sink.new) }
 
-    // What is taken of the source: as much as an answer needs, and no more. A log is accepted at the source's end alone, and a read
-    // that fails behind its verdict is never made.
+    // What is taken of the source: as much as an answer needs, and no more. A log is accepted at
+    // the source's end alone, and a read that fails after its verdict is never made.
     ensures consumed { IsAnswerStatus (form_said words.now) result.status → IsEnough (form_said words.now) (S.rest source.old) (S.rest source.new) }
     ensures no_further { IsNoFurther (form_said words.now) (S.rest source.old) (S.rest source.new) }
     ensures untouched { reads (form_said words.now) ≡ false → source.new ≡ source.old }
@@ -90,7 +94,7 @@ pub fn vyrd<R: Threads + Wait + Sync, S: Source, K: Sink, G: Gate>(
     ensures run_has_room { (show : Show) → form_said words.now ≡ Some (Run show) → SaysFewEvents (S.rest source.old) → result.status ≢ 9 }
     ensures every_gen { (n : ℕ) → form_said words.now ≡ Some (Gen n) → IsGenStatus result.status → result.status ≡ 0 }
 
-    // Whatever was played: where the verdict names a rule, it is that of raced blocks.
+    // Whatever was played: if the verdict names a rule, it is that of raced blocks.
     ensures only_races { IfSome result.run NamesOnlyRaces }
 
     // 3: the words are none of the forms.
@@ -115,7 +119,7 @@ pub fn vyrd<R: Threads + Wait + Sync, S: Source, K: Sink, G: Gate>(
     // There is no run without a workload that was played, and none that the limit of events ended but a live one.
     ensures handed_out { HandsOut (form_said words.now) result.status result.run result.spent }
 
-    // Where no count of faults has risen, neither a read nor a write has failed.
+    // If no count of faults has risen, neither a read nor a write has failed.
     ensures complete { ¬ (HasRisen (S.faults source.old) (S.faults source.new)) → ¬ (HasRisen (K.faults sink.old) (K.faults sink.new)) →
         (result.status ≢ 4) × (result.status ≢ 5) }
 

@@ -90,7 +90,8 @@ fn zeros(alloc: Global, n: usize) -> Result<Vec<u8>, AllocError>
     vec![in alloc; 0; n]
 }
 
-/// Reads once, and checks what came. The answer is the verdict, where it stands now or the source has said its end.
+/// Reads once, and checks what came. The answer is the verdict, if it stands now or the source has
+/// said its end.
 fn read_piece<S: Source>(
     checker: &mut Checker,
     buffer: &mut [u8],

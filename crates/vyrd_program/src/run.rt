@@ -25,8 +25,9 @@ use vyrd_work::{Work, WorkFault, read_work};
 /// How many events a caller may have.
 const MOST_EVENTS: u64 = 16_777_216;
 
-/// The answer to a workload: what is to be shown of a live run, with the status of the verdict about it; or that it is refused,
-/// or that a caller's events are spent; or nothing where a read failed or there is no memory.
+/// The answer to a workload: what is to be shown of a live run, with the status of the verdict
+/// about it; or that it is refused, or that a caller's events are spent; or nothing if a read
+/// failed or there is no memory.
 pub fn run<R: Threads + Wait + Sync, S: Source, G: Gate>(
     rt: &R,
     alloc: Global,

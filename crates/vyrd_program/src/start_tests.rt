@@ -40,7 +40,7 @@ fn forty_lookups(alloc: Global, words: &[u64]) -> Result<String, AllocError> {
     Ok(log)
 }
 
-/// The header's plain words at the front of the list, where they are all there and below 2^63.
+/// The header's plain words at the front of the list, if they are all there and below 2^63.
 fn plain_words_of(
     alloc: Global,
     header: Header,

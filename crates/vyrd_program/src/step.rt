@@ -17,8 +17,9 @@ use vyrd_base::Source;
 use vyrd_live::run_by_turns;
 use vyrd_work::{AnyMachine, WorkFault, read_work};
 
-/// The answer to a workload: what is to be shown of its run by turns, with the status of the verdict about it; or that it is
-/// refused, or gets stuck; or nothing where a read failed or there is no memory.
+/// The answer to a workload: what is to be shown of its run by turns, with the status of the
+/// verdict about it; or that it is refused, or gets stuck; or nothing if a read failed or there is
+/// no memory.
 pub fn step<S: Source>(alloc: Global, show: Show, source: &mut S) -> Answer
     ensures statuses { IsStepStatus result.status ⊎ (result.status ≡ 4) ⊎ (result.status ≡ 6) }
     ensures answers { IsStepStatus result.status → AnswersInput show (S.rest source.old) result.status result.text.items result.run }

@@ -51,7 +51,7 @@ fn shown(alloc: Global, show: Show, header: Header, run: &Run) -> Result<Vec<u8>
     Ok(text)
 }
 
-/// That a run by turns gets stuck.
+/// The answer that a run by turns gets stuck.
 pub fn stuck(alloc: Global) -> Result<Answer, AllocError>
     ensures status { IfOk result (λ answer. answer.status ≡ 8) }
     ensures text { IfOk result (λ answer. answer.text.items ≡ stuck_line) }
@@ -68,7 +68,7 @@ pub fn stuck(alloc: Global) -> Result<Answer, AllocError>
     })
 }
 
-/// That a workload is refused.
+/// The answer that a workload is refused.
 pub fn refuse(alloc: Global, line: u64, rule: WorkRule) -> Result<Answer, AllocError>
     ensures status { IfOk result (λ answer. answer.status ≡ 7) }
     ensures text { IfOk result (λ answer. answer.text.items ≡ refusal_text line rule) }
@@ -85,7 +85,7 @@ pub fn refuse(alloc: Global, line: u64, rule: WorkRule) -> Result<Answer, AllocE
     })
 }
 
-/// That the events of a caller are spent.
+/// The answer that the events of a caller are spent.
 pub fn overrun(alloc: Global, spent: Overrun) -> Result<Answer, AllocError>
     ensures status { IfOk result (λ answer. answer.status ≡ 9) }
     ensures text { IfOk result (λ answer. answer.text.items ≡ spent_line spent.caller) }

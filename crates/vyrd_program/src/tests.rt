@@ -30,7 +30,7 @@ fn insert_without_its_writes() -> Case<'static> {
     }
 }
 
-/// A commit that can't be judged before its return, which comes behind a fault.
+/// A commit that can't be judged before its return, which comes after a fault.
 fn fault_behind_a_waiting_commit() -> Case<'static> {
     Case {
         name: "fault_behind_a_waiting_commit",
@@ -51,7 +51,8 @@ fn every_cutting(rt: HostRuntime) -> Result<(), Fail> {
     Ok(())
 }
 
-/// The third of reads of 16 bytes comes before the log's verdict, and that of reads of 28 would come behind it.
+/// The third of reads of 16 bytes comes before the log's verdict, and that of reads of 28 would
+/// come after it.
 #[test]
 fn read_that_fails(rt: HostRuntime) -> Result<(), Fail> {
     let decided = insert_without_its_writes();

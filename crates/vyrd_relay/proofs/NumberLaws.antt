@@ -20,7 +20,7 @@ more_places [] (suc n) (suc i) = more_places [] n i
 more_places (x ∷ xs) n zero = refl
 more_places (x ∷ xs) n (suc i) = more_places xs n i
 
--- and so it is where the list is made so long
+-- and so it is if the list is made that long
 pub places_kept : (near after : List (Option Stamped)) (n more : ℕ) → length near ≤ n → after ≡ take n near ++ replicate more None
     → (i : ℕ) → slice_index_or after i None ≡ slice_index_or near i None
 places_kept near after n more short is i = ap (λ (xs : List (Option Stamped)). slice_index_or xs i None)

@@ -1,4 +1,4 @@
-//! Events on their way from the callers of a live run to one that judges them meanwhile.
+//! Events on their way from the callers of a live run to the one that judges them meanwhile.
 //!
 //! The central type is [`Relay`]: a bounded queue, into which each caller's [`Sender`] pushes and from which one [`Receiver`]
 //! pops. What the receiver has had of a sender, and then what is queued of it, is what the sender sent, in its order, at every

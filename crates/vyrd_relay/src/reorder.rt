@@ -9,7 +9,8 @@ use std::collections::{BTreeMap, VecDeque};
 use std::marker::Model;
 use vyrd_base::Stamped;
 
-/// An event has a place of its own where its number is less than this above the next one. It is as many as a relay holds at most.
+/// An event has a place of its own if its number is less than this above the next one. It is as
+/// many as a relay holds at most.
 const NEAR: u64 = 65536;
 
 /// Holds events that come in any order, and hands them out by their numbers: 0, 1, 2 and so on.
@@ -48,7 +49,8 @@ impl Reorder {
         })
     }
 
-    /// Takes in an event whose number is below 2^62, isn't held and wasn't handed out. Where there is no memory all is as before.
+    /// Takes in an event whose number is below 2^62, isn't held and wasn't handed out. If there is
+    /// no memory, all is as before.
     pub fn put(&mut self, item: Stamped) -> Result<(), AllocError>
         requires range { item.number < 2 ^ 62 }
         requires new { has self.old item.number ≡ false }
@@ -97,7 +99,8 @@ impl Reorder {
         number < self.next || self.find(number).is_some()
     }
 
-    /// Hands out the event with the next number. `None` comes exactly where it isn't held. It takes no memory.
+    /// Hands out the event with the next number. `None` comes exactly when it isn't held. It takes
+    /// no memory.
     pub fn next_in_order(&mut self) -> Option<Stamped>
         ensures item { result ≡ held self.old self.old.next }
         ensures number { IfSome result (λ item. (item.number ≡ self.old.next) × (item.number < 2 ^ 62)) }
@@ -113,7 +116,7 @@ impl Reorder {
         Some(item)
     }
 
-    /// The event with this number, which wasn't handed out, where it is held.
+    /// The event with this number, which wasn't handed out, if it is held.
     fn find(&self, number: u64) -> Option<Stamped>
         requires { self.now.next ≤ number }
         ensures { result ≡ held self.now number }
@@ -125,7 +128,7 @@ impl Reorder {
     }
 }
 
-/// Puts an event at its place. Where there is no memory all is as before.
+/// Puts an event at its place. If there is no memory, all is as before.
 fn set_place(
     near: &mut VecDeque<Option<Stamped>>,
     place: usize,
@@ -140,7 +143,7 @@ fn set_place(
     Ok(())
 }
 
-/// Makes at least that many places. New ones are empty. Where there is no memory all is as before.
+/// Makes at least that many places. New ones are empty. If there is no memory, all is as before.
 fn make_places(near: &mut VecDeque<Option<Stamped>>, len: usize) -> Result<(), AllocError>
     requires { len ≤ 65536 }
     ensures same { OnOk result ((i : ℕ) → slice_index_or near.new.items i None ≡ slice_index_or near.old.items i None) }

@@ -261,7 +261,7 @@ pub followed_commit : (kept : Kept) (starting : List StartWord) (earlier : List 
     }) starting (entry c BlockCommit ∷ earlier)
 followed_commit kept starting earlier c changed = followed_end kept starting earlier c BlockCommit changed refl refl
 
--- an entry that is no write and touches no block
+-- an entry that isn't a write and touches no block
 followed_quiet : (kept : Kept) (starting : List StartWord) (earlier : List Entry) (c : ℕ) (kind : Kind) → ends_block kind ≡ false
     → effects_at earlier c kind [] ≡ [] → open_or_close kind ≡ None
     → ((b : Bool) (writes : List (ℕ × ℕ)) → with_write b kind writes ≡ writes) → HasFollowed kept starting earlier

@@ -27,8 +27,8 @@ AreInRange n ((word, value) ∷ writes) = (word < n) × (value < 2 ^ 63) × AreI
 abbrev pub kept_count : List (Option (List (ℕ × ℕ))) → ℕ
 kept_count blocks = sum_by (λ block. length (unwrap_or block [])) blocks
 
--- Words, blocks and changed words are the header's, there is room for the words of all blocks behind the changed ones, and
--- `count` says how many they are.
+-- Words, blocks and changed words are the header's, there is room for the words of all blocks after
+-- the changed ones, and `count` says how many they are.
 pub record IsSound (h : Header) (words : List ℕ) (blocks : List (Option (List (ℕ × ℕ)))) (changed : List ℕ) (count capacity : ℕ) : Type 0 where
   pub all_words : length words ≡ plain_words h
   pub all_blocks : length blocks ≡ h.callers

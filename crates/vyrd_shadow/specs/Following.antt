@@ -9,8 +9,9 @@ use Rattle.vyrd_base.specs.Words.{block_writes, given_to, words_after}
 use Rattle.vyrd_base.specs.Front.{WellFormed}
 use Rattle.vyrd_shadow.specs.Blocks.{first_written}
 
--- The header, the plain words, for each caller the writes that its open block keeps back, each word once in the order of the
--- first writes, or nothing where it has no open block, and the words that have changed.
+-- The header, the plain words, for each caller the writes that its open block keeps back, each word
+-- once in the order of the first writes, or nothing if it has no open block, and the words that
+-- have changed.
 pub record Kept : Type 0 where
   pub header : Header
   pub words : List ℕ
@@ -29,9 +30,10 @@ kept_writes kept c = unwrap_or (slice_index_or kept.blocks c None) []
 abbrev pub words_of : List (ℕ × ℕ) → List ℕ
 words_of writes = map (λ write. write.0) writes
 
--- What is kept stands for these entries, given the newest first, after these starting words. Each entry keeps the rules. The
--- words are those after all of them. A caller's block is open exactly where its last open has no close after it, and what an
--- open block keeps has its words, in the order of their first writes, each with its last value.
+-- What is kept stands for these entries, given the newest first, after these starting words. Each
+-- entry keeps the rules. The words are those after all of them. A caller's block is open exactly
+-- when its last open has no close after it, and what an open block keeps has its words, in the
+-- order of their first writes, each with its last value.
 pub record HasFollowed (kept : Kept) (starting : List StartWord) (earlier : List Entry) : Type 0 where
   pub rules : WellFormed kept.header earlier
   pub words : kept.words ≡ words_after kept.header starting earlier

@@ -9,8 +9,8 @@ ghost use Rattle.vyrd_base.specs.declared.log.StartWord.{StartWord};
 ghost use Rattle.vyrd_base.specs.Shape.{broken_rule};
 ghost use Rattle.vyrd_shadow.specs.Following.{Kept, HasFollowed};
 
-/// A shadow that has followed some entries has followed one more call, return or lone commit too, where it keeps the rules. The
-/// lone commit may stand inside its caller's block.
+/// A shadow that has followed some entries has followed one more call, return or lone commit too,
+/// if it keeps the rules. The lone commit may stand inside its caller's block.
 #[tactic(auto, using(crate::proofs::QuietLaws::quiet_laws))]
 pub fn other_entries_leave_a_shadow()
     ensures calls { (kept : Kept) (starting : List StartWord) (earlier : List Entry) (caller : ℕ) (method : Method) (args : Args) →

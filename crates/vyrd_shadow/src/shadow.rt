@@ -24,7 +24,7 @@ pub struct Shadow {
     /// By caller.
     blocks: Vec<Block>,
     changed: Vec<u32>,
-    /// How many words all blocks keep. Behind `changed` there is room for so many.
+    /// How many words all blocks keep. `changed` has room for that many more.
     count: usize,
 }
 
@@ -81,9 +81,10 @@ impl Shadow {
         })
     }
 
-    /// The caller writes the value to the word. In the caller's open block the write is kept back; otherwise it takes effect, and
-    /// the word has changed. Either takes constant time on average, and the room that the end of the block will want among the
-    /// changed words is made here. A write that is refused for want of memory leaves the shadow as it is.
+    /// The caller writes the value to the word. In the caller's open block the write is kept back;
+    /// otherwise it takes effect, and the word has changed. Either takes constant time on average,
+    /// and the room that the end of the block will need among the changed words is made here. A
+    /// write that is refused for lack of memory leaves the shadow as it is.
     #[inline(always)]
     pub fn write(&mut self, caller: u32, word: u32, value: u64) -> Result<(), AllocError>
         requires caller { caller < self.old.header.callers }
@@ -119,8 +120,9 @@ impl Shadow {
         self.blocks[caller as usize].open();
     }
 
-    /// The caller's block ends, with a commit or without: the writes that it kept back take effect in their order, in time linear
-    /// in the number of their words. So they do where a lone commit stood in the block. No memory is taken.
+    /// The caller's block ends, with a commit or without: the writes that it kept back take effect
+    /// in their order, in time linear in the number of their words. So they do if a lone commit
+    /// stood in the block. No memory is taken.
     #[inline(always)]
     pub fn close_block(&mut self, caller: u32)
         requires caller { caller < self.old.header.callers }

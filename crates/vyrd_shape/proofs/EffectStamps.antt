@@ -66,12 +66,12 @@ commit_here c e earlier same alone =
     let owned : (e.caller == c) ≡ true = is_same e.caller c same in
     λ i. cond (owned i && alone i) (length earlier + 1) (last_commit c earlier)
 
--- raising a stamp does nothing where it is greater already
+-- raising a stamp does nothing if it is greater already
 kept_high : (b : Bool) (stamp old : ℕ) → stamp ≤ old → old ≡ raised_if b stamp old
 kept_high true stamp old high = omega arith
 kept_high false stamp old high = refl
 
--- Where the writes take effect at the caller's last lone commit too, the stamps of their words are
+-- If the writes take effect at the caller's last lone commit too, the stamps of their words are
 -- raised to its stamp.
 abbrev RaisedAtCommit : ℕ → ℕ → List (ℕ × ℕ) → List Entry → List Entry → List Entry → Type 0
 RaisedAtCommit w c writes earlier later later' = last_effect w earlier later'
@@ -258,7 +258,7 @@ abbrev PassedIs : ℕ → ℕ → List Entry → Type 0
 PassedIs c w earlier =
     (later : List Entry) → has_inner_commit c earlier ≡ true → PassedAt c w earlier later
 
--- an entry of the caller without effects that is no commit
+-- an entry of the caller without effects that isn't a commit
 passed_quiet : (c w : ℕ) (kind : Kind) (earlier later : List Entry) → is_lone_commit kind ≡ false
     → effects_at earlier c kind later ≡ [] → has_inner_commit c earlier ≡ true
     → PassedIs c w earlier → PassedAt c w (entry c kind ∷ earlier) later

@@ -20,8 +20,8 @@ pub record Kept : Type 0 where
   pub stamps : List ℕ
 
 -- What is kept stands for these entries, given the newest first, and each of them keeps the rules.
--- Each caller's phase is its own, and a caller holds a word exactly where its open block has
--- written it, which is one caller at most. Stamps stand in the order of the log.
+-- Each caller's phase is its own, and a caller holds a word exactly when its open block has written
+-- it, which is one caller at most. Stamps stand in the order of the log.
 pub record HasFollowed (kept : Kept) (earlier : List Entry) : Type 0 where
   pub rules : WellFormed kept.header earlier
   pub phases : (c : ℕ) → c < kept.header.callers → slice_get kept.phases c ≡ Some (phase_of c earlier)

@@ -14,7 +14,7 @@ abbrev pub has_write : ℕ → List (ℕ × ℕ) → Bool
 has_write w writes = list_any (λ write. write.0 == w) writes
 
 -- Where in the log a write to the word last took effect: how many entries there are up to that one,
--- and 0 where none did. Entries before a place are given the newest first, and those after it the
+-- and 0 if none did. Entries before a place are given the newest first, and those after it the
 -- oldest first.
 abbrev pub last_effect : ℕ → List Entry → List Entry → ℕ
 last_effect w [] later = 0
@@ -61,7 +61,7 @@ pub record AreOrdered (h : Header) (at : CommitStamps) (stamps : List ℕ) (earl
   pub given : AreGiven at.by_caller at.next
   pub past : (w : ℕ) → w < length stamps → slice_index stamps w ≤ at.next
 
--- the same order, among commits and between commits and words, where the stamps may be others
+-- the same order, among commits and between commits and words; the stamps may be others
 pub record SameOrder (old : CommitStamps) (stamps : List ℕ) (new : CommitStamps) (stamps' : List ℕ)
     : Type 0 where
   pub callers : length new.by_caller ≡ length old.by_caller

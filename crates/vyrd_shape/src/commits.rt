@@ -13,7 +13,7 @@ use std::marker::Model;
 pub(crate) struct Commits {
     /// By caller.
     by_caller: Vec<u64>,
-    /// By caller, what is copied here while the stamps are numbered anew.
+    /// By caller, what is copied here while the stamps are renumbered.
     before: Vec<u64>,
     /// The next stamp, which is greater than that of any commit.
     next: u64,
@@ -60,8 +60,8 @@ impl Commits {
         self.next
     }
 
-    /// The caller commits inside its block. It takes constant time, but for one call in 2^64, or fewer: where the next stamp is
-    /// the greatest, all are numbered anew in their order.
+    /// The caller commits inside its block. It takes constant time, except for one call in 2^64, or
+    /// fewer: if the next stamp is the greatest, all are numbered again in their order.
     pub fn add(&mut self, caller: u32, stamps: &mut Stamps)
         requires { caller < length self.old.by_caller }
         ensures { IsAdded caller self.old stamps.old self.new stamps.new }

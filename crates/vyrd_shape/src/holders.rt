@@ -12,11 +12,11 @@ use vyrd_base::{Entry, Kind};
 /// The holder of each word, with the words of one holder linked, so that letting go of them looks at no others.
 #[derive(Drop)]
 pub(crate) struct Holders {
-    /// By word: the holder's number plus 1, and 0 where there is none.
+    /// By word: the holder's number plus 1, and 0 if there is none.
     by_word: Vec<u32>,
-    /// By held word: the word that its holder wrote before it, plus 1, and 0 where there is none.
+    /// By held word: the word that its holder wrote before it, plus 1, and 0 if there is none.
     links: Vec<u32>,
-    /// By caller: the word that it holds since the shortest time, plus 1, and 0 where there is none.
+    /// By caller: the word that it holds since the shortest time, plus 1, and 0 if there is none.
     firsts: Vec<u32>,
 }
 

@@ -46,7 +46,7 @@ pub struct Shape {
     phases: Vec<Phase>,
     holders: Holders,
     commits: Commits,
-    /// Of no word in version 1, where no block has a lone commit inside it.
+    /// Of no word in version 1, in which no block has a lone commit inside it.
     stamps: Stamps,
 }
 
@@ -204,8 +204,8 @@ impl Shape {
         self.phases[place] = phase.after(entry.kind);
     }
 
-    /// When the writes take effect that do so once an entry of the caller, whose phase this is, stands: at the lone commit inside
-    /// its block, and where there is none at that entry.
+    /// When the writes take effect that do so once an entry of the caller, whose phase this is,
+    /// stands: at the lone commit inside its block, and if there is none, at that entry.
     #[inline(always)]
     fn effect_stamp(&self, phase: Phase, caller: u32) -> u64
         requires { caller < self.now.header.callers }

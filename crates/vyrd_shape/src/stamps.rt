@@ -6,11 +6,11 @@ ghost use Rattle.vyrd_shape.specs.Stamps.{rank, AreRanked};
 use std::alloc::{AllocError, Global};
 use std::marker::Model;
 
-/// For each word a stamp of when a write to it last took effect, and 0 where none did. `Commits` gives
+/// For each word a stamp of when a write to it last took effect, and 0 if none did. `Commits` gives
 /// the stamps.
 #[derive(Drop)]
 pub(crate) struct Stamps {
-    /// By word, and of no word where stamps aren't needed.
+    /// By word, and of no word if stamps aren't needed.
     by_word: Vec<u64>,
 }
 

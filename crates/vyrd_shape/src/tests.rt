@@ -139,7 +139,7 @@ fn words_are_passed(rt: HostRuntime) -> Result<(), Fail> {
             ],
             None,
         ),
-        // the block's end is no second commit
+        // the block's end isn't a second commit
         (
             &[
                 of(0, INSERT),

@@ -22,7 +22,7 @@ pub left_in_use : (last : ℕ) (words : List ℕ) (q : ℕ) (o : Option ℕ) →
 left_in_use last words q None e = tt
 left_in_use last words q (Some m) e = omega (arith, (found_below (leads_to words q) (last + 1) m (sym e)).1)
 
--- where at most one link leads to each node, the link of a node decides
+-- if at most one link leads to each node, the link of a node decides
 pub linked_is : (last : ℕ) (words : List ℕ) (n : ℕ) → have_one_left last words ≡ true → n ≤ last
     → is_linked last words n ≡ (right_of words n == 0 || nat_le (right_of words n) last && level_of words (right_of words n) == level_of words n)
 linked_is last words n one low =

@@ -169,7 +169,7 @@ counted_one p n m here is = omega (arith, is, count-push p n, ap (λ b. cond {A 
 pub counted_none : (p : ℕ → Bool) (n m : ℕ) → p n ≡ false → m ≡ count_by p (numbers_below n) → m ≡ count_by p (numbers_below (n + 1))
 counted_none p n m here is = omega (arith, is, count-push p n, ap (λ b. cond {A = ℕ} b 1 0) here)
 
--- where at most one passes, each that passes is the one that is found
+-- if at most one passes, each that passes is the one that is found
 pub only_found : (p : ℕ → Bool) (m n : ℕ) → count_by p (numbers_below m) ≤ 1 → n < m → p n ≡ true → find p (numbers_below m) ≡ Some n
 only_found p zero n one low here = absurd (omega (arith, low))
 only_found p (suc m) n one low here =

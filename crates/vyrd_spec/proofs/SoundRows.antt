@@ -36,7 +36,7 @@ shown_more p f row new i value some all more =
     ∙ ap (λ x. map f (numbers_below i) ++ x ∷ []) (sym (some_then (p i) (f i) value some).1)
     ∙ sym (map-push f i)
 
--- the row, where there is one
+-- the row, if there is one
 pub sound_where : (p : ℕ → Bool) (f : ℕ → ℕ) (n : ℕ) (row : List ℕ) → sound_row p f n ≡ Some row → list_all p (numbers_below n) ≡ true
 sound_where p f n row some = (some_then (list_all p (numbers_below n)) (map f (numbers_below n)) row some).0
 

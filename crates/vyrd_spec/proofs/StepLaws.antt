@@ -96,7 +96,7 @@ AllAmounts-with_amount passes s k a all new =
         let kept : n ≡ amount_of s q = is ∙ ap (λ b. cond b a (amount_of s q)) e in
         subst (λ m. passes q m) (sym kept) (all q (λ z. some (kept ∙ z)))
 
--- values below 2^63, of each at most so many
+-- values below 2^63, each at most this often
 abbrev pub AreCounts : ℕ → Amounts → Type 0
 AreCounts most s = AllAmounts (λ value count. (value < 2 ^ 63) × (count ≤ most)) s
 

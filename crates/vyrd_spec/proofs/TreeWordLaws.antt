@@ -60,7 +60,7 @@ each_sound last words highest n all low =
 one_link : (last : ℕ) (words : List ℕ) (n : ℕ) → IsSoundNode last words n → nat_le (count_by (leads_to words n) (nodes last)) 1 ≡ true
 one_link last words n node = first_true (nat_le (count_by (leads_to words n) (nodes last)) 1) _ node.linked
 
--- two links that lead to one node are no tree's
+-- two links that lead to one node aren't a tree's
 pub two_links : (size : ℕ) (words : List ℕ) → last_of size words < size → root_of size words ≤ last_of size words
     → have_one_left (last_of size words) words ≡ false → false ≡ is_tree size words
 two_links size words low within twice = sym (tree_is size words low within ∙ by_all all refl)

@@ -7,7 +7,8 @@ use Rattle.vyrd_base.specs.Amounts.{Amounts, amount_of}
 abbrev pub AllAmounts : (ℕ → ℕ → Type 0) → Amounts → Type 0
 AllAmounts passes amounts = (key : ℕ) → amount_of amounts key ≢ 0 → passes key (amount_of amounts key)
 
--- A multiset that begins with a value in each slot has each value at most this often after so many steps, for a step adds two.
+-- A multiset that begins with a value in each slot has each value at most this often after that
+-- many steps, since a step adds two at most.
 abbrev pub most_after : ℕ → ℕ
 most_after made = 2 * made + 4096
 

@@ -11,6 +11,6 @@ have_one_left last words = list_all (λ n. nat_le (count_by (leads_to words n) (
 abbrev pub has_left : List (Option ℕ) → ℕ → Bool
 has_left lefts right = not (right == 0) && is_some (get_or lefts right None)
 
--- the left neighbours, once a node with this right link is one, where that leads to a node in use
+-- the left neighbours, once a node with this right link is one, if that leads to a node in use
 abbrev pub with_left : List (Option ℕ) → ℕ → ℕ → List (Option ℕ)
 with_left lefts right node = if right == 0 || nat_le (length lefts) right then lefts else slice_set lefts right (Some node)

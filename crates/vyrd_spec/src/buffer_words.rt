@@ -1,5 +1,5 @@
-//! The texts that the words of string buffers show, where they stand for a state. A buffer has eight words: the count of its
-//! characters, and room for 7 of these.
+//! The texts that the words of string buffers show, if they stand for a state. A buffer has eight
+//! words: the count of its characters, and room for 7 of these.
 
 ghost use Rattle.std.specs.Prelude.{◌≡◌, ◌*◌, length, IfOk, MatchOption, Some, None};
 ghost use Rattle.vyrd_spec.specs.Texts.{sound_texts};
@@ -7,7 +7,7 @@ ghost use Rattle.vyrd_spec.specs.Texts.{sound_texts};
 use std::alloc::{AllocError, Global};
 use vyrd_base::buffer_text;
 
-/// The text of each buffer, and `None` where the words stand for no state.
+/// The text of each buffer, and `None` if the words stand for no state.
 pub(crate) fn texts_of(
     alloc: Global,
     size: usize,

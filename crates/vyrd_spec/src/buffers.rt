@@ -94,8 +94,8 @@ impl Spec for BufferSpec {
     }
 }
 
-/// Changes the texts by a mutator's call with its reply, and says whether the reply is allowed: 1 where the call can do its work,
-/// and 0 where it can't.
+/// Changes the texts by a mutator's call with its reply, and says whether the reply is allowed: 1
+/// if the call can do its work, and 0 if it can't.
 fn next(texts: &mut Vec<u64>, method: Method, args: Args, reply: u64) -> bool
     requires subject { subject_of method ≡ Buffers }
     requires mutator { is_observer method ≡ false }
@@ -119,7 +119,8 @@ fn next(texts: &mut Vec<u64>, method: Method, args: Args, reply: u64) -> bool
     }
 }
 
-/// The text of the call's buffer once a mutator's call has done its work, and `None` where the buffer hasn't room for it.
+/// The text of the call's buffer once a mutator's call has done its work, and `None` if the buffer
+/// has no room for it.
 fn next_text(texts: &[u64], method: Method, args: Args) -> Option<u64>
     requires { AreTexts (row_amounts texts.now) }
     ensures { result ≡ next_text method args (row_amounts texts.now) }

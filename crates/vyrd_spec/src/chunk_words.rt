@@ -1,5 +1,5 @@
-//! The chunks of a cache's words: the pairs that they show, where they stand for a state. A chunk has five words: its state, and
-//! the low and the high half of the cached and of the stored pair.
+//! The chunks of a cache's words: the pairs that they show, if they stand for a state. A chunk has
+//! five words: its state, and the low and the high half of the cached and of the stored pair.
 
 ghost use Rattle.std.specs.Prelude.{◌≡◌, ◌*◌, ◌+◌, ◌<◌, ◌^◌, ◌&&◌, nat_lt, length, IfOk, MatchOption};
 ghost use Rattle.std.specs.Bool.{then_some};
@@ -21,7 +21,7 @@ const DIRTY: u64 = 2;
 /// What the halves of a pair are below.
 const HALF_END: u64 = 1 << 32;
 
-/// The pair of each chunk, and `None` where the words stand for no state.
+/// The pair of each chunk, and `None` if the words stand for no state.
 pub(crate) fn pairs_of(
     alloc: Global,
     size: usize,
@@ -40,8 +40,8 @@ pub(crate) fn pairs_of(
     Ok(Some(pairs))
 }
 
-/// The pair of one chunk, and `None` where its words stand for no state: its state or a half is out of range, or it is clean
-/// and its pairs differ.
+/// The pair of one chunk, and `None` if its words stand for no state: its state or a half is out of
+/// range, or it is clean and its pairs differ.
 fn pair_at(words: &[u64], chunk: usize) -> Option<u64>
     requires { 5 * chunk + 4 < length words.now }
     ensures { result ≡ then_some (is_sound_chunk (chunk_at words.now chunk)) (shown_pair (chunk_at words.now chunk)) }
@@ -57,7 +57,7 @@ fn pair_at(words: &[u64], chunk: usize) -> Option<u64>
     }
 }
 
-/// The halves as one number, and `None` where one of them isn't below 2^32.
+/// The halves as one number, and `None` if one of them isn't below 2^32.
 fn pair_of_halves(lo: u64, hi: u64) -> Option<u64>
     ensures { result ≡ then_some (nat_lt lo (2 ^ 32) && nat_lt hi (2 ^ 32)) (pair_amount lo hi) }
 {

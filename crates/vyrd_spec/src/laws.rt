@@ -25,7 +25,8 @@ pub fn zeroed_words_are_the_start()
     ensures { (h : Header) → state_of_words h (replicate (plain_words h + lock_words h) 0) ≡ Some start }
 {}
 
-/// Each key that a call touches is changed by some step with that call, so that no key is named in vain.
+/// Each key that a call touches is changed by some step with that call, so that no key is named
+/// needlessly.
 #[tactic(auto, using(crate::proofs::ChangeLaws::touched_changes))]
 pub fn touched_keys_can_change()
     ensures { (method : Method) (args : Args) (key : ℕ) → is_touched (touched_by method args) key ≡ true → CanChange method args key }

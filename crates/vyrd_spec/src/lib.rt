@@ -1,7 +1,8 @@
 //! The four specifications: what a call with its reply may do to a state, and what an observer answers in it.
 //!
-//! The central type is the trait `Spec`. A step answers `true` exactly where the table of next states allows the reply,
-//! and the state is then the table's; after `false`, and after want of memory, it is as it was.
+//! The central type is the trait `Spec`. A step answers `true` exactly when the table of next
+//! states allows the reply, and the state is then the table's; after `false`, and when memory runs
+//! out, it is as it was.
 #![tactic(auto)]
 
 mod buffer_words;

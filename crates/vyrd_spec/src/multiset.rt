@@ -156,7 +156,7 @@ fn insert_pair(
     }
 }
 
-/// One more of each of two values. Where there is memory for the first alone, it is taken out again.
+/// One more of each of two values. If there is memory for the first alone, it is taken out again.
 fn add_both(counts: &mut AmountTable, first: u64, second: u64) -> Result<(), AllocError>
     requires few { (value : ℕ) → amount_of counts.old value + 2 < 2 ^ 64 }
     ensures ok { OnOk result (counts.new ≡ plus_amount (plus_amount counts.old first 1) second 1) }

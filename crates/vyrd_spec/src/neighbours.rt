@@ -7,7 +7,7 @@ ghost use Rattle.vyrd_spec.specs.Neighbours.{have_one_left, has_left, with_left}
 use crate::nodes::{NODE_WORDS, RIGHT};
 use std::alloc::{AllocError, Global};
 
-/// The left neighbour of each node in use, and `None` where two right links lead to one node.
+/// The left neighbour of each node in use, and `None` if two right links lead to one node.
 pub(crate) fn left_neighbours(
     alloc: Global,
     words: &[u64],
@@ -28,14 +28,15 @@ pub(crate) fn left_neighbours(
     Ok(Some(lefts))
 }
 
-/// So many nodes, none of which has a left neighbour.
+/// That many nodes, none of which has a left neighbour.
 fn no_lefts(alloc: Global, count: usize) -> Result<Vec<Option<usize>>, AllocError>
     ensures { IfOk result (λ lefts. lefts.items ≡ replicate count None) }
 {
     vec![in alloc; None; count]
 }
 
-/// The node is now the left neighbour of the node on its right, where that is in use. `false` says that it has another one.
+/// The node is now the left neighbour of the node on its right, if that is in use. `false` says
+/// that it has another one.
 fn put_left(lefts: &mut Vec<Option<usize>>, right: u64, node: usize) -> bool
     ensures free { result ≡ not (has_left lefts.old.items right) }
     ensures put { result ≡ true → lefts.new.items ≡ with_left lefts.old.items right node }

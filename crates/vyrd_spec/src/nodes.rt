@@ -19,10 +19,10 @@ const LEVEL: usize = 0;
 /// Where a node has the count of its entries.
 pub(crate) const COUNT: usize = 1;
 
-/// Where a node has its high key plus 1, or 0 where it has none.
+/// Where a node has its high key plus 1, or 0 if it has none.
 const BOUND: usize = 2;
 
-/// Where a node has the node on its right, or 0 where there is none.
+/// Where a node has the node on its right, or 0 if there is none.
 pub(crate) const RIGHT: usize = 3;
 
 /// Where a node has its keys.
@@ -50,7 +50,7 @@ pub(crate) struct Nodes<'w> {
 }
 
 impl<'w> Nodes<'w> {
-    /// The nodes with their left neighbours, and `None` where two right links lead to one node.
+    /// The nodes with their left neighbours, and `None` if two right links lead to one node.
     pub(crate) fn new(
         alloc: Global,
         words: &'w [u64],
@@ -142,7 +142,7 @@ impl<'w> Nodes<'w> {
         right == 0 || (right <= self.last as u64 && self.level(right as usize) == self.level(node))
     }
 
-    /// Whether the bound is 0 just at a chain's end, and else above the low.
+    /// Whether the bound is 0 exactly at a chain's end, and otherwise above the low.
     fn is_bounded(&self, node: usize) -> bool
         requires { node ≤ self.now.last }
         ensures { result ≡ is_bounded self.now.last self.now.words.now node }
@@ -242,7 +242,7 @@ impl<'w> Nodes<'w> {
             && self.low(child as usize) == key
     }
 
-    /// Whether just one node of this node's level is the first of a chain.
+    /// Whether exactly one node of this node's level is the first of a chain.
     fn is_only_first(&self, node: usize) -> bool
         requires { node ≤ self.now.last }
         ensures { result ≡ is_only_first self.now.last self.now.words.now node }

@@ -39,10 +39,11 @@ pub trait Spec: Sized + Drop {
         ensures header { IfOk result (λ s. header_of s ≡ header) }
         ensures made { IfOk result (λ s. made s ≡ 0) };
 
-    /// The state for which these words stand where all locks are 0, and `None` where they stand for none. The words are the
-    /// plain words of the header, each below 2^63, and the header names the subject of the type. `start` is the case of zeroed
-    /// words: the law `zeroed_words_are_the_start`. Time and memory are in proportion to the words, but that a tree takes time
-    /// in proportion to the square of its nodes in use.
+    /// The state for which these words stand when all locks are 0, and `None` if they stand for
+    /// none. The words are the plain words of the header, each below 2^63, and the header names the
+    /// subject of the type. `start` is the case of zeroed words: the law
+    /// `zeroed_words_are_the_start`. Time and memory are in proportion to the words, except that a
+    /// tree takes time in proportion to the square of its nodes in use.
     fn start_from(alloc: Global, header: Header, words: &[u64]) -> Result<Option<Self>, AllocError>
         requires subject { header.subject ≡ subject }
         requires count { length words.now ≡ plain_words header }
@@ -52,9 +53,10 @@ pub trait Spec: Sized + Drop {
         ensures header { IfOk result (λ found. IfSome found (λ s. header_of s ≡ header)) }
         ensures made { IfOk result (λ found. IfSome found (λ s. made s ≡ 0)) };
 
-    /// Makes a step with a mutator's call and its reply. `false` says that the reply isn't allowed in this state.
-    /// After `false`, and after want of memory, all is as it was. It costs constant time, and the logarithm of the
-    /// number of keys where these share their places in a table.
+    /// Makes a step with a mutator's call and its reply. `false` says that the reply isn't allowed
+    /// in this state. After `false`, and when memory runs out, all is as it was. It costs constant
+    /// time, and time in the logarithm of the number of keys if these share their places in a
+    /// table.
     fn step(&mut self, method: Method, args: Args, reply: u64) -> Result<bool, AllocError>
         requires subject { subject_of method ≡ subject }
         requires args { are_args (header_of self.old).size method args ≡ true }
@@ -74,7 +76,7 @@ pub trait Spec: Sized + Drop {
         requires observer { is_observer method ≡ true }
         ensures { result ≡ answer_in (state self.now) method args };
 
-    /// The amount of a key, 0 where the key isn't there.
+    /// The amount of a key, 0 if the key isn't there.
     fn amount(&self, key: u64) -> u64
         ensures { result ≡ amount_of (state self.now) key };
 

@@ -120,7 +120,7 @@ fn are_words(words: &[u64]) -> bool
     true
 }
 
-/// What the state shows for which the words stand, where they stand for one.
+/// What the state shows for which the words stand, if they stand for one.
 fn started<S: Spec>(alloc: Global, header: Header, words: &[u64]) -> Result<Option<View>, Fail>
     requires { header.subject ≡ S.subject }
 {
@@ -161,7 +161,7 @@ fn whole_chunks_are_a_start(rt: HostRuntime) -> Result<(), Fail> {
 /// is 1 + 256 + .. + 256^5 = 1103823438081.
 const TWO_BUFFERS: [u64; 16] = [2, 65, 66, 255, 300, 0, 0, 0, 6, 0, 0, 0, 0, 0, 0, 9];
 
-/// What a call with its reply leaves of these two buffers, where the reply is allowed.
+/// What a call with its reply leaves of these two buffers, if the reply is allowed.
 fn left_by(alloc: Global, method: Method, args: Args, reply: u64) -> Result<Option<View>, Fail>
     requires subject { subject_of method ≡ Buffers }
     requires args { are_args 2 method args ≡ true }

@@ -31,7 +31,7 @@ pub(crate) fn text_length(text: u64) -> u32
     length
 }
 
-/// A text with another one behind it, and `None` where a buffer has no room for both.
+/// A text with another one after it, and `None` if a buffer has no room for both.
 pub(crate) fn joined(text: u64, more: u64) -> Option<u64>
     requires text { text < 256 ^ 7 }
     requires more { more < 256 ^ 7 }
@@ -45,7 +45,7 @@ pub(crate) fn joined(text: u64, more: u64) -> Option<u64>
     }
 }
 
-/// The first n characters of a text, or all where it has no more.
+/// The first n characters of a text, or all if it has no more.
 pub(crate) fn cut_to(n: u32, text: u64) -> u64
     ensures { result ≡ cut_to n text }
 {

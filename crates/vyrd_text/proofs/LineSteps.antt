@@ -22,7 +22,7 @@ use Rattle.vyrd_text.specs.Steps.{with_line, IsLineTaken}
 use Rattle.vyrd_text.proofs.AheadLaws.{parted, parts_of, one_start_more}
 use Rattle.vyrd_text.proofs.ReaderLaws.{fault_found, step}
 
--- where nothing is wrong yet, lines are read on
+-- if nothing is wrong yet, lines are read on
 pub fine_on : (r : LineState) (input : Input) (lines : List (List ℕ)) → r.fault ≡ None
     → unless_faulty r input lines r.fault ≡ lines_on input r.line r.header r.starting r.last r.ended lines
 fine_on r input lines fine = ap (unless_faulty r input lines) fine
@@ -62,7 +62,7 @@ module _ (input : Input) (h : Header) (n : ℕ) (line more : List ℕ) (lack : l
       ∙ ap (λ ps. cond (nat_lt input.max_lines n) (stopped n (Some TooManyLines))
       (start_before n (start_rule h last s) s (starts_read input h (Some s) (n + 1) ps))) (sym p.2)
 
-  -- where no starting word comes, it is an entry's line
+  -- if no starting word comes, it is an entry's line
   plain_step : (starting : Bool) (last : Option StartWord) → cond starting (start_in line) None ≡ None
       → body_on input h starting last n (parted (line ++ 10 ∷ more)) ≡ lines_read input h.subject n (parted (line ++ 10 ∷ more))
   plain_step true last none = no_start_step last none

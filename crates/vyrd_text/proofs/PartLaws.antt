@@ -30,7 +30,7 @@ one_before_space m n r s low small e =
     let tails : 32 ∷ r ≡ 32 ∷ s = append_cancel_left (decimal m) (32 ∷ r) (32 ∷ s) (e ∙ ap (λ t. t ++ 32 ∷ s) (sym same)) in
     (decimal_injective m n low small same, cc)
 
--- a word before a space that no value follows is no write
+-- a word before a space that no value follows isn't a write
 pub no_value : (text : List ℕ) (w : ℕ) (r : List ℕ) → w < 2 ^ 64 → text ≡ decimal w ++ 32 ∷ r → ((n : ℕ) → n < 2 ^ 64 → r ≡ decimal n → ⊥)
     → (subject : Subject) → IsKindRead subject (codes "write " ++ text) None
 no_value text w r low e none subject (Write word value) ok f =
@@ -118,7 +118,7 @@ entry_line_is caller BlockOpen = refl
 entry_line_is caller BlockClose = refl
 entry_line_is caller BlockCommit = refl
 
--- a line that is no entry's
+-- a line that isn't an entry's
 pub no_entry : (subject : Subject) (line : List ℕ) → ((e : Entry) → is_entry_of subject e ≡ true → line ≡ entry_line e → ⊥)
     → None ≡ entry_in subject line
 no_entry subject line none = by_answer (entry_in subject line) refl

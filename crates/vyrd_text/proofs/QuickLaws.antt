@@ -75,7 +75,7 @@ one_more subject text before middle after rest more count e are is grown = recor
 pub none_yet : (subject : Subject) (text : List ℕ) (before : List Entry) → AreEntriesAtFront subject text before before text 0
 none_yet subject text before = record { found = []; grown = sym (append-nil before); counted = refl; spelled = refl; of_subject = refl }
 
--- digits that were read by words, so few that their value didn't wrap
+-- digits that were read by words, few enough that their value didn't wrap
 module _ (text : List ℕ) (value end : ℕ) (counted : end ≡ 0 + digits_len (drop 0 text)) (few : end ≤ 19)
     (is : value ≡ (0 * 10 ^ (end - 0) + digits_value 10 (slice_range text 0 end)) % 2 ^ 64) where
   pub read_all : AllDigits 10 (take end text)

@@ -9,7 +9,7 @@ use Rattle.vyrd_base.proofs.LineLaws.{is_start, start_in-start_line, start_in_so
 use Rattle.vyrd_base.proofs.TestLaws.{both_true, first_true, second_true, below_of, is_below}
 use Rattle.vyrd_text.proofs.PartLaws.{one_before_space}
 
--- a line that is no starting word's
+-- a line that isn't a starting word's
 no_start : (line : List ℕ) → ((s : StartWord) → is_start s ≡ true → line ≡ start_line s → ⊥) → None ≡ start_in line
 no_start line none = by_answer (start_in line) refl
   where

@@ -5,13 +5,13 @@ use Rattle.vyrd_base.specs.Reading as reading
 use Rattle.vyrd_text.specs.declared.fault.TextFault.{TextFault}
 use Rattle.vyrd_text.specs.declared.fault.TextFault.TheVariants.{Malformed, Memory}
 
--- `Ok` where there is no fault of text, and else that fault
+-- `Ok` if there is no fault of text, and otherwise that fault
 abbrev pub IsAnswer : Result (Unit {0}) TextFault → Option reading.TextFault → Type 0
 IsAnswer (Ok x) fault = fault ≡ None
 IsAnswer (Err (Malformed line rule)) fault = fault ≡ Some (record { line = line; rule = rule })
 IsAnswer (Err Memory) fault = ⊥
 
--- the fact holds, unless memory was wanting
+-- the fact holds, unless memory ran out
 abbrev pub UnlessMemory : Result (Unit {0}) TextFault → Type 0 → Type 0
 UnlessMemory (Ok x) P = P
 UnlessMemory (Err (Malformed line rule)) P = P

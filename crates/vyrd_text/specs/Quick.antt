@@ -31,8 +31,8 @@ abbrev pub entries_text : List Entry → List ℕ
 entries_text [] = []
 entries_text (e ∷ es) = entry_line e ++ 10 ∷ entries_text es
 
--- So many entries of the subject stand at the front of the text, each with its line feed, and after them the rest; they were
--- appended to a list.
+-- That many entries of the subject stand at the front of the text, each with its line feed, and
+-- after them the rest; they were appended to a list.
 pub record AreEntriesAtFront (subject : Subject) (text : List ℕ) (before after : List Entry) (rest : List ℕ) (count : ℕ) : Type 0 where
   pub found : List Entry
   pub grown : after ≡ before ++ found

@@ -88,7 +88,7 @@ lines_on input n (Some h) starting last false lines =
 abbrev pub known : LineState → Option TextFault → Reading
 known r fault = record { header = r.header; starting = []; entries = []; ended = r.ended; fault = fault }
 
--- where a fault stands, nothing more is read
+-- once a fault stands, nothing more is read
 abbrev pub unless_faulty : LineState → Input → List (List ℕ) → Option TextFault → Reading
 unless_faulty r input lines None = lines_on input r.line r.header r.starting r.last r.ended lines
 unless_faulty r input lines (Some fault) = known r (Some fault)

@@ -60,7 +60,7 @@ pub record IsSteady (r : LineState) : Type 0 where
   pub one_line : is_one_line r.unfinished ≡ true
   pub first : r.header ≡ None → (r.line ≡ 1) × (r.ended ≡ false) × (r.last ≡ None)
 
--- the rule that the reader's line breaks with so many further bytes, none of them a line feed
+-- the rule that the reader's line breaks with that many further bytes, none of them a line feed
 abbrev pub IsRuleOfRest : LineState → ℕ → Option Rule → Type 0
 IsRuleOfRest r more rule = (bytes : List ℕ) → length bytes ≡ more → is_one_line bytes ≡ true
     → goes_on r false bytes ≡ known r (fault_on r.line rule)

@@ -11,8 +11,8 @@ use crate::line::after;
 use crate::number::{read_u32, read_u32_and_space};
 use vyrd_base::{Header, Rule, Subject};
 
-/// The header that the bytes spell, without the line feed. `UnknownVersion` where they spell one of another version,
-/// `BadHeader` where they spell none. It takes no memory.
+/// The header that the bytes spell, without the line feed. `UnknownVersion` if they spell one of
+/// another version, `BadHeader` if they spell none. It takes no memory.
 pub fn read_header(line: &[u8]) -> Result<Header, Rule>
     ensures { result ≡ header_in line.now }
 {

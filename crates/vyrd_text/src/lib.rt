@@ -2,7 +2,7 @@
 //!
 //! The central type is `LogReader`. Whatever pieces a text comes in, the reader appends the entries
 //! that the definition of reading finds in the bytes so far, in their order, keeps the starting
-//! words that it finds, and answers the first fault of text exactly where that definition has one.
+//! words that it finds, and answers the first fault of text exactly when that definition has one.
 //! It takes no memory but room for starting words and entries, keeps at most one unfinished line,
 //! and reads a line that lies whole in a piece where it lies.
 //!

@@ -11,7 +11,8 @@ ghost use Rattle.vyrd_text.specs.Spelled.{AreArgsRead, IsCallRead, IsKindRead};
 use crate::number::{read_u32, read_u32_and_space, read_u64};
 use vyrd_base::{Args, Entry, Kind, Method, Subject};
 
-/// The entry of the subject that the bytes spell, without the line feed. None exactly where they spell none.
+/// The entry of the subject that the bytes spell, without the line feed. `None` exactly when they
+/// spell none.
 ///
 /// It looks at each byte a few times at most, and takes no memory.
 pub fn read_line(subject: Subject, line: &[u8]) -> Option<Entry>
@@ -75,8 +76,8 @@ fn read_called(subject: Subject, text: &[u8]) -> Option<Kind>
     Some(Kind::Call(method, args))
 }
 
-/// The method of the subject and its arguments that the whole text spells: the method's name, and each argument after a
-/// space. None exactly where it spells none.
+/// The method of the subject and its arguments that the whole text spells: the method's name, and
+/// each argument after a space. `None` exactly when it spells none.
 pub fn read_call(subject: Subject, text: &[u8]) -> Option<(Method, Args)>
     ensures { IsCallRead subject text.now result }
 {
@@ -222,7 +223,7 @@ fn read_three(text: &[u8]) -> Option<Args>
     Some(Args { a, b, c })
 }
 
-/// What stands after the word, where the text begins with it.
+/// What stands after the word, if the text begins with it.
 pub fn after<'a>(text: &'a [u8], word: &[u8]) -> Option<&'a [u8]>
     ensures { MatchOption result ((rest : List ℕ) → text.now ≡ word.now ++ rest → ⊥) (λ rest. text.now ≡ word.now ++ rest.now) }
 {

@@ -137,7 +137,7 @@ impl LineReader {
         self.ended
     }
 
-    /// How many starting words the piece can bring at most: none but where they may still come, and
+    /// How many starting words the piece can bring at most: none unless they may still come, and
     /// then no more than lines at its front look like them.
     pub(crate) fn most_starts(&self, piece: &[u8]) -> usize
         ensures { starts_ahead self.now piece.now ≤ result }
@@ -267,7 +267,7 @@ impl LineReader {
         }
     }
 
-    /// The starting word that the line spells, where one may come.
+    /// The starting word that the line spells, if one may come.
     fn start_word(&self, line: &[u8]) -> Option<StartWord>
         ensures { result ≡ (if self.now.starting then start_in line.now else None) }
     {

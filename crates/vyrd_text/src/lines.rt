@@ -5,7 +5,7 @@ ghost use Rattle.vyrd_text.specs.Steps.{is_one_line};
 
 use memchr::memchr;
 
-/// The bytes before the first line feed, and those after it. None where there is no line feed.
+/// The bytes before the first line feed, and those after it. `None` if there is no line feed.
 pub fn split_line(text: &[u8]) -> Option<(&[u8], &[u8])>
     ensures { MatchOption result (is_one_line text.now ≡ true) (λ r. (is_one_line r.0.now ≡ true) × (text.now ≡ r.0.now ++ 10 ∷ r.1.now)) }
 {
@@ -13,7 +13,8 @@ pub fn split_line(text: &[u8]) -> Option<(&[u8], &[u8])>
     Some((&text[..at], &text[at + 1..]))
 }
 
-/// How many bytes are counted at once. So few that their count fits a byte, and a multiple of any vector's length.
+/// How many bytes are counted at once: few enough that their count fits a byte, and a multiple of
+/// any vector's length.
 const BLOCK: usize = 128;
 
 /// How many line feeds there are.

@@ -3,8 +3,8 @@
 ghost use Rattle.std.specs.Prelude.{◌≡◌, ◌<◌, ℕ, List, ◌∷◌, ◌++◌, ◌^◌, decimal, MatchOption};
 ghost use Rattle.vyrd_text.specs.Fields.{IsDigitField, HasNoDigitField, IsNumberField, HasNoNumberField};
 
-/// The value of the digits before the first space, and how many they are. None where a byte before it is no digit, or
-/// where the value is 2^64 or more.
+/// The value of the digits before the first space, and how many they are. `None` if a byte before
+/// it isn't a digit, or if the value is 2^64 or more.
 fn digits(text: &[u8]) -> Option<(u64, usize)>
     ensures { MatchOption result (HasNoDigitField text.now) (λ r. IsDigitField text.now r.0 r.1) }
 {
@@ -21,7 +21,8 @@ fn digits(text: &[u8]) -> Option<(u64, usize)>
     Some((value, text.len()))
 }
 
-/// The number before the first space, and how many bytes it has. None where those bytes spell no number below 2^64.
+/// The number before the first space, and how many bytes it has. `None` if those bytes spell no
+/// number below 2^64.
 fn number_field(text: &[u8]) -> Option<(u64, usize)>
     ensures { MatchOption result (HasNoNumberField text.now) (λ r. IsNumberField text.now r.0 r.1) }
 {

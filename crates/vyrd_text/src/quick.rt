@@ -1,7 +1,7 @@
 //! Entries that lie whole at the front of a text, each with its line feed: read where they lie, in one scan.
 //!
-//! What is no such entry is left where it is, for the reader of lines, which knows the rules. So nothing here says why a text
-//! is refused: every `None` means only that these bytes were not read.
+//! What isn't such an entry is left where it is, for the reader of lines, which knows the rules. So
+//! nothing here says why a text is refused: every `None` means only that these bytes were not read.
 
 ghost use Rattle.std.specs.Prelude.{◌≡◌, ◌+◌, ◌<◌, ◌≤◌, ◌==◌, ◌∷◌, ◌++◌, true, decimal, count_by, vec_len, vec_capacity, IfSome};
 ghost use Rattle.vyrd_base.specs.declared.subject.Subject.{Subject};
@@ -12,7 +12,7 @@ ghost use Rattle.vyrd_text.specs.Quick.{IsFrontNumber, IsEntryAtFront, IsKindAtF
 use core::dec2flt::read_digits;
 use vyrd_base::{Args, Entry, Kind, Method, Subject};
 
-/// So many digits at most have a value below 2^64, whatever they are.
+/// The most digits whose value is below 2^64 whatever they are.
 const FEW_DIGITS: usize = 19;
 
 /// A value below this one can take a further digit and stays below 2^64.
@@ -36,7 +36,8 @@ fn front_number(text: &[u8]) -> Option<(u64, usize)>
     Some((value, end))
 }
 
-/// The same, digit by digit: faster where the count of digits is small and mostly the same, so that the processor foresees it.
+/// The same, digit by digit: faster if the count of digits is small and mostly the same, so that
+/// the processor predicts it.
 #[inline(always)]
 fn few_digits(text: &[u8]) -> Option<(u64, usize)>
     ensures { IfSome result (λ r. IsFrontNumber text.now r.0 r.1) }
@@ -185,7 +186,7 @@ fn read_called(subject: Subject, text: &[u8]) -> Option<(Kind, &[u8])>
     Some((Kind::Call(method, args), rest))
 }
 
-/// The begin of a block.
+/// The beginning of a block.
 #[inline(always)]
 fn read_open(text: &[u8]) -> Option<(Kind, &[u8])>
     ensures { (subject : Subject) → IfSome result (λ r. IsKindAtFront subject text.now r.0 r.1.now) }

@@ -48,8 +48,8 @@ impl LogReader {
     /// Takes in the next piece of the text, and appends the entries of the lines that are whole by
     /// now.
     ///
-    /// `Malformed` comes where the bytes so far hold a line that breaks a rule of text; what was
-    /// read before that line was appended, and from then on every call answers the same and appends
+    /// `Malformed` comes if the bytes so far hold a line that breaks a rule of text; what was read
+    /// before that line was appended, and from then on every call answers the same and appends
     /// nothing. `Memory` leaves the reader, its starting words and the entries unchanged. The time
     /// grows with the piece, whatever came before it; the memory is that of the starting words and
     /// the entries.
@@ -82,7 +82,7 @@ impl LogReader {
 
     /// The answer about the text, if it ends here. It changes nothing and takes no memory.
     ///
-    /// Ok where the bytes so far are a whole log's text, and else the first fault of text, also
+    /// `Ok` if the bytes so far are a whole log's text, and otherwise the first fault of text, also
     /// `NoLineFeed` for an unfinished last line and `NoEnd`.
     pub fn finish(&self) -> Result<(), TextFault>
         ensures answer { (bytes : List ℕ) → HasRead self.now bytes → IsAnswer result (reading (whole self.now) bytes).fault }

@@ -14,7 +14,7 @@ use vyrd_base::{Header, Rule, StartWord};
 /// The first value that a word can't have.
 const TOO_LARGE: u64 = 1 << 63;
 
-/// The starting word that the bytes spell, without the line feed. None exactly where they spell
+/// The starting word that the bytes spell, without the line feed. `None` exactly when they spell
 /// none. Whether it is in range and in order isn't looked at.
 pub fn read_start(line: &[u8]) -> Option<StartWord>
     ensures { result ≡ start_in line.now }
@@ -49,7 +49,7 @@ fn is_out_of_range(header: Header, word: StartWord) -> bool
     word.word >= header.plain_words() || word.value == 0 || word.value >= TOO_LARGE
 }
 
-/// Whether the word isn't greater than the last one, where there is one.
+/// Whether the word isn't greater than the last one, if there is one.
 fn is_out_of_order(last: Option<StartWord>, word: StartWord) -> bool
     ensures { result ≡ is_out_of_order last word }
 {

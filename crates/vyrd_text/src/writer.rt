@@ -61,7 +61,7 @@ pub fn write_started(
     written
 }
 
-/// Appends the text of the log, or a part of it where memory is wanting.
+/// Appends the text of the log, or a part of it if memory runs out.
 fn append_log(
     header: Header,
     start: &[StartWord],
@@ -95,7 +95,7 @@ fn append_header(header: Header, out: &mut Vec<u8>) -> Result<(), AllocError>
     out.extend_from_slice(line.as_slice())
 }
 
-/// Appends the starting words' lines, or some of them where memory is wanting.
+/// Appends the starting words' lines, or some of them if memory runs out.
 fn append_start(start: &[StartWord], out: &mut Vec<u8>) -> Result<(), AllocError>
     ensures ok { OnOk result (out.new.items ≡ out.old.items ++ flat_map (λ s. ended_line (start_line s)) start.now) }
     ensures err { OnErr result (take (length out.old.items) out.new.items ≡ out.old.items) }
@@ -122,7 +122,7 @@ fn push_start(start: StartWord, line: &mut LineBuffer)
     line.push_number(start.value);
 }
 
-/// Appends the entries' lines, or some of them where memory is wanting.
+/// Appends the entries' lines, or some of them if memory runs out.
 fn append_entries(entries: &[Entry], out: &mut Vec<u8>) -> Result<(), AllocError>
     ensures ok { OnOk result (out.new.items ≡ out.old.items ++ flat_map (λ e. ended_line (entry_line e)) entries.now) }
     ensures err { OnErr result (take (length out.old.items) out.new.items ≡ out.old.items) }

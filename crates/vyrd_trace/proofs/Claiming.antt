@@ -93,7 +93,8 @@ module _ (p : Plan) where
             ));
       }
 
-  -- a try of a claim: won where the word is the expected one, and else nothing changes but the looks
+  -- a try of a claim: won if the word is the expected one, and otherwise nothing changes but the
+  -- looks
   pub claims_cell : (next : Look → ℕ → ℕ → Look) (slots id : ℕ) (me : Sitting) (k0 old new : ℕ) → me.0.live ≡ true
       → k0 < p.plain + p.locks → me.0.stage ≡ Rest → old % 2 ≡ 0 → (p.plain ≤ k0 → old ≡ 0) → new ≡ old + 1
       → Allows (Kept p) slots id me (k0 + 1) (λ n. either (eqb n old) new n) (tried next (step slots (k0 + 1) old new none) me)

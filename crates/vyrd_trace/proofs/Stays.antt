@@ -69,7 +69,7 @@ knows_changed n g h id v lane st look same whole at_stage k = record {
   unmade = λ z c le. same.owners c ∙ k.unmade z c le;
 }
 
--- the new ghost state, and what it owes beside what the records know
+-- the new ghost state, and what it owes besides what the records know
 pub record Turn (p : Plan) (words : List ℕ) (g h : Ghost) (v : Record) (lane : List Stamped) (st : Stage) : Type 0 where
   pub same : Same g h v.caller
   pub whole : part v.caller h.history ≡ lane

@@ -44,11 +44,11 @@ IsOf traced hand = (hand.table ≡ traced.table) × (hand.limit ≡ traced.plan.
 abbrev pub Holds : HandView → ℕ → Type 0
 Holds hand lock = HoldsBy hand.lane hand.caller lock
 
--- the hand as it was, but for the room
+-- the hand as it was, except for the room
 abbrev pub with_spare : HandView → ℕ → HandView
 with_spare hand spare = record { table = hand.table; caller = hand.caller; limit = hand.limit; spare = spare; lane = hand.lane; look = hand.look }
 
--- the hand as it was, but for what it found
+-- the hand as it was, except for what it found
 abbrev pub with_look : HandView → Look → HandView
 with_look hand look = record { table = hand.table; caller = hand.caller; limit = hand.limit; spare = hand.spare; lane = hand.lane; look = look }
 

@@ -25,7 +25,8 @@ IsSame a b = (b.table_id ≡ a.table_id) × (b.id ≡ a.id)
 abbrev pub looked : Step (Unit {0}) → Sitting → ℕ → Sitting → Type 0
 looked step m r m' = m' ≡ (acting m.0 m.0.stage (look_first m.0.look (step.word - 1) r), m.1)
 
--- A try of a claim: where the word found is the expected one, the cell is claimed. `next` makes the looks.
+-- A try of a claim: if the word found is the expected one, the cell is claimed. `next` makes the
+-- looks.
 module _ (next : Look → ℕ → ℕ → Look) where
   abbrev pub tried : Step (Unit {0}) → Sitting → ℕ → Sitting → Type 0
   tried step m r m' =

@@ -38,8 +38,8 @@ pub struct Seen {
 impl Traced {
     /// Reads a plain cell, in four atomic steps. The value is below 2^63.
     ///
-    /// `Busy` comes only where this call found the cell claimed by another hand, or changed between its two looks. It
-    /// leaves the lane and the spare room as they were, and claims nothing.
+    /// `Busy` comes only if this call found the cell claimed by another hand, or changed between
+    /// its two looks. It leaves the lane and the spare room as they were, and claims nothing.
     pub fn load(&self, hand: &mut Hand, cell: u32) -> Result<Seen, Busy>
         requires hand { IsOf self.now hand.old }
         requires spare { 0 < hand.old.spare }
@@ -84,8 +84,8 @@ impl Traced {
 
     /// Takes a lock, in three atomic steps. Answers the event's number.
     ///
-    /// `Busy` comes only where this call found the lock held, by this hand too, or claimed by another one. It leaves the
-    /// lane and the spare room as they were, and claims nothing.
+    /// `Busy` comes only if this call found the lock held, by this hand too, or claimed by another
+    /// one. It leaves the lane and the spare room as they were, and claims nothing.
     pub fn take(&self, hand: &mut Hand, cell: u32) -> Result<u64, Busy>
         requires hand { IsOf self.now hand.old }
         requires spare { 0 < hand.old.spare }

@@ -73,7 +73,7 @@ fn count_all(hands: &[Hand]) -> usize
     total
 }
 
-/// The halves of the cells' words, which are the cells' values where no hand has claimed one.
+/// The halves of the cells' words, which are the cells' values if no hand has claimed one.
 fn halve_words(closed: &atomic_table::Closed<(), Global>, cells: usize, words: &mut Vec<u64>)
     requires closed { IsFull closed.now.words × (slots_len closed.now.words ≡ 1 + cells) }
     requires room { (words.old.items ≡ []) × (cells ≤ vec_capacity words.old) }
@@ -87,8 +87,8 @@ fn halve_words(closed: &atomic_table::Closed<(), Global>, cells: usize, words: &
 impl Traced {
     /// Ends the sharing, and puts the lanes together. `hands` are all hands of this memory, in the order of their callers.
     ///
-    /// It takes its memory first, for the whole history, and is `Unclosed` only where there was none. The time is linear
-    /// in the events and the cells.
+    /// It takes its memory first, for the whole history, and is `Unclosed` only if there was none.
+    /// The time is linear in the events and the cells.
     pub fn close(self, hands: Vec<Hand>) -> Result<Closed, Unclosed>
         requires { AreAll self hands.items }
         ensures legal { IfOk result (λ closed. is_legal (cells_in self.plan) closed.history.items ≡ true) }

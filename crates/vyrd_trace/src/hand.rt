@@ -72,8 +72,9 @@ impl Hand {
         self.lane.as_slice()
     }
 
-    /// Makes the spare room at least `n` events, of which each action that isn't busy uses one. It is `Spent` exactly where
-    /// the lane would be over the limit with `n` events more, and `Memory` where there was none. A refusal changes nothing.
+    /// Makes the spare room at least `n` events, of which each action that isn't busy uses one. It
+    /// is `Spent` exactly when the lane would be over the limit with `n` events more, and `Memory`
+    /// if there was none. A refusal changes nothing.
     pub fn reserve(&mut self, n: u64) -> Result<(), Reserve>
         ensures ready { IfOk result (λ _. self.new ≡ with_spare self.old (max self.old.spare n)) }
         ensures spent { (self.old.limit < length self.old.lane + n → result ≡ Err Spent) × (result ≡ Err Spent → self.old.limit < length self.old.lane + n) }

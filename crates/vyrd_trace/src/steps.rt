@@ -1,4 +1,5 @@
-//! Single steps of a seat: each is one atomic step of the table, but for `claim_seen`, which makes two.
+//! Single steps of a seat: each is one atomic step of the table, except for `claim_seen`, which
+//! makes two.
 
 ghost use Rattle.std.specs.Prelude.{◌≡◌, ◌≢◌, ◌+◌, ◌/◌, ◌%◌, ◌<◌, length, true, [], MatchResult};
 ghost use Rattle.vyrd_trace.specs.declared.look.Look.{Look};
@@ -42,7 +43,8 @@ impl Board {
         self.table.shared.load::<Looks>(seat, cell as usize + 1)
     }
 
-    /// Claims a plain cell where its word is still `old`, which was seen before in this call. Returns the word found.
+    /// Claims a plain cell if its word is still `old`, which was seen before in this call. Returns
+    /// the word found.
     pub(crate) fn claim(&self, seat: &mut Seat<(), Record>, cell: u32, old: u64) -> u64
         requires table { seat.old.table_id ≡ self.now.table.shared.table_id }
         requires live { seat.old.me.0.live ≡ true }
@@ -58,7 +60,7 @@ impl Board {
             .compare_exchange::<TriesAgain>(seat, cell as usize + 1, old, old + 1)
     }
 
-    /// Claims a lock where its word is 0. This is the first look of its call. Returns the word found.
+    /// Claims a lock if its word is 0. This is the first look of its call. Returns the word found.
     pub(crate) fn claim_lock(&self, seat: &mut Seat<(), Record>, cell: u32) -> u64
         requires table { seat.old.table_id ≡ self.now.table.shared.table_id }
         requires live { seat.old.me.0.live ≡ true }

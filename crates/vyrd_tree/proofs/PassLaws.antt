@@ -36,7 +36,7 @@ use Rattle.vyrd_tree.proofs.GiveUps.{leaf_stands, leaf_is}
 use Rattle.vyrd_tree.proofs.Onward.{node_is_split, Comes, round_comes}
 use Rattle.vyrd_tree.proofs.HangingLaws.{hanging_says, hanging_passes}
 
--- where there is an outcome, this holds of its memory
+-- if there is an outcome, this holds of its memory
 abbrev IfEnds : (Memory → Type 0) → Option Outcome → Type 0
 IfEnds says None = ⊤
 IfEnds says (Some outcome) = says outcome.memory

@@ -1,6 +1,7 @@
--- Where the words and the locks of a tree are. A node has 12 words: its level, which is 0 for a leaf; the count of its entries;
--- its bound, which is the high key plus 1, and 0 where there is no high key; the node on its right, and 0 where there is none;
--- the keys of up to four entries; and their values in a leaf, or their children in an inner node. Each node has a lock.
+-- Where the words and the locks of a tree are. A node has 12 words: its level, which is 0 for a
+-- leaf; the count of its entries; its bound, which is the high key plus 1, and 0 if there is no
+-- high key; the node on its right, and 0 if there is none; the keys of up to four entries; and
+-- their values in a leaf, or their children in an inner node. Each node has a lock.
 use Rattle.std.specs.Prelude.{ℕ, ◌+◌, ◌*◌}
 use Rattle.vyrd_base.specs.declared.header.Header.{Header}
 use Rattle.vyrd_memory.specs.declared.act.Act.TheVariants.{Take, Give}
@@ -38,7 +39,7 @@ value_cell node place = node_cell node (8 + place)
 abbrev pub root_cell : Header → ℕ
 root_cell h = 12 * h.size
 
--- how many nodes are in use beside node 0
+-- how many nodes are in use besides node 0
 abbrev pub used_cell : Header → ℕ
 used_cell h = 12 * h.size + 1
 

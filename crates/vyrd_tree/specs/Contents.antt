@@ -35,7 +35,7 @@ root_in size m = m (12 * size)
 abbrev pub last_in : ℕ → Memory → ℕ
 last_in size m = m (12 * size + 1)
 
--- whether a bound, which is 0 where there is none, lets the key in
+-- whether a bound, which is 0 if there is none, lets the key in
 abbrev pub Below : ℕ → ℕ → Type 0
 Below key bound = bound ≢ 0 → key < bound
 

@@ -46,7 +46,7 @@ after_rest h task (after.Walk a root) = walk_on h task (errand.Ascent a) h.size 
 abbrev pub ending_rest : Header → Task → Ending → Script
 ending_rest h task e = perform (Mark e.close) (unlocking h e.lock (after_rest h task e.after))
 
--- what follows where the root of a round and its level are known
+-- what follows when the root of a round and its level are known
 abbrev pub above_root : Header → Task → Ascent → ℕ → ℕ → Script
 above_root h task a root top =
     if nat_le top a.level

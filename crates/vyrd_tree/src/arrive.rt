@@ -1,4 +1,4 @@
-//! What an operation does where its walk has arrived, and where a node gets one more entry.
+//! What an operation does when its walk has arrived, and when a node gets one more entry.
 
 ghost use Rattle.std.specs.Prelude.{◌≡◌, ◌≤◌, take};
 ghost use Rattle.vyrd_base.specs.declared.header.Header.{Header};
@@ -86,7 +86,7 @@ impl Task {
     }
 }
 
-/// One more entry in a node, which is split where it is full.
+/// One more entry in a node, which is split if it is full.
 impl Task {
     /// The place after the walk of a round has arrived at a node with this many entries.
     fn add_child(self, visit: Visit, count: u32, ascent: Ascent) -> Place

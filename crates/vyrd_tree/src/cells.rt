@@ -15,7 +15,7 @@ pub(crate) fn root_cell(header: &Header) -> u32
     NODE_WORDS * header.size()
 }
 
-/// The cell that counts the nodes in use beside node 0.
+/// The cell that counts the nodes in use besides node 0.
 pub(crate) fn used_cell(header: &Header) -> u32
     ensures { result ≡ used_cell header.now }
 {

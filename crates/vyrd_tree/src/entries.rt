@@ -71,7 +71,7 @@ impl Entries {
         }
     }
 
-    /// What a lookup of the key replies: its value plus 1, or 0 where no entry has it.
+    /// What a lookup of the key replies: its value plus 1, or 0 if no entry has it.
     pub(crate) fn reply(self, count: u32, key: u64) -> u64
         requires { count ≤ 4 }
         ensures { result ≡ reply_of (take count self.slots) (place_of key (take count self.slots)) }

@@ -20,9 +20,10 @@ pub fn insert_gives_up()
         GivesUpWhere (HasNoRoom h memory state args.a) (alone c (insert_entry h Correct args.a args.b) memory) }
 {}
 
-/// An insert whose key is absent, whose leaf has 4 entries and which finds an unused node comes to the unlock after its commit
-/// with words that represent the next state with the reply 1, where the new leaf hangs. What is given to follow a split is
-/// played from there, whatever it is; an insert gives the ascent.
+/// An insert whose key is absent, whose leaf has 4 entries and which finds an unused node comes to
+/// the unlock after its commit with words that represent the next state with the reply 1, and there
+/// the new leaf hangs. What is given to follow a split is played from there, whatever it is; an
+/// insert gives the ascent.
 pub fn insert_splits_leaf()
     ensures { (h : Header) (memory : Memory) (state : Amounts) (c : ℕ) (args : Args) → h.subject ≡ Tree → state_in h memory ≡ Some state → are_small args ≡ true →
         amount_of state args.a ≡ 0 → memory (count_cell (leaf_of h memory args.a)) ≡ 4 → memory (used_cell h) + 1 < h.size → SplitsLeaf h c args memory state }

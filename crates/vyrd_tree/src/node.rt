@@ -22,9 +22,9 @@ pub(crate) enum Word {
     Level,
     /// How many entries it has.
     Count,
-    /// Its high key plus 1, or 0 where there is no high key.
+    /// Its high key plus 1, or 0 if there is no high key.
     Bound,
-    /// The node on its right, or 0 where there is none.
+    /// The node on its right, or 0 if there is none.
     Right,
     /// The key of an entry.
     Key(Slot),

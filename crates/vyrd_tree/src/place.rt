@@ -27,7 +27,7 @@ pub(crate) enum Place {
     Store(Storing, Ending),
     /// Close a block.
     Close(Ending),
-    /// With the lock of this node held: commit, where nothing is to be changed.
+    /// With the lock of this node held: commit, if nothing is to be changed.
     Unchanged(Node),
     /// Unlock this.
     Unlock(Lock, After),

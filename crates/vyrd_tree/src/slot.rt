@@ -12,7 +12,7 @@ pub(crate) struct Slot {
 }
 
 impl Slot {
-    /// The slot at a place, where there are this many entries.
+    /// The slot at a place, given that there are this many entries.
     pub(crate) fn new(place: u32, of: u32) -> Option<Slot>
         requires { of ≤ 4 }
         ensures { MatchOption result (of ≤ place) (λ slot. (slot.place ≡ place) × (slot.of ≡ of)) }

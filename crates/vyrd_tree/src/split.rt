@@ -60,7 +60,8 @@ impl Task {
         Place::Unused(need, next)
     }
 
-    /// The place where no unused node is there: the node isn't split, or the tree gets no new root.
+    /// The place after no unused node was found: the node isn't split, or the tree gets no new
+    /// root.
     fn none(self, need: Need) -> Place
         ensures { (h : Header) → rest_at h self result ≡ none_for h need }
     {

@@ -1,4 +1,5 @@
-//! The walk: from node to node, right where the key is past a node's bound, and down where the node is above the walk's level.
+//! The walk: from node to node, right if the key is past a node's bound, and down if the node is
+//! above the walk's level.
 
 ghost use Rattle.std.specs.Prelude.{◌≡◌, ◌<◌, ◌≤◌, ◌^◌, take};
 ghost use Rattle.vyrd_base.specs.declared.header.Header.{Header};

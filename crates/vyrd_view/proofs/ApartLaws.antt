@@ -158,7 +158,7 @@ apart_here a b i x y in_a in_b is_x is_y apart =
     ap (λ s. first_apart s (drop i b)) (rest_from a i x in_a is_x) ∙ ap (first_apart (x ∷ drop (i + 1) a)) (rest_from b i y in_b is_y)
     ∙ ap (λ t. cond t (first_apart (drop (i + 1) a) (drop (i + 1) b)) (Some (min x.0 y.0))) apart
 
--- where one list ends, the first pair that the other has left
+-- if one list ends, the first pair that the other has left
 pub apart_end : (a b : Amounts) (n : ℕ) → n ≡ min (length a) (length b)
     → first_apart (drop n a) (drop n b)
     ≡ option_or (option_map (λ pair. pair.0) (slice_get a (length b))) (option_map (λ pair. pair.0) (slice_get b (length a)))

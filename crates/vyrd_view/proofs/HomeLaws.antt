@@ -171,7 +171,7 @@ others_of shift places q i homes found j other taken same = by_order (nat_lt j i
         let within = found.0 in
         homes.first j taken i (omega (arith, within.0, ap (first_place shift) same)) (omega (arith, not_below_of j i e, other)) (found.1 ∙ sym same)
 
--- where no place of a key has its name, it has no amount in the table
+-- if no place of a key has its name, it has no amount in the table
 pub nowhere_of : (shift : ℕ) (places : List Home) (q : ℕ) → AreHomes shift places → IsFoundAt shift places q None → IsHomeOf places q None
 nowhere_of shift places q homes missing i taken same =
     let reach = homes.reach i taken in

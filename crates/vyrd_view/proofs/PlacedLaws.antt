@@ -9,7 +9,7 @@ use Rattle.vyrd_base.proofs.TestLaws.{same_of, apart_of}
 use Rattle.vyrd_view.specs.Pairs.{is_touched, EachAtMost}
 use Rattle.vyrd_view.proofs.PartLaws.{part_at_most}
 
--- pairs that give so much at most
+-- pairs that give this much at most
 pub each_bounds : (most q : ℕ) (pairs : List (ℕ × ℕ)) → EachAtMost most pairs → given q pairs ≤ length pairs * most
 each_bounds most q [] each = omega arith
 each_bounds most q (p ∷ pairs) each = omega (arith, each 0, part_at_most q p.0 p.1, each_bounds most q pairs (λ i. each (suc i)))

@@ -147,7 +147,7 @@ specified_found s q i settled found = by_taken (is_taken (home_at s.homes.places
         ∙ ap (amount_of s.rest.specified) (sym found.1) ∙ (settled.away i within).1
         ∙ sym ((free_amounts (home_at s.homes.places.items i) e).1)
 
--- amounts that are the old ones but for a key
+-- amounts that are the old ones except for a key
 amounts_are : (s t : Amounts) (q a : ℕ) → IsAmounts s → IsAmounts t → ((r : ℕ) → amount_of t r ≡ cond (r == q) a (amount_of s r)) → t ≡ with_amount s q a
 amounts_are s t q a is it each = same_amounts t (with_amount s q a) it (IsAmounts-with_amount s q a is) (λ r. each r ∙ sym (amount_of-with_amount s q a r))
 

@@ -42,7 +42,7 @@ entry_pair words n j =
     (node_word words n (4 + j), 2 ^ 32 + node_word words n (8 + j)) else (2 ^ 33, 1))
     else (0, 0)
 
--- The places 4n to 4n + 3 are those of node n: its entries where it is marked, and nothing otherwise.
+-- The places 4n to 4n + 3 are those of node n: its entries if it is marked, and nothing otherwise.
 abbrev pub node_pair : List ℕ → List Bool → ℕ → ℕ × ℕ
 node_pair words marks m = if slice_index_or marks (m / 4) false then entry_pair words (m / 4) (m % 4) else (0, 0)
 

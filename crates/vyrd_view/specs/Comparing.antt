@@ -36,7 +36,7 @@ pub record IsCurrent (header : Header) (words : List ℕ) (pairs : List (ℕ × 
   pub given : pairs ≡ pairs_in header.subject header.size words
   pub marked : AreMarks header.subject header.size words marks next
 
--- the words are the same but for those that have changed
+-- the words are the same except for those that have changed
 abbrev pub AgreeElsewhere : List ℕ → List ℕ → List ℕ → Type 0
 AgreeElsewhere before words changed = (w : ℕ) → list_any (λ x. x == w) changed ≡ false → slice_index words w ≡ slice_index before w
 
@@ -47,7 +47,8 @@ keys_of_part Cache = 2
 keys_of_part Tree = 4
 keys_of_part Buffers = 1
 
--- how many parts are looked at at most: one for each changed word, and all nodes of a tree where a right link has changed
+-- how many parts are looked at at most: one for each changed word, and all nodes of a tree if a
+-- right link has changed
 abbrev pub parts_looked_at : Subject → ℕ → List ℕ → ℕ
 parts_looked_at Tree size changed = length changed + (if has_link changed then size else 0)
 parts_looked_at _ size changed = length changed

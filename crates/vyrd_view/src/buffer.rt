@@ -5,7 +5,7 @@ ghost use Rattle.vyrd_view.specs.Pairs.{buffer_pair};
 
 use vyrd_base::buffer_text;
 
-/// What words that are no buffer give to the key past the buffers.
+/// What words that aren't a buffer give to the key past the buffers.
 const DAMAGED: u64 = 1;
 
 /// The pair that the buffer with this number gives.

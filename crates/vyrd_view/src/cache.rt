@@ -17,7 +17,7 @@ const CHUNK_WORDS: usize = 5;
 /// What is amiss with a clean chunk whose pairs differ.
 const UNEQUAL: u64 = 1;
 
-/// What is amiss with five words that are no chunk.
+/// What is amiss with five words that aren't a chunk.
 const DAMAGED: u64 = 2;
 
 /// Each chunk that a changed word is in gives what its words show now. Once memory was refused the parts may only be dropped.

@@ -13,7 +13,7 @@ use vyrd_base::AmountMap;
 /// The amount of the key past the chunks for a clean chunk whose pairs differ.
 const UNEQUAL: u64 = 1;
 
-/// The amount of the key past the chunks for five words that are no chunk.
+/// The amount of the key past the chunks for five words that aren't a chunk.
 const DAMAGED: u64 = 2;
 
 /// The pair that each chunk shows, and what is amiss with it, under a key past the chunks.

@@ -15,9 +15,10 @@ use std::marker::Model;
 use std::sync::ledger::Ledger;
 use vyrd_base::Header;
 
-/// The words and the specification's amounts, and where they differ. It is told what changes on either side, and looks at
-/// nothing beyond that: a changed word costs its part, so at most nine steps, and a changed amount costs one step. Where a
-/// right link of a tree changes, the chain of leaves is walked again.
+/// The words and the specification's amounts, and where they differ. It is told what changes on
+/// either side, and looks at nothing beyond that: a changed word costs its part, so at most nine
+/// steps, and a changed amount costs one step. If a right link of a tree changes, the chain of
+/// leaves is walked again.
 #[derive(Drop)]
 pub struct Compared {
     header: Header,
@@ -57,8 +58,9 @@ impl Compared {
         })
     }
 
-    /// These are the words now. Outside `changed` they are those of the last call, or 0 where there was none; in `changed` a
-    /// word may stand more than once. Once memory was refused the value may only be dropped.
+    /// These are the words now. Outside `changed` they are those of the last call, or 0 if there
+    /// was none; in `changed` a word may stand more than once. Once memory was refused the value
+    /// may only be dropped.
     pub fn words_changed<L: Ledger>(
         &mut self,
         words: &[u64],
@@ -87,8 +89,8 @@ impl Compared {
         )
     }
 
-    /// The specification has this amount of the key now, where 0 says that the key isn't there. Once memory was refused the
-    /// value may only be dropped.
+    /// The specification has this amount of the key now; 0 says that the key isn't there. Once
+    /// memory was refused the value may only be dropped.
     pub fn spec_changed<L: Ledger>(
         &mut self,
         key: u64,
@@ -104,8 +106,9 @@ impl Compared {
         self.parts.specify(key, amount, steps)
     }
 
-    /// The least key at which the words and the specification differ, or none where they are equal. Where they are equal it
-    /// costs constant time. Otherwise it goes through all keys, and takes no memory.
+    /// The least key at which the words and the specification differ, or none if they are equal. If
+    /// they are equal, it takes constant time. Otherwise it goes through all keys, and takes no
+    /// memory.
     #[inline(always)]
     pub fn first_difference(&self) -> Option<u64>
         requires { self.now.refused ≡ false }

@@ -5,8 +5,8 @@ ghost use Rattle.vyrd_base.specs.Amounts.{first_difference as least_difference};
 
 use vyrd_base::View;
 
-/// The least key at which two views differ, or none where they are equal. It takes no memory, and time in proportion to the
-/// pairs that the views have in common at their front.
+/// The least key at which two views differ, or none if they are equal. It takes no memory, and time
+/// in proportion to the pairs that the views have in common at their front.
 pub fn first_difference(a: &View, b: &View) -> Option<u64>
     ensures { result ≡ least_difference a.now b.now }
 {

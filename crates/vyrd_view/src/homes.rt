@@ -10,7 +10,7 @@ const REACH: usize = 4;
 /// 2^64 times the fraction of the golden ratio, an odd number. Its multiples modulo 2^64 lie far apart.
 const SPREAD: u64 = 0x9E37_79B9_7F4A_7C15;
 
-/// A key with what the words and the specification show of it. Where both are 0 the place is free.
+/// A key with what the words and the specification show of it. If both are 0, the place is free.
 #[derive(Clone, Copy)]
 pub(crate) struct Home {
     pub(crate) key: u64,
@@ -128,8 +128,8 @@ impl Homes {
         self.places[place] = home;
     }
 
-    /// The least key that stands in a place whose amounts differ. Where there is none it costs constant time. Otherwise the table
-    /// is gone through.
+    /// The least key that stands in a place whose amounts differ. If there is none, it takes
+    /// constant time. Otherwise it goes through the table.
     pub(crate) fn first_apart(&self) -> Option<u64>
         requires { self.now.apart ≡ count_by is_apart self.now.places.items }
         ensures { IsLeastHome self.now.places.items result }

@@ -51,8 +51,8 @@ impl Parts {
         })
     }
 
-    /// The pair in this place gives way to another. Where it is the same pair nothing is compared. Once memory was refused the
-    /// value may only be dropped.
+    /// The pair in this place gives way to another. If it is the same pair, nothing is compared.
+    /// Once memory was refused the value may only be dropped.
     #[inline(always)]
     pub(crate) fn replace<L: Ledger>(
         &mut self,
@@ -122,7 +122,8 @@ impl Parts {
         }
     }
 
-    /// The least key at which the sum of the pairs isn't the specification's amount, or none where there is none.
+    /// The least key at which the sum of the pairs isn't the specification's amount, or none if
+    /// there is none.
     pub(crate) fn first_difference(&self) -> Option<u64>
         requires { self.now.refused ≡ false }
         ensures { result ≡ first_difference (collected self.now.pairs) self.now.specified }

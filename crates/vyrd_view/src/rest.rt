@@ -79,7 +79,7 @@ impl Rest {
         Ok(())
     }
 
-    /// The least key whose amounts differ, or none where there is none.
+    /// The least key whose amounts differ, or none if there is none.
     pub(crate) fn first_apart(&self) -> Option<u64>
         requires { IsSettled self.now }
         ensures { IsLeastApart (amount_of self.now.shown) (amount_of self.now.specified) result }

@@ -11,8 +11,9 @@ use crate::slots::slots;
 use std::alloc::{AllocError, Global};
 use vyrd_base::{AmountMap, Header, Subject, View};
 
-/// What the plain words of a header show. The time is in proportion to the words, times the logarithm of the keys that they
-/// show, and the memory is in proportion to those keys. A tree's chain wants a flag for each node as well.
+/// What the plain words of a header show. The time is in proportion to the words, times the
+/// logarithm of the keys that they show, and the memory is in proportion to those keys. A tree's
+/// chain needs a flag for each node as well.
 pub fn view_of(alloc: Global, header: Header, words: &[u64]) -> Result<View, AllocError>
     requires count { length words.now ≡ plain_words header }
     ensures { IfOk result (λ v. v ≡ view_of_words header words.now) }

@@ -9,9 +9,10 @@ use crate::steps::Steps;
 use std::alloc::{AllocError, Global};
 use std::sync::ledger::Ledger;
 
-/// The amounts of each key on two sides: what the words show and what the specification has. A key with an amount stands in one
-/// of a few places of a table, and where these are taken by others it is among the rest, in ordered maps. So the time that a key
-/// costs doesn't grow with the keys, and keys chosen to share a place cost the logarithm of their number.
+/// The amounts of each key on two sides: what the words show and what the specification has. A key
+/// with an amount stands in one of a few places of a table, and if these are taken by others, it is
+/// among the rest, in ordered maps. So the time that a key costs doesn't grow with the keys, and
+/// keys chosen to share a place cost the logarithm of their number.
 #[derive(Drop)]
 pub(crate) struct Sides {
     pub(crate) homes: Homes,
@@ -119,7 +120,7 @@ impl Sides {
         self.put(key, found.place, both, steps)
     }
 
-    /// The least key whose two amounts differ, or none where there is none.
+    /// The least key whose two amounts differ, or none if there is none.
     pub(crate) fn first_difference(&self) -> Option<u64>
         requires { IsSettled self.now }
         ensures { IsLeastApart (shown_at self.now) (amount_of (specified_of self.now)) result }

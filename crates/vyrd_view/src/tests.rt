@@ -209,7 +209,7 @@ fn differences<L: Ledger>(
     Ok((first, compared.first_difference()))
 }
 
-/// Writes a word, where there is one with this number.
+/// Writes a word, if there is one with this number.
 fn write<L: Ledger>(
     compared: &mut Compared,
     words: &mut [u64],

@@ -35,8 +35,9 @@ const PRESENT: u64 = 1 << 32;
 /// The key that stands for damage. It is above all others.
 const DAMAGE: u64 = 1 << 33;
 
-/// The places of a tree are brought up to date: those of each leaf that a changed word is in, and, where a right link has
-/// changed, those of the leaves that came to the chain or left it. Once memory was refused the parts may only be dropped.
+/// The places of a tree are brought up to date: those of each leaf that a changed word is in, and,
+/// if a right link has changed, those of the leaves that came to the chain or left it. Once memory
+/// was refused the parts may only be dropped.
 pub(crate) fn leaves_changed<L: Ledger>(
     parts: &mut Parts,
     marks: &mut [bool],
@@ -182,7 +183,7 @@ fn remark<L: Ledger>(
     Ok(())
 }
 
-/// What the four places of a node give: its entries where it is marked, and nothing otherwise.
+/// What the four places of a node give: its entries if it is marked, and nothing otherwise.
 fn shown_node<L: Ledger>(
     words: &[u64],
     node: usize,

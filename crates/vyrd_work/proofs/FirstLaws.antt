@@ -73,7 +73,7 @@ module _ (subject : Subject) (size callers : ℕ) (variant : Variant) (s : size 
   first_line_whole = lacks-join 10 32 (codes "work") (subject_name subject ∷ decimal size ∷ decimal callers ∷ variant_name variant ∷ []) refl
       (plain_line_feeds (codes "work" ∷ subject_name subject ∷ decimal size ∷ decimal callers ∷ variant_name variant ∷ []) plain)
 
-  -- it is read as the header with its numbers, where there is one
+  -- it is read as the header with its numbers, if there is one
   pub begun_known : begun_in (work_header_line subject size callers variant) ≡ option_map (begun variant) (header_of 1 subject size callers)
   unfolding begun_in
   begun_known =
@@ -143,7 +143,7 @@ begun_in_sound line w found = from (fields_of line) found
     from (a ∷ b ∷ c ∷ d ∷ []) f = cc
     from (a ∷ b ∷ c ∷ d ∷ e ∷ more) f = if_spelled (subject_called b) (number_of c) (number_of d) (variant_called e) f
 
--- a line that names nothing is no first line
+-- a line that names nothing isn't a first line
 pub no_first : (line : List ℕ) → IsFirstRead line None → None ≡ begun_in line
 no_first line none = by_answer (begun_in line) refl
   where

@@ -127,7 +127,7 @@ items_more w (item.Turns t) none =
     ap (λ ts. map item.Op w.ops ++ ts) (map-append item.Turns w.turns (t ∷ []))
     ∙ sym (append_assoc (map item.Op w.ops) (map item.Turns w.turns) (item.Turns t ∷ []))
 
--- an operation that fits breaks no rule where there is room for it
+-- an operation that fits breaks no rule if there is room for it
 pub op_unbroken : (w : Workload) (o : WorkOp) → is_op_of w.header o ≡ true → w.turns ≡ [] → length w.ops < most_ops → broken_by w (item.Op o) ≡ None
 op_unbroken w o fits before room =
     let caller = above_then w.header.callers o.caller (first_true _ _ fits) in

@@ -1,5 +1,5 @@
--- So many bytes settle what they say: the lines that are taken in are short and few, so reading ends at a line that begins in
--- them.
+-- The bytes of the longest input settle what they say: the lines that are taken in are short and
+-- few, so reading ends at a line that begins in them.
 use Rattle.std.proofs.Common.{◌≡◌, ℕ, ◌+◌, ◌*◌, ◌<◌, ◌≤◌, Bool, true, false, cond, List, [], ◌∷◌, ◌++◌, length}
 use Rattle.std.proofs.Common.{Option, Some, None, Result, Ok, Err, refl, ap, subst, sym, ◌∙◌, arith, length-append}
 use Rattle.std.specs.Prelude.{◌==◌, nat_lt}

@@ -1,4 +1,4 @@
--- How a workload's rules are called, and the line that says that a workload is refused.
+-- The names of a workload's rules, and the line that says that a workload is refused.
 use Rattle.std.specs.Prelude.{◌≡◌, ⊤, ℕ, List, ◌++◌, Result, Err, codes, decimal}
 use Rattle.vyrd_base.specs.Spelling.{ended_line}
 use Rattle.vyrd_work.specs.declared.fault.WorkRule.{WorkRule}
@@ -9,7 +9,7 @@ use Rattle.vyrd_work.specs.declared.fault.WorkFault.TheVariants.{Refused, Memory
 use Rattle.vyrd_work.specs.Workloads.{Workload}
 use Rattle.vyrd_work.specs.WorkReading.{Refusal}
 
--- how a rule is called
+-- the name of a rule
 abbrev pub work_rule_text : WorkRule → List ℕ
 work_rule_text AfterEnd = codes "text after end"
 work_rule_text BadHeader = codes "bad header"
@@ -26,7 +26,7 @@ work_rule_text NoEnd = codes "no end"
 abbrev pub refusal_text : ℕ → WorkRule → List ℕ
 refusal_text line rule = ended_line (codes "workload refused at line " ++ decimal line ++ codes ": " ++ work_rule_text rule)
 
--- what a refusal says of a reading; where memory was wanting nothing is known
+-- what a refusal says of a reading; if memory ran out, nothing is known
 abbrev pub IsRefusal : WorkFault → Result Workload Refusal → Type 0
 IsRefusal (Refused line rule) reading = reading ≡ Err (record { line = line; rule = rule })
 IsRefusal Memory reading = ⊤

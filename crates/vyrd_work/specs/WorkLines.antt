@@ -1,4 +1,5 @@
--- What a line of a workload spells: a guess from its fields, which counts only where its one spelling is the line.
+-- What a line of a workload spells: a guess from its fields, which counts only if its one spelling
+-- is the line.
 use Rattle.std.specs.Prelude.{ℕ, ◌^◌, Bool, ◌&&◌, nat_lt, nat_le, List, [], ◌∷◌, find, Option, Some, None, option_map, option_and_then, codes, if◌then◌else◌}
 use Rattle.std.specs.Str.{bytes_eq}
 use Rattle.vyrd_base.specs.declared.header.Header.{Header}
@@ -20,7 +21,8 @@ variant_called name = find (λ variant. bytes_eq (variant_name variant) name) (C
 abbrev pub begun : Variant → Header → Workload
 begun variant h = record { header = h; variant = variant; ops = []; turns = [] }
 
--- the workload that begins with these numbers, where they are within the limits and the line is their spelling
+-- the workload that begins with these numbers, if they are within the limits and the line is their
+-- spelling
 abbrev pub begun_if_spelled : List ℕ → Option Subject → ℕ → ℕ → Option Variant → Option Workload
 begun_if_spelled line (Some subject) size callers (Some variant) =
     if bytes_eq (work_header_line subject size callers variant) line then option_map (begun variant) (header_of 1 subject size callers) else None

@@ -60,7 +60,7 @@ item_read w (Some x) = unless_broken w x (broken_by w x)
 abbrev pub line_read : Workload → List ℕ → Result Workload WorkRule
 line_read w line = item_read w (item_in w.header.subject line)
 
--- a workload that has begun, or a line that is no header
+-- a workload that has begun, or a line that isn't a header
 abbrev pub begun_or_bad : Option Workload → Result Workload WorkRule
 begun_or_bad None = Err BadHeader
 begun_or_bad (Some w) = Ok w
@@ -73,7 +73,8 @@ first_read line = begun_or_bad (begun_in line)
 abbrev pub unfinished_rule : WorkRule → List ℕ → WorkRule
 unfinished_rule bad rest = if nat_lt 64 (length rest) then bad else (if has_any rest then NoLineFeed else NoEnd)
 
--- Nothing follows the line `end`, where line n would come after it: the lines from there on are one without bytes.
+-- Nothing follows the line `end`, after which line n would come: the lines from there on are one
+-- without bytes.
 abbrev pub ended : Workload → ℕ → List (List ℕ) → Result Workload Refusal
 ended w n ([] ∷ []) = Ok w
 ended w n _ = refused n AfterEnd

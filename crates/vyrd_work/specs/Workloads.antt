@@ -30,7 +30,7 @@ pub record Workload : Type 0 where
 abbrev pub workload_of : Work → Workload
 workload_of work = record { header = work.header; variant = work.variant; ops = work.ops.items; turns = work.turns.items }
 
--- how a variant is called
+-- the name of a variant
 abbrev pub variant_name : Variant → List ℕ
 variant_name Correct = codes "correct"
 variant_name Broken = codes "broken"

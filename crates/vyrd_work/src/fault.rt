@@ -1,4 +1,4 @@
-//! Why bytes are no workload. Lines are counted from 1, where the header stands.
+//! Why bytes aren't a workload. Lines are counted from 1, where the header stands.
 
 ghost use Rattle.std.specs.Prelude.{◌≡◌, ◌≤◌, ◌++◌, length, OnOk, OnErr};
 ghost use Rattle.vyrd_work.specs.Refusals.{work_rule_text, refusal_text};
@@ -8,7 +8,8 @@ use std::error::Error;
 use std::fmt;
 use vyrd_text::LineBuffer;
 
-/// A rule that a line of a workload can break. Where a line breaks several, the first of them in this order is named.
+/// A rule that a line of a workload can break. If a line breaks several, the first of them in this
+/// order is named.
 #[derive(Clone, Copy, Debug, PartialEq, Eq)]
 pub enum WorkRule {
     /// A byte follows the line `end`.
@@ -34,7 +35,7 @@ pub enum WorkRule {
 }
 
 impl WorkRule {
-    /// How the rule is called, in plain words.
+    /// The name of the rule, in plain words.
     pub fn text(self) -> &'static [u8]
         ensures text { result.now ≡ work_rule_text self }
         ensures len { length result.now ≤ 21 }

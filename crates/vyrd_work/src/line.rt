@@ -14,7 +14,7 @@ use vyrd_text::{after, is_word, read_call, read_subject, read_u32, read_u32_and_
 /// The most turns that a workload has in all.
 pub const MOST_TURNS: u32 = 4_000_000;
 
-/// What a later line says, but for `end`.
+/// What a later line says, except for `end`.
 #[derive(Clone, Copy)]
 pub enum Item {
     /// An operation.

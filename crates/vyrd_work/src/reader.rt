@@ -121,7 +121,8 @@ fn take_line(number: u64, line: &[u8], turns: u32, work: &mut Work) -> Result<u3
     }
 }
 
-/// Puts what a line says at the end of the workload, where it breaks no rule, and answers the sum of all turns after it.
+/// Puts what a line says at the end of the workload, if it breaks no rule, and answers the sum of
+/// all turns after it.
 fn put(item: Item, turns: u32, work: &mut Work) -> Result<u32, AllocError>
     requires sum { turns ≡ turns_in work.old.turns.items }
     requires fits { broken_by (workload_of work.old) item ≡ None }
@@ -187,7 +188,8 @@ fn rule_of_turns(work: &Work, turns: u32, more: Turn) -> Option<WorkRule>
     None
 }
 
-/// The rule that the bytes after the last line feed break, where a line that begins with more than 64 bytes breaks `bad`.
+/// The rule that the bytes after the last line feed break; a line that begins with more than 64
+/// bytes breaks `bad`.
 fn unfinished_rule(bad: WorkRule, rest: &[u8]) -> WorkRule
     ensures { result ≡ unfinished_rule bad rest.now }
 {

@@ -25,7 +25,7 @@ fn op(caller: u32, method: Method, a: u32, b: u32) -> WorkOp {
     }
 }
 
-/// The line about the text, where it is refused, and else nothing.
+/// The line about the text if it is refused, and nothing otherwise.
 fn refusal_of(alloc: Global, text: &[u8]) -> Result<Vec<u8>, AllocError> {
     let mut line = Vec::new(alloc);
     if let Err(WorkFault::Refused { line: number, rule }) = read_work(alloc, text) {

@@ -14,8 +14,9 @@ pub struct WorkOp {
 
 /// A workload: what the callers of a structure call, and whose turns come in which order.
 ///
-/// It keeps its limits where each caller is below the header's callers, each operation fits the header, there are at most
-/// 200,000 operations and at most 200,000 `turns`, each of 1 to 4,000,000 turns, and 4,000,000 turns in all.
+/// It keeps its limits if each caller is below the header's callers, each operation fits the
+/// header, there are at most 200,000 operations and at most 200,000 `turns`, each of 1 to 4,000,000
+/// turns, and 4,000,000 turns in all.
 #[derive(Debug, Drop)]
 pub struct Work {
     /// The structure, its size and its callers.

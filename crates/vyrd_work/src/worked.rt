@@ -20,7 +20,7 @@ pub fn workload_read()
     }) }
 {}
 
-/// Texts that are no workload, with the first bad line and the rule that it breaks.
+/// Texts that aren't a workload, with the first bad line and the rule that it breaks.
 #[tactic(auto, unfolding(crate::proofs::Opened::opened_reading))]
 pub fn refused_texts()
     ensures nothing { work_reading [] ≡ refused 1 NoEnd }

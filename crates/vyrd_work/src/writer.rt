@@ -13,8 +13,8 @@ use vyrd_text::{LineBuffer, name_of_subject, push_call};
 
 /// Appends the workload's text. A refusal leaves `out` unchanged.
 ///
-/// Where the workload keeps its limits, the text is read as this workload again; that is the law `text_is_read`. The time and the
-/// memory grow with the operations and the lines of turns.
+/// If the workload keeps its limits, the text is read as this workload again; that is the law
+/// `text_is_read`. The time and the memory grow with the operations and the lines of turns.
 pub fn write_work(work: &Work, out: &mut Vec<u8>) -> Result<(), AllocError>
     ensures ok { OnOk result (out.new.items ≡ out.old.items ++ work_text (workload_of work.now)) }
     ensures err { OnErr result (out.new.items ≡ out.old.items) }
@@ -27,7 +27,7 @@ pub fn write_work(work: &Work, out: &mut Vec<u8>) -> Result<(), AllocError>
     written
 }
 
-/// Appends the workload's text, or a part of it where memory is wanting.
+/// Appends the workload's text, or a part of it if memory runs out.
 fn append_work(work: &Work, out: &mut Vec<u8>) -> Result<(), AllocError>
     ensures ok { OnOk result (out.new.items ≡ out.old.items ++ work_text (workload_of work.now)) }
     ensures err { OnErr result (take (length out.old.items) out.new.items ≡ out.old.items) }
@@ -56,7 +56,7 @@ fn append_header(header: Header, variant: Variant, out: &mut Vec<u8>) -> Result<
     out.extend_from_slice(line.as_slice())
 }
 
-/// Appends the operations' lines, or some of them where memory is wanting.
+/// Appends the operations' lines, or some of them if memory runs out.
 fn append_ops(ops: &[WorkOp], out: &mut Vec<u8>) -> Result<(), AllocError>
     ensures ok { OnOk result (out.new.items ≡ out.old.items ++ flat_map (λ o. ended_line (item_line (Item.Op o))) ops.now) }
     ensures err { OnErr result (take (length out.old.items) out.new.items ≡ out.old.items) }
@@ -71,7 +71,7 @@ fn append_ops(ops: &[WorkOp], out: &mut Vec<u8>) -> Result<(), AllocError>
     Ok(())
 }
 
-/// Appends the lines of turns, or some of them where memory is wanting.
+/// Appends the lines of turns, or some of them if memory runs out.
 fn append_turns(turns: &[Turn], out: &mut Vec<u8>) -> Result<(), AllocError>
     ensures ok { OnOk result (out.new.items ≡ out.old.items ++ flat_map (λ t. ended_line (item_line (Item.Turns t))) turns.now) }
     ensures err { OnErr result (take (length out.old.items) out.new.items ≡ out.old.items) }

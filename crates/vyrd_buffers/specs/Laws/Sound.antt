@@ -126,7 +126,7 @@ one_more_low [] character all low = both_true _ _ (is_below character (2 ^ 63) l
 one_more_low (first ∷ characters) character all low =
     both_true _ _ (first_true _ _ all) (one_more_low characters character (second_true (nat_lt first (2 ^ 63)) (are_low characters) all) low)
 
--- loading characters is sound where what follows is, for whatever was loaded
+-- loading characters is sound if what follows is, for whatever was loaded
 sound_load_from : (h : Header) (s : Situation) (left b i : ℕ) (held : List ℕ) (loaded : List ℕ → Script) → h.subject ≡ Buffers → b < h.size
     → i + left ≤ 7 → are_low held ≡ true
     → ((all : List ℕ) → are_low all ≡ true → length all ≡ length held + left → IsSound h s (loaded all))

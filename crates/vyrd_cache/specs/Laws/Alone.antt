@@ -124,7 +124,7 @@ only_commit_alone h op script c k memory state is s low run allowed =
         (changed_cell (held c (lock_of h k) memory) (lock_of h k) 0)
         (after_none h.size c k memory low) (sound_at h memory state k is s low) refl
 
--- a call that puts a dirty chunk's pair into the store, where it is what the chunk shows
+-- a call that puts a dirty chunk's pair into the store, which is what the chunk shows
 put_stored_alone : (h : Header) (op : Op) (script : Script) (c k left : ℕ) (memory : Memory) (state : Amounts) → h.subject ≡ Cache
     → Represents h memory state → k < h.size
     → (memory (5 * k) == 2) ≡ true

@@ -69,7 +69,8 @@ load_from_right h locks called k before b (suc left) i found later held few rest
     ∙ sym (append_assoc found (mid (character_cell b i) ∷ []) (loaded now b left (i + 1))))
     (rest now (stays_more h locks before mid now first second))))
 
--- A read loads the characters that are left, and returns the text that they make behind those that it has.
+-- A read loads the characters that are left, and returns the text that they make after those that
+-- it has.
 pub read_from_right : (h : Header) (locks : List ℕ) (called : Called) (k : Locals) (before : Memory) (b left i n text : ℕ) → IsHeld h locks b
     → i + left ≡ n → n ≤ 7 → text ≡ text_of (λ j. before (character_cell b j) % 255) i
     → ((now : Memory) → Stays h locks before now

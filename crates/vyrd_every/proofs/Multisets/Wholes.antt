@@ -155,7 +155,7 @@ insert_right h k shown args none is =
     called : Called
     called = record { method = MsInsert; args = args }
 
--- where both slots for a pair were found, they are made valid
+-- if both slots for a pair were found, they are made valid
 pair_found_right : (h : Header) (k : Locals) (shown : Memory) (args : Args) (slot_x slot_y : ℕ) → AreReserved h k shown args slot_x slot_y
     → k.called ≡ Some (pair_of args)
     → DoesRight (multiset h) (at [] false false (pair_of args)) k shown (second_found h Correct args.a args.b slot_x (Some slot_y))

@@ -1,5 +1,5 @@
--- What an insert does in the leaf of its key: another value for a key that is there, or an entry where there is room. What it
--- does in a full leaf is taken from elsewhere.
+-- What an insert does in the leaf of its key: another value for a key that is there, or an entry if
+-- there is room. What it does in a full leaf is taken from elsewhere.
 use Rattle.std.proofs.Common.{◌≡◌, ◌≢◌, ℕ, zero, suc, ◌+◌, ◌*◌, ◌<◌, ◌≤◌, ◌^◌, ◌⊎◌, inl, inr, Bool, true, false, cond, not, List, [], ◌∷◌, ◌++◌, Option, Some, None, length, refl, ap, ◌∙◌, sym, subst, arith}
 use Rattle.std.specs.Prelude.{nat_lt}
 use Rattle.std.specs.Bool.{then_some}

@@ -178,7 +178,8 @@ pub record TreeNext (h : Header) (scripts : List Script) (earlier : List Stamped
   pub leading : Leading c did (log_in earlier) (after_answer (left_after (script_of scripts c) (part_of c earlier)) 0) state next
   pub returning : Returning c did (log_in earlier) passed state
 
--- whoever holds the root's lock sees the root that the log shows, but the caller whose block is seen
+-- a caller that holds the root's lock sees the root that the log shows, except the one whose block
+-- is seen
 pub tree_calm : (h : Header) (scripts : List Script) (earlier : List Stamped) (locals : ℕ → TreeLocals) (g : Shape) (m : Memory) (passed : List Amounts)
     (state : Amounts) → AreSoundScripts h scripts → IsRun h scripts earlier → TreeInvariant h scripts earlier locals g m passed state
     → (d : ℕ) → d < h.callers → holds (situation_after (part_of d earlier)) (root_lock h) ≡ true → (locals d).out ≡ false

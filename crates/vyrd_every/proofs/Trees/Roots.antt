@@ -213,7 +213,7 @@ module _ (size : ℕ) (g : Shape) (m m' : Memory) (u key child : ℕ) (t : IsLin
           st.shows q a old (sym (level_same a old) ∙ leaf) over_a ∙ ap (gives q) (sym (entries_same a old))
       shows' q a leaf over (inr at) = absurd (let same = ap (level_at m') at ∙ gr.new_level in omega (arith, same, leaf))
 
-  -- what hangs does so still, but for the new root's child
+  -- what hangs does so still, except for the new root's child
   pub grown_hangs : (y : ℕ) → g.linked y ≡ true → y ≢ child → Hangs g m y → Hangs (with_node g u 0) m' y
   grown_hangs y old apart hangs = ((λ e. hangs.0 (sym (low_same y old) ∙ e)), λ p l some. unnamed p (new_or p l) some)
     where

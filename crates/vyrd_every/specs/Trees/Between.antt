@@ -31,10 +31,10 @@ abbrev pub MayHold : Header → Situation → TreeLocals → Shape → Memory �
 MayHold h s k g m cell = ((k.out ≡ false) × InNode h s k g m cell)
     ⊎ ((k.out ≡ true) × ((cell ≡ root_cell h) ⊎ IsWordOf (root_in h.size m) cell))
 
--- What holds of one caller, after its part of the history: what is left of its script does right, whatever
--- the others do next; its locals are what the log says of it, and are right; its open block has written only
--- such words; and where its block's writes are seen before its end, it holds the root's lock, and the root
--- is above the one that the log shows.
+-- What holds of one caller, after its part of the history: what is left of its script does right,
+-- whatever the others do next; its locals are what the log says of it, and are right; its open
+-- block has written only such words; and if its block's writes are seen before its end, it holds
+-- the root's lock, and the root is above the one that the log shows.
 pub record OfTreeCaller (h : Header) (script : Script) (part : List Did) (log : List Entry) (c : ℕ) (k : TreeLocals)
     (g : Shape) (m : Memory) : Type 0 where
   pub right : (g' : Shape) (now : Memory) → TreeRely h (situation_after part) k g m g' now

@@ -17,10 +17,11 @@ pub record Grows (g : Shape) (m : Memory) (g' : Shape) (m' : Memory) : Type 0 wh
   pub level : (n : ℕ) → g.linked n ≡ true → level_at m' n ≡ level_at m n
   pub top : g.top ≤ g'.top
 
--- What a caller relies on between two of its acts. The words of linked nodes whose lock it holds stay as
--- they are, and the root's word and the count of nodes in use under their locks. The node that it took
--- stays its own, and the one that hangs goes on to hang. The memory holds a tree, and whoever holds the
--- root's lock, and hasn't stored a new root in an open block, sees the root that the log shows.
+-- What a caller relies on between two of its acts. The words of linked nodes whose lock it holds
+-- stay as they are, and the root's word and the count of nodes in use under their locks. The node
+-- that it took stays its own, and the one that hangs goes on to hang. The memory holds a tree, and
+-- a caller that holds the root's lock, and hasn't stored a new root in an open block, sees the root
+-- that the log shows.
 pub record TreeRely (h : Header) (s : Situation) (k : TreeLocals) (g : Shape) (m : Memory)
     (g' : Shape) (m' : Memory) : Type 0 where
   pub grows : Grows g m g' m'

@@ -78,16 +78,17 @@ pub record TreeDoes (h : Header) (s : Situation) (k : TreeLocals) (g : Shape) (m
   pub grows : Grows g m g' (seen_after h s k m act)
   pub leaves : TreeLeaves h s k g m g' (seen_after h s k m act)
   pub tree : IsLinked h.size g' (seen_after h s k m act)
-  -- where no block's writes are seen before it ends, callers see the root that the log shows, before the
-  -- act and after it
+  -- if no block's writes are seen before it ends, callers see the root that the log shows, before
+  -- the act and after it
   pub top : k.out ≡ false → g.top ≡ level_at m (root_in h.size m) → next.out ≡ false
       → g'.top ≡ level_at (seen_after h s k m act) (root_in h.size (seen_after h s k m act))
-  -- where the caller's block was seen and ends, the log shows the new root
+  -- if the caller's block was seen and ends, the log shows the new root
   pub closed : k.out ≡ true → next.out ≡ false
       → g'.top ≡ level_at (seen_after h s k m act) (root_in h.size (seen_after h s k m act))
   -- its writes are seen before the end only in a block, and while the caller holds the root's lock
   pub alone : next.out ≡ true → (holds s (root_lock h) ≡ true) × (s.in_block ≡ true)
-  -- where they come to be seen, the node that was taken is the root, and above the one that the log shows
+  -- when they come to be seen, the node that was taken is the root, and above the one that the log
+  -- shows
   pub ahead : k.out ≡ false → next.out ≡ true → (k.fresh ≡ Some (root_in h.size (seen_after h s k m act)))
       × (g'.top < level_at (seen_after h s k m act) (root_in h.size (seen_after h s k m act)))
   -- and its block has written words of that node alone

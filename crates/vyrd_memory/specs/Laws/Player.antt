@@ -107,7 +107,7 @@ operations-in_time h body (op ∷ ops) each callable = (
       (each op (first_true (is_callable h op) (are_callable h ops) callable)),
 )
 
--- an act that is no call takes no bound
+-- an act that isn't a call takes no bound
 no_bound : (h : Header) (act : Act) → is_call_or_done act ≡ false → bound_taken h act ≡ 0
 no_bound h (Load cell) e = refl
 no_bound h (Store cell value) e = refl

@@ -55,7 +55,7 @@ some_left h n (step act rest) is = let low : 1 ≤ n = is.ends.0 in grind (arith
 pub underway_left : (h : Header) (n : ℕ) (script : Script) → Underway h n script → 1 ≤ n
 underway_left h n script underway = let e : nat_le 1 n ≡ true = ∥∥₁_elim underway (Bool-set _ _) (some_left h n script) in grind (arith, nat_tests)
 
--- an act that is allowed in an open execution is no call
+-- an act that is allowed in an open execution isn't a call
 pub no_call : (h : Header) (s : Situation) (act : Act) → is_some s.called ≡ true → may_act h s act ≡ true → is_call_or_done act ≡ false
 no_call h s (Load cell) called may = refl
 no_call h s (Store cell value) called may = refl

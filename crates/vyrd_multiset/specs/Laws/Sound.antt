@@ -83,7 +83,7 @@ observed_sound h method reply observes = (simp observes, λ answer is. refl)
 gives_up_sound : (h : Header) (method : Method) → is_observer method ≡ false → IsSound h (holding [] method false) gives_up
 gives_up_sound h method mutates = (simp mutates, λ answer is. returns_sound h method 0)
 
--- finding a slot is sound where what follows is, for every slot that it may find and where it finds none
+-- finding a slot is sound if what follows is, for every slot that it may find and for none
 find_from_sound : (h : Header) (s : Situation) (left slot value : ℕ) (found : Option ℕ → Script) → h.subject ≡ Multiset → is_some s.called ≡ true
     → slot + left ≤ 4 * h.size → value < 2 ^ 63 → ((i : ℕ) → i < 4 * h.size → IsSound h s (found (Some i))) → IsSound h s (found None)
     → IsSound h s (find_from left slot value found)

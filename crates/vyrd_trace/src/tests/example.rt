@@ -69,7 +69,7 @@ fn take_again<R: Wait>(rt: &R, traced: &Traced, hand: &mut Hand, lock: u32) -> u
     unreachable!()
 }
 
-// Puts a value into the slot if that is free. Replies 1 if it did, and else 0.
+// Puts a value into the slot if that is free. Replies 1 if it did, and 0 otherwise.
 fn insert<R: Wait>(rt: &R, traced: &Traced, hand: &mut Hand, value: u32) -> u64
     requires hand { IsOf traced.now hand.old × (9 ≤ hand.old.spare) }
     requires cells { (traced.now.plan.plain ≡ 2) × (traced.now.plan.locks ≡ 1) }

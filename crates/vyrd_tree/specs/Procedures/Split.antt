@@ -52,7 +52,7 @@ lower_half five = take 3 five
 abbrev pub upper_half : List (ℕ × ℕ) → List (ℕ × ℕ)
 upper_half five = drop 3 five
 
--- the first key, and 0 where there is none
+-- the first key, and 0 if there is none
 abbrev pub first_key : List (ℕ × ℕ) → ℕ
 first_key [] = 0
 first_key ((key, value) ∷ entries) = key

@@ -1,5 +1,6 @@
--- A walk goes with a key toward a level, from node to node: right where the key is past a node's bound, and down where the node's
--- level is higher. It holds one lock at a time. Where it arrives, it holds the lock of the node there and has loaded the node.
+-- A walk goes with a key toward a level, from node to node: right if the key is past a node's
+-- bound, and down if the node's level is higher. It holds one lock at a time. Where it arrives, it
+-- holds the lock of the node there and has loaded the node.
 use Rattle.std.specs.Prelude.{ℕ, zero, suc, ◌+◌, min, Bool, not, ◌&&◌, ◌==◌, nat_lt, nat_le, List, [], ◌∷◌, if◌then◌else◌}
 use Rattle.std.specs.List.{list_any}
 use Rattle.vyrd_base.specs.declared.header.Header.{Header}
@@ -43,7 +44,8 @@ abbrev pub child_place : ℕ → List ℕ → ℕ
 child_place key [] = 0
 child_place key (first ∷ keys) = if list_any (λ other. nat_le other key) keys then child_place key keys + 1 else 0
 
--- where these are the keys: load the child that the key belongs to, unlock the node, and visit the child
+-- if these are the keys: load the child that the key belongs to, unlock the node, and visit the
+-- child
 abbrev pub to_child : Header → ℕ → ℕ → ℕ → List ℕ → Script → (ℕ → Script) → Script
 to_child h key node count keys lost visit =
     if count == 0
@@ -54,7 +56,7 @@ to_child h key node count keys lost visit =
 abbrev pub descend : Header → ℕ → ℕ → ℕ → Script → (ℕ → Script) → Script
 descend h key node count lost visit = load_keys count node 0 (λ keys. to_child h key node count keys lost visit)
 
--- where these are the keys: load the values
+-- if these are the keys: load the values
 abbrev pub load_rest : ℕ → ℕ → ℕ → ℕ → List ℕ → (Arrived → Script) → Script
 load_rest node level bound right keys arrived = load_values keys node 0 (λ entries.
     arrived (record { node = node; level = level; bound = bound; right = right; entries = entries }))
@@ -77,8 +79,8 @@ visit_node h variant key toward node lost visit arrived = lock_node h node
     step (Load (bound_cell node)) (λ bound. step (Load (right_cell node)) (λ right.
     pass_on h variant key toward node level count bound right lost visit arrived)))))
 
--- A walk from a node on, with a key, toward a level, and with this many visits left. It is lost where there is no such node, and
--- where no visit is left.
+-- A walk from a node on, with a key, toward a level, and with this many visits left. It is lost if
+-- there is no such node, or if no visit is left.
 abbrev pub walk_from : Header → Variant → ℕ → ℕ → ℕ → ℕ → Script → (Arrived → Script) → Script
 walk_from h variant key toward zero node lost arrived = lost
 walk_from h variant key toward (suc left) node lost arrived =

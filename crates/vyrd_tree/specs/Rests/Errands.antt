@@ -26,13 +26,13 @@ abbrev pub toward : Errand → ℕ
 toward errand.Operation = 0
 toward (errand.Ascent a) = a.level + 1
 
--- what follows where an operation's walk is lost
+-- what follows when an operation's walk is lost
 abbrev pub lost_call : Call → Script
 lost_call call.Insert = gives_up
 lost_call call.Delete = gives_up
 lost_call call.Lookup = returns 0
 
--- what follows where a walk is lost
+-- what follows when a walk is lost
 abbrev pub lost_for : Task → Errand → Script
 lost_for task errand.Operation = lost_call task.call
 lost_for task (errand.Ascent a) = returns 1
@@ -45,13 +45,13 @@ next_round h task a level key node = ascend h task.variant (15 - a.level) level 
 abbrev pub round : Header → Task → Ascent → Script
 round h task a = ascend_once h task.variant a.level a.key a.node.number (returns 1) (next_round h task a)
 
--- what follows where an operation's walk has arrived
+-- what follows when an operation's walk has arrived
 abbrev pub arrived_call : Header → Task → Call → Arrived → Script
 arrived_call h task call.Insert at = insert_in h task.variant task.key task.value at (place_of task.key at.entries)
 arrived_call h task call.Delete at = delete_in h at (place_of task.key at.entries)
 arrived_call h task call.Lookup at = look_in h at (place_of task.key at.entries)
 
--- what follows where a walk has arrived
+-- what follows when a walk has arrived
 abbrev pub arrived_for : Header → Task → Errand → Arrived → Script
 arrived_for h task errand.Operation at = arrived_call h task task.call at
 arrived_for h task (errand.Ascent a) at = add_child h a.level a.key a.node.number at (returns 1) (next_round h task a)
@@ -66,7 +66,7 @@ abbrev pub close_for : Errand → Kind
 close_for errand.Operation = BlockCommit
 close_for (errand.Ascent a) = BlockClose
 
--- what follows where a full node isn't split, since no node is unused
+-- what follows when a full node isn't split, since no node is unused
 abbrev pub unsplit : Header → Errand → ℕ → Script
 unsplit h errand.Operation node = changes_nothing h node
 unsplit h (errand.Ascent a) node = unlock_node h node (returns 1)

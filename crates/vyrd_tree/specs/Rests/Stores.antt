@@ -43,7 +43,7 @@ new_from w Right later = perform (Store (right_cell w.node.number) w.right) (ent
 new_from w (Key slot) later = key_from w slot later
 new_from w (Value slot) later = value_from w slot later
 
--- the bound and the right link, where the node was split
+-- the bound and the right link, if the node was split
 abbrev pub linking : Written → Extent → Script → Script
 linking w Entries later = later
 linking w Split later = perform (Store (bound_cell w.node.number) w.bound) (perform (Store (right_cell w.node.number) w.right) later)
@@ -73,7 +73,7 @@ storing_rest h (Old w word extent) later = old_from w word extent later
 storing_rest h (storing.Value node slot value) later = perform (Store (value_cell node.number slot.place) value) later
 storing_rest h (Root node) later = perform (Store (root_cell h) node.number) later
 
--- the same where nothing may be left to store
+-- the same if nothing may be left to store
 abbrev pub storing_on : Header → Option Storing → Script → Script
 storing_on h None later = later
 storing_on h (Some storing) later = storing_rest h storing later

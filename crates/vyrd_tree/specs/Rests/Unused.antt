@@ -1,4 +1,4 @@
--- What is left where an unused node is got, and what is done with it.
+-- What is left when an unused node is got, and what is done with it.
 use Rattle.std.specs.Prelude.{ℕ, ◌+◌, nat_le, [], ◌∷◌, Option, Some, None, if◌then◌else◌}
 use Rattle.vyrd_base.specs.declared.header.Header.{Header}
 use Rattle.vyrd_base.specs.declared.log.Kind.TheVariants.{BlockOpen, BlockClose}
@@ -20,7 +20,7 @@ use Rattle.vyrd_tree.specs.Rests.Errands.{close_for, unsplit, after_split}
 abbrev pub full_at : Full → Arrived
 full_at full = record { node = full.node.number; level = full.level; bound = full.bound; right = full.right; entries = [] }
 
--- what follows where no unused node is there
+-- what follows when there is no unused node
 abbrev pub none_for : Header → Need → Script
 none_for h (need.Split full) = unsplit h full.errand full.node.number
 none_for h (need.Root a root) = unlock_root h (returns 1)
@@ -32,7 +32,7 @@ found_for h task (need.Split full) new = perform (Mark BlockOpen) (split (full_a
 found_for h task (need.Root a root) new = perform (Mark BlockOpen) (write_node new (a.level + 1) 0 0 ((0, root.number) ∷ (a.key, a.node.number) ∷ [])
     (perform (Store (root_cell h) new) (perform (Mark BlockClose) (unlock_root h (returns 1)))))
 
--- the same where there may be an unused node
+-- the same if there may be an unused node
 abbrev pub got : Header → Task → Need → Option Node → Script
 got h task need None = none_for h need
 got h task need (Some new) = found_for h task need new.number

@@ -29,7 +29,7 @@ with_keys h task v count keys = if nat_lt (toward v.errand) v.level
     then to_child h (key_for task v.errand) v.node.number count keys (lost_for task v.errand) (walk_on h task v.errand v.left)
     else load_rest v.node.number v.level v.bound v.right keys (arrived_for h task v.errand)
 
--- the keys of a visit's node from a place on, where it has this many entries
+-- the keys of a visit's node from a place on, if it has this many entries
 abbrev pub keys_from_rest : Header → Task → Visit → ℕ → ℕ → Script
 keys_from_rest h task v place count =
     load_keys (count - place) v.node.number place (λ keys. with_keys h task v count (keys_of (take place v.entries.slots) ++ keys))

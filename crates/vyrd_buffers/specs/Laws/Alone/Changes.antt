@@ -42,7 +42,7 @@ sound_alike a b same =
     by_count false e =
         ap (λ few. few && are_characters a.character b.count) e ∙ sym (ap (λ few. few && are_characters b.character b.count) e)
 
--- and where they are sound they show the same text
+-- and if they are sound, they show the same text
 pub shown_alike : (a b : Buffer) → Alike a b → is_buffer b ≡ true → shown a ≡ shown b
 shown_alike a b same sound =
     let most = count_at_most b sound in
@@ -150,7 +150,7 @@ other_buffer old new b j leaves apart = record {
   characters = λ i few. leaves (8 * j + (1 + i)) (omega arith);
 }
 
--- what the buffers give where buffer b alone changed
+-- what the buffers give if buffer b alone changed
 amounts_changed : (h : Header) (old new : Memory) (state : Amounts) (b q : ℕ) → h.subject ≡ Buffers → Represents h old state → b < h.size
     → Leaves old new b → is_buffer (buffer_of new b) ≡ true
     → given q (flat_map (part_at h new) (numbers_below h.size)) ≡ cond (q == b) (shown (buffer_of new b)) (amount_of state q)
@@ -229,14 +229,14 @@ same_amount state b is =
     by_key q true e = ap (amount_of state) (sym (same_of q b e))
     by_key q false e = refl
 
--- Where the buffer shows the same text as before, the memory represents the same state.
+-- If the buffer shows the same text as before, the memory represents the same state.
 pub kept_buffer : (h : Header) (old new : Memory) (state : Amounts) (b : ℕ) → h.subject ≡ Buffers → Represents h old state → b < h.size
     → Leaves old new b → is_buffer (buffer_of new b) ≡ true → shown (buffer_of new b) ≡ shown (buffer_of old b) → Represents h new state
 kept_buffer h old new state b is s low leaves sound same =
     subst (Represents h new) (ap (with_amount state b) (same ∙ sym (shown_at h old state b is s low)) ∙ same_amount state b (is_amounts h old state s))
     (changed_buffer h old new state b is s low leaves sound)
 
--- Where no cell has changed, it does too.
+-- If no cell has changed, it does too.
 pub same_cells : (h : Header) (old new : Memory) (state : Amounts) (b : ℕ) → h.subject ≡ Buffers → Represents h old state → b < h.size
     → ((cell : ℕ) → new cell ≡ old cell) → Represents h new state
 same_cells h old new state b is s low same =

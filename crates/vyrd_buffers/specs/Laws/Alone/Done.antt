@@ -24,7 +24,8 @@ use Rattle.vyrd_buffers.specs.Laws.Alone.Texts.{appended_sound, appended_shown}
 use Rattle.vyrd_buffers.specs.Laws.Alone.Stores.{SameWords, same_buffer, held}
 use Rattle.vyrd_buffers.specs.Laws.Alone.Stores.{with_appended, with_appended-is}
 
--- what the specification allows: an append to a full buffer, one where there is room, and an answer
+-- what the specification allows: an append to a full buffer, one to a buffer with room, and an
+-- answer
 pub full_allowed : (state : Amounts) (b more : ℕ) → has_room (amount_of state b) more ≡ false → after_append 0 state b more ≡ Some state
 full_allowed state b more full = ap (λ room. then_some (not room) state) full
 

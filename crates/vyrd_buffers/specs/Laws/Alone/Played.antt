@@ -54,7 +54,7 @@ run_unlock_both h c first second memory later = by_test (first == second)
     by_test true = refl
     by_test false = refl
 
--- characters are loaded behind those that are held
+-- characters are loaded after those that are held
 pub run_load : (c : ℕ) (memory : Memory) (left s i : ℕ) (so_far : List ℕ) (later : List ℕ → Script)
     → alone c (load_from left s i so_far later) memory ≡ alone c (later (so_far ++ loaded memory s left i)) memory
 run_load c memory zero s i so_far later = ap (λ characters. alone c (later characters) memory) (sym (append-nil so_far))
@@ -70,7 +70,7 @@ run_store c [] b i memory later = refl
 run_store c (character ∷ characters) b i memory later =
     run_store c characters b (i + 1) (with_cell memory (character_cell b i) character) later
 
--- The rest of a buffer's characters is read behind the text of those before it.
+-- The rest of a buffer's characters is read after the text of those before it.
 pub run_read : (h : Header) (c : ℕ) (memory : Memory) (left b i : ℕ)
     → ((j : ℕ) → j < i + left → (buffer_of memory b).character j < 255)
     → alone c (read_from h left b i (text_of (buffer_of memory b).character i)) memory

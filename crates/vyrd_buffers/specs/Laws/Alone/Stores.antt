@@ -26,7 +26,7 @@ same_buffer size old new b same low = record {
 abbrev pub held : ℕ → ℕ → Memory → Memory
 held c lock memory = with_cell memory lock (c + 1)
 
--- the words stay the same where a lock changes
+-- the words stay the same if a lock changes
 pub lock_changed : (h : Header) (b value : ℕ) (memory : Memory) → SameWords h.size memory (with_cell memory (lock_of h b) value)
 lock_changed h b value memory cell low = other_cell memory (lock_of h b) value cell (omega (arith, low))
 
@@ -62,7 +62,7 @@ both_given-words h first second memory cell low =
     by_test true = refl
     by_test false = other_cell memory (lock_of h second) 0 cell (omega (arith, low))
 
--- where both were free, the cell is as it was
+-- if both were free, the cell is as it was
 pub both_given-back : (h : Header) (first second : ℕ) (before during : Memory) (cell : ℕ)
     → before (lock_of h first) ≡ 0 → before (lock_of h second) ≡ 0
     → (cell ≢ lock_of h first → cell ≢ lock_of h second → during cell ≡ before cell)
@@ -76,7 +76,7 @@ both_given-back h first second before during cell free free_other same =
     by_test true e apart = same apart (subst (λ n. cell ≢ lock_of h n) (same_of first second e) apart)
     by_test false e apart = given_back before during (lock_of h second) cell free_other (same apart)
 
--- so many characters of a buffer from character i on
+-- that many characters of a buffer from character i on
 abbrev pub loaded : Memory → ℕ → ℕ → ℕ → List ℕ
 loaded memory s zero i = []
 loaded memory s (suc left) i = memory (character_cell s i) ∷ loaded memory s left (i + 1)

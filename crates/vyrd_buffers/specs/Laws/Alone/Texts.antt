@@ -38,7 +38,7 @@ room_for_one a x sound low =
     tests : (n : ℕ) → nat_le (n + 1) 7 ≡ not (nat_le 7 n)
     tests n = grind (arith, nat_tests)
 
--- a buffer after so many of these characters were appended
+-- a buffer after that many of these characters were appended
 pub record Appended (old new : Buffer) (more : ℕ → ℕ) (m : ℕ) : Type 0 where
   pub count : new.count ≡ old.count + m
   pub kept : (i : ℕ) → i < old.count → new.character i ≡ old.character i

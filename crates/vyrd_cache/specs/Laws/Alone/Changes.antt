@@ -129,7 +129,7 @@ other_chunk size old new k j leaves low below apart =
     (leaves (5 * j + 3) (omega arith) (omega arith) (omega arith) (omega arith) (omega arith) (omega arith))
     (leaves (5 * j + 4) (omega arith) (omega arith) (omega arith) (omega arith) (omega arith) (omega arith))
 
--- what the chunks give where chunk k alone changed
+-- what the chunks give if chunk k alone changed
 amounts_changed : (h : Header) (old new : Memory) (state : Amounts) (k q : ℕ) → h.subject ≡ Cache → Represents h old state → k < h.size
     → Leaves old new k (5 * h.size + k) → is_sound_chunk (chunk_of new k) ≡ true
     → given q (flat_map (part_at h new) (numbers_below h.size)) ≡ cond (q == k) (shown (chunk_of new k)) (amount_of state q)
@@ -209,7 +209,7 @@ same_amount state k is =
     by_key q true e = ap (amount_of state) (sym (same_of q k e))
     by_key q false e = refl
 
--- Where the chunk shows the same pair as before, the memory represents the same state.
+-- If the chunk shows the same pair as before, the memory represents the same state.
 pub kept_chunk : (h : Header) (old new : Memory) (state : Amounts) (k : ℕ) → h.subject ≡ Cache → Represents h old state → k < h.size
     → Leaves old new k (5 * h.size + k) → new (5 * h.size + k) ≡ 0 → is_sound_chunk (chunk_of new k) ≡ true
     → shown (chunk_of new k) ≡ shown (chunk_of old k)

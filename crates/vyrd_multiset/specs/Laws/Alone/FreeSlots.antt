@@ -6,7 +6,7 @@ use Rattle.vyrd_base.proofs.TestLaws.{same_of, apart_of, isnt_same}
 use Rattle.vyrd_memory.specs.Alone.{Memory}
 use Rattle.vyrd_multiset.specs.Room.{free_from}
 
--- what a slot counts: 1 where it is free
+-- what a slot counts: 1 if it is free
 abbrev counts : Memory → ℕ → ℕ
 counts memory slot = cond (memory (2 * slot) == 0) 1 0
 

@@ -150,7 +150,7 @@ child_added h c m low s level key node n ending next Q at hangs at_stop at_next 
         (λ q a used leaf off over. refl)
         (λ m' low' st free hangs'. at_next m' low' (split_key (loaded_at m n) key node) (last_in h.size m + 1) st free hangs')))
 
--- One round: the ascent ending, or the next round begins, in a memory that represents the same state.
+-- One round: the ascent ends, or the next round begins, in a memory that represents the same state.
 pub round_played : (h : Header) (c : ℕ) (m : Memory) (low : ℕ → ℕ) (s : Amounts) (level key node : ℕ) (ending : Script) (next : ℕ → ℕ → ℕ → Script)
     (Q : Option Outcome → Type 0)
     → ShowsBy h.size m low s → FreeAll h m → IsHanging h.size m low level key node → Stops h c s ending Q → GoesOnAt h c s (level + 1) next Q
@@ -203,7 +203,7 @@ round_played h c m low s level key node ending next Q st free hangs at_stop at_n
     still : FreeBut h held (root_lock h)
     still lock from to apart = other_cell m (root_lock h) (c + 1) lock apart ∙ free lock from to
 
-    -- an ascent that ending here gives back the root's lock
+    -- an ascent that ends here gives back the root's lock
     stopped : Q (alone c (unlock_root h ending) held)
     stopped = unlocked c ending m (root_lock h) (c + 1) Q root_free (at_stop m low st free)
 

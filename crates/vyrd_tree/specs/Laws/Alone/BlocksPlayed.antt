@@ -26,7 +26,7 @@ use Rattle.vyrd_tree.specs.Laws.Alone.WalkArrives.{with_lock, locked_words}
 use Rattle.vyrd_tree.specs.Cells.{count_cell, used_cell, used_lock, lock_of, unlock_node, unlock_used}
 use Rattle.vyrd_tree.specs.Procedures.Split.{with_unused, write_entries, rewrite}
 
--- the same state where the plain words are the same
+-- the same state if the plain words are the same
 pub shows_same_words : (size : ℕ) (m m' : Memory) (low : ℕ → ℕ) (s : Amounts) → SameWords size m m' → ShowsBy size m low s → ShowsBy size m' low s
 shows_same_words size m m' low s same st = record {
   tree = same_words_tree size m m' low same st.tree;

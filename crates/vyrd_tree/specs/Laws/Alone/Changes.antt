@@ -24,7 +24,7 @@ use Rattle.vyrd_tree.specs.Laws.Alone.Entries.{each_more}
 use Rattle.vyrd_tree.specs.Laws.Alone.View.{leaf_gives}
 use Rattle.vyrd_tree.specs.Laws.Alone.Tested.{tree_of_words, words_of_tree}
 
--- entries stay sound where the children's levels and lows stay
+-- entries stay sound if the children's levels and lows stay
 pub entries_kept : (last last' : ℕ) (level level' low low' : ℕ → ℕ) (above from bound : ℕ) (xs : Entries) → last ≤ last'
     → ((n : ℕ) → n ≤ last → level' n ≡ level n) → ((n : ℕ) → n ≤ last → low' n ≡ low n)
     → AreEntries last level low above from bound xs → AreEntries last' level' low' above from bound xs

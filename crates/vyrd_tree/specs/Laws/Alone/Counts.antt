@@ -100,7 +100,7 @@ passing_two p k n i j from apart to pass pass' =
     one_of : Implies one p k n
     one_of a f t e = let at : a ≡ i = same_of a i e in ap p at ∙ pass
 
--- where all that pass are one and the same, at most one passes
+-- if all that pass are one and the same, at most one passes
 pub passing_one : (p : ℕ → Bool) (k n : ℕ) → ((i j : ℕ) → k ≤ i → i < k + n → k ≤ j → j < k + n → p i ≡ true → p j ≡ true → i ≡ j)
     → passing p (numbers_from k n) ≤ 1
 passing_one p k zero one = omega arith

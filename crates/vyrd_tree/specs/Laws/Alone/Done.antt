@@ -154,7 +154,7 @@ lookup_alone h c m s key st = walked_down h c m s key (returns 0) (λ at. Rattle
               ),
             )
 
--- A delete removes the key and replies 1, or replies 0 where it isn't there.
+-- A delete removes the key and replies 1, or replies 0 if it isn't there.
 pub delete_alone : (h : Header) (c : ℕ) (m : Memory) (s : Amounts) (key : ℕ) → TreeRepresents h m s
     → EndsSo (alone c (delete h Correct key) m) (λ reply after.
     ((amount_of s key ≡ 0) × (reply ≡ 0) × TreeRepresents h after s) ⊎ ((amount_of s key ≢ 0) × (reply ≡ 1) × TreeRepresents h after (with_amount s key 0)))

@@ -206,7 +206,7 @@ found_around k (x ∷ xs) i e = by_key (x.0 == k) refl (found_around k xs)
         let is = found.4 in
         (x ∷ found.0, found.1, found.2, (let at_i = there.1 in omega arith), record { parts = ap (λ ys. x ∷ ys) is.parts; key_is = is.key_is })
 
--- a key that isn't found is no entry's
+-- a key that isn't found belongs to no entry
 pub not_found : (k : ℕ) (xs : Entries) → place_in k xs ≡ None → Each (λ x. x.0 ≢ k) xs
 not_found k [] e = tt
 not_found k (x ∷ xs) e = by_key (x.0 == k) refl (not_found k xs)

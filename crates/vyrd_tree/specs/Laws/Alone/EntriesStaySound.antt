@@ -1,5 +1,5 @@
--- Proofs of laws that an impl in src/ names: no contract says what is defined here.
--- Sound entries stay sound where one is added, removed, gets another value, or where five are split.
+-- Proofs of laws that an impl in src/ names: no contract says what is defined here. Sound entries
+-- stay sound if one is added, removed or gets another value, or if five are split.
 use Rattle.std.proofs.Common.{◌≡◌, ◌≢◌, ℕ, ◌+◌, ◌<◌, ◌≤◌, ◌^◌, [], ◌∷◌, ◌++◌, refl, ap, ◌∙◌, subst, arith}
 use Rattle.std.specs.Prelude.{length, drop, insert, flat_map}
 use Rattle.std.specs.List.{AllByRecursion as Each}
@@ -112,7 +112,7 @@ entries_replaced last level low above from bound front back entry value leaf sma
     below [] all = tt
     below (x ∷ xs) all = (all.0.0, below xs all.1)
 
--- what is given where an entry is put between others
+-- what is given when an entry is put between others
 pub gives_around : (q : ℕ) (front back : Entries) (entry : ℕ × ℕ)
     → gives q (front ++ entry ∷ back) ≡ given q (entry_parts entry) + gives q (front ++ back)
 gives_around q front back entry =

@@ -92,7 +92,8 @@ added_played h c m low s n key level value close later Q closes at front back p 
     fits : n < h.size
     fits = (let t = at.shown.tree in let fits = t.last_low in let used = at.in_use in omega (arith, fits, used))
 
--- A full node is split for the entry, where an unused node was got. What follows begins where its lock has been given back.
+-- A full node is split for the entry, if an unused node was got. What follows begins once its lock
+-- has been given back.
 pub node_split : (h : Header) (c : ℕ) (m : Memory) (low : ℕ → ℕ) (s s' : Amounts) (n key level value : ℕ) (close : Kind) (later : Script)
     (Q : Option Outcome → Type 0) → GoesOn close
     → IsAt h m low s n key level → (front back : Entries) → HasPlace h m n key value front back → count_at m n ≡ 4 → last_in h.size m + 1 < h.size

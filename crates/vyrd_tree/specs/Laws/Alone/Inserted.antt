@@ -94,7 +94,8 @@ pub record LeafOf (size : ℕ) (m : Memory) (low : ℕ → ℕ) (key n : ℕ) : 
   pub leaf : level_at m n ≡ 0
   pub covers : Covers m low n key
 
--- Nothing is inserted where the leaf of a new key is full and no node is unused. A new key gets the reply 1, another the reply 2.
+-- Nothing is inserted if the leaf of a new key is full and no node is unused. A new key gets the
+-- reply 1, another the reply 2.
 abbrev pub InsertDone : Header → Memory → Amounts → ℕ → ℕ → ℕ → Memory → Type 0
 InsertDone h m s key value reply after =
     ((reply ≡ 0) × (amount_of s key ≡ 0) × TreeRepresents h after s

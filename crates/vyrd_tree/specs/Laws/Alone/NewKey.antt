@@ -65,7 +65,7 @@ module _ (h : Header) (c : ℕ) (m : Memory) (low : ℕ → ℕ) (s : Amounts) (
       let parts = ap (gives q) is.parts in
       omega (arith, around, it, parts)
 
-  -- in a leaf that has room: what follows begins where the leaf's lock has been given back
+  -- in a leaf that has room: what follows begins once the leaf's lock has been given back
   pub leaf_gets_entry : (Q : Option Outcome → Type 0) (later : Script) → count_at m n < 4
       → ((m' : Memory) → TreeRepresents h m' (with_amount s key (2 ^ 32 + value)) → Q (alone c later m'))
       → Q (alone c (add_entry h (loaded_at m n) key value BlockCommit later) m)
@@ -74,7 +74,8 @@ module _ (h : Header) (c : ℕ) (m : Memory) (low : ℕ → ℕ) (s : Amounts) (
       (λ m' r locks. goes_on (with_cell m' (lock_of h n) 0) (leaf_changed h m m' low s n key (2 ^ 32 + value)
       (front ++ (key, value) ∷ back) at r locks sound here there))
 
-  -- in a full leaf, which is split, where an unused node was got: the new leaf hangs on the one that was split
+  -- in a full leaf, which is split, if an unused node was got: the new leaf hangs on the one that
+  -- was split
   pub leaf_is_split : (Q : Option Outcome → Type 0) (later : Script) → count_at m n ≡ 4 → last + 1 < h.size
       → ((m' : Memory) (low' : ℕ → ℕ) → ShowsBy h.size m' low' (with_amount s key (2 ^ 32 + value)) → FreeAll h m'
       → IsHanging h.size m' low' 0 (split_key (loaded_at m n) key value) (last + 1)

@@ -64,7 +64,7 @@ place_low key entries place e =
         omega (arith, same, lower)
     by_test false low is = cc
 
--- entries from a place on stand below place 4, where the place is at most 4
+-- entries from a place on stand below place 4, if the place is at most 4
 pub ends_low : (entries : List (ℕ × ℕ)) (place : ℕ) → length entries ≤ 4 → place ≤ 4 → place + length (drop place entries) ≤ 4
 ends_low entries place few low = let len : length (drop place entries) ≡ length entries - place = length-drop place entries in
     omega (arith, len, few, low)

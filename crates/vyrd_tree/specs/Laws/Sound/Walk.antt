@@ -1,5 +1,5 @@
--- Proofs of laws that an impl in src/ names: no contract says what is defined here.
--- A walk is sound where what follows it is.
+-- Proofs of laws that an impl in src/ names: no contract says what is defined here. A walk is sound
+-- if what follows it is.
 use Rattle.std.proofs.Common.{◌≡◌, ℕ, zero, suc, ◌+◌, ◌^◌, ◌<◌, ◌≤◌, min, Bool, true, false, cond, List, [], ◌∷◌, length, refl, ap, arith}
 use Rattle.std.specs.Prelude.{◌==◌, nat_lt, nat_le, ⊤}
 use Rattle.std.specs.List.{list_any}

@@ -1,4 +1,4 @@
--- The event was taken in with all whose turn it was, or else it alone is left out.
+-- The event was taken in with all whose turn it was, or it alone is left out.
 use Rattle.std.proofs.Common.{◌≡◌, ◌∙◌, ◌++◌, [], ◌∷◌, List, Option, Some, None, false, refl, ap, sym, subst}
 use Rattle.std.specs.Prelude.{is_some}
 use Rattle.vyrd_base.specs.declared.header.Header.{Header}
