@@ -1,6 +1,7 @@
 -- Amounts by key: the keys rise and no amount is 0, so a key that isn't there has the amount 0, and
 -- two lists of amounts are equal if each key has the same amount in both.
-use Rattle.std.specs.Prelude.{◌≢◌, ℕ, ◌+◌, ◌==◌, not, T, min, List, [], ◌∷◌, ◌++◌, map, filter, Option, Some, None, unwrap_or, if◌then◌else◌}
+use Rattle.std.specs.Prelude.{◌≢◌, ℕ, ◌+◌, ◌==◌, not, T, min, List, [], ◌∷◌, ◌++◌, map, filter}
+use Rattle.std.specs.Prelude.{Option, Some, None, unwrap_or, if◌then◌else◌}
 use Rattle.std.specs.Option.{option_map_or}
 use Rattle.std.specs.Ordering.{nat_cmp}
 use Rattle.std.specs.FinMap.{find, put, is_sorted}
@@ -22,7 +23,9 @@ amount_of amounts key = unwrap_or (find nat_cmp key amounts) 0
 -- the amounts with this one for the key
 abbrev pub with_amount : Amounts → ℕ → ℕ → Amounts
 with_amount amounts key amount =
-    if amount == 0 then filter (λ entry. not (entry.0 == key)) amounts else put nat_cmp key amount amounts
+    if amount == 0
+    then filter (λ entry. not (entry.0 == key)) amounts
+    else put nat_cmp key amount amounts
 
 -- the amounts with this added to the key's amount
 abbrev pub plus_amount : Amounts → ℕ → ℕ → Amounts
@@ -53,4 +56,5 @@ least (k ∷ ks) = Some (option_map_or (min k) (least ks) k)
 
 -- the least key at which two sides differ
 abbrev pub first_difference : Amounts → Amounts → Option ℕ
-first_difference a b = least (filter (λ key. not (amount_of a key == amount_of b key)) (keys_of a ++ keys_of b))
+first_difference a b =
+    least (filter (λ key. not (amount_of a key == amount_of b key)) (keys_of a ++ keys_of b))

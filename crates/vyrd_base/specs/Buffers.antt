@@ -1,7 +1,8 @@
--- String buffers: what the words of one hold, and its text as one number. Character i of a text, from 0 on, counts
--- (character + 1) * 256^i. So to the base 256 the digits of a text are its characters, each plus 1; none of them is 0, and the
--- empty text is 0.
-use Rattle.std.specs.Prelude.{ℕ, zero, suc, ◌+◌, ◌*◌, ◌^◌, ◌%◌, Bool, true, ◌&&◌, nat_le, nat_lt, List, [], ◌∷◌, slice_index, Option, if◌then◌else◌}
+-- String buffers: what the words of one hold, and its text as one number. Character i of a text,
+-- from 0 on, counts (character + 1) * 256^i. So to the base 256 the digits of a text are its
+-- characters, each plus 1; none of them is 0, and the empty text is 0.
+use Rattle.std.specs.Prelude.{ℕ, zero, suc, ◌+◌, ◌*◌, ◌^◌, ◌%◌, Bool, true, ◌&&◌, nat_le, nat_lt}
+use Rattle.std.specs.Prelude.{List, [], ◌∷◌, slice_index, Option, if◌then◌else◌}
 use Rattle.std.specs.Bool.{then_some}
 
 -- the text of the first n characters
@@ -30,12 +31,14 @@ joined text more = text + more * 256 ^ text_length text
 abbrev pub cut_to : ℕ → ℕ → ℕ
 cut_to n text = if nat_lt n (text_length text) then text % 256 ^ n else text
 
--- what the words of a buffer hold: the count of its characters, and the characters, of which only those below the count matter
+-- what the words of a buffer hold: the count of its characters, and the characters, of which only
+-- those below the count matter
 pub record Buffer : Type 0 where
   pub count : ℕ
   pub character : ℕ → ℕ
 
--- the buffer of that number: its count is in word 8b, and its 7 characters are in the words from 8b + 1 on
+-- the buffer of that number: its count is in word 8b, and its 7 characters are in the words from 8b
+-- + 1 on
 abbrev pub buffer_at : List ℕ → ℕ → Buffer
 buffer_at words b = record {
   count = slice_index words (8 * b);

@@ -1,12 +1,15 @@
--- What a caller is in the middle of at a place of a log: an open execution, an open block, an execution that has committed, a
--- commit inside the open block, and the words that the block has written. The entries before the place are given the nearest
--- first, so each is the answer of the first entry that has one.
-use Rattle.std.specs.Prelude.{ℕ, Bool, true, false, ◌&&◌, ◌==◌, List, [], ◌∷◌, Option, Some, None, unwrap_or, if◌then◌else◌}
+-- What a caller is in the middle of at a place of a log: an open execution, an open block, an
+-- execution that has committed, a commit inside the open block, and the words that the block has
+-- written. The entries before the place are given the nearest first, so each is the answer of the
+-- first entry that has one.
+use Rattle.std.specs.Prelude.{ℕ, Bool, true, false, ◌&&◌, ◌==◌, List, [], ◌∷◌, Option, Some, None}
+use Rattle.std.specs.Prelude.{unwrap_or, if◌then◌else◌}
 use Rattle.std.specs.Option.{option_flatten}
 use Rattle.vyrd_base.specs.declared.subject.Method.{Method}
 use Rattle.vyrd_base.specs.declared.subject.Args.{Args}
 use Rattle.vyrd_base.specs.declared.log.Kind.{Kind}
-use Rattle.vyrd_base.specs.declared.log.Kind.TheVariants.{Call, Return, Write, Commit, BlockOpen, BlockClose, BlockCommit}
+use Rattle.vyrd_base.specs.declared.log.Kind.TheVariants.{Call, Return, Write, Commit, BlockOpen}
+use Rattle.vyrd_base.specs.declared.log.Kind.TheVariants.{BlockClose, BlockCommit}
 use Rattle.vyrd_base.specs.declared.log.Entry.{Entry}
 use Rattle.vyrd_base.specs.Places.{first_answer}
 
@@ -60,7 +63,8 @@ commit_or_open _ = None
 
 -- whether the caller has an open block with a lone commit in it
 abbrev pub has_inner_commit : ℕ → List Entry → Bool
-has_inner_commit c earlier = has_block c earlier && unwrap_or (first_answer (by_caller c commit_or_open) earlier) false
+has_inner_commit c earlier =
+    has_block c earlier && unwrap_or (first_answer (by_caller c commit_or_open) earlier) false
 
 -- a write to the word, back to the open
 abbrev pub write_or_open : ℕ → Kind → Option Bool
@@ -70,7 +74,8 @@ write_or_open w _ = None
 
 -- whether the caller has an open block in which it wrote the word
 abbrev pub holds_word : ℕ → ℕ → List Entry → Bool
-holds_word c w earlier = has_block c earlier && unwrap_or (first_answer (by_caller c (write_or_open w)) earlier) false
+holds_word c w earlier =
+    has_block c earlier && unwrap_or (first_answer (by_caller c (write_or_open w)) earlier) false
 
 -- whether an entry begins an execution
 abbrev pub is_call : Kind → Bool
@@ -80,4 +85,5 @@ is_call _ = false
 -- the entries before the caller's last call
 abbrev pub entries_before_call : ℕ → List Entry → List Entry
 entries_before_call c [] = []
-entries_before_call c (e ∷ earlier) = if e.caller == c && is_call e.kind then earlier else entries_before_call c earlier
+entries_before_call c (e ∷ earlier) =
+    if e.caller == c && is_call e.kind then earlier else entries_before_call c earlier

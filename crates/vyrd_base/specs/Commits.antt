@@ -1,6 +1,8 @@
--- The executions of a front that commit, in the order of their commits, and the states of the specification along them: the
--- start, then the state after the first, after the second, and so on. Where each execution takes effect is its commit.
-use Rattle.std.specs.Prelude.{ℕ, Bool, true, false, List, [], ◌∷◌, Option, Some, None, option_and_then, count_by, filter_map}
+-- The executions of a front that commit, in the order of their commits, and the states of the
+-- specification along them: the start, then the state after the first, after the second, and so on.
+-- Where each execution takes effect is its commit.
+use Rattle.std.specs.Prelude.{ℕ, Bool, true, false, List, [], ◌∷◌, Option, Some, None}
+use Rattle.std.specs.Prelude.{option_and_then, count_by, filter_map}
 use Rattle.std.specs.Bool.{then_some}
 use Rattle.vyrd_base.specs.declared.log.Kind.{Kind}
 use Rattle.vyrd_base.specs.declared.log.Kind.TheVariants.{Return, Commit, BlockCommit}
@@ -31,7 +33,8 @@ pub record Committed : Type 0 where
   pub called : Option Called
   pub reply : Option ℕ
 
--- the execution whose commit stands at a place: its call stands before the commit, and its return after it
+-- the execution whose commit stands at a place: its call stands before the commit, and its return
+-- after it
 abbrev pub committed_at : Place Entry → Committed
 committed_at place = record {
   caller = place.here.caller;
@@ -41,7 +44,9 @@ committed_at place = record {
 
 -- the executions that commit from a place on, in the order of their commits
 abbrev pub commits_after : List Entry → List Entry → List Committed
-commits_after earlier later = filter_map (λ place. then_some (is_commit place.here.kind) (committed_at place)) (places_after earlier later)
+commits_after earlier later =
+    filter_map (λ place. then_some (is_commit place.here.kind) (committed_at place))
+    (places_after earlier later)
 
 -- the committed executions of a front, in the order of their commits
 unfoldable pub commits : List Entry → List Committed
@@ -53,13 +58,15 @@ once_returned f x = option_and_then (λ called. option_and_then (f called) x.rep
 
 -- the state after an execution, if it has returned and its reply is allowed
 abbrev pub state_after : Amounts → Committed → Option Amounts
-state_after state x = once_returned (λ called reply. next_state called.method called.args reply state) x
+state_after state x =
+    once_returned (λ called reply. next_state called.method called.args reply state) x
 
--- The states from this one on, with one more after each execution. They end before the first execution that hasn't returned
--- or whose reply is refused.
+-- The states from this one on, with one more after each execution. They end before the first
+-- execution that hasn't returned or whose reply is refused.
 abbrev pub states_from : Amounts → List Committed → List Amounts
 states_from state [] = state ∷ []
-states_from state (x ∷ xs) = state ∷ (elim (state_after state x) [ None ↦ [] | Some next ↦ states_from next xs ])
+states_from state (x ∷ xs) =
+    state ∷ (elim (state_after state x) [ None ↦ [] | Some next ↦ states_from next xs ])
 
 -- The states along the commits of a front, from the state at the start on: none, if the starting
 -- words stand for no state.

@@ -1,14 +1,17 @@
--- What a call of a source or of a sink may do to what stands behind it. Bytes that a device doesn't tell are None.
-use Rattle.std.specs.Prelude.{◌≡◌, ◌⊎◌, ℕ, ◌+◌, ◌-◌, ◌^◌, ◌<◌, ◌≤◌, ◌==◌, ◌||◌, min, Bool, List, [], ◌++◌, length, take, Option, option_map, IfSome, if◌then◌else◌}
+-- What a call of a source or of a sink may do to what stands behind it. Bytes that a device doesn't
+-- tell are None.
+use Rattle.std.specs.Prelude.{◌≡◌, ◌⊎◌, ℕ, ◌+◌, ◌-◌, ◌^◌, ◌<◌, ◌≤◌, ◌==◌, ◌||◌, min, Bool, List, []}
+use Rattle.std.specs.Prelude.{◌++◌, length, take, Option, option_map, IfSome, if◌then◌else◌}
 use Rattle.std.specs.List.{list_any}
 
 -- a count of faults has risen: it is greater than before, or it stands at its last value
 abbrev pub HasRisen : ℕ → ℕ → Type 0
 HasRisen before now = (before < now) ⊎ (now ≡ 2 ^ 64 - 1)
 
--- The source has given n bytes: they are the next ones of what was still to come, and stand at the front of the buffer.
--- A source that tells its bytes goes on telling them.
-pub record Gives (before : Option (List ℕ)) (n : ℕ) (buffer : List ℕ) (after : Option (List ℕ)) : Type 0 where
+-- The source has given n bytes: they are the next ones of what was still to come, and stand at the
+-- front of the buffer. A source that tells its bytes goes on telling them.
+pub record Gives (before : Option (List ℕ)) (n : ℕ) (buffer : List ℕ)
+    (after : Option (List ℕ)) : Type 0 where
   pub within : n ≤ length buffer
   pub bytes : before ≡ option_map (λ rest. take n buffer ++ rest) after
 
@@ -17,7 +20,8 @@ abbrev pub IsAtEnd : Option (List ℕ) → Type 0
 IsAtEnd rest = IfSome rest (λ bytes. bytes ≡ [])
 
 -- the sink has taken the first n bytes of the piece, one at least, after those that it had
-pub record Takes (before : Option (List ℕ)) (n : ℕ) (piece : List ℕ) (after : Option (List ℕ)) : Type 0 where
+pub record Takes (before : Option (List ℕ)) (n : ℕ) (piece : List ℕ)
+    (after : Option (List ℕ)) : Type 0 where
   pub some : 0 < n
   pub within : n ≤ length piece
   pub bytes : after ≡ option_map (λ taken. taken ++ take n piece) before

@@ -1,7 +1,9 @@
--- The faults of commits and of observers' returns, at a place of a front whose states are given. A commit is judged once its
--- execution has returned and the state before it is known. An observer's return is judged once the state at it is known: its
--- reply has to be the answer of some state from its call to its return.
-use Rattle.std.specs.Prelude.{ℕ, ◌+◌, ◌==◌, not, ◌||◌, List, Option, Some, None, option_map, option_and_then, slice_get, take, drop, if◌then◌else◌}
+-- The faults of commits and of observers' returns, at a place of a front whose states are given. A
+-- commit is judged once its execution has returned and the state before it is known. An observer's
+-- return is judged once the state at it is known: its reply has to be the answer of some state from
+-- its call to its return.
+use Rattle.std.specs.Prelude.{ℕ, ◌+◌, ◌==◌, not, ◌||◌, List, Option, Some, None, option_map}
+use Rattle.std.specs.Prelude.{option_and_then, slice_get, take, drop, if◌then◌else◌}
 use Rattle.std.specs.List.{list_any}
 use Rattle.std.specs.Option.{option_and}
 use Rattle.vyrd_base.specs.declared.header.Header.{Header}
@@ -40,13 +42,15 @@ states_since_call states c earlier =
 -- an observer's reply that is the answer of none of the states
 abbrev pub observer_fault : List Amounts → ℕ → Called → Option Why
 observer_fault window reply called =
-    if not (is_observer called.method) || list_any (λ state. answer_in state called.method called.args == reply) window
+    if not (is_observer called.method)
+    || list_any (λ state. answer_in state called.method called.args == reply) window
     then None else Some (Observer reply)
 
 -- the fault of a return, once the state here is known
 abbrev pub return_fault : List Amounts → ℕ → List Entry → ℕ → Option Why
 return_fault states c earlier reply = option_and (slice_get states (commit_count earlier))
-    (option_and_then (observer_fault (states_since_call states c earlier) reply) (open_call c earlier))
+    (option_and_then (observer_fault (states_since_call states c earlier) reply)
+    (open_call c earlier))
 
 -- the fault of the commit at a place, whose view is that of the words after all effects up to it
 abbrev pub fault_of_commit : Header → List StartWord → List Amounts → Place Entry → Option Why
@@ -58,7 +62,8 @@ fault_of_commit h starting states place = option_and_then
 abbrev pub fault_of_kind : Header → List StartWord → List Amounts → Place Entry → Kind → Option Why
 fault_of_kind h starting states place Commit = fault_of_commit h starting states place
 fault_of_kind h starting states place BlockCommit = fault_of_commit h starting states place
-fault_of_kind h starting states place (Return reply) = return_fault states place.here.caller place.earlier reply
+fault_of_kind h starting states place (Return reply) =
+    return_fault states place.here.caller place.earlier reply
 fault_of_kind h starting states place _ = None
 
 -- the fault at a place of a front

@@ -1,23 +1,32 @@
--- The verdict as it was while version 1 was the only one: no log began with words, no commit stood inside a block, and a
--- block's writes took effect at its end. That logs of version 1 keep it is the law `first_version_keeps_its_verdicts`. What the
--- rules share is cited; what stands here is what has changed since.
-use Rattle.std.specs.Prelude.{ℕ, ◌+◌, List, [], ◌∷◌, ◌++◌, map, length, Option, Some, None, option_map, option_and_then, unwrap_or, slice_get, if◌then◌else◌, is_none, nat_le, ◌^◌}
+-- The verdict as it was while version 1 was the only one: no log began with words, no commit stood
+-- inside a block, and a block's writes took effect at its end. That logs of version 1 keep it is
+-- the law `first_version_keeps_its_verdicts`. What the rules share is cited; what stands here is
+-- what has changed since.
+use Rattle.std.specs.Prelude.{ℕ, ◌+◌, List, [], ◌∷◌, ◌++◌, map, length, Option, Some, None}
+use Rattle.std.specs.Prelude.{option_map, option_and_then, unwrap_or, slice_get, if◌then◌else◌}
+use Rattle.std.specs.Prelude.{is_none, nat_le, ◌^◌}
 use Rattle.std.specs.Bool.{then_some}
 use Rattle.std.specs.Option.{option_or}
 use Rattle.vyrd_base.specs.declared.header.Header.{Header}
 use Rattle.vyrd_base.specs.declared.log.Kind.{Kind}
-use Rattle.vyrd_base.specs.declared.log.Kind.TheVariants.{Return, Write, Commit, BlockClose, BlockCommit}
+use Rattle.vyrd_base.specs.declared.log.Kind.TheVariants.{Return, Write, Commit, BlockClose}
+use Rattle.vyrd_base.specs.declared.log.Kind.TheVariants.{BlockCommit}
 use Rattle.vyrd_base.specs.declared.log.Entry.{Entry}
 use Rattle.vyrd_base.specs.declared.verdict.Rule.{Rule}
-use Rattle.vyrd_base.specs.declared.verdict.Rule.TheVariants.{NoCall, WordRange, ValueRange, BlockRaced, ObserverCommit, SecondCommit, CommitInBlock, CallerRange, CallOpen}
+use Rattle.vyrd_base.specs.declared.verdict.Rule.TheVariants.{NoCall, WordRange, ValueRange}
+use Rattle.vyrd_base.specs.declared.verdict.Rule.TheVariants.{BlockRaced, ObserverCommit}
+use Rattle.vyrd_base.specs.declared.verdict.Rule.TheVariants.{SecondCommit, CommitInBlock}
+use Rattle.vyrd_base.specs.declared.verdict.Rule.TheVariants.{CallerRange, CallOpen}
 use Rattle.vyrd_base.specs.declared.verdict.Why.{Why}
 use Rattle.vyrd_base.specs.declared.verdict.Verdict.{Verdict}
 use Rattle.vyrd_base.specs.declared.verdict.Verdict.TheVariants.{Violation, Malformed}
-use Rattle.vyrd_base.specs.Places.{Place, places, position_of, newest_first, first_answer, numbers_below}
+use Rattle.vyrd_base.specs.Places.{Place, places, position_of, newest_first, first_answer}
+use Rattle.vyrd_base.specs.Places.{numbers_below}
 use Rattle.vyrd_base.specs.Callers.{open_call, has_block, has_committed}
 use Rattle.vyrd_base.specs.Layout.{plain_words}
 use Rattle.vyrd_base.specs.Words.{block_writes, given_to}
-use Rattle.vyrd_base.specs.Shape.{◌breaks◌, Check, first_broken, checks_of, is_observing, is_held_by_other}
+use Rattle.vyrd_base.specs.Shape.{◌breaks◌, Check, first_broken, checks_of, is_observing}
+use Rattle.vyrd_base.specs.Shape.{is_held_by_other}
 use Rattle.vyrd_base.specs.Amounts.{Amounts}
 use Rattle.vyrd_base.specs.Specification.{start}
 use Rattle.vyrd_base.specs.Commits.{commits, states_from, committed_at, commit_count}
@@ -41,7 +50,8 @@ old_checks_of h earlier c kind = checks_of h earlier c kind
 
 abbrev pub old_broken_rule : Header → List Entry → Entry → Option Rule
 old_broken_rule h earlier e =
-    first_broken ((nat_le h.callers e.caller breaks CallerRange) ∷ old_checks_of h earlier e.caller e.kind)
+    first_broken ((nat_le h.callers e.caller breaks CallerRange)
+    ∷ old_checks_of h earlier e.caller e.kind)
 
 -- the longest beginning of the later entries in which each entry keeps the rules
 abbrev pub old_front_after : Header → List Entry → List Entry → List Entry
@@ -55,9 +65,11 @@ abbrev pub old_front : Header → List Entry → List Entry
 old_front h entries = old_front_after h [] entries
 
 abbrev pub old_first_break : Header → List Entry → Option Rule
-old_first_break h entries = first_answer (λ place. old_broken_rule h place.earlier place.here) (places entries)
+old_first_break h entries =
+    first_answer (λ place. old_broken_rule h place.earlier place.here) (places entries)
 
--- the writes that take effect at an entry, the newest first: a block's writes do so at the block's end
+-- the writes that take effect at an entry, the newest first: a block's writes do so at the block's
+-- end
 abbrev pub old_effects_at : List Entry → ℕ → Kind → List (ℕ × ℕ)
 old_effects_at earlier c (Write word value) = if has_block c earlier then [] else (word, value) ∷ []
 old_effects_at earlier c BlockClose = block_writes c earlier
@@ -75,18 +87,21 @@ old_value_after writes word = unwrap_or (first_answer (given_to word) writes) 0
 
 -- the plain words after these entries
 unfoldable pub old_words_after : Header → List Entry → List ℕ
-old_words_after h earlier = map (old_value_after (old_effects earlier)) (numbers_below (plain_words h))
+old_words_after h earlier =
+    map (old_value_after (old_effects earlier)) (numbers_below (plain_words h))
 
 -- the fault of the commit at a place
 abbrev pub old_fault_of_commit : Header → List Amounts → Place Entry → Option Why
 old_fault_of_commit h states place = option_and_then
-    (commit_fault (view_of_words h (old_words_after h (place.here ∷ place.earlier))) (committed_at place))
+    (commit_fault (view_of_words h (old_words_after h (place.here ∷ place.earlier)))
+    (committed_at place))
     (slice_get states (commit_count place.earlier))
 
 abbrev pub old_fault_of_kind : Header → List Amounts → Place Entry → Kind → Option Why
 old_fault_of_kind h states place Commit = old_fault_of_commit h states place
 old_fault_of_kind h states place BlockCommit = old_fault_of_commit h states place
-old_fault_of_kind h states place (Return reply) = return_fault states place.here.caller place.earlier reply
+old_fault_of_kind h states place (Return reply) =
+    return_fault states place.here.caller place.earlier reply
 old_fault_of_kind h states place _ = None
 
 -- the first fault of a front, with its line
@@ -103,8 +118,11 @@ old_verdict_so_far h entries = option_or (old_first_fault h (old_front h entries
 
 -- the verdict if `end` stands after the entries while a call is open
 abbrev pub old_end_verdict : Header → List Entry → Option Verdict
-old_end_verdict h entries = then_some (is_call_open h (newest_first entries)) (Malformed (length entries + 2) CallOpen)
+old_end_verdict h entries =
+    then_some (is_call_open h (newest_first entries)) (Malformed (length entries + 2) CallOpen)
 
 -- the verdict about a whole log
 unfoldable pub old_verdict : Header → List Entry → Verdict
-old_verdict h entries = unwrap_or (option_or (old_verdict_so_far h entries) (old_end_verdict h entries)) (accepted entries)
+old_verdict h entries =
+    unwrap_or (option_or (old_verdict_so_far h entries) (old_end_verdict h entries))
+    (accepted entries)

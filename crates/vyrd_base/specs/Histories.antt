@@ -1,6 +1,8 @@
--- Legal histories of cells, and the log that a history leaves. In a legal history each read finds what was last written, a lock
--- is taken only while it is free, and it is given back only by the caller that holds it.
-use Rattle.std.specs.Prelude.{ℕ, ◌+◌, ◌^◌, Bool, true, false, not, ◌&&◌, ◌==◌, nat_lt, nat_le, List, map, Option, Some, None, unwrap_or, filter_map, if◌then◌else◌}
+-- Legal histories of cells, and the log that a history leaves. In a legal history each read finds
+-- what was last written, a lock is taken only while it is free, and it is given back only by the
+-- caller that holds it.
+use Rattle.std.specs.Prelude.{ℕ, ◌+◌, ◌^◌, Bool, true, false, not, ◌&&◌, ◌==◌, nat_lt, nat_le, List}
+use Rattle.std.specs.Prelude.{map, Option, Some, None, unwrap_or, filter_map, if◌then◌else◌}
 use Rattle.std.specs.List.{list_all}
 use Rattle.vyrd_base.specs.declared.header.Header.{Header}
 use Rattle.vyrd_base.specs.declared.log.Kind.{Kind}
@@ -9,7 +11,8 @@ use Rattle.vyrd_base.specs.declared.log.Entry.{Entry}
 use Rattle.vyrd_base.specs.declared.history.Did.{Did}
 use Rattle.vyrd_base.specs.declared.history.Did.TheVariants.{Read, Wrote, Took, Gave, Marked}
 use Rattle.vyrd_base.specs.declared.history.Stamped.{Stamped}
-use Rattle.vyrd_base.specs.Places.{Place, places, position_of, newest_first, first_answer, numbers_below}
+use Rattle.vyrd_base.specs.Places.{Place, places, position_of, newest_first, first_answer}
+use Rattle.vyrd_base.specs.Places.{numbers_below}
 use Rattle.vyrd_base.specs.Layout.{plain_words, lock_words}
 
 -- how many plain cells, locks and callers there are
@@ -38,7 +41,8 @@ made_of cell caller (Took other) = if other == cell then Some (caller + 1) else 
 made_of cell caller (Gave other) = if other == cell then Some 0 else None
 made_of cell caller (Marked kind) = None
 
--- the cell's value after these events, given the newest first: what the last event that changed it made of it
+-- the cell's value after these events, given the newest first: what the last event that changed it
+-- made of it
 abbrev pub value_in : List Stamped → ℕ → ℕ
 value_in earlier cell = unwrap_or (first_answer (λ e. made_of cell e.caller e.did) earlier) 0
 
@@ -53,7 +57,8 @@ is_write _ = false
 
 -- whether a caller may do this after these events
 abbrev pub may_do : Cells → List Stamped → ℕ → Did → Bool
-may_do cells earlier caller (Read cell value) = is_plain cells cell && value == value_in earlier cell
+may_do cells earlier caller (Read cell value) =
+    is_plain cells cell && value == value_in earlier cell
 may_do cells earlier caller (Wrote cell value) = is_plain cells cell && nat_lt value (2 ^ 63)
 may_do cells earlier caller (Took cell) = is_lock cells cell && value_in earlier cell == 0
 may_do cells earlier caller (Gave cell) = is_lock cells cell && value_in earlier cell == caller + 1
@@ -61,7 +66,8 @@ may_do cells earlier caller (Marked kind) = not (is_write kind)
 
 -- whether the event at a place has the place's number, a caller in range, and may happen there
 abbrev pub is_legal_at : Cells → Place Stamped → Bool
-is_legal_at cells place = place.here.number == position_of place && nat_lt place.here.caller cells.callers
+is_legal_at cells place =
+    place.here.number == position_of place && nat_lt place.here.caller cells.callers
     && may_do cells place.earlier place.here.caller place.here.did
 
 -- whether each event may happen where it stands

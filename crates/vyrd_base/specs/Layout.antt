@@ -13,7 +13,8 @@ plain_words_of Cache n = 5 * n
 plain_words_of Tree n = 12 * n + 2
 plain_words_of Buffers n = 8 * n
 
--- There is a lock for each bucket, chunk, node or buffer. A tree has two more: one for the root's number, one for that count.
+-- There is a lock for each bucket, chunk, node or buffer. A tree has two more: one for the root's
+-- number, one for that count.
 abbrev pub lock_words_of : Subject → ℕ → ℕ
 lock_words_of Multiset n = n
 lock_words_of Cache n = n

@@ -1,5 +1,5 @@
--- The places of a list, each with what stands before it, the nearest first, and after it. So to look back or ahead from a place
--- is to take the first answer of a list.
+-- The places of a list, each with what stands before it, the nearest first, and after it. So to
+-- look back or ahead from a place is to take the first answer of a list.
 use Rattle.std.specs.Prelude.{ℕ, suc, zero, ◌+◌, List, [], ◌∷◌, Option, None, length}
 use Rattle.std.specs.Option.{option_or}
 
@@ -12,7 +12,8 @@ pub record Place (A : Type 0) : Type 0 where
 -- the places of a list that follows on from earlier elements, the nearest of these first
 abbrev pub places_after : {A : Type 0} → List A → List A → List (Place A)
 places_after earlier [] = []
-places_after earlier (x ∷ later) = record { earlier = earlier; here = x; later = later } ∷ places_after (x ∷ earlier) later
+places_after earlier (x ∷ later) =
+    record { earlier = earlier; here = x; later = later } ∷ places_after (x ∷ earlier) later
 
 -- the places of a list, the first place first
 abbrev pub places : {A : Type 0} → List A → List (Place A)

@@ -3,7 +3,8 @@
 -- up to the first that doesn't, are starting lines. Each later line has to spell an entry of the
 -- subject or `end`, after which nothing follows. Reading stops at the first line that breaks a rule
 -- of text, and if that line breaks several, the first in the order of the rules is named.
-use Rattle.std.specs.Prelude.{ℕ, ◌+◌, ◌==◌, Bool, true, false, ◌&&◌, ◌||◌, nat_lt, List, [], ◌∷◌, length, Option, Some, None, option_map, Ok, Err, if◌then◌else◌}
+use Rattle.std.specs.Prelude.{ℕ, ◌+◌, ◌==◌, Bool, true, false, ◌&&◌, ◌||◌, nat_lt, List, [], ◌∷◌}
+use Rattle.std.specs.Prelude.{length, Option, Some, None, option_map, Ok, Err, if◌then◌else◌}
 use Rattle.std.specs.Str.{bytes_eq}
 use Rattle.std.specs.List.{slice_split}
 use Rattle.vyrd_base.specs.declared.header.Header.{Header}
@@ -11,7 +12,8 @@ use Rattle.vyrd_base.specs.declared.subject.Subject.{Subject}
 use Rattle.vyrd_base.specs.declared.log.Entry.{Entry}
 use Rattle.vyrd_base.specs.declared.log.StartWord.{StartWord}
 use Rattle.vyrd_base.specs.declared.verdict.Rule.{Rule}
-use Rattle.vyrd_base.specs.declared.verdict.Rule.TheVariants.{TooManyLines, AfterEnd, BadHeader, BadEntry, NoLineFeed, NoEnd}
+use Rattle.vyrd_base.specs.declared.verdict.Rule.TheVariants.{TooManyLines, AfterEnd, BadHeader}
+use Rattle.vyrd_base.specs.declared.verdict.Rule.TheVariants.{BadEntry, NoLineFeed, NoEnd}
 use Rattle.vyrd_base.specs.Shape.{◌breaks◌, first_broken}
 use Rattle.vyrd_base.specs.Spelling.{end_line}
 use Rattle.vyrd_base.specs.Starts.{start_rule}
@@ -22,7 +24,8 @@ pub record TextFault : Type 0 where
   pub line : ℕ
   pub rule : Rule
 
--- what was read: the starting words and entries before the first bad line, whether `end` was read, and the first fault of text
+-- what was read: the starting words and entries before the first bad line, whether `end` was read,
+-- and the first fault of text
 pub record Reading : Type 0 where
   pub header : Option Header
   pub starting : List StartWord
@@ -36,7 +39,8 @@ fault_on n rule = option_map (λ r. record { line = n; rule = r }) rule
 
 -- nothing more is read from line n on
 abbrev pub stopped : ℕ → Option Rule → Reading
-stopped n rule = record { header = None; starting = []; entries = []; ended = false; fault = fault_on n rule }
+stopped n rule =
+    record { header = None; starting = []; entries = []; ended = false; fault = fault_on n rule }
 
 -- How many lines there may be, at least 1, and whether the bytes are the whole input: if they may
 -- go on, a line without its line feed and an `end` that wasn't read aren't faults yet.
@@ -70,7 +74,8 @@ entry_before n None reading = stopped n (Some BadEntry)
 
 -- nothing more is read after the line `end`, and line n comes after it
 abbrev pub ended : ℕ → Option Rule → Reading
-ended n rule = record { header = None; starting = []; entries = []; ended = true; fault = fault_on n rule }
+ended n rule =
+    record { header = None; starting = []; entries = []; ended = true; fault = fault_on n rule }
 
 -- What the lines from line n on say. The last of them is what stands after the last line feed.
 abbrev pub lines_read : Input → Subject → ℕ → List (List ℕ) → Reading
@@ -86,19 +91,22 @@ abbrev pub start_before : ℕ → Option Rule → StartWord → Reading → Read
 start_before n None s reading = record reading { starting = s ∷ reading.starting }
 start_before n (Some rule) s reading = stopped n (Some rule)
 
--- What the lines from line n on say, where starting words may stand, after the last of those before.
+-- What the lines from line n on say, where starting words may stand, after the last of those
+-- before.
 abbrev pub starts_read : Input → Header → Option StartWord → ℕ → List (List ℕ) → Reading
 starts_read input h last n [] = stopped n None
 starts_read input h last n (rest ∷ []) = stopped n (unfinished_rule input n BadEntry rest)
 starts_read input h last n (line ∷ next ∷ lines) = elim (start_in line) [
   | None ↦ lines_read input h.subject n (line ∷ next ∷ lines)
   | Some s ↦ if nat_lt input.max_lines n then stopped n (Some TooManyLines)
-      else start_before n (start_rule h last s) s (starts_read input h (Some s) (n + 1) (next ∷ lines))
+      else start_before n (start_rule h last s) s
+      (starts_read input h (Some s) (n + 1) (next ∷ lines))
 ]
 
 -- what the lines after the header say: starting words come in version 2 alone
 abbrev pub body_read : Input → Header → List (List ℕ) → Reading
-body_read input h lines = if h.version == 2 then starts_read input h None 2 lines else lines_read input h.subject 2 lines
+body_read input h lines =
+    if h.version == 2 then starts_read input h None 2 lines else lines_read input h.subject 2 lines
 
 -- a header before what is read after it
 abbrev pub header_before : Header → Reading → Reading

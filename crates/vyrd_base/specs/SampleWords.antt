@@ -36,5 +36,7 @@ event number caller did = record { number = number; caller = caller; did = did }
 
 -- a lookup that finds nothing in a bucket of one, under its lock
 abbrev pub lookup_events : List Stamped
-lookup_events = event 0 0 (Marked (Call MsLookup (args 5 0 0))) ∷ event 1 0 (Took 8) ∷ event 2 0 (Read 0 0) ∷ event 3 0 (Read 2 0)
-    ∷ event 4 0 (Read 4 0) ∷ event 5 0 (Read 6 0) ∷ event 6 0 (Gave 8) ∷ event 7 0 (Marked (Return 0)) ∷ []
+lookup_events = event 0 0 (Marked (Call MsLookup (args 5 0 0))) ∷ event 1 0 (Took 8)
+    ∷ event 2 0 (Read 0 0) ∷ event 3 0 (Read 2 0)
+    ∷ event 4 0 (Read 4 0) ∷ event 5 0 (Read 6 0) ∷ event 6 0 (Gave 8)
+    ∷ event 7 0 (Marked (Return 0)) ∷ []

@@ -2,10 +2,12 @@
 use Rattle.std.specs.Prelude.{ℕ, List, [], ◌∷◌, refl}
 use Rattle.vyrd_base.specs.declared.header.Header.{Header}
 use Rattle.vyrd_base.specs.declared.subject.Subject.TheVariants.{Multiset, Cache}
-use Rattle.vyrd_base.specs.declared.subject.Method.TheVariants.{MsInsert, MsDelete, MsLookup, CaWrite, CaFlush}
+use Rattle.vyrd_base.specs.declared.subject.Method.TheVariants.{MsInsert, MsDelete, MsLookup}
+use Rattle.vyrd_base.specs.declared.subject.Method.TheVariants.{CaWrite, CaFlush}
 use Rattle.vyrd_base.specs.declared.subject.Args.{Args}
 use Rattle.vyrd_base.specs.declared.log.Kind.{Kind}
-use Rattle.vyrd_base.specs.declared.log.Kind.TheVariants.{Call, Return, Write, Commit, BlockOpen, BlockCommit}
+use Rattle.vyrd_base.specs.declared.log.Kind.TheVariants.{Call, Return, Write, Commit, BlockOpen}
+use Rattle.vyrd_base.specs.declared.log.Kind.TheVariants.{BlockCommit}
 use Rattle.vyrd_base.specs.declared.log.Entry.{Entry}
 
 -- a multiset of one bucket with one caller, and with two
@@ -54,7 +56,8 @@ end_commit c = by c BlockCommit
 
 -- an insert that fills a slot and commits as it makes the slot valid
 abbrev pub inserted : List Entry
-inserted = insert 0 5 ∷ write 0 1 5 ∷ write 0 0 1 ∷ begin 0 ∷ write 0 0 2 ∷ end_commit 0 ∷ return 0 1 ∷ []
+inserted =
+    insert 0 5 ∷ write 0 1 5 ∷ write 0 0 1 ∷ begin 0 ∷ write 0 0 2 ∷ end_commit 0 ∷ return 0 1 ∷ []
 
 -- an insert that claims what it didn't do
 abbrev pub claimed : List Entry
@@ -66,22 +69,26 @@ deleted reply = delete 0 5 ∷ commit 0 ∷ return 0 reply ∷ []
 
 -- a lookup beside an insert
 abbrev pub looked_up : ℕ → List Entry
-looked_up reply = insert 0 5 ∷ write 0 1 5 ∷ write 0 0 1 ∷ lookup 1 5 ∷ begin 0 ∷ write 0 0 2 ∷ end_commit 0 ∷ return 0 1
+looked_up reply = insert 0 5 ∷ write 0 1 5 ∷ write 0 0 1 ∷ lookup 1 5 ∷ begin 0 ∷ write 0 0 2
+    ∷ end_commit 0 ∷ return 0 1
     ∷ return 1 reply ∷ []
 
 -- a lookup that finds the value before it is there
 abbrev pub too_early : List Entry
-too_early = insert 0 5 ∷ write 0 1 5 ∷ write 0 0 1 ∷ lookup 1 5 ∷ return 1 1 ∷ begin 0 ∷ write 0 0 2 ∷ end_commit 0
+too_early = insert 0 5 ∷ write 0 1 5 ∷ write 0 0 1 ∷ lookup 1 5 ∷ return 1 1 ∷ begin 0 ∷ write 0 0 2
+    ∷ end_commit 0
     ∷ return 0 1 ∷ []
 
 -- another caller commits while a block is open, whose writes don't count yet
 abbrev pub beside_block : List Entry
-beside_block = insert 0 5 ∷ write 0 1 5 ∷ write 0 0 1 ∷ begin 0 ∷ write 0 0 2 ∷ insert 1 6 ∷ commit 1 ∷ return 1 0
+beside_block = insert 0 5 ∷ write 0 1 5 ∷ write 0 0 1 ∷ begin 0 ∷ write 0 0 2 ∷ insert 1 6
+    ∷ commit 1 ∷ return 1 0
     ∷ end_commit 0 ∷ return 0 1 ∷ []
 
 -- the same with no block
 abbrev pub no_block : List Entry
-no_block = insert 0 5 ∷ write 0 1 5 ∷ write 0 0 1 ∷ write 0 0 2 ∷ insert 1 6 ∷ commit 1 ∷ return 1 0 ∷ commit 0
+no_block = insert 0 5 ∷ write 0 1 5 ∷ write 0 0 1 ∷ write 0 0 2 ∷ insert 1 6 ∷ commit 1 ∷ return 1 0
+    ∷ commit 0
     ∷ return 0 1 ∷ []
 
 -- a write to a word that another caller's open block has written
@@ -98,7 +105,9 @@ stray word value = delete 0 5 ∷ write 0 word value ∷ commit 0 ∷ return 0 0
 
 -- a write to the cache outside a block, with a flush in its middle
 abbrev pub torn : List Entry
-torn = by 0 (Call CaWrite (args 0 1 2)) ∷ begin 0 ∷ write 0 1 1 ∷ write 0 2 2 ∷ write 0 0 2 ∷ end_commit 0 ∷ return 0 1
+torn = by 0 (Call CaWrite (args 0 1 2)) ∷ begin 0 ∷ write 0 1 1 ∷ write 0 2 2 ∷ write 0 0 2
+    ∷ end_commit 0 ∷ return 0 1
     ∷ by 0 (Call CaWrite (args 0 3 4)) ∷ write 0 1 3
-    ∷ by 1 (Call CaFlush (args 0 0 0)) ∷ begin 1 ∷ write 1 3 3 ∷ write 1 4 2 ∷ write 1 0 1 ∷ end_commit 1 ∷ return 1 1
+    ∷ by 1 (Call CaFlush (args 0 0 0)) ∷ begin 1 ∷ write 1 3 3 ∷ write 1 4 2 ∷ write 1 0 1
+    ∷ end_commit 1 ∷ return 1 1
     ∷ write 0 2 4 ∷ commit 0 ∷ return 0 1 ∷ []

@@ -1,15 +1,22 @@
 -- The rules of shape, for an entry and the entries before it, the nearest first. An entry is well
 -- formed if it breaks none of them, and its broken rule is the first that it breaks, in the order
 -- in which they stand here.
-use Rattle.std.specs.Prelude.{ℕ, Bool, false, not, cond, ◌&&◌, ◌||◌, ◌==◌, ◌^◌, nat_le, List, [], ◌∷◌, Option, Some, None, is_some, is_none}
+use Rattle.std.specs.Prelude.{ℕ, Bool, false, not, cond, ◌&&◌, ◌||◌, ◌==◌, ◌^◌, nat_le, List, []}
+use Rattle.std.specs.Prelude.{◌∷◌, Option, Some, None, is_some, is_none}
 use Rattle.std.specs.Option.{option_map_or}
 use Rattle.std.specs.List.{list_any}
 use Rattle.vyrd_base.specs.declared.header.Header.{Header}
 use Rattle.vyrd_base.specs.declared.log.Kind.{Kind}
-use Rattle.vyrd_base.specs.declared.log.Kind.TheVariants.{Call, Return, Write, Commit, BlockOpen, BlockClose, BlockCommit}
+use Rattle.vyrd_base.specs.declared.log.Kind.TheVariants.{Call, Return, Write, Commit, BlockOpen}
+use Rattle.vyrd_base.specs.declared.log.Kind.TheVariants.{BlockClose, BlockCommit}
 use Rattle.vyrd_base.specs.declared.log.Entry.{Entry}
 use Rattle.vyrd_base.specs.declared.verdict.Rule.{Rule}
-use Rattle.vyrd_base.specs.declared.verdict.Rule.TheVariants.{CallerRange, MethodOther, ArgumentRange, CallInCall, NoCall, ReturnInBlock, NoCommit, WordRange, ValueRange, BlockRaced, ObserverCommit, SecondCommit, CommitInBlock, BlockInBlock, NoBlock}
+use Rattle.vyrd_base.specs.declared.verdict.Rule.TheVariants.{CallerRange, MethodOther}
+use Rattle.vyrd_base.specs.declared.verdict.Rule.TheVariants.{ArgumentRange, CallInCall, NoCall}
+use Rattle.vyrd_base.specs.declared.verdict.Rule.TheVariants.{ReturnInBlock, NoCommit, WordRange}
+use Rattle.vyrd_base.specs.declared.verdict.Rule.TheVariants.{ValueRange, BlockRaced}
+use Rattle.vyrd_base.specs.declared.verdict.Rule.TheVariants.{ObserverCommit, SecondCommit}
+use Rattle.vyrd_base.specs.declared.verdict.Rule.TheVariants.{CommitInBlock, BlockInBlock, NoBlock}
 use Rattle.vyrd_base.specs.Places.{numbers_below}
 use Rattle.vyrd_base.specs.Callers.{open_call, has_block, has_committed, holds_word}
 use Rattle.vyrd_base.specs.Layout.{plain_words}
@@ -32,17 +39,21 @@ first_broken (check ∷ checks) = cond check.broken (Some check.rule) (first_bro
 
 -- whether the caller's open execution is an observer's
 abbrev pub is_observing : ℕ → List Entry → Bool
-is_observing c earlier = option_map_or (λ called. is_observer called.method) (open_call c earlier) false
+is_observing c earlier =
+    option_map_or (λ called. is_observer called.method) (open_call c earlier) false
 
 -- whether another caller's open block has written the word
 abbrev pub is_held_by_other : Header → ℕ → ℕ → List Entry → Bool
-is_held_by_other h c w earlier = list_any (λ d. not (d == c) && holds_word d w earlier) (numbers_below h.callers)
+is_held_by_other h c w earlier =
+    list_any (λ d. not (d == c) && holds_word d w earlier) (numbers_below h.callers)
 
--- whether the caller may not write the word: another caller's open block has written it, or it is passed
+-- whether the caller may not write the word: another caller's open block has written it, or it is
+-- passed
 abbrev pub is_raced : Header → ℕ → ℕ → List Entry → Bool
 is_raced h c w earlier = is_held_by_other h c w earlier || is_passed c w earlier
 
--- The rules for an entry of the caller, in their order. A lone commit may stand inside a block from version 2 on.
+-- The rules for an entry of the caller, in their order. A lone commit may stand inside a block from
+-- version 2 on.
 abbrev pub checks_of : Header → List Entry → ℕ → Kind → List Check
 checks_of h earlier c (Call method args) =
     (not (same_subject (subject_of method) h.subject) breaks MethodOther)
@@ -76,7 +87,8 @@ checks_of h earlier c BlockCommit =
 
 -- the rules for an entry, in their order
 abbrev pub checks_at : Header → List Entry → Entry → List Check
-checks_at h earlier e = (nat_le h.callers e.caller breaks CallerRange) ∷ checks_of h earlier e.caller e.kind
+checks_at h earlier e =
+    (nat_le h.callers e.caller breaks CallerRange) ∷ checks_of h earlier e.caller e.kind
 
 -- the first rule that the entry breaks
 abbrev pub broken_rule : Header → List Entry → Entry → Option Rule

@@ -1,15 +1,22 @@
--- The one spelling of each line of a log, and of the whole log. Numbers are decimal without sign and without leading zeros,
--- one space stands between two fields, and each line ends with one line feed.
-use Rattle.std.specs.Prelude.{ℕ, ◌^◌, Bool, true, ◌&&◌, nat_lt, List, [], ◌∷◌, ◌++◌, map, take, codes, decimal, flat_map}
+-- The one spelling of each line of a log, and of the whole log. Numbers are decimal without sign
+-- and without leading zeros, one space stands between two fields, and each line ends with one line
+-- feed.
+use Rattle.std.specs.Prelude.{ℕ, ◌^◌, Bool, true, ◌&&◌, nat_lt, List, [], ◌∷◌, ◌++◌, map, take}
+use Rattle.std.specs.Prelude.{codes, decimal, flat_map}
 use Rattle.std.specs.List.{join_with_byte}
 use Rattle.vyrd_base.specs.declared.header.Header.{Header}
 use Rattle.vyrd_base.specs.declared.subject.Subject.{Subject}
 use Rattle.vyrd_base.specs.declared.subject.Subject.TheVariants.{Multiset, Cache, Tree, Buffers}
 use Rattle.vyrd_base.specs.declared.subject.Method.{Method}
-use Rattle.vyrd_base.specs.declared.subject.Method.TheVariants.{MsInsert, MsInsertPair, MsDelete, MsLookup, CaWrite, CaFlush, CaEvict, CaRead, TrInsert, TrDelete, TrLookup, BuAppend, BuAppendFrom, BuCut, BuLength, BuRead}
+use Rattle.vyrd_base.specs.declared.subject.Method.TheVariants.{MsInsert, MsInsertPair, MsDelete}
+use Rattle.vyrd_base.specs.declared.subject.Method.TheVariants.{MsLookup, CaWrite, CaFlush, CaEvict}
+use Rattle.vyrd_base.specs.declared.subject.Method.TheVariants.{CaRead, TrInsert, TrDelete}
+use Rattle.vyrd_base.specs.declared.subject.Method.TheVariants.{TrLookup, BuAppend, BuAppendFrom}
+use Rattle.vyrd_base.specs.declared.subject.Method.TheVariants.{BuCut, BuLength, BuRead}
 use Rattle.vyrd_base.specs.declared.subject.Args.{Args}
 use Rattle.vyrd_base.specs.declared.log.Kind.{Kind}
-use Rattle.vyrd_base.specs.declared.log.Kind.TheVariants.{Call, Return, Write, Commit, BlockOpen, BlockClose, BlockCommit}
+use Rattle.vyrd_base.specs.declared.log.Kind.TheVariants.{Call, Return, Write, Commit, BlockOpen}
+use Rattle.vyrd_base.specs.declared.log.Kind.TheVariants.{BlockClose, BlockCommit}
 use Rattle.vyrd_base.specs.declared.log.Entry.{Entry}
 use Rattle.vyrd_base.specs.declared.log.StartWord.{StartWord}
 use Rattle.vyrd_base.specs.Subjects.{arity_of, are_padded, subject_of, same_subject}
@@ -51,7 +58,8 @@ method_name BuRead = codes "read"
 -- line 1: `vyrd`, the version, the subject, the size and the number of callers
 abbrev pub header_line : ℕ → Subject → ℕ → ℕ → List ℕ
 header_line version subject size callers =
-    spaced (codes "vyrd" ∷ decimal version ∷ subject_name subject ∷ decimal size ∷ decimal callers ∷ [])
+    spaced (codes "vyrd" ∷ decimal version ∷ subject_name subject ∷ decimal size ∷ decimal callers
+    ∷ [])
 
 -- the arguments that the method has
 abbrev pub arg_fields : Method → Args → List (List ℕ)
@@ -85,9 +93,11 @@ log_text h starting entries = ended_line (header_line h.version h.subject h.size
     ++ flat_map (λ s. ended_line (start_line s)) starting
     ++ flat_map (λ e. ended_line (entry_line e)) entries ++ ended_line end_line
 
--- whether the numbers of a kind are in the text's ranges, the method is of the subject, and arguments that it doesn't have are 0
+-- whether the numbers of a kind are in the text's ranges, the method is of the subject, and
+-- arguments that it doesn't have are 0
 abbrev pub is_kind_of : Subject → Kind → Bool
-is_kind_of subject (Call method args) = same_subject (subject_of method) subject && are_padded (arity_of method) args
+is_kind_of subject (Call method args) =
+    same_subject (subject_of method) subject && are_padded (arity_of method) args
     && nat_lt args.a (2 ^ 32) && nat_lt args.b (2 ^ 32) && nat_lt args.c (2 ^ 32)
 is_kind_of subject (Return reply) = nat_lt reply (2 ^ 64)
 is_kind_of subject (Write word value) = nat_lt word (2 ^ 32) && nat_lt value (2 ^ 64)

@@ -1,6 +1,7 @@
 -- The starting words of a log: the plain words that aren't 0 at its beginning, in the order of
 -- their numbers. The specification starts in the state for which they stand.
-use Rattle.std.specs.Prelude.{ℕ, Bool, true, false, not, ◌&&◌, ◌||◌, ◌==◌, ◌^◌, nat_le, List, [], ◌∷◌, ◌++◌, replicate, Option, Some, None}
+use Rattle.std.specs.Prelude.{ℕ, Bool, true, false, not, ◌&&◌, ◌||◌, ◌==◌, ◌^◌, nat_le, List, []}
+use Rattle.std.specs.Prelude.{◌∷◌, ◌++◌, replicate, Option, Some, None}
 use Rattle.std.specs.Option.{option_map_or}
 use Rattle.vyrd_base.specs.declared.header.Header.{Header}
 use Rattle.vyrd_base.specs.declared.log.StartWord.{StartWord}
@@ -22,12 +23,14 @@ is_out_of_order last s = option_map_or (λ l. nat_le s.word l.word) last false
 
 -- the first rule that a starting word breaks, after the last one
 abbrev pub start_rule : Header → Option StartWord → StartWord → Option Rule
-start_rule h last s = first_broken ((is_out_of_range h s breaks StartRange) ∷ (is_out_of_order last s breaks StartOrder) ∷ [])
+start_rule h last s = first_broken ((is_out_of_range h s breaks StartRange)
+    ∷ (is_out_of_order last s breaks StartOrder) ∷ [])
 
 -- whether starting words that follow the last one keep both rules
 abbrev pub do_follow : Header → Option StartWord → List StartWord → Bool
 do_follow h last [] = true
-do_follow h last (s ∷ starting) = not (is_out_of_range h s || is_out_of_order last s) && do_follow h (Some s) starting
+do_follow h last (s ∷ starting) =
+    not (is_out_of_range h s || is_out_of_order last s) && do_follow h (Some s) starting
 
 -- Whether a log may begin with these words: they keep both rules, and in version 1 there are none.
 abbrev pub may_start : Header → List StartWord → Bool
@@ -40,4 +43,5 @@ words_at_start h starting = words_with h starting []
 
 -- the state for which the starting words stand, with all locks free, if they stand for one
 unfoldable pub state_at_start : Header → List StartWord → Option Amounts
-state_at_start h starting = state_of_words h (words_at_start h starting ++ replicate (lock_words h) 0)
+state_at_start h starting =
+    state_of_words h (words_at_start h starting ++ replicate (lock_words h) 0)

@@ -3,7 +3,11 @@ use Rattle.std.specs.Prelude.{ℕ, Bool, true, false, ◌&&◌, ◌||◌, ◌==�
 use Rattle.vyrd_base.specs.declared.subject.Subject.{Subject}
 use Rattle.vyrd_base.specs.declared.subject.Subject.TheVariants.{Multiset, Cache, Tree, Buffers}
 use Rattle.vyrd_base.specs.declared.subject.Method.{Method}
-use Rattle.vyrd_base.specs.declared.subject.Method.TheVariants.{MsInsert, MsInsertPair, MsDelete, MsLookup, CaWrite, CaFlush, CaEvict, CaRead, TrInsert, TrDelete, TrLookup, BuAppend, BuAppendFrom, BuCut, BuLength, BuRead}
+use Rattle.vyrd_base.specs.declared.subject.Method.TheVariants.{MsInsert, MsInsertPair, MsDelete}
+use Rattle.vyrd_base.specs.declared.subject.Method.TheVariants.{MsLookup, CaWrite, CaFlush, CaEvict}
+use Rattle.vyrd_base.specs.declared.subject.Method.TheVariants.{CaRead, TrInsert, TrDelete}
+use Rattle.vyrd_base.specs.declared.subject.Method.TheVariants.{TrLookup, BuAppend, BuAppendFrom}
+use Rattle.vyrd_base.specs.declared.subject.Method.TheVariants.{BuCut, BuLength, BuRead}
 use Rattle.vyrd_base.specs.declared.subject.Args.{Args}
 
 -- the subject whose method it is
@@ -56,7 +60,8 @@ arity_of _ = 1
 abbrev pub are_padded : ℕ → Args → Bool
 are_padded arity args = (args.b == 0 || nat_lt 1 arity) && (args.c == 0 || nat_lt 2 arity)
 
--- whether the arguments are in their ranges: the number of a chunk or of a buffer is below the size, and a character is below 255
+-- whether the arguments are in their ranges: the number of a chunk or of a buffer is below the
+-- size, and a character is below 255
 abbrev pub are_ranged : ℕ → Method → Args → Bool
 are_ranged size CaWrite args = nat_lt args.a size
 are_ranged size CaFlush args = nat_lt args.a size

@@ -1,6 +1,7 @@
--- A table of pairs of a key and an amount, where a key stands in one of four places in a row. The keys that find no place there
--- are the rest, and have their amounts elsewhere.
-use Rattle.std.specs.Prelude.{◌≡◌, ◌≢◌, ℕ, Bool, true, ◌+◌, ◌*◌, ◌/◌, ◌%◌, ◌^◌, ◌<◌, ◌≤◌, ◌==◌, not, List, [], ◌∷◌, length, slice_index_or, Option, Some, None}
+-- A table of pairs of a key and an amount, where a key stands in one of four places in a row. The
+-- keys that find no place there are the rest, and have their amounts elsewhere.
+use Rattle.std.specs.Prelude.{◌≡◌, ◌≢◌, ℕ, Bool, true, ◌+◌, ◌*◌, ◌/◌, ◌%◌, ◌^◌, ◌<◌, ◌≤◌, ◌==◌, not}
+use Rattle.std.specs.Prelude.{List, [], ◌∷◌, length, slice_index_or, Option, Some, None}
 use Rattle.vyrd_base.specs.Amounts.{Amounts, IsAmounts, amount_of, plus_amount}
 
 -- the pair in this place; past the table there is nothing
@@ -11,7 +12,8 @@ pair_at places i = slice_index_or places i (0, 0)
 abbrev pub is_taken : ℕ × ℕ → Bool
 is_taken pair = not (pair.1 == 0)
 
--- the first of the places in which a key may stand: a multiple of the golden ratio's fraction, so that keys in a row lie apart
+-- the first of the places in which a key may stand: a multiple of the golden ratio's fraction, so
+-- that keys in a row lie apart
 unfoldable pub first_place : ℕ → ℕ → ℕ
 first_place shift key = (key * 11400714819323198485) % 2 ^ 64 / 2 ^ shift
 
@@ -25,15 +27,17 @@ IsFoundAt shift places key None = (i : ℕ) → IsWithin shift key i → (pair_a
 IsFoundAt shift places key (Some i) = IsWithin shift key i × ((pair_at places i).0 ≡ key)
     × ((j : ℕ) → first_place shift key ≤ j → j < i → (pair_at places j).0 ≢ key)
 
--- A key with an amount in the table stands in one of its places, and none of them before that one has its name. A key whose name
--- one of its places has isn't among the rest.
+-- A key with an amount in the table stands in one of its places, and none of them before that one
+-- has its name. A key whose name one of its places has isn't among the rest.
 pub record IsTable (shift : ℕ) (places : List (ℕ × ℕ)) (rest : Amounts) : Type 0 where
   pub shifted : shift < 64
   pub reach : (i : ℕ) → is_taken (pair_at places i) ≡ true → IsWithin shift (pair_at places i).0 i
-  pub first : (i : ℕ) → is_taken (pair_at places i) ≡ true → (j : ℕ) → first_place shift (pair_at places i).0 ≤ j → j < i
+  pub first : (i : ℕ) → is_taken (pair_at places i) ≡ true → (j : ℕ)
+      → first_place shift (pair_at places i).0 ≤ j → j < i
       → (pair_at places j).0 ≢ (pair_at places i).0
   pub room : (q : ℕ) → first_place shift q + 4 ≤ length places
-  pub away : (i : ℕ) → IsWithin shift (pair_at places i).0 i → amount_of rest (pair_at places i).0 ≡ 0
+  pub away : (i : ℕ) → IsWithin shift (pair_at places i).0 i
+      → amount_of rest (pair_at places i).0 ≡ 0
   pub formed : IsAmounts rest
 
 -- the rest, and on top of it what the places give
@@ -43,4 +47,5 @@ amounts_in (pair ∷ places) rest = plus_amount (amounts_in places rest) pair.0 
 
 -- no two pairs give to one key: a pair whose amount isn't 0 gives all that its key has
 abbrev pub HasAll : Amounts → List (ℕ × ℕ) → Type 0
-HasAll rest pairs = (i : ℕ) → is_taken (pair_at pairs i) ≡ true → amount_of (amounts_in pairs rest) (pair_at pairs i).0 ≡ (pair_at pairs i).1
+HasAll rest pairs = (i : ℕ) → is_taken (pair_at pairs i) ≡ true
+    → amount_of (amounts_in pairs rest) (pair_at pairs i).0 ≡ (pair_at pairs i).1

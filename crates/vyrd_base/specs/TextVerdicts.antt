@@ -1,7 +1,8 @@
--- The verdict about the bytes of a log, and what is known of it so far. What is wrong with the starting words and entries that
--- were read comes before the fault of the text, since these stand on earlier lines. `max_lines` is the reader's limit, at least
--- 1.
-use Rattle.std.specs.Prelude.{ℕ, true, false, List, Option, None, option_map, option_and_then, unwrap_or, if◌then◌else◌}
+-- The verdict about the bytes of a log, and what is known of it so far. What is wrong with the
+-- starting words and entries that were read comes before the fault of the text, since these stand
+-- on earlier lines. `max_lines` is the reader's limit, at least 1.
+use Rattle.std.specs.Prelude.{ℕ, true, false, List, Option, None, option_map, option_and_then}
+use Rattle.std.specs.Prelude.{unwrap_or, if◌then◌else◌}
 use Rattle.std.specs.Option.{option_or, option_map_or}
 use Rattle.vyrd_base.specs.declared.header.Header.{Header}
 use Rattle.vyrd_base.specs.declared.verdict.Stop.{Stop}
@@ -26,7 +27,8 @@ known_verdict read = option_or
 
 -- the verdict that these bytes have already, however they go on
 unfoldable pub text_verdict_so_far : ℕ → List ℕ → Option Verdict
-text_verdict_so_far max_lines bytes = known_verdict (reading (record { max_lines = max_lines; is_whole = false }) bytes)
+text_verdict_so_far max_lines bytes =
+    known_verdict (reading (record { max_lines = max_lines; is_whole = false }) bytes)
 
 -- the verdict about the whole input
 unfoldable pub text_verdict : ℕ → List ℕ → Verdict

@@ -1,5 +1,8 @@
--- The nodes of a tree, 12 words each, and what the chain of its leaves shows: it begins at node 0 and follows the right links.
-use Rattle.std.specs.Prelude.{ℕ, zero, suc, true, false, min, ◌+◌, ◌*◌, ◌^◌, ◌==◌, ◌&&◌, ◌||◌, nat_lt, nat_le, List, [], ◌∷◌, ◌++◌, slice_index, flat_map, map, if◌then◌else◌}
+-- The nodes of a tree, 12 words each, and what the chain of its leaves shows: it begins at node 0
+-- and follows the right links.
+use Rattle.std.specs.Prelude.{ℕ, zero, suc, true, false, min, ◌+◌, ◌*◌, ◌^◌, ◌==◌, ◌&&◌, ◌||◌}
+use Rattle.std.specs.Prelude.{nat_lt, nat_le, List, [], ◌∷◌, ◌++◌, slice_index, flat_map, map}
+use Rattle.std.specs.Prelude.{if◌then◌else◌}
 use Rattle.std.specs.List.{list_any}
 use Rattle.vyrd_base.specs.Places.{numbers_below}
 
@@ -25,7 +28,8 @@ right_of words n = node_word words n 3
 
 -- the key and the value (in a leaf) or the child (in an inner node) of each entry
 abbrev pub entries_of : List ℕ → ℕ → List (ℕ × ℕ)
-entries_of words n = map (λ j. (node_word words n (4 + j), node_word words n (8 + j))) (numbers_below (min (count_of words n) 4))
+entries_of words n = map (λ j. (node_word words n (4 + j), node_word words n (8 + j)))
+    (numbers_below (min (count_of words n) 4))
 
 -- what stands for damage: a key above all others
 abbrev pub damage : List (ℕ × ℕ)
@@ -33,23 +37,28 @@ damage = (2 ^ 33, 1) ∷ []
 
 -- an entry gives its key 2^32 and its value
 abbrev pub entry_parts : ℕ × ℕ → List (ℕ × ℕ)
-entry_parts (key, value) = if nat_lt key (2 ^ 32) && nat_lt value (2 ^ 32) then (key, 2 ^ 32 + value) ∷ [] else damage
+entry_parts (key, value) =
+    if nat_lt key (2 ^ 32) && nat_lt value (2 ^ 32) then (key, 2 ^ 32 + value) ∷ [] else damage
 
 -- what the entries of a node give
 abbrev pub node_parts : List ℕ → ℕ → List (ℕ × ℕ)
 node_parts words n = flat_map entry_parts (entries_of words n)
 
--- The parts of the chain of right links from a node on. Before it stand the nodes that are seen, and at most as many follow as
--- are left. The chain ends at a right link 0. One past the nodes or back to a node of the chain is damage.
+-- The parts of the chain of right links from a node on. Before it stand the nodes that are seen,
+-- and at most as many follow as are left. The chain ends at a right link 0. One past the nodes or
+-- back to a node of the chain is damage.
 abbrev pub chain_parts_from : ℕ → List ℕ → ℕ → List ℕ → ℕ → List (ℕ × ℕ)
 chain_parts_from size words zero seen n = []
-chain_parts_from size words (suc left) seen n = node_parts words n ++ (elim (right_of words n == 0) [
-  | true ↦ []
-  | false ↦ elim (nat_le size (right_of words n) || list_any (λ m. m == right_of words n) (n ∷ seen)) [
-    | true ↦ damage
-    | false ↦ chain_parts_from size words left (n ∷ seen) (right_of words n)
-  ]
-])
+chain_parts_from size words (suc left) seen n =
+    node_parts words n ++ (elim (right_of words n == 0) [
+      | true ↦ []
+      | false ↦
+          elim (nat_le size (right_of words n)
+          || list_any (λ m. m == right_of words n) (n ∷ seen)) [
+            | true ↦ damage
+            | false ↦ chain_parts_from size words left (n ∷ seen) (right_of words n)
+          ]
+    ])
 
 -- the parts of the chain from node 0 on, the leftmost leaf
 abbrev pub chain_parts : ℕ → List ℕ → List (ℕ × ℕ)

@@ -1,7 +1,16 @@
 -- The one line that a verdict is written as.
 use Rattle.std.specs.Prelude.{ℕ, List, ◌++◌, codes, decimal}
 use Rattle.vyrd_base.specs.declared.verdict.Rule.{Rule}
-use Rattle.vyrd_base.specs.declared.verdict.Rule.TheVariants.{TooManyLines, AfterEnd, BadHeader, UnknownVersion, BadEntry, StartRange, StartOrder, NoLineFeed, NoEnd, StartState, CallerRange, MethodOther, ArgumentRange, CallInCall, NoCall, ReturnInBlock, NoCommit, WordRange, ValueRange, BlockRaced, ObserverCommit, SecondCommit, CommitInBlock, BlockInBlock, NoBlock, CallOpen}
+use Rattle.vyrd_base.specs.declared.verdict.Rule.TheVariants.{TooManyLines, AfterEnd, BadHeader}
+use Rattle.vyrd_base.specs.declared.verdict.Rule.TheVariants.{UnknownVersion, BadEntry, StartRange}
+use Rattle.vyrd_base.specs.declared.verdict.Rule.TheVariants.{StartOrder, NoLineFeed, NoEnd}
+use Rattle.vyrd_base.specs.declared.verdict.Rule.TheVariants.{StartState, CallerRange, MethodOther}
+use Rattle.vyrd_base.specs.declared.verdict.Rule.TheVariants.{ArgumentRange, CallInCall, NoCall}
+use Rattle.vyrd_base.specs.declared.verdict.Rule.TheVariants.{ReturnInBlock, NoCommit, WordRange}
+use Rattle.vyrd_base.specs.declared.verdict.Rule.TheVariants.{ValueRange, BlockRaced}
+use Rattle.vyrd_base.specs.declared.verdict.Rule.TheVariants.{ObserverCommit, SecondCommit}
+use Rattle.vyrd_base.specs.declared.verdict.Rule.TheVariants.{CommitInBlock, BlockInBlock, NoBlock}
+use Rattle.vyrd_base.specs.declared.verdict.Rule.TheVariants.{CallOpen}
 use Rattle.vyrd_base.specs.declared.verdict.Why.{Why}
 use Rattle.vyrd_base.specs.declared.verdict.Why.TheVariants.{Reply, View, Observer}
 use Rattle.vyrd_base.specs.declared.verdict.Verdict.{Verdict}
@@ -46,9 +55,12 @@ why_text (Observer r) = codes "observer reply " ++ decimal r ++ codes " in no st
 -- the line without its line feed. Its words are the same for one and for many.
 abbrev pub verdict_words : Verdict → List ℕ
 verdict_words (Accepted entries commits observers) =
-    codes "accepted: " ++ decimal entries ++ codes " entries, " ++ decimal commits ++ codes " commits, " ++ decimal observers ++ codes " observers"
-verdict_words (Violation line why) = codes "violation at line " ++ decimal line ++ codes ": " ++ why_text why
-verdict_words (Malformed line rule) = codes "malformed at line " ++ decimal line ++ codes ": " ++ rule_text rule
+    codes "accepted: " ++ decimal entries ++ codes " entries, " ++ decimal commits
+    ++ codes " commits, " ++ decimal observers ++ codes " observers"
+verdict_words (Violation line why) =
+    codes "violation at line " ++ decimal line ++ codes ": " ++ why_text why
+verdict_words (Malformed line rule) =
+    codes "malformed at line " ++ decimal line ++ codes ": " ++ rule_text rule
 
 -- the verdict's line, with its line feed
 unfoldable pub verdict_text : Verdict → List ℕ

@@ -1,7 +1,9 @@
 -- The verdict about a log, and what is known of it so far. The first that applies is the verdict:
 -- starting words that stand for no state, the first fault of the well-formed front, the first entry
 -- that isn't well formed, an execution that is open at the end; otherwise the log is accepted.
-use Rattle.std.specs.Prelude.{ℕ, Bool, true, false, ◌+◌, ◌&&◌, ◌==◌, None, if◌then◌else◌, List, [], ◌∷◌, length, Option, is_some, is_none, option_map, unwrap_or, count_by}
+use Rattle.std.specs.Prelude.{ℕ, Bool, true, false, ◌+◌, ◌&&◌, ◌==◌, None, if◌then◌else◌, List, []}
+use Rattle.std.specs.Prelude.{◌∷◌, length, Option, is_some, is_none, option_map, unwrap_or}
+use Rattle.std.specs.Prelude.{count_by}
 use Rattle.std.specs.Option.{option_or}
 use Rattle.std.specs.Bool.{then_some}
 use Rattle.std.specs.List.{list_any}
@@ -15,7 +17,8 @@ use Rattle.vyrd_base.specs.declared.verdict.Stop.{Stop}
 use Rattle.vyrd_base.specs.declared.verdict.Stop.TheVariants.{End, Text}
 use Rattle.vyrd_base.specs.declared.verdict.Verdict.{Verdict}
 use Rattle.vyrd_base.specs.declared.verdict.Verdict.TheVariants.{Accepted, Violation, Malformed}
-use Rattle.vyrd_base.specs.Places.{Place, places, position_of, newest_first, first_answer, numbers_below}
+use Rattle.vyrd_base.specs.Places.{Place, places, position_of, newest_first, first_answer}
+use Rattle.vyrd_base.specs.Places.{numbers_below}
 use Rattle.vyrd_base.specs.Callers.{open_call}
 use Rattle.vyrd_base.specs.Shape.{is_observing}
 use Rattle.vyrd_base.specs.Front.{front, first_break}
@@ -40,11 +43,13 @@ states_along h starting well_formed = states_of (state_at_start h starting) well
 -- the first fault of a front, with its line
 unfoldable pub first_fault : Header → List StartWord → List Entry → Option Verdict
 first_fault h starting well_formed =
-    first_answer (violation_at h starting (states_along h starting well_formed)) (places well_formed)
+    first_answer (violation_at h starting (states_along h starting well_formed))
+    (places well_formed)
 
 -- the first break of shape, with its line
 unfoldable pub shape_verdict : Header → List StartWord → List Entry → Option Verdict
-shape_verdict h starting entries = option_map (Malformed (line_of starting (length (front h entries)))) (first_break h entries)
+shape_verdict h starting entries =
+    option_map (Malformed (line_of starting (length (front h entries)))) (first_break h entries)
 
 -- the verdict about starting words that stand for no state, on the line of the first of them
 abbrev pub start_verdict : Header → List StartWord → Option Verdict
@@ -68,7 +73,8 @@ is_call_open h earlier = list_any (λ c. is_some (open_call c earlier)) (numbers
 -- the verdict if `end` stands after the entries: about the starting words, or an open call
 unfoldable pub end_verdict : Header → List StartWord → List Entry → Option Verdict
 end_verdict h starting entries = option_or (start_verdict h starting)
-    (then_some (is_call_open h (newest_first entries)) (Malformed (line_of starting (length entries)) CallOpen))
+    (then_some (is_call_open h (newest_first entries))
+    (Malformed (line_of starting (length entries)) CallOpen))
 
 -- whether an entry ends an execution
 abbrev pub is_return : Kind → Bool
@@ -78,22 +84,25 @@ is_return _ = false
 -- how many observers have returned
 abbrev pub observer_count : List Entry → ℕ
 observer_count entries =
-    count_by (λ place. is_return place.here.kind && is_observing place.here.caller place.earlier) (places entries)
+    count_by (λ place. is_return place.here.kind && is_observing place.here.caller place.earlier)
+    (places entries)
 
--- the verdict about a log in which nothing is wrong: its entries, its commits and its observers' returns are counted
+-- the verdict about a log in which nothing is wrong: its entries, its commits and its observers'
+-- returns are counted
 unfoldable pub accepted : List Entry → Verdict
 accepted entries = Accepted (length entries) (commit_count entries) (observer_count entries)
 
 -- the verdict about a whole log, which `end` follows
 unfoldable pub verdict : Header → List StartWord → List Entry → Verdict
 verdict h starting entries =
-    unwrap_or (option_or (verdict_so_far h starting entries) (end_verdict h starting entries)) (accepted entries)
+    unwrap_or (option_or (verdict_so_far h starting entries) (end_verdict h starting entries))
+    (accepted entries)
 
 -- The verdict if the text of the log stops in this way after the entries. A rule of text that is
 -- broken two lines after the last entry is broken after an `end`.
 unfoldable pub verdict_at : Header → List StartWord → List Entry → Stop → Verdict
 verdict_at h starting entries End = verdict h starting entries
 verdict_at h starting entries (Text line rule) = unwrap_or
-    (option_or (verdict_so_far h starting entries)
-    (if line == line_of starting (length entries) + 1 then end_verdict h starting entries else None))
-    (Malformed line rule)
+    (option_or (verdict_so_far h starting entries) (if line == line_of starting (length entries) + 1
+    then end_verdict h starting entries
+    else None)) (Malformed line rule)

@@ -1,6 +1,8 @@
--- What the words of each subject show: each part, a slot, a chunk, a node or a buffer, gives amounts to keys, and the view has
--- for each key the sum of what it is given. A key whose sum is 0 isn't in the view.
-use Rattle.std.specs.Prelude.{ℕ, Bool, ◌+◌, ◌*◌, ◌^◌, ◌==◌, ◌&&◌, not, nat_lt, nat_le, List, [], ◌∷◌, slice_index, flat_map, if◌then◌else◌}
+-- What the words of each subject show: each part, a slot, a chunk, a node or a buffer, gives
+-- amounts to keys, and the view has for each key the sum of what it is given. A key whose sum is 0
+-- isn't in the view.
+use Rattle.std.specs.Prelude.{ℕ, Bool, ◌+◌, ◌*◌, ◌^◌, ◌==◌, ◌&&◌, not, nat_lt, nat_le, List, []}
+use Rattle.std.specs.Prelude.{◌∷◌, slice_index, flat_map, if◌then◌else◌}
 use Rattle.vyrd_base.specs.declared.header.Header.{Header}
 use Rattle.vyrd_base.specs.declared.subject.Subject.{Subject}
 use Rattle.vyrd_base.specs.declared.subject.Subject.TheVariants.{Multiset, Cache, Tree, Buffers}
@@ -12,13 +14,15 @@ use Rattle.vyrd_base.specs.Buffers.{buffer_at, buffer_parts}
 -- Slot i has its state (0 free, 1 reserved, 2 valid) in word 2i and its value in word 2i + 1. If it
 -- is valid, it gives 1 to its value, and otherwise it gives nothing.
 abbrev pub slot_parts : List ℕ → ℕ → List (ℕ × ℕ)
-slot_parts words i = if slice_index words (2 * i) == 2 then (slice_index words (2 * i + 1), 1) ∷ [] else []
+slot_parts words i =
+    if slice_index words (2 * i) == 2 then (slice_index words (2 * i + 1), 1) ∷ [] else []
 
 -- two halves below 2^32 as one number
 abbrev pub pair_amount : ℕ → ℕ → ℕ
 pair_amount lo hi = hi * 2 ^ 32 + lo
 
--- the five words of a chunk: its state (0 absent, 1 clean, 2 dirty), and the cached and the stored pair
+-- the five words of a chunk: its state (0 absent, 1 clean, 2 dirty), and the cached and the stored
+-- pair
 pub record Chunk : Type 0 where
   pub state : ℕ
   pub cached_lo : ℕ
@@ -59,13 +63,15 @@ chunk_parts size h c =
     else ((h, (if c.state == 0 then stored_pair c else cached_pair c))
     ∷ (if c.state == 1 && not (cached_pair c == stored_pair c) then (size + h, 1) ∷ [] else []))
 
--- what the parts of a subject of this size give: a multiset's 4 slots in each bucket, a cache's chunks, a tree's leaves, or the
--- string buffers
+-- what the parts of a subject of this size give: a multiset's 4 slots in each bucket, a cache's
+-- chunks, a tree's leaves, or the string buffers
 abbrev pub parts_of : Subject → ℕ → List ℕ → List (ℕ × ℕ)
 parts_of Multiset size words = flat_map (slot_parts words) (numbers_below (4 * size))
-parts_of Cache size words = flat_map (λ h. chunk_parts size h (chunk_at words h)) (numbers_below size)
+parts_of Cache size words =
+    flat_map (λ h. chunk_parts size h (chunk_at words h)) (numbers_below size)
 parts_of Tree size words = chain_parts size words
-parts_of Buffers size words = flat_map (λ b. buffer_parts size b (buffer_at words b)) (numbers_below size)
+parts_of Buffers size words =
+    flat_map (λ b. buffer_parts size b (buffer_at words b)) (numbers_below size)
 
 -- what the words show
 unfoldable pub view_of_words : Header → List ℕ → Amounts

@@ -4,12 +4,14 @@
 -- there is none, at the block's end. Those of a block that doesn't end take no effect. A word has
 -- the value of the last effect on it. Entries before a place are given the newest first, and those
 -- after it the oldest first.
-use Rattle.std.specs.Prelude.{ℕ, Bool, true, false, ◌&&◌, ◌==◌, List, [], ◌∷◌, ◌++◌, map, Option, Some, None, option_map, unwrap_or, if◌then◌else◌}
+use Rattle.std.specs.Prelude.{ℕ, Bool, true, false, ◌&&◌, ◌==◌, List, [], ◌∷◌, ◌++◌, map, Option}
+use Rattle.std.specs.Prelude.{Some, None, option_map, unwrap_or, if◌then◌else◌}
 use Rattle.std.specs.List.{list_any}
 use Rattle.std.specs.Option.{option_map_or}
 use Rattle.vyrd_base.specs.declared.header.Header.{Header}
 use Rattle.vyrd_base.specs.declared.log.Kind.{Kind}
-use Rattle.vyrd_base.specs.declared.log.Kind.TheVariants.{Return, Write, Commit, BlockOpen, BlockClose, BlockCommit}
+use Rattle.vyrd_base.specs.declared.log.Kind.TheVariants.{Return, Write, Commit, BlockOpen}
+use Rattle.vyrd_base.specs.declared.log.Kind.TheVariants.{BlockClose, BlockCommit}
 use Rattle.vyrd_base.specs.declared.log.Entry.{Entry}
 use Rattle.vyrd_base.specs.declared.log.StartWord.{StartWord}
 use Rattle.vyrd_base.specs.Places.{Place, first_answer, numbers_below}
@@ -27,7 +29,8 @@ abbrev pub block_writes : ℕ → List Entry → List (ℕ × ℕ)
 block_writes c [] = []
 block_writes c (e ∷ earlier) = with_write (e.caller == c) e.kind (block_writes c earlier)
 
--- what an entry of the caller's open block says of the writes still to come, by what those after it say
+-- what an entry of the caller's open block says of the writes still to come, by what those after it
+-- say
 abbrev pub ahead_at : Kind → Option (List (ℕ × ℕ)) → Option (List (ℕ × ℕ))
 ahead_at BlockClose ahead = Some []
 ahead_at BlockCommit ahead = Some []
@@ -39,13 +42,16 @@ ahead_at _ ahead = ahead
 -- on past a return.
 abbrev pub writes_ahead : ℕ → List Entry → Option (List (ℕ × ℕ))
 writes_ahead c [] = None
-writes_ahead c (e ∷ later) = if e.caller == c then ahead_at e.kind (writes_ahead c later) else writes_ahead c later
+writes_ahead c (e ∷ later) =
+    if e.caller == c then ahead_at e.kind (writes_ahead c later) else writes_ahead c later
 
 -- The writes of a block that take effect at the lone commit inside it, the newest first: all of
 -- them, if the block ends.
 abbrev pub effects_of_commit : List Entry → ℕ → List Entry → List (ℕ × ℕ)
 effects_of_commit earlier c later =
-    if has_block c earlier then option_map_or (λ ahead. ahead ++ block_writes c earlier) (writes_ahead c later) [] else []
+    if has_block c earlier
+    then option_map_or (λ ahead. ahead ++ block_writes c earlier) (writes_ahead c later) []
+    else []
 
 -- The writes that take effect at the block's end: none if they did so at the commit inside it.
 abbrev pub effects_of_end : List Entry → ℕ → List (ℕ × ℕ)
@@ -53,7 +59,8 @@ effects_of_end earlier c = if has_inner_commit c earlier then [] else block_writ
 
 -- the writes that take effect at an entry, the newest first
 abbrev pub effects_at : List Entry → ℕ → Kind → List Entry → List (ℕ × ℕ)
-effects_at earlier c (Write word value) later = if has_block c earlier then [] else (word, value) ∷ []
+effects_at earlier c (Write word value) later =
+    if has_block c earlier then [] else (word, value) ∷ []
 effects_at earlier c Commit later = effects_of_commit earlier c later
 effects_at earlier c BlockClose later = effects_of_end earlier c
 effects_at earlier c BlockCommit later = effects_of_end earlier c
@@ -62,7 +69,8 @@ effects_at earlier c _ later = []
 -- the writes that took effect at the entries before a place, the last to do so first
 abbrev pub effects : List Entry → List Entry → List (ℕ × ℕ)
 effects [] later = []
-effects (e ∷ earlier) later = effects_at earlier e.caller e.kind later ++ effects earlier (e ∷ later)
+effects (e ∷ earlier) later =
+    effects_at earlier e.caller e.kind later ++ effects earlier (e ∷ later)
 
 -- the value that a write gives the word, if it is to that word
 abbrev pub given_to : ℕ → ℕ × ℕ → Option ℕ
@@ -70,11 +78,13 @@ given_to word (other, value) = if other == word then Some value else None
 
 -- the word's starting value, which is 0 if none is given
 abbrev pub value_at_start : List StartWord → ℕ → ℕ
-value_at_start starting word = unwrap_or (first_answer (λ s. given_to word (s.word, s.value)) starting) 0
+value_at_start starting word =
+    unwrap_or (first_answer (λ s. given_to word (s.word, s.value)) starting) 0
 
 -- the value of the last effect on the word, and its starting value if there is none
 abbrev pub value_after : List StartWord → List (ℕ × ℕ) → ℕ → ℕ
-value_after starting writes word = unwrap_or (first_answer (given_to word) writes) (value_at_start starting word)
+value_after starting writes word =
+    unwrap_or (first_answer (given_to word) writes) (value_at_start starting word)
 
 -- the plain words, once these writes have taken effect
 abbrev pub words_with : Header → List StartWord → List (ℕ × ℕ) → List ℕ
@@ -97,11 +107,13 @@ is_lone_commit _ = false
 abbrev pub effects_of_others : ℕ → List Entry → List Entry → List (ℕ × ℕ)
 effects_of_others c [] later = []
 effects_of_others c (e ∷ earlier) later =
-    if e.caller == c then (if is_lone_commit e.kind then [] else effects_of_others c earlier (e ∷ later))
+    if e.caller == c then
+    (if is_lone_commit e.kind then [] else effects_of_others c earlier (e ∷ later))
     else effects_at earlier e.caller e.kind later ++ effects_of_others c earlier (e ∷ later)
 
 -- Whether the word is passed for the caller: its open block has a lone commit, after which a write
 -- of another caller took effect on the word. Here only the effects of what stands before a place
 -- are looked at.
 abbrev pub is_passed : ℕ → ℕ → List Entry → Bool
-is_passed c w earlier = has_inner_commit c earlier && list_any (λ write. write.0 == w) (effects_of_others c earlier [])
+is_passed c w earlier =
+    has_inner_commit c earlier && list_any (λ write. write.0 == w) (effects_of_others c earlier [])

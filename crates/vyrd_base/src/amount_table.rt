@@ -1,8 +1,10 @@
 //! Amounts by key in a flat table, where each can be looked up and changed.
 
-ghost use Rattle.std.specs.Prelude.{◌≡◌, ◌≢◌, ◌+◌, ◌-◌, ◌<◌, ◌≤◌, ◌^◌, ◌==◌, false, length, replicate, [], OnOk, OnErr, IfOk, IfSome, None};
+ghost use Rattle.std.specs.Prelude.{◌≡◌, ◌≢◌, ◌+◌, ◌-◌, ◌<◌, ◌≤◌, ◌^◌, ◌==◌, false, length};
+ghost use Rattle.std.specs.Prelude.{replicate, [], OnOk, OnErr, IfOk, IfSome, None};
 ghost use Rattle.vyrd_base.specs.Amounts.{IsAmounts, amount_of, with_amount, plus_amount};
-ghost use Rattle.vyrd_base.specs.Tables.{pair_at, is_taken, first_place, IsFoundAt, IsTable, HasAll, amounts_in};
+ghost use Rattle.vyrd_base.specs.Tables.{pair_at, is_taken, first_place, IsFoundAt, IsTable};
+ghost use Rattle.vyrd_base.specs.Tables.{HasAll, amounts_in};
 
 use crate::amount_map::AmountMap;
 use crate::view::View;
@@ -12,7 +14,8 @@ use std::marker::Model;
 /// How many places in a row a key may stand in.
 const REACH: usize = 4;
 
-/// 2^64 times the fraction of the golden ratio, an odd number. Its multiples modulo 2^64 lie far apart.
+/// 2^64 times the fraction of the golden ratio, an odd number. Its multiples modulo 2^64 lie far
+/// apart.
 const SPREAD: u64 = 0x9E37_79B9_7F4A_7C15;
 
 /// A table has 2^3 places at least.
@@ -123,7 +126,8 @@ impl AmountTable {
         }
     }
 
-    /// The keys with their amounts, as a view. It goes through the whole table, and costs memory for each key.
+    /// The keys with their amounts, as a view. It goes through the whole table, and costs memory
+    /// for each key.
     pub fn view(&self, alloc: Global) -> Result<View, AllocError>
         ensures { IfOk result (λ v. v ≡ self.now) }
     {
@@ -184,7 +188,8 @@ fn free_place(places: &[(u64, u64)], shift: u32, key: u64) -> Option<usize>
     None
 }
 
-/// Gives an amount to a key that no place has the name of: in a free place, if there is one and it isn't among the rest.
+/// Gives an amount to a key that no place has the name of: in a free place, if there is one and it
+/// isn't among the rest.
 #[inline(never)]
 fn set_anew(
     places: &mut [(u64, u64)],
@@ -196,7 +201,8 @@ fn set_anew(
     requires table { IsTable shift places.old rest.old }
     requires missing { IsFoundAt shift places.old key None }
     ensures table { IsTable shift places.new rest.new }
-    ensures ok { OnOk result (amounts_in places.new rest.new ≡ with_amount (amounts_in places.old rest.old) key amount) }
+    ensures ok { OnOk result
+        (amounts_in places.new rest.new ≡ with_amount (amounts_in places.old rest.old) key amount) }
     ensures err { OnErr result (amounts_in places.new rest.new ≡ amounts_in places.old rest.old) }
     ensures absent { OnErr result (amount_of (amounts_in places.old rest.old) key ≡ 0) }
 {

@@ -1,12 +1,15 @@
-//! What the program reads from, writes to and asks before each event, as traits whose meanings contracts can name.
+//! What the program reads from, writes to and asks before each event, as traits whose meanings
+//! contracts can name.
 
-ghost use Rattle.std.specs.Prelude.{◌≡◌, ℕ, ◌+◌, ◌-◌, ◌<◌, ◌≤◌, Bool, true, List, length, Option, Ok, IsOk, IfOk, OnErr};
+ghost use Rattle.std.specs.Prelude.{◌≡◌, ℕ, ◌+◌, ◌-◌, ◌<◌, ◌≤◌, Bool, true, List, length, Option};
+ghost use Rattle.std.specs.Prelude.{Ok, IsOk, IfOk, OnErr};
 ghost use Rattle.vyrd_base.specs.Devices.{HasRisen, Gives, IsAtEnd, Takes};
 
 use std::error::Error;
 use std::fmt;
 
-/// A read or a write failed. The device has counted it, and the bytes are as they were before the call.
+/// A read or a write failed. The device has counted it, and the bytes are as they were before the
+/// call.
 #[derive(Clone, Copy, Debug, PartialEq, Eq)]
 pub struct Failed;
 
@@ -32,8 +35,9 @@ pub trait Source {
     /// Whether it is known that no read will fail.
     ghost is_sure: { Self → Bool };
 
-    /// Puts the next bytes at the front of `buf`, and says how many they are: from 1 to its length, or 0 at the
-    /// input's end. After `Failed` the bytes that are still to come are those that were.
+    /// Puts the next bytes at the front of `buf`, and says how many they are: from 1 to its length,
+    /// or 0 at the input's end. After `Failed` the bytes that are still to come are those that
+    /// were.
     fn read(&mut self, buf: &mut [u8]) -> Result<usize, Failed>
         requires { 0 < length buf.old }
         ensures given { IfOk result (λ n. Gives (rest self.old) n buf.new (rest self.new)) }
@@ -66,7 +70,8 @@ pub trait Sink {
     /// How many bytes more it is known to take with no fault.
     ghost sure_room: { Self → ℕ };
 
-    /// Takes bytes from the front of `piece`, and says how many: from 1 to its length. After `Failed` it has taken none.
+    /// Takes bytes from the front of `piece`, and says how many: from 1 to its length. After
+    /// `Failed` it has taken none.
     fn write(&mut self, piece: &[u8]) -> Result<usize, Failed>
         requires { 0 < length piece.now }
         ensures taken { IfOk result (λ n. Takes (taken self.old) n piece.now (taken self.new)) }
@@ -80,14 +85,17 @@ pub trait Sink {
 
         // If there is sure room for the piece, it takes some of it, counts no fault, and has room
         // for the rest.
-        ensures sure { length piece.now ≤ sure_room self.old → IfOk result (λ n. sure_room self.old ≤ sure_room self.new + n) }
+        ensures sure { length piece.now ≤ sure_room self.old
+            → IfOk result (λ n. sure_room self.old ≤ sure_room self.new + n) }
         ensures never { length piece.now ≤ sure_room self.old → IsOk result }
-        ensures uncounted { length piece.now ≤ sure_room self.old → faults self.new ≡ faults self.old };
+        ensures uncounted { length piece.now ≤ sure_room self.old
+            → faults self.new ≡ faults self.old };
 }
 
 /// What a live run asks before each event, again and again until the answer is true.
 pub trait Gate: Sync {
-    /// Whether the caller's next event may start. `place` is the number of events that the caller has so far.
+    /// Whether the caller's next event may start. `place` is the number of events that the caller
+    /// has so far.
     fn may_start(&self, caller: u32, place: u64) -> bool;
 }
 

@@ -6,7 +6,8 @@ ghost use Rattle.vyrd_base.specs.Subjects.{subject_of, same_subject, are_args};
 
 use crate::subject::{Args, Method, Subject};
 
-/// The header of a log: what is watched, how large it is, and how many callers it has. Its numbers are within the limits.
+/// The header of a log: what is watched, how large it is, and how many callers it has. Its numbers
+/// are within the limits.
 #[derive(Clone, Copy, Debug, PartialEq, Eq)]
 pub struct Header {
     version: u32,
@@ -99,11 +100,12 @@ impl Header {
         }
     }
 
-    /// Whether a log with this header may call the method with these arguments: the method is of the header's subject,
-    /// the number of a chunk or of a buffer is below the size, a character is below 255, and arguments that the method doesn't
-    /// have are 0.
+    /// Whether a log with this header may call the method with these arguments: the method is of
+    /// the header's subject, the number of a chunk or of a buffer is below the size, a character is
+    /// below 255, and arguments that the method doesn't have are 0.
     pub fn fits(&self, method: Method, args: Args) -> bool
-        ensures { result ≡ (same_subject (subject_of method) self.now.subject && are_args self.now.size method args) }
+        ensures { result ≡ (same_subject (subject_of method) self.now.subject
+            && are_args self.now.size method args) }
     {
         method.subject() == self.subject
             && args.are_padded(method.arity())

@@ -1,4 +1,5 @@
-//! The events of a run, numbered in the order in which they took place. A cell is a plain word or a lock.
+//! The events of a run, numbered in the order in which they took place. A cell is a plain word or a
+//! lock.
 
 use crate::log::Kind;
 

@@ -1,6 +1,8 @@
 //! Laws of the definitions. Each function does nothing: its contract is the law.
 
-ghost use Rattle.std.specs.Prelude.{◌≢◌, ◌≡◌, ◌+◌, ◌≤◌, ◌<◌, ℕ, true, length, ◌==◌, min, if◌then◌else◌, List, [], ◌∷◌, ◌++◌, Some, None, false, slice_set};
+ghost use Rattle.std.specs.Prelude.{◌≢◌, ◌≡◌, ◌+◌, ◌≤◌, ◌<◌, ℕ, true, length, ◌==◌, min};
+ghost use Rattle.std.specs.Prelude.{if◌then◌else◌, List, [], ◌∷◌, ◌++◌, Some, None, false};
+ghost use Rattle.std.specs.Prelude.{slice_set};
 ghost use Rattle.std.specs.Option.{option_or};
 ghost use Rattle.vyrd_base.specs.declared.header.Header.{Header};
 ghost use Rattle.vyrd_base.specs.declared.log.Entry.{Entry};
@@ -18,7 +20,8 @@ ghost use Rattle.std.specs.List.{AllByRecursion};
 ghost use Rattle.vyrd_base.specs.Spelling.{log_text, is_entry_of};
 ghost use Rattle.vyrd_base.specs.Reading.{Input, TextFault, reading};
 ghost use Rattle.vyrd_base.specs.Histories.{cells_of, is_legal, log_of, words_of_history};
-ghost use Rattle.vyrd_base.specs.Amounts.{Amounts, IsAmounts, amount_of, with_amount, first_difference};
+ghost use Rattle.vyrd_base.specs.Amounts.{Amounts, IsAmounts, amount_of, with_amount};
+ghost use Rattle.vyrd_base.specs.Amounts.{first_difference};
 ghost use Rattle.vyrd_base.specs.declared.history.Stamped.{Stamped};
 ghost use Rattle.vyrd_base.specs.TextVerdicts.{text_verdict, text_verdict_so_far, stop_of};
 ghost use Rattle.vyrd_base.specs.Verdicts.{verdict_so_far, verdict, verdict_at, is_call_open};
@@ -30,8 +33,9 @@ ghost use Rattle.vyrd_base.specs.FirstVersion.{old_verdict_so_far, old_verdict};
 /// One more entry is in the front if no rule is broken before it and it breaks none itself.
 #[tactic(auto, using(crate::proofs::Answers::front_laws))]
 pub fn front_grows()
-    ensures { (h : Header) (es : List Entry) (e : Entry) →
-        front h (es ++ e ∷ []) ≡ front h es ++ unless_broken (option_or (first_break h es) (broken_rule h (newest_first es) e)) (e ∷ []) }
+    ensures { (h : Header) (es : List Entry) (e : Entry)
+        → front h (es ++ e ∷ []) ≡ front h es ++ unless_broken
+        (option_or (first_break h es) (broken_rule h (newest_first es) e)) (e ∷ []) }
 {}
 
 /// A verdict that stands stands for good.
@@ -46,8 +50,10 @@ pub fn verdict_lasts()
 /// A log of version 1 keeps the verdict that it had while there was no other version.
 #[tactic(auto, using(crate::proofs::Answers::first_version_laws))]
 pub fn first_version_keeps_its_verdicts()
-    ensures so_far { (h : Header) (es : List Entry) → h.version ≡ 1 → verdict_so_far h [] es ≡ old_verdict_so_far h es }
-    ensures whole { (h : Header) (es : List Entry) → h.version ≡ 1 → verdict h [] es ≡ old_verdict h es }
+    ensures so_far { (h : Header) (es : List Entry) → h.version ≡ 1
+        → verdict_so_far h [] es ≡ old_verdict_so_far h es }
+    ensures whole { (h : Header) (es : List Entry) → h.version ≡ 1
+        → verdict h [] es ≡ old_verdict h es }
 {}
 
 /// Without starting words the specification starts empty.
@@ -59,37 +65,51 @@ pub fn starts_empty()
 /// A write outside a block changes its own word alone.
 #[tactic(auto, using(crate::proofs::Answers::word_laws))]
 pub fn write_changes_its_word()
-    ensures { (h : Header) (starting : List StartWord) (earlier : List Entry) (c w v : ℕ) → has_block c earlier ≡ false → w < plain_words h →
-        words_after h starting (record { caller = c; kind = Write w v } ∷ earlier) ≡ slice_set (words_after h starting earlier) w v }
+    ensures { (h : Header) (starting : List StartWord) (earlier : List Entry) (c w v : ℕ)
+        → has_block c earlier ≡ false → w < plain_words h
+        → words_after h starting (record { caller = c; kind = Write w v } ∷ earlier)
+        ≡ slice_set (words_after h starting earlier) w v }
 {}
 
 /// The text of a log is read as that log, and has its verdict.
 #[tactic(auto, using(crate::proofs::Answers::text_laws))]
 pub fn text_is_read()
-    ensures read { (input : Input) (h : Header) (starting : List StartWord) (es : List Entry) →
-        length starting + length es + 2 ≤ input.max_lines → may_start h starting ≡ true →
-        AllByRecursion (λ e. is_entry_of h.subject e ≡ true) es →
-        reading input (log_text h starting es) ≡ record { header = Some h; starting = starting; entries = es; ended = true; fault = None } }
+    ensures read { (input : Input) (h : Header) (starting : List StartWord) (es : List Entry)
+        → length starting + length es + 2 ≤ input.max_lines → may_start h starting ≡ true
+        → AllByRecursion (λ e. is_entry_of h.subject e ≡ true) es
+        → reading input (log_text h starting es)
+        ≡ record {
+          header = Some h;
+          starting = starting;
+          entries = es;
+          ended = true;
+          fault = None;
+        } }
     ensures judged { (max : ℕ) (h : Header) (starting : List StartWord) (es : List Entry) →
         length starting + length es + 2 ≤ max → may_start h starting ≡ true →
         AllByRecursion (λ e. is_entry_of h.subject e ≡ true) es →
         text_verdict max (log_text h starting es) ≡ verdict h starting es }
 {}
 
-/// The words that the log of a legal history leaves are the words of the history, once every call has returned.
+/// The words that the log of a legal history leaves are the words of the history, once every call
+/// has returned.
 #[tactic(auto, using(crate::proofs::Answers::history_laws))]
 pub fn words_of_a_history()
-    ensures { (h : Header) (history : List Stamped) → is_legal (cells_of h) history ≡ true → first_break h (log_of history) ≡ None →
-        is_call_open h (newest_first (log_of history)) ≡ false →
-        words_after h [] (newest_first (log_of history)) ≡ words_of_history h history }
+    ensures { (h : Header) (history : List Stamped) → is_legal (cells_of h) history ≡ true
+        → first_break h (log_of history) ≡ None
+        → is_call_open h (newest_first (log_of history)) ≡ false
+        → words_after h [] (newest_first (log_of history)) ≡ words_of_history h history }
 {}
 
 /// Amounts by key behave as a map in which a key that isn't there has the amount 0.
 #[tactic(auto, using(crate::proofs::Answers::amount_laws))]
 pub fn amounts_are_a_map()
-    ensures read { (s : Amounts) (k a q : ℕ) → amount_of (with_amount s k a) q ≡ (if q == k then a else amount_of s q) }
+    ensures read { (s : Amounts) (k a q : ℕ)
+        → amount_of (with_amount s k a) q ≡ (if q == k then a else amount_of s q) }
     ensures kept { (s : Amounts) (k a : ℕ) → IsAmounts s → IsAmounts (with_amount s k a) }
-    ensures same { (s t : Amounts) → IsAmounts s → IsAmounts t → ((q : ℕ) → amount_of s q ≡ amount_of t q) → s ≡ t }
+    ensures same { (s t : Amounts) → IsAmounts s → IsAmounts t
+        → ((q : ℕ) → amount_of s q ≡ amount_of t q)
+        → s ≡ t }
 {}
 
 /// A verdict about bytes that stands stands for all longer bytes, and is their verdict as a whole.
@@ -101,13 +121,14 @@ pub fn text_verdict_lasts()
         text_verdict_so_far max bytes ≡ Some v → text_verdict max (bytes ++ more) ≡ v }
 {}
 
-/// The verdict about a whole input with a header is that of its entries and of how its text stops. Without a header it is
-/// the fault of the text.
+/// The verdict about a whole input with a header is that of its entries and of how its text stops.
+/// Without a header it is the fault of the text.
 #[tactic(auto, using(crate::proofs::Answers::stop_laws))]
 pub fn verdict_by_its_stop()
-    ensures headed { (max : ℕ) (bytes : List ℕ) (h : Header) →
-        (reading (record { max_lines = max; is_whole = true }) bytes).header ≡ Some h →
-        text_verdict max bytes ≡ verdict_at h (reading (record { max_lines = max; is_whole = true }) bytes).starting
+    ensures headed { (max : ℕ) (bytes : List ℕ) (h : Header)
+        → (reading (record { max_lines = max; is_whole = true }) bytes).header ≡ Some h
+        → text_verdict max bytes
+        ≡ verdict_at h (reading (record { max_lines = max; is_whole = true }) bytes).starting
         (reading (record { max_lines = max; is_whole = true }) bytes).entries
         (stop_of (reading (record { max_lines = max; is_whole = true }) bytes)) }
     ensures headless { (max : ℕ) (bytes : List ℕ) (fault : TextFault) →
@@ -118,27 +139,33 @@ pub fn verdict_by_its_stop()
 
 /// What is read to its `end` without a fault is the text of a log.
 pub fn read_text_is_a_log()
-    ensures { (input : Input) (bytes : List ℕ) → (reading input bytes).ended ≡ true → (reading input bytes).fault ≡ None →
-        (h : Header) × ((reading input bytes).header ≡ Some h) × (may_start h (reading input bytes).starting ≡ true)
+    ensures { (input : Input) (bytes : List ℕ) → (reading input bytes).ended ≡ true
+        → (reading input bytes).fault ≡ None
+        → (h : Header) × ((reading input bytes).header ≡ Some h)
+        × (may_start h (reading input bytes).starting ≡ true)
         × (bytes ≡ log_text h (reading input bytes).starting (reading input bytes).entries)
         × AllByRecursion (λ e. is_entry_of h.subject e ≡ true) (reading input bytes).entries }
 {}
 
 /// The first difference of two sides is the least key at which their amounts differ.
 pub fn least_difference()
-    ensures none { (a b : Amounts) → first_difference a b ≡ None → (q : ℕ) → amount_of a q ≡ amount_of b q }
+    ensures none { (a b : Amounts) → first_difference a b ≡ None → (q : ℕ)
+        → amount_of a q ≡ amount_of b q }
     ensures some { (a b : Amounts) (k : ℕ) → first_difference a b ≡ Some k →
         (amount_of a k ≢ amount_of b k) × ((q : ℕ) → q < k → amount_of a q ≡ amount_of b q) }
 {}
 
-/// A text stands for its characters, at most 7 and each below 255: its length counts them, those after the first n are joined
-/// after them, a cut keeps the first of them, and other characters make another text.
+/// A text stands for its characters, at most 7 and each below 255: its length counts them, those
+/// after the first n are joined after them, a cut keeps the first of them, and other characters
+/// make another text.
 pub fn text_stands_for_its_characters()
-    ensures length { (f : ℕ → ℕ) (n : ℕ) → n ≤ 7 → are_characters f n ≡ true → text_length (text_of f n) ≡ n }
+    ensures length { (f : ℕ → ℕ) (n : ℕ) → n ≤ 7 → are_characters f n ≡ true
+        → text_length (text_of f n) ≡ n }
     ensures joined { (f : ℕ → ℕ) (n m : ℕ) → n ≤ 7 → are_characters f n ≡ true →
         joined (text_of f n) (text_of (λ i. f (n + i)) m) ≡ text_of f (n + m) }
     ensures cut { (f : ℕ → ℕ) (n k : ℕ) → n ≤ 7 → are_characters f n ≡ true →
         cut_to k (text_of f n) ≡ text_of f (min k n) }
-    ensures told { (f g : ℕ → ℕ) (n m : ℕ) → n ≤ 7 → m ≤ 7 → are_characters f n ≡ true → are_characters g m ≡ true →
-        text_of f n ≡ text_of g m → (n ≡ m) × ((i : ℕ) → i < n → f i ≡ g i) }
+    ensures told { (f g : ℕ → ℕ) (n m : ℕ) → n ≤ 7 → m ≤ 7 → are_characters f n ≡ true
+        → are_characters g m ≡ true → text_of f n ≡ text_of g m
+        → (n ≡ m) × ((i : ℕ) → i < n → f i ≡ g i) }
 {}

@@ -1,20 +1,24 @@
-//! The plain data of a log and of its verdict, the devices at the program's edge, and every definition of judging.
+//! The plain data of a log and of its verdict, the devices at the program's edge, and every
+//! definition of judging.
 //!
-//! A log tells of a concurrent run: who called what, which words were written, and where each call took effect. A log is a
-//! `Header`, in version 2 words that aren't 0 at the start, and a list of entries, and the central type is `Entry`: one caller
-//! and what it did. The answer about a log is a `Verdict`. The crate decides nothing itself. It says, once and for all other
-//! crates, which verdict a log has, and its own calls meet the same definitions: a header's numbers, amounts by key, and what
-//! devices give and take.
+//! A log tells of a concurrent run: who called what, which words were written, and where each call
+//! took effect. A log is a `Header`, in version 2 words that aren't 0 at the start, and a list of
+//! entries, and the central type is `Entry`: one caller and what it did. The answer about a log is
+//! a `Verdict`. The crate decides nothing itself. It says, once and for all other crates, which
+//! verdict a log has, and its own calls meet the same definitions: a header's numbers, amounts by
+//! key, and what devices give and take.
 //!
 //! What stands in `src/`:
 //!
 //! - `Header`, `Subject`, `Method`, `Args`: what is watched, and what may be called;
-//! - `Entry`, `Kind`, `StartWord`: the lines of a log; `Stamped`, `Did`: the events of a run, of which a log shows a part;
+//! - `Entry`, `Kind`, `StartWord`: the lines of a log; `Stamped`, `Did`: the events of a run, of
+//!   which a log shows a part;
 //! - `Verdict`, `Rule`, `Why`, `Stop`: the answer, and how a text stops;
-//! - `View`: what a state or the words show, as amounts by key, to be read; `AmountMap` and `AmountTable`: such amounts, to be
-//!   looked up and changed, in an ordered map or in a flat table;
-//! - `Source`, `Sink`, `Gate`: where bytes come from and go to, and what a live run asks. Each has a device in memory
-//!   whose calls can be made to fail, or one over std's readers and writers.
+//! - `View`: what a state or the words show, as amounts by key, to be read; `AmountMap` and
+//!   `AmountTable`: such amounts, to be looked up and changed, in an ordered map or in a flat
+//!   table;
+//! - `Source`, `Sink`, `Gate`: where bytes come from and go to, and what a live run asks. Each has
+//!   a device in memory whose calls can be made to fail, or one over std's readers and writers.
 //!
 //! What stands in `specs/`, one file for each notion: the limits of a header (`Limits`, `Subjects`,
 //! `Layout`), the places of a list (`Places`), what a caller is in the middle of (`Callers`), the
@@ -27,9 +31,10 @@
 //! `VerdictText`), histories (`Histories`), words that represent a state (`Represented`, `Trees`),
 //! and devices (`Devices`).
 //!
-//! A definition alone claims nothing. So each law of the definitions is a clause of an empty function in `laws`, and
-//! small cases are worked out in `worked`, as lists of entries, and in `worked_text`, and for version 2 in
-//! `worked_second`, from the bytes of a log to the bytes of the answer.
+//! A definition alone claims nothing. So each law of the definitions is a clause of an empty
+//! function in `laws`, and small cases are worked out in `worked`, as lists of entries, and in
+//! `worked_text`, and for version 2 in `worked_second`, from the bytes of a log to the bytes of the
+//! answer.
 #![tactic(auto)]
 
 mod amount_map;

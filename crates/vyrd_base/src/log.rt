@@ -1,5 +1,5 @@
-//! The entries of a log, and the words that it begins with. With s starting words the entry at position p, from 0, stands on line
-//! s + p + 2 of the log's text.
+//! The entries of a log, and the words that it begins with. With s starting words the entry at
+//! position p, from 0, stands on line s + p + 2 of the log's text.
 
 use crate::subject::{Args, Method};
 
@@ -12,10 +12,11 @@ pub enum Kind {
     Return(u64),
     /// The plain word gets the value, which is below 2^63 in a well-formed log.
     Write(u32, u64),
-    /// The execution takes effect here. In version 1 no block of the caller is open; in version 2 one may
-    /// be, and then the block's writes take effect here too.
+    /// The execution takes effect here. In version 1 no block of the caller is open; in version 2
+    /// one may be, and then the block's writes take effect here too.
     Commit,
-    /// A block begins: its writes take effect together, at the lone commit inside it, or at its end.
+    /// A block begins: its writes take effect together, at the lone commit inside it, or at its
+    /// end.
     BlockOpen,
     /// The block ends.
     BlockClose,

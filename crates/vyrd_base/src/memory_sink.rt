@@ -35,7 +35,8 @@ impl Model for MemorySink {
       faults = s.calls.faults;
     } };
 
-    ghost invariant = { λ s. (s.left_off ≤ length s.taken.items) × (length s.taken.items ≤ s.room) × (s.room ≤ vec_capacity s.taken) × (0 < s.cut) };
+    ghost invariant = { λ s. (s.left_off ≤ length s.taken.items) × (length s.taken.items ≤ s.room)
+        × (s.room ≤ vec_capacity s.taken) × (0 < s.cut) };
 }
 
 impl MemorySink {
@@ -85,8 +86,10 @@ impl Sink for MemorySink {
 
     fn write(&mut self, piece: &[u8]) -> Result<usize, Failed>
         requires { 0 < length piece.now }
-        ensures taken { IfOk result (λ n. Takes (Some self.old.taken) n piece.now (Some self.new.taken)) }
-        ensures size { IfOk result (λ n. n ≡ min (min (length piece.now) self.old.cut) (self.old.room - length self.old.taken)) }
+        ensures taken { IfOk result
+            (λ n. Takes (Some self.old.taken) n piece.now (Some self.new.taken)) }
+        ensures size { IfOk result (λ n. n
+            ≡ min (min (length piece.now) self.old.cut) (self.old.room - length self.old.taken)) }
         ensures kept { OnErr result (self.new.taken ≡ self.old.taken) }
         ensures stopped { OnErr result (self.new.left_off ≡ self.new.taken) }
         ensures goes_on { IfOk result (λ _. self.new.left_off ≡ self.old.left_off) }

@@ -1,6 +1,7 @@
 //! A source in memory.
 
-ghost use Rattle.std.specs.Prelude.{◌≡◌, ◌==◌, ◌<◌, ◌≤◌, min, length, drop, Some, Ok, IfOk, OnErr, is_err};
+ghost use Rattle.std.specs.Prelude.{◌≡◌, ◌==◌, ◌<◌, ◌≤◌, min, length, drop, Some, Ok, IfOk, OnErr};
+ghost use Rattle.std.specs.Prelude.{is_err};
 ghost use Rattle.vyrd_base.specs.Devices.{HasRisen, Gives, IsAtEnd, next_count, fails_next};
 
 use crate::calls::Calls;
@@ -13,7 +14,8 @@ use std::marker::Model;
 pub struct MemorySource {
     bytes: Vec<u8>,
     given: usize,
-    /// How many bytes were given when a read last failed, which contracts see as what was still to come.
+    /// How many bytes were given when a read last failed, which contracts see as what was still to
+    /// come.
     left_off: usize,
     cut: usize,
     calls: Calls,
@@ -76,8 +78,10 @@ impl Source for MemorySource {
 
     fn read(&mut self, buf: &mut [u8]) -> Result<usize, Failed>
         requires { 0 < length buf.old }
-        ensures given { IfOk result (λ n. Gives (Some self.old.rest) n buf.new (Some self.new.rest)) }
-        ensures size { IfOk result (λ n. n ≡ min (min (length self.old.rest) self.old.cut) (length buf.old)) }
+        ensures given { IfOk result
+            (λ n. Gives (Some self.old.rest) n buf.new (Some self.new.rest)) }
+        ensures size { IfOk result
+            (λ n. n ≡ min (min (length self.old.rest) self.old.cut) (length buf.old)) }
         ensures at_end { result ≡ Ok 0 → IsAtEnd (Some self.new.rest) }
         ensures kept { OnErr result (self.new.rest ≡ self.old.rest) }
         ensures stopped { OnErr result (self.new.left_off ≡ self.new.rest) }

@@ -1,4 +1,5 @@
-//! A source and a sink over std's reader and writer. As devices they tell no bytes; each passes on what its stream says.
+//! A source and a sink over std's reader and writer. As devices they tell no bytes; each passes on
+//! what its stream says.
 
 ghost use Rattle.std.specs.Prelude.{◌≡◌, ◌≤◌, false, None, IfOk, OnErr};
 ghost use Rattle.std.specs.Io.KnownBytes.{ReadConsumes, WriteAppends};
@@ -40,7 +41,8 @@ impl<R: Read> Source for StdSource<R> {
         ensures counted { self.old.faults ≤ self.new.faults }
         ensures cause { OnErr result (HasRisen self.old.faults self.new.faults) }
         ensures failures_alone { IfOk result (λ _. self.new.faults ≡ self.old.faults) }
-        ensures passed { ReadConsumes (R.remaining self.old.inner) (R.remaining self.new.inner) result buf.new }
+        ensures passed { ReadConsumes (R.remaining self.old.inner) (R.remaining self.new.inner)
+            result buf.new }
     {
         match self.inner.read(buf) {
             Ok(n) => Ok(n),
@@ -86,7 +88,8 @@ impl<W: Write> Sink for StdSink<W> {
         ensures counted { self.old.faults ≤ self.new.faults }
         ensures cause { OnErr result (HasRisen self.old.faults self.new.faults) }
         ensures failures_alone { IfOk result (λ _. self.new.faults ≡ self.old.faults) }
-        ensures passed { WriteAppends (W.contents self.old.inner) (W.contents self.new.inner) result piece.now }
+        ensures passed { WriteAppends (W.contents self.old.inner) (W.contents self.new.inner) result
+            piece.now }
     {
         match self.inner.write(piece) {
             Ok(n) if n > 0 => Ok(n),

@@ -1,16 +1,19 @@
 //! The subjects that can be watched, their methods, and the arguments of a call.
 
 ghost use Rattle.std.specs.Prelude.{◌≡◌};
-ghost use Rattle.vyrd_base.specs.Subjects.{subject_of, is_observer, arity_of, are_padded, are_ranged};
+ghost use Rattle.vyrd_base.specs.Subjects.{subject_of, is_observer, arity_of, are_padded};
+ghost use Rattle.vyrd_base.specs.Subjects.{are_ranged};
 
 /// The data structure that is watched.
 #[derive(Clone, Copy, Debug, PartialEq, Eq)]
 pub enum Subject {
-    /// A multiset of numbers, in buckets of 4 slots. A value belongs to the bucket of its remainder by the size.
+    /// A multiset of numbers, in buckets of 4 slots. A value belongs to the bucket of its remainder
+    /// by the size.
     Multiset,
     /// A cache of chunks, each of a pair of numbers, over a store of the same chunks.
     Cache,
-    /// A B-link tree from keys to values, with at most 4 entries in each node (Lehman and Yao, TODS 1981).
+    /// A B-link tree from keys to values, with at most 4 entries in each node (Lehman and Yao, TODS
+    /// 1981).
     Tree,
     /// String buffers of at most 7 characters each. A character is a number below 255.
     Buffers,
@@ -119,7 +122,8 @@ impl Method {
 pub struct Args {
     /// The first: a value, a chunk, a key or a buffer.
     pub a: u32,
-    /// The second: a value, the lower half of a pair, a character, a buffer or a number of characters.
+    /// The second: a value, the lower half of a pair, a character, a buffer or a number of
+    /// characters.
     pub b: u32,
     /// The third: the upper half of a pair.
     pub c: u32,

@@ -1,4 +1,5 @@
-//! The rules of text and of shape, and the verdict. Lines are counted from 1, where the header stands.
+//! The rules of text and of shape, and the verdict. Lines are counted from 1, where the header
+//! stands.
 
 /// A rule that a log can break: the rules of text, which lines break, and then those of shape,
 /// which entries break. If a line or an entry breaks several, the rule that is named is the first
@@ -13,18 +14,21 @@ pub enum Rule {
     BadHeader,
     /// Text: line 1 spells a header whose version is neither 1 nor 2.
     UnknownVersion,
-    /// Text: a later line spells neither an entry of the subject nor `end`, nor a starting word where one may stand: right
-    /// after the header or another starting word, in version 2.
+    /// Text: a later line spells neither an entry of the subject nor `end`, nor a starting word
+    /// where one may stand: right after the header or another starting word, in version 2.
     BadEntry,
-    /// Text: a starting word isn't below the number of plain words, or its value is 0 or isn't below 2^63.
+    /// Text: a starting word isn't below the number of plain words, or its value is 0 or isn't
+    /// below 2^63.
     StartRange,
     /// Text: a starting word isn't greater than the one before it.
     StartOrder,
     /// Text: the input ends inside this line.
     NoLineFeed,
-    /// Text: the input ends after a line feed, and no `end` was read. The line is the one after the last.
+    /// Text: the input ends after a line feed, and no `end` was read. The line is the one after the
+    /// last.
     NoEnd,
-    /// The starting words stand for no state of the specification. The line is 2, where the first of them stands.
+    /// The starting words stand for no state of the specification. The line is 2, where the first
+    /// of them stands.
     StartState,
     /// The caller isn't below the header's callers.
     CallerRange,
@@ -44,8 +48,8 @@ pub enum Rule {
     WordRange,
     /// A written value isn't below 2^63.
     ValueRange,
-    /// A write to a word that an open block of another caller has written, or on which a write of another caller took effect
-    /// after the commit inside the writer's open block.
+    /// A write to a word that an open block of another caller has written, or on which a write of
+    /// another caller took effect after the commit inside the writer's open block.
     BlockRaced,
     /// An observer commits.
     ObserverCommit,
@@ -66,7 +70,8 @@ pub enum Rule {
 pub enum Why {
     /// This reply, of a mutator, isn't allowed in the state before the commit.
     Reply(u64),
-    /// The view of the words and that of the state after the commit differ at this key, and at no lesser one.
+    /// The view of the words and that of the state after the commit differ at this key, and at no
+    /// lesser one.
     View(u64),
     /// This reply, of an observer, is the answer of no state from the call to the return.
     Observer(u64),
@@ -106,7 +111,7 @@ pub enum Verdict {
 pub enum Stop {
     /// `end` stands after them, and nothing follows it.
     End,
-    /// A rule of text is broken on this line. With s starting words and n entries line s + n + 3 comes after an `end` on line
-    /// s + n + 2.
+    /// A rule of text is broken on this line. With s starting words and n entries line s + n + 3
+    /// comes after an `end` on line s + n + 2.
     Text { line: u64, rule: Rule },
 }

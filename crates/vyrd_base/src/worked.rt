@@ -1,5 +1,5 @@
-//! Verdicts of small logs, words and histories, worked out by the definitions. Each function does nothing: its contract
-//! has the cases.
+//! Verdicts of small logs, words and histories, worked out by the definitions. Each function does
+//! nothing: its contract has the cases.
 
 ghost use Rattle.std.specs.Prelude.{◌≡◌, ◌^◌, [], ◌∷◌, replicate, true, false};
 ghost use Rattle.vyrd_base.specs.Verdicts.{verdict};
@@ -7,13 +7,22 @@ ghost use Rattle.vyrd_base.specs.Represented.{state_of_words};
 ghost use Rattle.vyrd_base.specs.Specification.{next_state, answer_in};
 ghost use Rattle.vyrd_base.specs.Histories.{is_legal, log_of, cells_of};
 ghost use Rattle.vyrd_base.specs.declared.history.Did.TheVariants.{Took, Gave, Read, Wrote, Marked};
-ghost use Rattle.vyrd_base.specs.SampleWords.{multiset_of_2, cache_of_1, tree_of_4, buffers_of_1, two_leaves, lookup_events, event};
-ghost use Rattle.vyrd_base.specs.Samples.{args, alone, two, two_on_cache, inserted, claimed, deleted, looked_up, too_early, beside_block, no_block, raced, waits, stray, torn, insert, commit, begin, lookup, return};
-ghost use Rattle.vyrd_base.specs.declared.verdict.Verdict.TheVariants.{Accepted, Violation, Malformed};
+ghost use Rattle.vyrd_base.specs.SampleWords.{multiset_of_2, cache_of_1, tree_of_4, buffers_of_1};
+ghost use Rattle.vyrd_base.specs.SampleWords.{two_leaves, lookup_events, event};
+ghost use Rattle.vyrd_base.specs.Samples.{args, alone, two, two_on_cache, inserted, claimed};
+ghost use Rattle.vyrd_base.specs.Samples.{deleted, looked_up, too_early, beside_block, no_block};
+ghost use Rattle.vyrd_base.specs.Samples.{raced, waits, stray, torn, insert, commit, begin, lookup};
+ghost use Rattle.vyrd_base.specs.Samples.{return};
+ghost use Rattle.vyrd_base.specs.declared.verdict.Verdict.TheVariants.{Accepted, Violation};
+ghost use Rattle.vyrd_base.specs.declared.verdict.Verdict.TheVariants.{Malformed};
 ghost use Rattle.vyrd_base.specs.declared.verdict.Why.TheVariants.{Reply, View, Observer};
-ghost use Rattle.vyrd_base.specs.declared.verdict.Rule.TheVariants.{BlockRaced, CallOpen, ValueRange, WordRange, CallerRange, SecondCommit, ReturnInBlock, NoCommit};
+ghost use Rattle.vyrd_base.specs.declared.verdict.Rule.TheVariants.{BlockRaced, CallOpen};
+ghost use Rattle.vyrd_base.specs.declared.verdict.Rule.TheVariants.{ValueRange, WordRange};
+ghost use Rattle.vyrd_base.specs.declared.verdict.Rule.TheVariants.{CallerRange, SecondCommit};
+ghost use Rattle.vyrd_base.specs.declared.verdict.Rule.TheVariants.{ReturnInBlock, NoCommit};
 ghost use Rattle.vyrd_base.specs.declared.log.Kind.TheVariants.{Write};
-ghost use Rattle.vyrd_base.specs.declared.subject.Method.TheVariants.{BuAppend, BuAppendFrom, BuCut, BuLength, BuRead};
+ghost use Rattle.vyrd_base.specs.declared.subject.Method.TheVariants.{BuAppend, BuAppendFrom};
+ghost use Rattle.vyrd_base.specs.declared.subject.Method.TheVariants.{BuCut, BuLength, BuRead};
 
 /// Logs that keep the rules and refine the specification.
 #[tactic(auto, unfolding(crate::proofs::Opened::opened))]
@@ -37,7 +46,8 @@ pub fn violations()
     ensures earlier_commit { verdict two [] (waits 1) ≡ Violation 3 (Reply 1) }
     ensures observer { verdict two [] (waits 0) ≡ Violation 5 (Observer 7) }
     ensures torn_write { verdict two_on_cache [] torn ≡ Violation 16 (View 0) }
-    ensures no_such_reply { verdict alone [] (insert 0 5 ∷ commit 0 ∷ return 0 2 ∷ []) ≡ Violation 3 (Reply 2) }
+    ensures no_such_reply { verdict alone [] (insert 0 5 ∷ commit 0 ∷ return 0 2 ∷ [])
+        ≡ Violation 3 (Reply 2) }
 {}
 
 /// Logs that break a rule of shape.
@@ -49,8 +59,10 @@ pub fn malformed_logs()
     ensures word { verdict alone [] (stray 8 9223372036854775807) ≡ Malformed 3 WordRange }
     ensures caller { verdict alone [] (insert 1 5 ∷ []) ≡ Malformed 2 CallerRange }
     ensures unreturned { verdict alone [] (insert 0 5 ∷ commit 0 ∷ []) ≡ Malformed 4 CallOpen }
-    ensures second_commit { verdict alone [] (insert 0 5 ∷ commit 0 ∷ commit 0 ∷ []) ≡ Malformed 4 SecondCommit }
-    ensures return_in_block { verdict alone [] (insert 0 5 ∷ begin 0 ∷ return 0 0 ∷ []) ≡ Malformed 4 ReturnInBlock }
+    ensures second_commit { verdict alone [] (insert 0 5 ∷ commit 0 ∷ commit 0 ∷ [])
+        ≡ Malformed 4 SecondCommit }
+    ensures return_in_block { verdict alone [] (insert 0 5 ∷ begin 0 ∷ return 0 0 ∷ [])
+        ≡ Malformed 4 ReturnInBlock }
     ensures no_commit { verdict alone [] (insert 0 5 ∷ return 0 0 ∷ []) ≡ Malformed 3 NoCommit }
 {}
 
@@ -59,31 +71,39 @@ pub fn malformed_logs()
 pub fn standing_words()
     ensures valid_slot { state_of_words alone (2 ∷ 5 ∷ replicate 7 0) ≡ Some ((5, 1) ∷ []) }
     ensures other_bucket { state_of_words multiset_of_2 (2 ∷ 5 ∷ replicate 16 0) ≡ None }
-    ensures clean_chunk { state_of_words cache_of_1 (1 ∷ 7 ∷ 0 ∷ 7 ∷ 0 ∷ 0 ∷ []) ≡ Some ((0, 7) ∷ []) }
+    ensures clean_chunk { state_of_words cache_of_1 (1 ∷ 7 ∷ 0 ∷ 7 ∷ 0 ∷ 0 ∷ [])
+        ≡ Some ((0, 7) ∷ []) }
     ensures clean_but_other { state_of_words cache_of_1 (1 ∷ 7 ∷ 0 ∷ 8 ∷ 0 ∷ 0 ∷ []) ≡ None }
     ensures no_words { state_of_words alone [] ≡ None }
     ensures empty_tree { state_of_words tree_of_4 (replicate 56 0) ≡ Some [] }
     ensures tree { state_of_words tree_of_4 two_leaves
-        ≡ Some ((1, 4294967297) ∷ (2, 4294967298) ∷ (3, 4294967299) ∷ (4, 4294967300) ∷ (5, 4294967301) ∷ []) }
-    ensures text { state_of_words buffers_of_1 (2 ∷ 65 ∷ 66 ∷ 999 ∷ replicate 5 0) ≡ Some ((0, 17218) ∷ []) }
+        ≡ Some ((1, 4294967297) ∷ (2, 4294967298) ∷ (3, 4294967299) ∷ (4, 4294967300)
+        ∷ (5, 4294967301) ∷ []) }
+    ensures text { state_of_words buffers_of_1 (2 ∷ 65 ∷ 66 ∷ 999 ∷ replicate 5 0)
+        ≡ Some ((0, 17218) ∷ []) }
     ensures text_of_8 { state_of_words buffers_of_1 (8 ∷ replicate 8 0) ≡ None }
     ensures no_character { state_of_words buffers_of_1 (1 ∷ 255 ∷ replicate 7 0) ≡ None }
 {}
 
-/// What the operations of string buffers lead to. The text of the characters 65 and 66 is 17218, and that of 7 zeros
-/// 282578800148737.
+/// What the operations of string buffers lead to. The text of the characters 65 and 66 is 17218,
+/// and that of 7 zeros 282578800148737.
 #[tactic(auto, unfolding(crate::proofs::Opened::opened))]
 pub fn texts()
     ensures appended { next_state BuAppend (args 0 66 0) 1 ((0, 66) ∷ []) ≡ Some ((0, 17218) ∷ []) }
     ensures not_appended { next_state BuAppend (args 0 66 0) 0 ((0, 66) ∷ []) ≡ None }
-    ensures full { next_state BuAppend (args 0 66 0) 0 ((0, 282578800148737) ∷ []) ≡ Some ((0, 282578800148737) ∷ []) }
+    ensures full { next_state BuAppend (args 0 66 0) 0 ((0, 282578800148737) ∷ [])
+        ≡ Some ((0, 282578800148737) ∷ []) }
     ensures past_full { next_state BuAppend (args 0 66 0) 1 ((0, 282578800148737) ∷ []) ≡ None }
-    ensures doubled { next_state BuAppendFrom (args 0 0 0) 1 ((0, 66) ∷ []) ≡ Some ((0, 16962) ∷ []) }
-    ensures from_empty { next_state BuAppendFrom (args 0 1 0) 1 ((0, 282578800148737) ∷ []) ≡ Some ((0, 282578800148737) ∷ []) }
-    ensures too_long { next_state BuAppendFrom (args 0 1 0) 1 ((0, 282578800148737) ∷ (1, 1) ∷ []) ≡ None }
+    ensures doubled { next_state BuAppendFrom (args 0 0 0) 1 ((0, 66) ∷ [])
+        ≡ Some ((0, 16962) ∷ []) }
+    ensures from_empty { next_state BuAppendFrom (args 0 1 0) 1 ((0, 282578800148737) ∷ [])
+        ≡ Some ((0, 282578800148737) ∷ []) }
+    ensures too_long { next_state BuAppendFrom (args 0 1 0) 1 ((0, 282578800148737) ∷ (1, 1) ∷ [])
+        ≡ None }
     ensures cut { next_state BuCut (args 0 1 0) 1 ((0, 17218) ∷ []) ≡ Some ((0, 66) ∷ []) }
     ensures cut_whole { next_state BuCut (args 0 0 0) 1 ((0, 17218) ∷ []) ≡ Some [] }
-    ensures cut_nothing { next_state BuCut (args 0 9 0) 1 ((0, 17218) ∷ []) ≡ Some ((0, 17218) ∷ []) }
+    ensures cut_nothing { next_state BuCut (args 0 9 0) 1 ((0, 17218) ∷ [])
+        ≡ Some ((0, 17218) ∷ []) }
     ensures length { answer_in ((0, 17218) ∷ []) BuLength (args 0 0 0) ≡ 2 }
     ensures read { answer_in ((0, 17218) ∷ []) BuRead (args 0 0 0) ≡ 17218 }
     ensures empty { answer_in [] BuLength (args 0 0 0) ≡ 0 }
@@ -99,14 +119,20 @@ pub fn histories()
 /// Histories that no run has. Cell 8 is the lock of the one bucket.
 #[tactic(auto, unfolding(crate::proofs::Opened::opened))]
 pub fn illegal_histories()
-    ensures taken_twice { is_legal (cells_of two) (event 0 0 (Took 8) ∷ event 1 1 (Took 8) ∷ []) ≡ false }
+    ensures taken_twice { is_legal (cells_of two) (event 0 0 (Took 8) ∷ event 1 1 (Took 8) ∷ [])
+        ≡ false }
     ensures given_free { is_legal (cells_of alone) (event 0 0 (Gave 8) ∷ []) ≡ false }
-    ensures given_by_another { is_legal (cells_of two) (event 0 0 (Took 8) ∷ event 1 1 (Gave 8) ∷ []) ≡ false }
+    ensures given_by_another { is_legal (cells_of two)
+        (event 0 0 (Took 8) ∷ event 1 1 (Gave 8) ∷ [])
+        ≡ false }
     ensures lock_read { is_legal (cells_of alone) (event 0 0 (Read 8 0) ∷ []) ≡ false }
     ensures wrong_read { is_legal (cells_of alone) (event 0 0 (Read 0 1) ∷ []) ≡ false }
-    ensures stale_read { is_legal (cells_of alone) (event 0 0 (Wrote 0 1) ∷ event 1 0 (Read 0 0) ∷ []) ≡ false }
+    ensures stale_read { is_legal (cells_of alone)
+        (event 0 0 (Wrote 0 1) ∷ event 1 0 (Read 0 0) ∷ [])
+        ≡ false }
     ensures too_big { is_legal (cells_of alone) (event 0 0 (Wrote 0 (2 ^ 63)) ∷ []) ≡ false }
     ensures number_skipped { is_legal (cells_of alone) (event 1 0 (Took 8) ∷ []) ≡ false }
     ensures no_caller { is_legal (cells_of alone) (event 0 1 (Took 8) ∷ []) ≡ false }
-    ensures mark_of_a_write { is_legal (cells_of alone) (event 0 0 (Marked (Write 0 1)) ∷ []) ≡ false }
+    ensures mark_of_a_write { is_legal (cells_of alone) (event 0 0 (Marked (Write 0 1)) ∷ [])
+        ≡ false }
 {}

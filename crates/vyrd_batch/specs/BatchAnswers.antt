@@ -1,6 +1,7 @@
--- What is answered about a batch: a line for each log's verdict, in their order, and how many there are; or that the batch is
--- refused.
-use Rattle.std.specs.Prelude.{ℕ, ◌+◌, Bool, true, false, List, [], ◌∷◌, ◌++◌, length, map, codes, decimal, if◌then◌else◌}
+-- What is answered about a batch: a line for each log's verdict, in their order, and how many there
+-- are; or that the batch is refused.
+use Rattle.std.specs.Prelude.{ℕ, ◌+◌, Bool, true, false, List, [], ◌∷◌, ◌++◌, length, map, codes}
+use Rattle.std.specs.Prelude.{decimal, if◌then◌else◌}
 use Rattle.std.specs.List.{list_any}
 use Rattle.vyrd_base.specs.declared.verdict.Verdict.{Verdict}
 use Rattle.vyrd_base.specs.declared.verdict.Verdict.TheVariants.{Violation, Malformed}
@@ -45,4 +46,5 @@ is_malformed _ = false
 
 -- the status that a batch's verdicts end with: a violation before a malformed log
 abbrev pub batch_status : List Verdict → ℕ
-batch_status verdicts = if list_any is_violation verdicts then 1 else (if list_any is_malformed verdicts then 2 else 0)
+batch_status verdicts =
+    if list_any is_violation verdicts then 1 else (if list_any is_malformed verdicts then 2 else 0)

@@ -1,14 +1,18 @@
 -- What the bytes of a batch say: where the bytes of its logs stand, or at which log it is refused.
 -- The first line is `batch`. Then come the logs one by one, each as the line `log B` with exactly B
 -- bytes after it, and then the line `end`, with nothing after it.
-use Rattle.std.specs.Prelude.{ℕ, zero, suc, ◌+◌, ◌-◌, ◌≤◌, ◌==◌, ◌&&◌, nat_le, List, [], ◌∷◌, ◌++◌, length, map, drop, slice_range, Option, Some, None, option_map, option_and_then, Result, Ok, Err, codes, decimal, if◌then◌else◌, flat_map}
+use Rattle.std.specs.Prelude.{ℕ, zero, suc, ◌+◌, ◌-◌, ◌≤◌, ◌==◌, ◌&&◌, nat_le, List, [], ◌∷◌, ◌++◌}
+use Rattle.std.specs.Prelude.{length, map, drop, slice_range, Option, Some, None, option_map}
+use Rattle.std.specs.Prelude.{option_and_then, Result, Ok, Err, codes, decimal, if◌then◌else◌}
+use Rattle.std.specs.Prelude.{flat_map}
 use Rattle.std.specs.Str.{bytes_eq}
 use Rattle.std.specs.List.{AllByRecursion}
 use Rattle.vyrd_base.specs.Lines.{number_of}
 use Rattle.vyrd_base.specs.Spelling.{ended_line}
 use Rattle.vyrd_batch.specs.declared.span.Span.{Span}
 
--- how many logs a batch may have, how many bytes a log, and within how many bytes of the input its logs lie
+-- how many logs a batch may have, how many bytes a log, and within how many bytes of the input its
+-- logs lie
 abbrev pub most_logs : ℕ
 most_logs = 10000
 
@@ -40,7 +44,9 @@ longer b cut = record { line = b ∷ cut.line; rest = cut.rest }
 -- the first line, if there is a line feed
 abbrev pub first_line : List ℕ → Option Cut
 first_line [] = None
-first_line (b ∷ bytes) = if b == 10 then Some (record { line = []; rest = bytes }) else option_map (longer b) (first_line bytes)
+first_line (b ∷ bytes) = if b == 10
+    then Some (record { line = []; rest = bytes })
+    else option_map (longer b) (first_line bytes)
 
 -- how many bytes the line before a log says, if it is such a line
 abbrev pub size_in : List ℕ → Option ℕ
@@ -51,28 +57,39 @@ size_in line = let size = number_of (drop 4 line) in
 abbrev pub span_of : ℕ → List ℕ → Option ℕ → Option Span
 span_of first rest None = None
 span_of first rest (Some size) =
-    if nat_le size (length rest) && nat_le (first + size) logs_end_within then Some (record { first = first; past = first + size }) else None
+    if nat_le size (length rest) && nat_le (first + size) logs_end_within
+    then Some (record { first = first; past = first + size })
+    else None
 
--- where the bytes of a log stand whose line begins at a place of the input, with these bytes from there on
+-- where the bytes of a log stand whose line begins at a place of the input, with these bytes from
+-- there on
 abbrev pub log_at : ℕ → List ℕ → Option Span
-log_at place bytes = option_and_then (λ cut. span_of (place + length cut.line + 1) cut.rest (size_in cut.line)) (first_line bytes)
+log_at place bytes =
+    option_and_then (λ cut. span_of (place + length cut.line + 1) cut.rest (size_in cut.line))
+    (first_line bytes)
 
 -- one more log before those that were found
 abbrev pub span_before : Span → Result (List Span) ℕ → Result (List Span) ℕ
 span_before span (Ok spans) = Ok (span ∷ spans)
 span_before span (Err log) = Err log
 
--- The logs from a place of the input on, with these bytes from there on. `log` logs came before, and at most `more` may come.
+-- The logs from a place of the input on, with these bytes from there on. `log` logs came before,
+-- and at most `more` may come.
 unfoldable pub logs_from : (more log place : ℕ) → List ℕ → Result (List Span) ℕ
 logs_from zero log place bytes = if bytes_eq bytes last_line then Ok [] else Err log
-logs_from (suc more) log place bytes = if bytes_eq bytes last_line then Ok [] else elim (log_at place bytes) as (λ _. Result (List Span) ℕ) [
-  | None ↦ Err log
-  | Some span ↦ span_before span (logs_from more (log + 1) span.past (drop (span.past - place) bytes))
-]
+logs_from (suc more) log place bytes = if bytes_eq bytes last_line
+    then Ok []
+    else elim (log_at place bytes) as (λ _. Result (List Span) ℕ) [
+      | None ↦ Err log
+      | Some span ↦
+          span_before span (logs_from more (log + 1) span.past (drop (span.past - place) bytes))
+    ]
 
 -- the logs after the first line
 abbrev pub logs_behind : Cut → Result (List Span) ℕ
-logs_behind cut = if bytes_eq cut.line first_word then logs_from most_logs 0 (length cut.line + 1) cut.rest else Err 0
+logs_behind cut = if bytes_eq cut.line first_word
+    then logs_from most_logs 0 (length cut.line + 1) cut.rest
+    else Err 0
 
 -- where the logs stand that the bytes hold, or the log at which they are refused
 unfoldable pub batch_reading : List ℕ → Result (List Span) ℕ

@@ -2,13 +2,16 @@
 
 ghost use Rattle.std.specs.Prelude.{◌≡◌, ◌++◌, ◌+◌, ◌<◌, ◌^◌, length, take, OnOk, OnErr};
 ghost use Rattle.std.specs.List.{list_any};
-ghost use Rattle.vyrd_batch.specs.BatchAnswers.{log_line, lines_from, batch_text, batch_status, refused_line, count_line, is_violation, is_malformed};
+ghost use Rattle.vyrd_batch.specs.BatchAnswers.{log_line, lines_from, batch_text, batch_status};
+ghost use Rattle.vyrd_batch.specs.BatchAnswers.{refused_line, count_line, is_violation};
+ghost use Rattle.vyrd_batch.specs.BatchAnswers.{is_malformed};
 
 use std::alloc::AllocError;
 use vyrd_base::Verdict;
 use vyrd_text::{LineBuffer, write_verdict};
 
-/// Appends a line for each verdict, in their order, and then the line that counts the logs. A refusal leaves `out` unchanged.
+/// Appends a line for each verdict, in their order, and then the line that counts the logs. A
+/// refusal leaves `out` unchanged.
 pub fn write_verdicts(verdicts: &[Verdict], out: &mut Vec<u8>) -> Result<(), AllocError>
     requires { length verdicts.now < 2 ^ 62 }
     ensures ok { OnOk result (out.new.items ≡ out.old.items ++ batch_text verdicts.now) }

@@ -31,7 +31,8 @@ pub fn judge_batch<R: Threads + Sync>(
     spans: &[Span],
 ) -> Result<Vec<Verdict>, AllocError>
     requires { AllByRecursion (LiesWithin (length bytes.now)) spans.now }
-    ensures { IfOk result (λ verdicts. verdicts.items ≡ verdicts_of (map (bytes_of bytes.now) spans.now)) }
+    ensures { IfOk result
+        (λ verdicts. verdicts.items ≡ verdicts_of (map (bytes_of bytes.now) spans.now)) }
 {
     let processors = current_num_threads(rt);
     let weight = part_weight(bytes.len(), spans.len(), processors.saturating_mul(2));
@@ -47,8 +48,10 @@ fn judge_parts<R: Threads + Sync>(
     bytes: &[u8],
     parts: &[&[Span]],
 ) -> Result<Vec<Vec<Verdict>>, AllocError>
-    requires { AllByRecursion (λ part. AllByRecursion (LiesWithin (length bytes.now)) part.now) parts.now }
-    ensures { IfOk result (λ judged. map (λ verdicts. verdicts.items) judged.items ≡ map (λ part. verdicts_of (map (bytes_of bytes.now) part.now)) parts.now) }
+    requires { AllByRecursion (λ part. AllByRecursion (LiesWithin (length bytes.now)) part.now)
+        parts.now }
+    ensures { IfOk result (λ judged. map (λ verdicts. verdicts.items) judged.items
+        ≡ map (λ part. verdicts_of (map (bytes_of bytes.now) part.now)) parts.now) }
 {
     // A part is worth a thread of its own, however few there are.
     let judged: Result<Vec<Vec<Verdict>>, AllocError> = parts
@@ -57,7 +60,8 @@ fn judge_parts<R: Threads + Sync>(
         .map(
             |part: &&[Span]| -> Result<Vec<Verdict>, AllocError>
                 requires { AllByRecursion (LiesWithin (length bytes.now)) part.now.now }
-                ensures { IfOk result (λ verdicts. verdicts.items ≡ verdicts_of (map (bytes_of bytes.entry.now) part.now.now)) }
+                ensures { IfOk result (λ verdicts. verdicts.items
+                    ≡ verdicts_of (map (bytes_of bytes.entry.now) part.now.now)) }
             { judge_part(alloc, bytes, part) },
         )
         .collect(rt, alloc)?;
@@ -67,7 +71,8 @@ fn judge_parts<R: Threads + Sync>(
 /// The verdicts about the spans of a part, one after the other.
 fn judge_part(alloc: Global, bytes: &[u8], spans: &[Span]) -> Result<Vec<Verdict>, AllocError>
     requires { AllByRecursion (LiesWithin (length bytes.now)) spans.now }
-    ensures { IfOk result (λ verdicts. verdicts.items ≡ verdicts_of (map (bytes_of bytes.now) spans.now)) }
+    ensures { IfOk result
+        (λ verdicts. verdicts.items ≡ verdicts_of (map (bytes_of bytes.now) spans.now)) }
 {
     let mut verdicts = Vec::new(alloc);
     for span in spans {

@@ -6,17 +6,20 @@ ghost use Rattle.vyrd_batch.specs.LongBatches.{longest_batch_input};
 
 /// Its first `longest_batch_input` bytes settle what an input says as a batch, whatever follows.
 pub fn long_inputs_are_settled()
-    ensures { (bytes more : List ℕ) → longest_batch_input ≤ length bytes → batch_reading (bytes ++ more) ≡ batch_reading bytes }
+    ensures { (bytes more : List ℕ) → longest_batch_input ≤ length bytes
+        → batch_reading (bytes ++ more) ≡ batch_reading bytes }
 {}
 
 /// An input of that length isn't a batch.
 pub fn long_inputs_are_refused()
-    ensures { (bytes : List ℕ) → longest_batch_input ≤ length bytes → (log : ℕ) × (batch_reading bytes ≡ Err log) }
+    ensures { (bytes : List ℕ) → longest_batch_input ≤ length bytes
+        → (log : ℕ) × (batch_reading bytes ≡ Err log) }
 {}
 
 /// What is read as a batch is the text of its logs.
 pub fn read_batch_is_a_text()
-    ensures { (bytes : List ℕ) (logs : List (List ℕ)) → batch_logs bytes ≡ Ok logs → bytes ≡ batch_of logs }
+    ensures { (bytes : List ℕ) (logs : List (List ℕ)) → batch_logs bytes ≡ Ok logs
+        → bytes ≡ batch_of logs }
 {}
 
 /// The text of a batch of logs within the limits is read as these logs.

@@ -1,4 +1,5 @@
-//! Spans in parts of about the same weight, so that threads that get a part each end at about the same time.
+//! Spans in parts of about the same weight, so that threads that get a part each end at about the
+//! same time.
 
 ghost use Rattle.std.specs.Prelude.{◌≡◌, ◌<◌, ◌≤◌, length, flat_map, IfOk};
 

@@ -1,8 +1,10 @@
 //! The reader of a batch's text.
 
-ghost use Rattle.std.specs.Prelude.{◌≡◌, ◌≤◌, ◌<◌, ◌+◌, ◌-◌, ◌^◌, ℕ, List, length, drop, Ok, Err, None, Some, IfOk, OnOk, MatchOption, ◌++◌, ◌∷◌, []};
+ghost use Rattle.std.specs.Prelude.{◌≡◌, ◌≤◌, ◌<◌, ◌+◌, ◌-◌, ◌^◌, ℕ, List, length, drop, Ok, Err};
+ghost use Rattle.std.specs.Prelude.{None, Some, IfOk, OnOk, MatchOption, ◌++◌, ◌∷◌, []};
 ghost use Rattle.std.specs.List.{AllByRecursion};
-ghost use Rattle.vyrd_batch.specs.Batches.{batch_reading, logs_from, log_at, log_word, size_in, most_logs, logs_end_within, LiesWithin};
+ghost use Rattle.vyrd_batch.specs.Batches.{batch_reading, logs_from, log_at, log_word, size_in};
+ghost use Rattle.vyrd_batch.specs.Batches.{most_logs, logs_end_within, LiesWithin};
 ghost use Rattle.vyrd_batch.specs.Rounds.{IsCut, IsNoLog};
 ghost use Rattle.vyrd_batch.specs.declared.fault.BatchFault.TheVariants.{Refused};
 
@@ -27,7 +29,8 @@ const LOGS_END_WITHIN: usize = 67_108_864;
 /// at. The memory is that of the spans.
 pub fn read_batch(alloc: Global, bytes: &[u8]) -> Result<Vec<Span>, BatchFault>
     ensures spans { IfOk result (λ spans. batch_reading bytes.now ≡ Ok spans.items) }
-    ensures within { IfOk result (λ spans. AllByRecursion (LiesWithin (length bytes.now)) spans.items) }
+    ensures within { IfOk result
+        (λ spans. AllByRecursion (LiesWithin (length bytes.now)) spans.items) }
     ensures refused { (log : ℕ) → result ≡ Err (Refused log) → batch_reading bytes.now ≡ Err log }
 {
     let Some((line, rest)) = split_line(bytes) else {
@@ -43,8 +46,10 @@ pub fn read_batch(alloc: Global, bytes: &[u8]) -> Result<Vec<Span>, BatchFault>
 fn read_logs(alloc: Global, first: usize, bytes: &[u8]) -> Result<Vec<Span>, BatchFault>
     requires { first + length bytes.now < 2 ^ 63 }
     ensures spans { IfOk result (λ spans. logs_from most_logs 0 first bytes.now ≡ Ok spans.items) }
-    ensures within { IfOk result (λ spans. AllByRecursion (LiesWithin (first + length bytes.now)) spans.items) }
-    ensures refused { (log : ℕ) → result ≡ Err (Refused log) → logs_from most_logs 0 first bytes.now ≡ Err log }
+    ensures within { IfOk result
+        (λ spans. AllByRecursion (LiesWithin (first + length bytes.now)) spans.items) }
+    ensures refused { (log : ℕ) → result ≡ Err (Refused log)
+        → logs_from most_logs 0 first bytes.now ≡ Err log }
 {
     let mut spans: Vec<Span> = Vec::new(alloc);
     let mut place = first;
@@ -89,7 +94,8 @@ pub(crate) fn whole_logs(
     requires few { log ≤ most_logs }
     requires near { place ≤ logs_end_within }
     ensures cut { IfOk result (λ found. IsCut bytes.now log place found.spans.items found.taken) }
-    ensures no_more { IfOk result (λ found. IsNoLog (log + length found.spans.items) (place + found.taken) (drop found.taken bytes.now)) }
+    ensures no_more { IfOk result (λ found. IsNoLog (log + length found.spans.items)
+        (place + found.taken) (drop found.taken bytes.now)) }
 {
     let mut spans: Vec<Span> = Vec::new(alloc);
     let mut taken = 0;
@@ -118,9 +124,10 @@ fn keep(span: Span, spans: &mut Vec<Span>) -> Result<(), AllocError>
 /// there on; and what stands after them.
 fn log_at(place: usize, bytes: &[u8]) -> Option<(Span, &[u8])>
     requires { place + length bytes.now < 2 ^ 63 + 2 ^ 62 }
-    ensures { MatchOption result (log_at place bytes.now ≡ None)
-        (λ r. (log_at place bytes.now ≡ Some r.0) × (r.1.now ≡ drop (r.0.past - place) bytes.now)
-        × (place ≤ r.0.first) × (r.0.first ≤ r.0.past) × (r.0.past + length r.1.now ≡ place + length bytes.now)) }
+    ensures { MatchOption result (log_at place bytes.now ≡ None) (λ r.
+        (log_at place bytes.now ≡ Some r.0) × (r.1.now ≡ drop (r.0.past - place) bytes.now)
+        × (place ≤ r.0.first) × (r.0.first ≤ r.0.past)
+        × (r.0.past + length r.1.now ≡ place + length bytes.now)) }
 {
     let (line, rest) = split_line(bytes)?;
     let size = size_in(line)?;

@@ -16,9 +16,10 @@ const FIRST_LINE: usize = 6;
 
 /// The verdicts about the first logs of a batch, while its rest is still to come.
 ///
-/// The bytes that aren't judged yet stay with the caller. Each call judges the logs that are whole in them, and takes their bytes
-/// away, so that the caller can append further bytes to what is left. The memory is that of the verdicts, and during a call that
-/// of the logs that are judged at one time.
+/// The bytes that aren't judged yet stay with the caller. Each call judges the logs that are whole
+/// in them, and takes their bytes away, so that the caller can append further bytes to what is
+/// left. The memory is that of the verdicts, and during a call that of the logs that are judged at
+/// one time.
 pub struct BatchJudge {
     alloc: Global,
     verdicts: Vec<Verdict>,
@@ -67,14 +68,15 @@ impl BatchJudge {
 
     /// Judges the logs that are whole in `bytes`, side by side, and takes their bytes away.
     ///
-    /// `bytes` are those after the logs that were judged, as far as they have come. The only error is out of memory, and then
-    /// nothing is known of `bytes` and of this.
+    /// `bytes` are those after the logs that were judged, as far as they have come. The only error
+    /// is out of memory, and then nothing is known of `bytes` and of this.
     pub fn judge<R: Threads + Sync>(
         &mut self,
         rt: &R,
         bytes: &mut Vec<u8>,
     ) -> Result<(), AllocError>
-        ensures judged { (input : List ℕ) → IsJudged input self.old bytes.old.items → OnOk result (IsJudged input self.new bytes.new.items) }
+        ensures judged { (input : List ℕ) → IsJudged input self.old bytes.old.items
+            → OnOk result (IsJudged input self.new bytes.new.items) }
         ensures spent { OnOk result (IsSpent self.new bytes.new.items) }
     {
         let Some(first) = self.begin(bytes) else {
@@ -95,10 +97,12 @@ impl BatchJudge {
         rt: &R,
         bytes: &mut Vec<u8>,
     ) -> Result<(), BatchFault>
-        ensures verdicts { (input : List ℕ) → IsJudged input self.old bytes.old.items →
-            OnOk result ((logs : List (List ℕ)) × (batch_logs input ≡ Ok logs) × (self.new.verdicts.items ≡ verdicts_of logs)) }
-        ensures refused { (input : List ℕ) (log : ℕ) → IsJudged input self.old bytes.old.items → result ≡ Err (Refused log) →
-            batch_logs input ≡ Err log }
+        ensures verdicts { (input : List ℕ) → IsJudged input self.old bytes.old.items
+            → OnOk result ((logs : List (List ℕ)) × (batch_logs input ≡ Ok logs)
+            × (self.new.verdicts.items ≡ verdicts_of logs)) }
+        ensures refused { (input : List ℕ) (log : ℕ) → IsJudged input self.old bytes.old.items
+            → result ≡ Err (Refused log)
+            → batch_logs input ≡ Err log }
     {
         self.judge(rt, bytes)?;
         self.end(bytes)
@@ -107,10 +111,12 @@ impl BatchJudge {
     /// What comes of the batch if these bytes are its last ones.
     fn end(&self, bytes: &[u8]) -> Result<(), BatchFault>
         requires { IsSpent self.now bytes.now }
-        ensures verdicts { (input : List ℕ) → IsJudged input self.now bytes.now →
-            OnOk result ((logs : List (List ℕ)) × (batch_logs input ≡ Ok logs) × (self.now.verdicts.items ≡ verdicts_of logs)) }
-        ensures refused { (input : List ℕ) (log : ℕ) → IsJudged input self.now bytes.now → result ≡ Err (Refused log) →
-            batch_logs input ≡ Err log }
+        ensures verdicts { (input : List ℕ) → IsJudged input self.now bytes.now
+            → OnOk result ((logs : List (List ℕ)) × (batch_logs input ≡ Ok logs)
+            × (self.now.verdicts.items ≡ verdicts_of logs)) }
+        ensures refused { (input : List ℕ) (log : ℕ) → IsJudged input self.now bytes.now
+            → result ≡ Err (Refused log)
+            → batch_logs input ≡ Err log }
     {
         if self.place == 0 {
             return Err(BatchFault::Refused { log: 0 });
@@ -122,12 +128,16 @@ impl BatchJudge {
         Ok(())
     }
 
-    /// Reads the first line, if that wasn't done. The answer is how many bytes it takes here; None if it isn't there.
+    /// Reads the first line, if that wasn't done. The answer is how many bytes it takes here; None
+    /// if it isn't there.
     fn begin(&mut self, bytes: &[u8]) -> Option<usize>
-        ensures spent { MatchOption result (IsSpent self.new bytes.now) (λ first. 0 < self.new.place) }
-        ensures within { MatchOption result (self.new ≡ self.old) (λ first. first ≤ length bytes.now) }
-        ensures judged { (input : List ℕ) → IsJudged input self.old bytes.now →
-            MatchOption result (IsJudged input self.new bytes.now) (λ first. IsJudged input self.new (drop first bytes.now)) }
+        ensures spent { MatchOption result (IsSpent self.new bytes.now)
+            (λ first. 0 < self.new.place) }
+        ensures within { MatchOption result (self.new ≡ self.old)
+            (λ first. first ≤ length bytes.now) }
+        ensures judged { (input : List ℕ) → IsJudged input self.old bytes.now
+            → MatchOption result (IsJudged input self.new bytes.now)
+            (λ first. IsJudged input self.new (drop first bytes.now)) }
     {
         if self.place > 0 {
             return Some(0);
@@ -141,7 +151,8 @@ impl BatchJudge {
     fn judge_logs<R: Threads + Sync>(&mut self, rt: &R, bytes: &[u8]) -> Result<usize, AllocError>
         requires { 0 < self.old.place }
         ensures within { IfOk result (λ taken. taken ≤ length bytes.now) }
-        ensures judged { (input : List ℕ) → IsJudged input self.old bytes.now → IfOk result (λ taken. IsJudged input self.new (drop taken bytes.now)) }
+        ensures judged { (input : List ℕ) → IsJudged input self.old bytes.now
+            → IfOk result (λ taken. IsJudged input self.new (drop taken bytes.now)) }
         ensures spent { IfOk result (λ taken. IsSpent self.new (drop taken bytes.now)) }
     {
         let found = whole_logs(self.alloc, self.verdicts.len(), self.place, bytes)?;

@@ -1,5 +1,5 @@
--- Where the words and the locks of string buffers are. A buffer has eight words: the count of its characters, and room for 7
--- characters. A buffer has a lock.
+-- Where the words and the locks of string buffers are. A buffer has eight words: the count of its
+-- characters, and room for 7 characters. A buffer has a lock.
 use Rattle.std.specs.Prelude.{ℕ, ◌+◌, ◌*◌, ◌==◌, if◌then◌else◌}
 use Rattle.vyrd_base.specs.declared.header.Header.{Header}
 use Rattle.vyrd_memory.specs.declared.act.Act.TheVariants.{Take, Give}

@@ -1,6 +1,6 @@
--- What is proved of the procedures of string buffers: each is sound, each ends in time, and each correct
--- one that is played alone does what the specification says. The impl in src/progress.rt names
--- these laws. Here and in Laws/ stand proofs alone: no contract says what they define.
+-- What is proved of the procedures of string buffers: each is sound, each ends in time, and each
+-- correct one that is played alone does what the specification says. The impl in src/progress.rt
+-- names these laws. Here and in Laws/ stand proofs alone: no contract says what they define.
 pub mod Sound
 pub mod Ends
 pub mod Alone

@@ -1,16 +1,19 @@
 -- The procedures of string buffers, from after the mark of the call to the mark of the return.
-use Rattle.std.specs.Prelude.{ℕ, zero, suc, ◌+◌, ◌*◌, ◌^◌, ◌%◌, nat_le, min, max, List, [], ◌∷◌, ◌++◌, if◌then◌else◌}
+use Rattle.std.specs.Prelude.{ℕ, zero, suc, ◌+◌, ◌*◌, ◌^◌, ◌%◌, nat_le, min, max, List, [], ◌∷◌}
+use Rattle.std.specs.Prelude.{◌++◌, if◌then◌else◌}
 use Rattle.vyrd_base.specs.declared.header.Header.{Header}
 use Rattle.vyrd_base.specs.declared.log.Kind.TheVariants.{Commit, BlockOpen, BlockCommit}
 use Rattle.vyrd_base.specs.declared.subject.Method.{Method}
-use Rattle.vyrd_base.specs.declared.subject.Method.TheVariants.{BuAppend, BuAppendFrom, BuCut, BuLength, BuRead}
+use Rattle.vyrd_base.specs.declared.subject.Method.TheVariants.{BuAppend, BuAppendFrom, BuCut}
+use Rattle.vyrd_base.specs.declared.subject.Method.TheVariants.{BuLength, BuRead}
 use Rattle.vyrd_base.specs.declared.subject.Args.{Args}
 use Rattle.vyrd_memory.specs.declared.act.Act.TheVariants.{Load, Store, Mark}
 use Rattle.vyrd_memory.specs.declared.op.Op.{Op}
 use Rattle.vyrd_memory.specs.declared.op.Variant.{Variant}
 use Rattle.vyrd_memory.specs.declared.op.Variant.TheVariants.{Correct, Broken}
 use Rattle.vyrd_memory.specs.Scripts.{Script, stop, step, perform, returns}
-use Rattle.vyrd_buffers.specs.Cells.{count_cell, character_cell, lock, unlock, lock_other, unlock_other}
+use Rattle.vyrd_buffers.specs.Cells.{count_cell, character_cell, lock, unlock, lock_other}
+use Rattle.vyrd_buffers.specs.Cells.{unlock_other}
 
 -- in a block that commits and is already open give the buffer its count, and go on
 abbrev pub commit_count : ℕ → ℕ → Script → Script
@@ -20,7 +23,8 @@ commit_count b count later = perform (Store (count_cell b) count) (perform (Mark
 abbrev pub append_at : Header → ℕ → ℕ → ℕ → Script
 append_at h b x count = if nat_le 7 count
     then perform (Mark Commit) (unlock h b (returns 0))
-    else perform (Mark BlockOpen) (perform (Store (character_cell b count) x) (commit_count b (count + 1) (unlock h b (returns 1))))
+    else perform (Mark BlockOpen) (perform (Store (character_cell b count) x)
+    (commit_count b (count + 1) (unlock h b (returns 1))))
 
 -- append x to b
 abbrev pub append : Header → ℕ → ℕ → Script
@@ -31,7 +35,8 @@ append h b x = lock h b (step (Load (count_cell b)) (append_at h b x))
 abbrev pub load_from : ℕ → ℕ → ℕ → List ℕ → (List ℕ → Script) → Script
 load_from zero s i held loaded = loaded held
 load_from (suc left) s i held loaded =
-    step (Load (character_cell s i)) (λ character. load_from left s (i + 1) (held ++ character ∷ []) loaded)
+    step (Load (character_cell s i))
+    (λ character. load_from left s (i + 1) (held ++ character ∷ []) loaded)
 
 -- store these as the characters of a buffer, from character i on, and go on
 abbrev pub store_from : List ℕ → ℕ → ℕ → Script → Script
@@ -46,7 +51,8 @@ unlock_both h first second later = unlock_other h first second (unlock h first l
 -- with these two locked, append the characters that were loaded to buffer b, whose count is this
 abbrev pub append_held : Header → ℕ → ℕ → ℕ → ℕ → ℕ → List ℕ → Script
 append_held h first second b count more held = perform (Mark BlockOpen)
-    (store_from held b count (commit_count b (count + more) (unlock_both h first second (returns 1))))
+    (store_from held b count
+    (commit_count b (count + more) (unlock_both h first second (returns 1))))
 
 -- with these two locked, append the first characters of s to b, if b has room for them
 abbrev pub append_all : Header → ℕ → ℕ → ℕ → ℕ → ℕ → ℕ → Script
@@ -54,8 +60,9 @@ append_all h first second b s count more = if nat_le (count + more) 7
     then load_from more s 0 [] (append_held h first second b count more)
     else perform (Mark Commit) (unlock_both h first second (returns 0))
 
--- Append the characters of s to b. The lower of the two buffers is locked first. The mistake: the buffer s is locked only while
--- its count is loaded, and its characters are loaded with b locked alone.
+-- Append the characters of s to b. The lower of the two buffers is locked first. The mistake: the
+-- buffer s is locked only while its count is loaded, and its characters are loaded with b locked
+-- alone.
 abbrev pub append_from : Header → Variant → ℕ → ℕ → Script
 append_from h Correct b s = lock h (min b s) (lock_other h (min b s) (max b s)
     (step (Load (count_cell b)) (λ count. step (Load (count_cell s)) (λ more.

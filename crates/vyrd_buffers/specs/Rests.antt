@@ -2,14 +2,16 @@
 pub mod Loaded
 use Rattle.std.specs.Prelude.{ℕ, ◌+◌, ◌-◌, min, max, drop}
 use Rattle.vyrd_base.specs.declared.header.Header.{Header}
-use Rattle.vyrd_base.specs.declared.log.Kind.TheVariants.{Commit as LoneCommit, BlockOpen, BlockCommit}
+use Rattle.vyrd_base.specs.declared.log.Kind.TheVariants.{Commit as LoneCommit, BlockOpen}
+use Rattle.vyrd_base.specs.declared.log.Kind.TheVariants.{BlockCommit}
 use Rattle.vyrd_memory.specs.declared.act.Act.TheVariants.{Load, Store, Mark}
 use Rattle.vyrd_memory.specs.declared.op.Variant.{Variant}
 use Rattle.vyrd_memory.specs.declared.op.Variant.TheVariants.{Correct, Broken}
 use Rattle.vyrd_memory.specs.Scripts.{Script, stop, step, perform, returns}
 use Rattle.vyrd_buffers.specs.declared.text.Text.{Text}
 use Rattle.vyrd_buffers.specs.declared.place.Place.{Place}
-use Rattle.vyrd_buffers.specs.declared.place.Place.TheVariants.{Look, Append, Change, Read, Count, Join, Commit, Unlock, Return, Over}
+use Rattle.vyrd_buffers.specs.declared.place.Place.TheVariants.{Look, Append, Change, Read, Count}
+use Rattle.vyrd_buffers.specs.declared.place.Place.TheVariants.{Join, Commit, Unlock, Return, Over}
 use Rattle.vyrd_buffers.specs.declared.place.Purpose.{Purpose}
 use Rattle.vyrd_buffers.specs.declared.place.Purpose.TheVariants as purpose
 use Rattle.vyrd_buffers.specs.declared.place.Looking.{Looking}
@@ -24,8 +26,10 @@ use Rattle.vyrd_buffers.specs.declared.place.Joining.{Joining}
 use Rattle.vyrd_buffers.specs.declared.place.Joining.TheVariants as joining
 use Rattle.vyrd_buffers.specs.declared.task.Task.{Task}
 use Rattle.vyrd_buffers.specs.declared.progress.BufferProgress.{BufferProgress}
-use Rattle.vyrd_buffers.specs.Cells.{count_cell, character_cell, lock, unlock, lock_other, unlock_other}
-use Rattle.vyrd_buffers.specs.Procedures.{commit_count, append_at, load_from, store_from, unlock_both}
+use Rattle.vyrd_buffers.specs.Cells.{count_cell, character_cell, lock, unlock, lock_other}
+use Rattle.vyrd_buffers.specs.Cells.{unlock_other}
+use Rattle.vyrd_buffers.specs.Procedures.{commit_count, append_at, load_from, store_from}
+use Rattle.vyrd_buffers.specs.Procedures.{unlock_both}
 use Rattle.vyrd_buffers.specs.Procedures.{append_held, append_all, cut_at, read_from}
 use Rattle.vyrd_buffers.specs.Rests.Loaded.{held_of}
 
@@ -53,7 +57,8 @@ appending_rest h task count appending.Store =
 
 -- what is left of giving a buffer its count
 abbrev pub changing_rest : Header → ℕ → ℕ → Changing → Script
-changing_rest h b count changing.Open = perform (Mark BlockOpen) (commit_count b count (unlock h b (returns 1)))
+changing_rest h b count changing.Open =
+    perform (Mark BlockOpen) (commit_count b count (unlock h b (returns 1)))
 changing_rest h b count changing.Store = commit_count b count (unlock h b (returns 1))
 changing_rest h b count changing.Close = perform (Mark BlockCommit) (unlock h b (returns 1))
 
@@ -61,8 +66,9 @@ changing_rest h b count changing.Close = perform (Mark BlockCommit) (unlock h b 
 abbrev pub reading_rest : Header → ℕ → Text → Script
 reading_rest h b text = read_from h (text.of - text.read) b text.read text.number
 
--- Of the two buffers of an operation the one that is locked first, and the one that is locked second, if it is another. In the
--- broken variant one lock is held while the characters are loaded and stored.
+-- Of the two buffers of an operation the one that is locked first, and the one that is locked
+-- second, if it is another. In the broken variant one lock is held while the characters are loaded
+-- and stored.
 abbrev pub first_in : Variant → ℕ → ℕ → ℕ
 first_in Correct b s = min b s
 first_in Broken b s = b
@@ -79,34 +85,49 @@ second_of task = second_in task.variant task.b task.x
 
 -- what is done with the counts of both buffers
 abbrev pub joined_with : Header → Task → ℕ → ℕ → Script
-joined_with h task count more = append_all h (first_of task) (second_of task) task.b task.x (min count 7) (min more 7)
+joined_with h task count more =
+    append_all h (first_of task) (second_of task) task.b task.x (min count 7) (min more 7)
 
 -- what is left of looking at the counts of both buffers
 abbrev pub counting_rest : Header → Task → Counting → Script
-counting_rest h task counting.LockFirst = lock h (first_of task) (lock_other h (first_of task) (second_of task)
-    (step (Load (count_cell task.b)) (λ count. step (Load (count_cell task.x)) (joined_with h task count))))
+counting_rest h task counting.LockFirst =
+    lock h (first_of task) (lock_other h (first_of task) (second_of task) (step (Load
+    (count_cell task.b)) (λ count. step (Load (count_cell task.x)) (joined_with h task count))))
 counting_rest h task counting.LockOther = lock h (second_of task)
-    (step (Load (count_cell task.b)) (λ count. step (Load (count_cell task.x)) (joined_with h task count)))
-counting_rest h task counting.LoadCount = step (Load (count_cell task.b)) (λ count. step (Load (count_cell task.x)) (joined_with h task count))
-counting_rest h task (counting.LoadMore count) = step (Load (count_cell task.x)) (joined_with h task count)
-counting_rest h task counting.LockMore = lock h task.x (step (Load (count_cell task.x)) (λ more. unlock h task.x
+    (step (Load (count_cell task.b))
+    (λ count. step (Load (count_cell task.x)) (joined_with h task count)))
+counting_rest h task counting.LoadCount = step (Load (count_cell task.b))
+    (λ count. step (Load (count_cell task.x)) (joined_with h task count))
+counting_rest h task (counting.LoadMore count) =
+    step (Load (count_cell task.x)) (joined_with h task count)
+counting_rest h task counting.LockMore =
+    lock h task.x (step (Load (count_cell task.x)) (λ more. unlock h task.x
     (lock h task.b (step (Load (count_cell task.b)) (λ count. joined_with h task count more)))))
-counting_rest h task counting.LoadMoreAlone = step (Load (count_cell task.x)) (λ more. unlock h task.x
+counting_rest h task counting.LoadMoreAlone =
+    step (Load (count_cell task.x)) (λ more. unlock h task.x
     (lock h task.b (step (Load (count_cell task.b)) (λ count. joined_with h task count more))))
 counting_rest h task (counting.UnlockMore more) = unlock h task.x
     (lock h task.b (step (Load (count_cell task.b)) (λ count. joined_with h task count more)))
-counting_rest h task (counting.LockCount more) = lock h task.b (step (Load (count_cell task.b)) (λ count. joined_with h task count more))
-counting_rest h task (counting.LoadCountAlone more) = step (Load (count_cell task.b)) (λ count. joined_with h task count more)
+counting_rest h task (counting.LockCount more) =
+    lock h task.b (step (Load (count_cell task.b)) (λ count. joined_with h task count more))
+counting_rest h task (counting.LoadCountAlone more) =
+    step (Load (count_cell task.b)) (λ count. joined_with h task count more)
 
 -- what is left of appending the characters of the other buffer
 abbrev pub joining_rest : Header → Task → Joining → Script
-joining_rest h task (joining.Load count held) = load_from (held.of - held.loaded) task.x held.loaded (held_of held)
+joining_rest h task (joining.Load count held) =
+    load_from (held.of - held.loaded) task.x held.loaded (held_of held)
     (append_held h (first_of task) (second_of task) task.b count held.of)
-joining_rest h task (joining.Store count held stored) = store_from (drop stored (held_of held)) task.b (count + stored)
-    (commit_count task.b (count + held.of) (unlock_both h (first_of task) (second_of task) (returns 1)))
-joining_rest h task joining.Close = perform (Mark BlockCommit) (unlock_both h (first_of task) (second_of task) (returns 1))
-joining_rest h task joining.Refuse = perform (Mark LoneCommit) (unlock_both h (first_of task) (second_of task) (returns 0))
-joining_rest h task (joining.UnlockOther reply) = unlock h (second_of task) (unlock h (first_of task) (returns reply))
+joining_rest h task (joining.Store count held stored) =
+    store_from (drop stored (held_of held)) task.b (count + stored)
+    (commit_count task.b (count + held.of)
+    (unlock_both h (first_of task) (second_of task) (returns 1)))
+joining_rest h task joining.Close =
+    perform (Mark BlockCommit) (unlock_both h (first_of task) (second_of task) (returns 1))
+joining_rest h task joining.Refuse =
+    perform (Mark LoneCommit) (unlock_both h (first_of task) (second_of task) (returns 0))
+joining_rest h task (joining.UnlockOther reply) =
+    unlock h (second_of task) (unlock h (first_of task) (returns reply))
 joining_rest h task (joining.Unlock reply) = unlock h (first_of task) (returns reply)
 
 -- what is left at a place

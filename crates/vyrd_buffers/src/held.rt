@@ -32,7 +32,8 @@ impl Held {
 
     /// The number of the character that is to be loaded next, if one is left.
     pub(crate) fn next(self) -> Option<u32>
-        ensures { MatchOption result (self.loaded ≡ self.of) (λ number. (number ≡ self.loaded) × (self.loaded < self.of)) }
+        ensures { MatchOption result (self.loaded ≡ self.of)
+            (λ number. (number ≡ self.loaded) × (self.loaded < self.of)) }
     {
         if self.loaded < self.of {
             Some(self.loaded)
@@ -59,8 +60,8 @@ impl Held {
 
     /// The character of this number, if it is loaded.
     pub(crate) fn character(self, number: u32) -> Option<u64>
-        ensures { MatchOption result (drop number (held_of self) ≡ [])
-            (λ character. drop number (held_of self) ≡ character ∷ drop (number + 1) (held_of self)) }
+        ensures { MatchOption result (drop number (held_of self) ≡ []) (λ character.
+            drop number (held_of self) ≡ character ∷ drop (number + 1) (held_of self)) }
     {
         if number < self.loaded {
             Some(self.characters[number as usize])

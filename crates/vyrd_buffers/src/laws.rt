@@ -16,12 +16,13 @@ pub fn append_gives_up()
         GivesUpWhere (text_length (amount_of state b) ≡ 7) (alone c (append h b x) memory) }
 {}
 
-/// An append_from that is played alone replies 0 exactly when the lengths of its two buffers, which may be one, sum to more
-/// than 7.
+/// An append_from that is played alone replies 0 exactly when the lengths of its two buffers, which
+/// may be one, sum to more than 7.
 pub fn append_from_gives_up()
-    ensures { (h : Header) (memory : Memory) (state : Amounts) (c b s : ℕ) →
-        h.subject ≡ Buffers → b < h.size → s < h.size → state_in h memory ≡ Some state →
-        GivesUpWhere (has_room (amount_of state b) (amount_of state s) ≡ false) (alone c (append_from h Correct b s) memory) }
+    ensures { (h : Header) (memory : Memory) (state : Amounts) (c b s : ℕ) → h.subject ≡ Buffers
+        → b < h.size → s < h.size → state_in h memory ≡ Some state
+        → GivesUpWhere (has_room (amount_of state b) (amount_of state s) ≡ false)
+        (alone c (append_from h Correct b s) memory) }
 {}
 
 /// A cut that is played alone never gives up: it doesn't reply 0.

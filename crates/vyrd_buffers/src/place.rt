@@ -70,7 +70,8 @@ pub(crate) enum Changing {
     Close,
 }
 
-/// The places of looking at the counts of both buffers. The second group is that of the broken variant.
+/// The places of looking at the counts of both buffers. The second group is that of the broken
+/// variant.
 #[derive(Clone, Copy)]
 pub(crate) enum Counting {
     /// Lock the first buffer.

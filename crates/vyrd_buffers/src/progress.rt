@@ -10,10 +10,11 @@ use crate::task::Task;
 use vyrd_base::{Header, Method};
 use vyrd_memory::{Act, Op, Progress, Variant};
 
-/// How far an operation on string buffers has come: the numbers of its call, and a place in its procedure.
+/// How far an operation on string buffers has come: the numbers of its call, and a place in its
+/// procedure.
 ///
-/// An operation of the correct variant looks at the words of its buffers with their locks held, and changes them in one block.
-/// It has the size of a dozen numbers, and each step costs the same.
+/// An operation of the correct variant looks at the words of its buffers with their locks held, and
+/// changes them in one block. It has the size of a dozen numbers, and each step costs the same.
 #[derive(Clone, Copy)]
 pub struct BufferProgress {
     task: Task,

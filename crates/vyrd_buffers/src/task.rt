@@ -23,8 +23,8 @@ pub(crate) struct Task {
     pub(crate) variant: Variant,
     /// The buffer that is changed or looked at.
     pub(crate) b: u32,
-    /// The character to append, the buffer whose characters are appended, or how many characters are kept. An operation that has
-    /// none of them has 0.
+    /// The character to append, the buffer whose characters are appended, or how many characters
+    /// are kept. An operation that has none of them has 0.
     pub(crate) x: u32,
 }
 
@@ -51,7 +51,8 @@ impl Task {
 
     /// The place after an answer.
     pub(crate) fn after(self, place: Place, answer: u64) -> Place
-        ensures { (h : Header) → rest_at h self result ≡ after_answer (rest_at h self place) answer }
+        ensures { (h : Header)
+            → rest_at h self result ≡ after_answer (rest_at h self place) answer }
     {
         match place {
             Place::Look(purpose, Looking::Lock) => Place::Look(purpose, Looking::Load),
@@ -78,8 +79,10 @@ impl Task {
     /// What comes next of looking at the count.
     fn looking_wants(self, header: &Header, purpose: Purpose, place: Looking) -> Act
         requires subject { header.now.subject ≡ Buffers }
-        requires sound { IsSoundSomewhere header.now (looking_rest header.now self.b (counted_for header.now self purpose) place) }
-        ensures { result ≡ next_act (looking_rest header.now self.b (counted_for header.now self purpose) place) }
+        requires sound { IsSoundSomewhere header.now
+            (looking_rest header.now self.b (counted_for header.now self purpose) place) }
+        ensures { result ≡ next_act
+            (looking_rest header.now self.b (counted_for header.now self purpose) place) }
     {
         match place {
             Looking::Lock => Act::Take(lock_of(header, self.b)),
@@ -140,7 +143,8 @@ impl Task {
 
     /// The place after an answer to what came next of reading.
     fn after_reading(self, text: Text, answer: u64) -> Place
-        ensures { (h : Header) → rest_at h self result ≡ after_answer (reading_rest h self.b text) answer }
+        ensures { (h : Header)
+            → rest_at h self result ≡ after_answer (reading_rest h self.b text) answer }
     {
         match text.next() {
             Some(_) => Place::Read(text.with(answer)),
@@ -190,7 +194,8 @@ impl Task {
 
     /// The place after an answer to what came next of looking at the counts.
     fn after_counting(self, place: Counting, answer: u64) -> Place
-        ensures { (h : Header) → rest_at h self result ≡ after_answer (counting_rest h self place) answer }
+        ensures { (h : Header)
+            → rest_at h self result ≡ after_answer (counting_rest h self place) answer }
     {
         let next = match place {
             Counting::LockFirst if self.first() == self.second() => Counting::LoadCount,
@@ -243,7 +248,8 @@ impl Task {
 
     /// The place after an answer to what came next of appending those characters.
     fn after_joining(self, place: Joining, answer: u64) -> Place
-        ensures { (h : Header) → rest_at h self result ≡ after_answer (joining_rest h self place) answer }
+        ensures { (h : Header)
+            → rest_at h self result ≡ after_answer (joining_rest h self place) answer }
     {
         let next = match place {
             Joining::Load(count, held) => match held.next() {
@@ -264,7 +270,9 @@ impl Task {
 
     /// The place where the buffers are unlocked, the second first, if it is another one.
     fn unlocking(self, reply: u64) -> Joining
-        ensures { (h : Header) → joining_rest h self result ≡ unlock_both h (first_of self) (second_of self) (returns reply) }
+        ensures { (h : Header)
+            → joining_rest h self result
+            ≡ unlock_both h (first_of self) (second_of self) (returns reply) }
     {
         if self.first() == self.second() {
             Joining::Unlock(reply)

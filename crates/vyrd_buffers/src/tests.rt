@@ -1,7 +1,7 @@
 //! What each procedure does, act by act, from words that are given.
 //!
-//! There are two buffers. The words of buffer 0 are the cells 0 to 7, those of buffer 1 are the cells 8 to 15, and their locks
-//! are the cells 16 and 17.
+//! There are two buffers. The words of buffer 0 are the cells 0 to 7, those of buffer 1 are the
+//! cells 8 to 15, and their locks are the cells 16 and 17.
 
 ghost use Rattle.std.specs.Prelude.{◌≡◌, ◌<◌, ◌^◌, true};
 ghost use Rattle.vyrd_base.specs.Subjects.{subject_of, are_args};

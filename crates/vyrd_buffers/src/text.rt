@@ -2,8 +2,8 @@
 
 ghost use Rattle.std.specs.Prelude.{◌≡◌, ◌<◌, ◌≤◌, ◌+◌, ◌^◌, ◌%◌};
 
-/// The text of a buffer, as far as it is read, and how many characters are to be read in all. Character i counts
-/// (character + 1) * 256^i.
+/// The text of a buffer, as far as it is read, and how many characters are to be read in all.
+/// Character i counts (character + 1) * 256^i.
 #[derive(Clone, Copy)]
 pub(crate) struct Text {
     pub(crate) number: u64,
@@ -33,7 +33,8 @@ impl Text {
 
     /// The number of the character that is to be read next, if one is left.
     pub(crate) fn next(self) -> Option<u32>
-        ensures { MatchOption result (self.read ≡ self.of) (λ number. (number ≡ self.read) × (self.read < self.of)) }
+        ensures { MatchOption result (self.read ≡ self.of)
+            (λ number. (number ≡ self.read) × (self.read < self.of)) }
     {
         if self.read < self.of {
             Some(self.read)
@@ -57,7 +58,8 @@ impl Text {
     }
 }
 
-/// The digit of a character, to the base 256. A character that isn't below 255 is cut to one that is.
+/// The digit of a character, to the base 256. A character that isn't below 255 is cut to one that
+/// is.
 fn digit(character: u64) -> u64
     ensures digit { result ≡ character % 255 + 1 }
     ensures small { result ≤ 255 }

@@ -1,7 +1,8 @@
 -- The procedures of the cache, from after the mark of the call to the mark of the return.
 use Rattle.std.specs.Prelude.{ℕ, ◌+◌, ◌*◌, ◌%◌, ◌^◌, ◌==◌, List, [], ◌∷◌, if◌then◌else◌}
 use Rattle.vyrd_base.specs.declared.header.Header.{Header}
-use Rattle.vyrd_base.specs.declared.log.Kind.TheVariants.{Return, Commit, BlockOpen, BlockClose, BlockCommit}
+use Rattle.vyrd_base.specs.declared.log.Kind.TheVariants.{Return, Commit, BlockOpen, BlockClose}
+use Rattle.vyrd_base.specs.declared.log.Kind.TheVariants.{BlockCommit}
 use Rattle.vyrd_base.specs.declared.subject.Method.{Method}
 use Rattle.vyrd_base.specs.declared.subject.Method.TheVariants.{CaWrite, CaFlush, CaEvict, CaRead}
 use Rattle.vyrd_base.specs.declared.subject.Args.{Args}
@@ -51,14 +52,10 @@ write h Broken chunk low high = lock h chunk (step (Load (state_cell chunk)) (λ
 
 -- puts the pair in the cache into the store and gives the chunk this state, with the lock held
 abbrev pub put_stored : Header → ℕ → ℕ → Script
-put_stored h chunk state = step (Load (cached_low chunk)) (λ low. step (Load (cached_high chunk)) (λ high. in_order
-    (Mark BlockOpen
-    ∷ Store (stored_low chunk) low
-    ∷ Store (stored_high chunk) high
-    ∷ Store (state_cell chunk) state
-    ∷ Mark BlockCommit
-    ∷ Give (lock_of h chunk)
-    ∷ Mark (Return 1) ∷ [])))
+put_stored h chunk state = step (Load (cached_low chunk)) (λ low.
+    step (Load (cached_high chunk)) (λ high. in_order (Mark BlockOpen ∷ Store (stored_low chunk) low
+    ∷ Store (stored_high chunk) high ∷ Store (state_cell chunk) state ∷ Mark BlockCommit
+    ∷ Give (lock_of h chunk) ∷ Mark (Return 1) ∷ [])))
 
 -- gives the chunk the state 0, with the lock held
 abbrev pub forget : Header → ℕ → Script
@@ -83,25 +80,21 @@ flush h chunk = lock h chunk (step (Load (state_cell chunk)) (λ state.
 
 -- an evict: the chunk is absent after it
 abbrev pub evict : Header → ℕ → Script
-evict h chunk = lock h chunk (step (Load (state_cell chunk)) (λ state.
-    if state == 2 then put_stored h chunk 0 else (if state == 0 then only_commit h chunk else forget h chunk)))
+evict h chunk = lock h chunk (step (Load (state_cell chunk)) (λ state. if state == 2
+    then put_stored h chunk 0
+    else (if state == 0 then only_commit h chunk else forget h chunk)))
 
 -- fetches the pair in the store into the cache and answers it, with the lock held
 abbrev pub fetch : Header → ℕ → Script
-fetch h chunk = step (Load (stored_low chunk)) (λ low. step (Load (stored_high chunk)) (λ high. in_order
-    (Mark BlockOpen
-    ∷ Store (cached_low chunk) low
-    ∷ Store (cached_high chunk) high
-    ∷ Store (state_cell chunk) 1
-    ∷ Mark BlockClose
-    ∷ Give (lock_of h chunk)
-    ∷ Mark (Return (joined low high)) ∷ [])))
+fetch h chunk = step (Load (stored_low chunk)) (λ low.
+    step (Load (stored_high chunk)) (λ high. in_order (Mark BlockOpen ∷ Store (cached_low chunk) low
+    ∷ Store (cached_high chunk) high ∷ Store (state_cell chunk) 1 ∷ Mark BlockClose
+    ∷ Give (lock_of h chunk) ∷ Mark (Return (joined low high)) ∷ [])))
 
 -- answers the pair in the cache, with the lock held
 abbrev pub answer_cached : Header → ℕ → Script
-answer_cached h chunk = step (Load (cached_low chunk)) (λ low. step (Load (cached_high chunk)) (λ high. in_order
-    (Give (lock_of h chunk)
-    ∷ Mark (Return (joined low high)) ∷ [])))
+answer_cached h chunk = step (Load (cached_low chunk)) (λ low. step (Load (cached_high chunk))
+    (λ high. in_order (Give (lock_of h chunk) ∷ Mark (Return (joined low high)) ∷ [])))
 
 -- a read: an absent chunk is fetched first
 abbrev pub read : Header → ℕ → Script

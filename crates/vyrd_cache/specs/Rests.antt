@@ -11,7 +11,9 @@ use Rattle.vyrd_cache.specs.declared.task.Action.TheVariants.{Write, LookAndWrit
 use Rattle.vyrd_cache.specs.declared.task.Action.TheVariants.{Evict, Forget, Read, Fetch}
 use Rattle.vyrd_cache.specs.declared.task.Task.{Task}
 use Rattle.vyrd_cache.specs.declared.place.Place.{Place}
-use Rattle.vyrd_cache.specs.declared.place.Place.TheVariants.{Lock, LoadState, LoadLow, LoadHigh, Open, StoreLow, StoreHigh, StoreState, Close, Commit as LoneCommit}
+use Rattle.vyrd_cache.specs.declared.place.Place.TheVariants.{Lock, LoadState, LoadLow, LoadHigh}
+use Rattle.vyrd_cache.specs.declared.place.Place.TheVariants.{Open, StoreLow, StoreHigh, StoreState}
+use Rattle.vyrd_cache.specs.declared.place.Place.TheVariants.{Close, Commit as LoneCommit}
 use Rattle.vyrd_cache.specs.declared.place.Place.TheVariants.{Unlock, Return as Returning, Over}
 use Rattle.vyrd_cache.specs.declared.progress.CacheProgress.{CacheProgress}
 use Rattle.vyrd_cache.specs.Cells.{state_cell, lock_of, lock}

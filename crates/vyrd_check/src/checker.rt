@@ -13,7 +13,8 @@ use vyrd_base::Verdict;
 /// The most bytes that are read before their entries are judged.
 const LONGEST_PART: usize = 8_192;
 
-/// Follows the bytes of a log, which may come in pieces of any size, and knows the verdict as soon as there is one.
+/// Follows the bytes of a log, which may come in pieces of any size, and knows the verdict as soon
+/// as there is one.
 ///
 /// It keeps at most one unfinished line, the starting words, room for the entries of at most 8,192
 /// bytes, and what [`AnyJudge`](vyrd_judge::AnyJudge) keeps. The time grows with the bytes. Once
@@ -31,7 +32,8 @@ impl Model for Checker {
 
     ghost view = { λ c. record { kept = c.text; so_far = c.so_far; has_failed = c.has_failed } };
 
-    ghost invariant = { λ c. IsSound (record { kept = c.text; so_far = c.so_far; has_failed = c.has_failed }) };
+    ghost invariant = { λ c.
+        IsSound (record { kept = c.text; so_far = c.so_far; has_failed = c.has_failed }) };
 }
 
 impl Drop for Checker {
@@ -48,8 +50,8 @@ impl Drop for Checker {
 }
 
 impl Checker {
-    /// A checker that has followed no byte. A log with more than `max_lines` lines is malformed; `max_lines` is from 1 to
-    /// 268,435,456. It takes no memory.
+    /// A checker that has followed no byte. A log with more than `max_lines` lines is malformed;
+    /// `max_lines` is from 1 to 268,435,456. It takes no memory.
     pub fn new(alloc: Global, max_lines: u64) -> Checker
         requires low { 1 ≤ max_lines }
         requires high { max_lines ≤ most_lines }
@@ -68,9 +70,11 @@ impl Checker {
     /// Follows the next piece. The answer is the verdict so far of all bytes: `None` if nothing
     /// stands yet. Once there is a verdict it is answered again, and nothing more is read.
     pub fn feed(&mut self, piece: &[u8]) -> Result<Option<Verdict>, AllocError>
-        ensures answer { (bytes : List ℕ) → HasChecked self.old bytes →
-            IfOk result (λ v. v ≡ text_verdict_so_far self.old.kept.reader.max_lines (bytes ++ piece.now)) }
-        ensures checked { (bytes : List ℕ) → HasChecked self.old bytes → OnOk result (HasChecked self.new (bytes ++ piece.now)) }
+        ensures answer { (bytes : List ℕ) → HasChecked self.old bytes
+            → IfOk result
+            (λ v. v ≡ text_verdict_so_far self.old.kept.reader.max_lines (bytes ++ piece.now)) }
+        ensures checked { (bytes : List ℕ) → HasChecked self.old bytes
+            → OnOk result (HasChecked self.new (bytes ++ piece.now)) }
         ensures so_far { IfOk result (λ v. self.new.so_far ≡ v) }
         ensures has_failed { self.new.has_failed ≡ is_err result }
         ensures fails_again { self.old.has_failed ≡ true → is_err result ≡ true }
@@ -110,7 +114,8 @@ impl Checker {
     fn feed_part(&mut self, part: &[u8]) -> Result<(), AllocError>
         requires works { self.old.has_failed ≡ false }
         requires undecided { self.old.so_far ≡ None }
-        ensures checked { (bytes : List ℕ) → HasChecked self.old bytes → OnOk result (HasChecked self.new (bytes ++ part.now)) }
+        ensures checked { (bytes : List ℕ) → HasChecked self.old bytes
+            → OnOk result (HasChecked self.new (bytes ++ part.now)) }
         ensures has_failed { self.new.has_failed ≡ is_err result }
         ensures limit { self.new.kept.reader.max_lines ≡ self.old.kept.reader.max_lines }
     {
@@ -127,10 +132,11 @@ impl Checker {
     }
 }
 
-/// The verdict about these bytes as a whole input of at most `max_lines` lines, from 1 to 268,435,456.
+/// The verdict about these bytes as a whole input of at most `max_lines` lines, from 1 to
+/// 268,435,456.
 ///
-/// The bytes are read where they lie. Time and memory are those of a [`Checker`]. The only error is out of memory, and then
-/// nothing is known of the log.
+/// The bytes are read where they lie. Time and memory are those of a [`Checker`]. The only error is
+/// out of memory, and then nothing is known of the log.
 pub fn verdict_of(alloc: Global, max_lines: u64, bytes: &[u8]) -> Result<Verdict, AllocError>
     requires low { 1 ≤ max_lines }
     requires high { max_lines ≤ most_lines }

@@ -1,4 +1,5 @@
-//! What a checker answers on small logs. The tests of `vyrd_program` give it many more, in every cutting.
+//! What a checker answers on small logs. The tests of `vyrd_program` give it many more, in every
+//! cutting.
 
 use crate::{Checker, verdict_of};
 use std::alloc::Global;

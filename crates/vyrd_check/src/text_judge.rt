@@ -1,6 +1,7 @@
 //! A reader of a log's text, and the judge of what it reads.
 
-ghost use Rattle.std.specs.Prelude.{◌≡◌, ◌++◌, ◌+◌, ◌^◌, ◌≤◌, ◌||◌, ℕ, true, List, [], length, Option, Some, None, IfOk, OnOk, option_map};
+ghost use Rattle.std.specs.Prelude.{◌≡◌, ◌++◌, ◌+◌, ◌^◌, ◌≤◌, ◌||◌, ℕ, true, List, [], length};
+ghost use Rattle.std.specs.Prelude.{Option, Some, None, IfOk, OnOk, option_map};
 ghost use Rattle.std.specs.Bool.{then_some};
 ghost use Rattle.vyrd_base.specs.declared.header.Header.{Header};
 ghost use Rattle.vyrd_base.specs.declared.log.Entry.{Entry};
@@ -15,7 +16,8 @@ ghost use Rattle.vyrd_text.specs.Readers.{HasRead};
 ghost use Rattle.vyrd_text.specs.Answered.{IsGrownBy};
 ghost use Rattle.vyrd_judge.specs.Following.{HasFollowed};
 ghost use Rattle.vyrd_check.specs.LogReadings.{read_so_far};
-ghost use Rattle.vyrd_check.specs.Checking.{IsLimit, IsReady, IsJudging, IsBegun, HasRoom, IsUndecided, IsSomewhere, wrong_in};
+ghost use Rattle.vyrd_check.specs.Checking.{IsLimit, IsReady, IsJudging, IsBegun, HasRoom};
+ghost use Rattle.vyrd_check.specs.Checking.{IsUndecided, IsSomewhere, wrong_in};
 
 use std::alloc::{AllocError, Global};
 use std::marker::Model;
@@ -27,8 +29,8 @@ use vyrd_text::{LogReader, TextFault};
 const FIRST_START_LINE: u64 = 2;
 
 /// Reads the text of a log piece by piece, and judges the entries of each piece. They are forgotten
-/// at the next. The judge is made at the first entry or at `end`, for until then more starting words
-/// may come.
+/// at the next. The judge is made at the first entry or at `end`, for until then more starting
+/// words may come.
 #[derive(Drop)]
 pub(crate) struct TextJudge {
     alloc: Global,
@@ -65,8 +67,9 @@ impl TextJudge {
         requires limit { IsLimit self.old.reader.max_lines }
         requires somewhere { IsSomewhere self.old }
         ensures limit { self.new.reader.max_lines ≡ self.old.reader.max_lines }
-        ensures answer { (bytes : List ℕ) → IsUndecided self.old bytes →
-            IfOk result (λ v. v ≡ text_verdict_so_far self.old.reader.max_lines (bytes ++ piece.now)) }
+        ensures answer { (bytes : List ℕ) → IsUndecided self.old bytes
+            → IfOk result
+            (λ v. v ≡ text_verdict_so_far self.old.reader.max_lines (bytes ++ piece.now)) }
         ensures undecided { (bytes : List ℕ) → IsUndecided self.old bytes →
             IfOk result (λ v. v ≡ None → IsUndecided self.new (bytes ++ piece.now)) }
     {
@@ -81,7 +84,8 @@ impl TextJudge {
     pub(crate) fn end(&self) -> Result<Verdict, AllocError>
         requires limit { IsLimit self.now.reader.max_lines }
         requires somewhere { IsSomewhere self.now }
-        ensures { (bytes : List ℕ) → IsUndecided self.now bytes → IfOk result (λ v. v ≡ text_verdict self.now.reader.max_lines bytes) }
+        ensures { (bytes : List ℕ) → IsUndecided self.now bytes
+            → IfOk result (λ v. v ≡ text_verdict self.now.reader.max_lines bytes) }
     {
         match self.reader.finish() {
             Ok(()) => {}
@@ -105,11 +109,14 @@ fn read(
     entries: &mut Vec<Entry>,
 ) -> Result<Option<Verdict>, AllocError>
     ensures limit { reader.new.max_lines ≡ reader.old.max_lines }
-    ensures read { (bytes : List ℕ) → HasRead reader.old bytes → OnOk result (HasRead reader.new (bytes ++ piece.now)) }
-    ensures entries { (bytes : List ℕ) → HasRead reader.old bytes → OnOk result (IsGrownBy
-        entries.old.items (read_so_far reader.old.max_lines bytes).entries entries.new.items (read_so_far reader.old.max_lines (bytes ++ piece.now)).entries) }
-    ensures fault { (bytes : List ℕ) → HasRead reader.old bytes → IfOk result (λ v.
-        v ≡ option_map (λ fault. Malformed fault.line fault.rule) (read_so_far reader.old.max_lines (bytes ++ piece.now)).fault) }
+    ensures read { (bytes : List ℕ) → HasRead reader.old bytes
+        → OnOk result (HasRead reader.new (bytes ++ piece.now)) }
+    ensures entries { (bytes : List ℕ) → HasRead reader.old bytes
+        → OnOk result (IsGrownBy entries.old.items (read_so_far reader.old.max_lines bytes).entries
+        entries.new.items (read_so_far reader.old.max_lines (bytes ++ piece.now)).entries) }
+    ensures fault { (bytes : List ℕ) → HasRead reader.old bytes
+        → IfOk result (λ v. v ≡ option_map (λ fault. Malformed fault.line fault.rule)
+        (read_so_far reader.old.max_lines (bytes ++ piece.now)).fault) }
 {
     match reader.feed(piece, entries) {
         Ok(()) => Ok(None),

@@ -1,9 +1,11 @@
--- The locals of a caller, and what one of its acts makes of them and of the memory that the log shows.
+-- The locals of a caller, and what one of its acts makes of them and of the memory that the log
+-- shows.
 --
 -- The locks that it holds, and whether a block of its own is open, are its `Situation` already
 -- (vyrd_memory/specs/Soundness). Its locals are what the proof keeps beside it:
 -- what is local to the caller, as no other one changes it.
-use Rattle.std.specs.Prelude.{◌≡◌, ℕ, ◌<◌, Bool, true, false, List, [], ◌∷◌, Option, Some, None, if◌then◌else◌}
+use Rattle.std.specs.Prelude.{◌≡◌, ℕ, ◌<◌, Bool, true, false, List, [], ◌∷◌, Option, Some, None}
+use Rattle.std.specs.Prelude.{if◌then◌else◌}
 use Rattle.vyrd_base.specs.declared.log.Kind.TheVariants.{Call, Return, BlockClose, BlockCommit}
 use Rattle.vyrd_base.specs.Callers.{Called}
 use Rattle.vyrd_base.specs.Words.{with_write}
@@ -25,7 +27,8 @@ pub record Locals : Type 0 where
 abbrev pub empty_locals : Locals
 empty_locals = record { owned = λ slot. false; pending = []; called = None; answered = None }
 
--- the caller is between two operations: it holds no lock, has reserved nothing, and has no call open
+-- the caller is between two operations: it holds no lock, has reserved nothing, and has no call
+-- open
 pub record Rests (s : Situation) (k : Locals) : Type 0 where
   pub rests : s ≡ at_rest
   pub owned : (slot : ℕ) → k.owned slot ≡ false
@@ -41,8 +44,8 @@ abbrev pub written : List (ℕ × ℕ) → Memory → Memory
 written [] shown = shown
 written (w ∷ ws) shown = with_cell (written ws shown) w.0 w.1
 
--- What an act makes of the memory that the log shows. A store shows at once, but not in a block: its
--- writes show when it ends.
+-- What an act makes of the memory that the log shows. A store shows at once, but not in a block:
+-- its writes show when it ends.
 abbrev pub shown_after : Situation → Locals → Memory → Act → Memory
 shown_after s k shown (Store cell value) = if s.in_block then shown else with_cell shown cell value
 shown_after s k shown (Mark BlockClose) = written k.pending shown

@@ -16,8 +16,8 @@ use Rattle.vyrd_memory.specs.Runs.{PlayToTheEnd}
 use Rattle.vyrd_work.specs.Workloads.{Workload}
 use Rattle.vyrd_work.specs.WorkScripts.{work_scripts}
 
--- A legal history in which each caller's part plays the caller's script to its end. The callers' events
--- come in any order.
+-- A legal history in which each caller's part plays the caller's script to its end. The callers'
+-- events come in any order.
 pub record IsSchedule (w : Workload) (history : List Stamped) : Type 0 where
   pub legal : is_legal (cells_of w.header) history ≡ true
   pub parts : PlayToTheEnd (work_scripts w) history
@@ -42,4 +42,5 @@ pub record IsCorrectWithFewEvents (w : Workload) : Type 0 where
 -- no place of a log whose entry is of this kind is a fault
 abbrev pub HasNoFault : (Kind → Bool) → Header → List Entry → Type 0
 HasNoFault is_kind h entries = AllByRecursion
-    (λ place. is_kind place.here.kind ≡ true → fault_at h [] (states_along h [] entries) place ≡ None) (places entries)
+    (λ place. is_kind place.here.kind ≡ true
+    → fault_at h [] (states_along h [] entries) place ≡ None) (places entries)

@@ -1,10 +1,10 @@
--- What a structure is to the proof: which lock guards which word, which state of the specification a
--- memory represents, and what a caller may reserve beyond its locks. Nothing else of a structure is known to
--- the proof about schedules.
+-- What a structure is to the proof: which lock guards which word, which state of the specification
+-- a memory represents, and what a caller may reserve beyond its locks. Nothing else of a structure
+-- is known to the proof about schedules.
 --
--- The memory is the one that the log shows. It has the writes that took effect, and not those of blocks
--- that are still open. So it is what the judge rebuilds, and it represents a state between any two
--- events, also while somebody is in the middle of a block.
+-- The memory is the one that the log shows. It has the writes that took effect, and not those of
+-- blocks that are still open. So it is what the judge rebuilds, and it represents a state between
+-- any two events, also while somebody is in the middle of a block.
 use Rattle.std.specs.Prelude.{◌≡◌, ℕ, ◌<◌, true, List, []}
 use Rattle.vyrd_base.specs.declared.header.Header.{Header}
 use Rattle.vyrd_base.specs.declared.log.Entry.{Entry}
@@ -28,25 +28,26 @@ pub record Structure : Type 1 where
   pub guard : ℕ → ℕ
   -- the memory represents the state
   pub Represents : Memory → Amounts → Type 0
-  -- Slots are what a caller may reserve: the others then leave its words alone, though nobody holds its
-  -- lock. The memory shows which slots are free and which are reserved, and two memories may be the same
-  -- at the words of a slot.
+  -- Slots are what a caller may reserve: the others then leave its words alone, though nobody holds
+  -- its lock. The memory shows which slots are free and which are reserved, and two memories may be
+  -- the same at the words of a slot.
   pub Free : Memory → ℕ → Type 0
   pub Reserved : Memory → ℕ → Type 0
   pub Same : Memory → Memory → ℕ → Type 0
-  -- what has to hold of the three: being the same goes on, a reserved slot that stays the same stays
-  -- reserved, and none is free and reserved at once
+  -- what has to hold of the three: being the same goes on, a reserved slot that stays the same
+  -- stays reserved, and none is free and reserved at once
   pub same : (a : Memory) (slot : ℕ) → Same a a slot
   pub same_more : (a b c : Memory) (slot : ℕ) → Same a b slot → Same b c slot → Same a c slot
   pub stays : (a b : Memory) (slot : ℕ) → Same a b slot → Reserved a slot → Reserved b slot
   pub apart : (a : Memory) (slot : ℕ) → Free a slot → Reserved a slot → ⊥
 
--- The structure fits its header: its logs are of version 1, guarded words are plain, their guards are locks, the memory of no
--- entries represents the first state, and where the memory that a log shows represents a state, that
--- state is the view of the words.
+-- The structure fits its header: its logs are of version 1, guarded words are plain, their guards
+-- are locks, the memory of no entries represents the first state, and where the memory that a log
+-- shows represents a state, that state is the view of the words.
 pub record Fits (S : Structure) : Type 0 where
   pub version : S.header.version ≡ 1
   pub plain : (cell : ℕ) → cell < S.words → cell < plain_words S.header
   pub locks : (cell : ℕ) → cell < S.words → is_lock (cells_of S.header) (S.guard cell) ≡ true
   pub begins : S.Represents (shown_by []) start
-  pub view : (log : List Entry) (state : Amounts) → S.Represents (shown_by log) state → view_of_words S.header (old_words_after S.header log) ≡ state
+  pub view : (log : List Entry) (state : Amounts) → S.Represents (shown_by log) state
+      → view_of_words S.header (old_words_after S.header log) ≡ state

@@ -1,5 +1,5 @@
-//! Laws of the schedules of a correct structure: the multiset, the cache, the B-link tree and string buffers. Each function
-//! does nothing: its contract is the law.
+//! Laws of the schedules of a correct structure: the multiset, the cache, the B-link tree and
+//! string buffers. Each function does nothing: its contract is the law.
 
 ghost use Rattle.std.specs.Prelude.{◌≡◌, ◌≤◌, ℕ, false, List, [], None};
 ghost use Rattle.vyrd_base.specs.declared.history.Stamped.{Stamped};
@@ -16,7 +16,8 @@ ghost use Rattle.vyrd_work.specs.WorkLimits.{KeepsLimits};
 ghost use Rattle.vyrd_work.specs.WorkScripts.{ops_of, work_scripts};
 ghost use Rattle.vyrd_every.specs.Schedules.{HasNoFault, IsCorrect, IsSchedule};
 
-/// The log of every schedule of a correct structure is well formed, and no execution is open at its end.
+/// The log of every schedule of a correct structure is well formed, and no execution is open at its
+/// end.
 pub fn schedules_are_well_formed()
     ensures formed { (w : Workload) (history : List Stamped) → KeepsLimits w → IsCorrect w →
         IsSchedule w history → first_break w.header (log_of history) ≡ None }
@@ -24,14 +25,15 @@ pub fn schedules_are_well_formed()
         IsSchedule w history → is_call_open w.header (newest_first (log_of history)) ≡ false }
 {}
 
-/// No commit in that log is a fault: each mutator's reply is allowed, and the words show the state after
-/// it.
+/// No commit in that log is a fault: each mutator's reply is allowed, and the words show the state
+/// after it.
 pub fn commits_are_right()
     ensures { (w : Workload) (history : List Stamped) → KeepsLimits w → IsCorrect w →
         IsSchedule w history → HasNoFault is_commit w.header (log_of history) }
 {}
 
-/// No observer's return in it is a fault: each answer is that of a state between the call and the return.
+/// No observer's return in it is a fault: each answer is that of a state between the call and the
+/// return.
 pub fn returns_are_right()
     ensures { (w : Workload) (history : List Stamped) → KeepsLimits w → IsCorrect w →
         IsSchedule w history → HasNoFault is_return w.header (log_of history) }
@@ -45,7 +47,8 @@ pub fn schedules_are_accepted()
 
 /// The run by turns of a correct structure doesn't get stuck.
 pub fn turns_arent_stuck()
-    ensures { (w : Workload) → KeepsLimits w → IsCorrect w → GetsStuck (work_scripts w) w.turns → ⊥ }
+    ensures { (w : Workload) → KeepsLimits w → IsCorrect w → GetsStuck (work_scripts w) w.turns
+        → ⊥ }
 {}
 
 /// The operations of a caller of the multiset or of string buffers have at most 6,400,000 events,

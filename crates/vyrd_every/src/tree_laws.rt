@@ -1,8 +1,10 @@
-//! Laws of the acts of the correct tree, one by one. Each function does nothing: its contract is the law.
+//! Laws of the acts of the correct tree, one by one. Each function does nothing: its contract is
+//! the law.
 //!
-//! Each caller does right as far as the others leave alone what it relies on (`tree_operations_do_right`),
-//! and an act that does right leaves that alone for each other caller (`tree_acts_are_relied_on`,
-//! `tree_locals_stay_right`). So every schedule is accepted, as `laws` says.
+//! Each caller does right as far as the others leave alone what it relies on
+//! (`tree_operations_do_right`), and an act that does right leaves that alone for each other caller
+//! (`tree_acts_are_relied_on`, `tree_locals_stay_right`). So every schedule is accepted, as `laws`
+//! says.
 
 ghost use Rattle.std.specs.Prelude.{◌≡◌, ℕ, ◌<◌, true, false, List, []};
 ghost use Rattle.vyrd_base.specs.declared.header.Header.{Header};
@@ -59,26 +61,30 @@ pub fn tree_operations_do_right()
 /// that the log shows if it holds the root's lock and its own block isn't seen. One such act after
 /// another is within it too.
 pub fn tree_acts_are_relied_on()
-    ensures relied { (h : Header) (s its : Situation) (k other : TreeLocals) (g : Shape) (m : Memory) (act : Act)
-        (rest : Script) (next : TreeLocals) (grown : Shape) → IsLinked h.size g m →
-        TreeDoes h s k g m act rest next grown →
-        Owns h other g m → AreApart k other → ((lock : ℕ) → holds its lock ≡ true → holds s lock ≡ false) →
-        (holds its (root_lock h) ≡ true → other.out ≡ false → g.top ≡ level_at m (root_in h.size m)) →
-        TreeRely h its other g m grown (seen_after h s k m act) }
-    ensures one_after_another { (h : Header) (s : Situation) (k : TreeLocals) (first second third : Shape)
-        (a b c : Memory) → TreeRely h s k first a second b → TreeRely h s k second b third c →
-        TreeRely h s k first a third c }
+    ensures relied { (h : Header) (s its : Situation) (k other : TreeLocals) (g : Shape)
+        (m : Memory) (act : Act) (rest : Script) (next : TreeLocals) (grown : Shape)
+        → IsLinked h.size g m → TreeDoes h s k g m act rest next grown → Owns h other g m
+        → AreApart k other → ((lock : ℕ) → holds its lock ≡ true → holds s lock ≡ false)
+        → (holds its (root_lock h) ≡ true → other.out ≡ false
+        → g.top ≡ level_at m (root_in h.size m))
+        → TreeRely h its other g m grown (seen_after h s k m act) }
+    ensures one_after_another { (h : Header) (s : Situation) (k : TreeLocals)
+        (first second third : Shape) (a b c : Memory)
+        → TreeRely h s k first a second b → TreeRely h s k second b third c
+        → TreeRely h s k first a third c }
 {}
 
-/// After an act that does right the locals of its caller and of any other one share no node still. Its
-/// own locals are right, and those of any other one stay right.
+/// After an act that does right the locals of its caller and of any other one share no node still.
+/// Its own locals are right, and those of any other one stay right.
 pub fn tree_locals_stay_right()
-    ensures apart { (h : Header) (s : Situation) (k other : TreeLocals) (g : Shape) (m : Memory) (act : Act)
-        (rest : Script) (next : TreeLocals) (grown : Shape) → TreeDoes h s k g m act rest next grown →
-        Owns h other g m → AreApart k other → AreApart next other }
+    ensures apart { (h : Header) (s : Situation) (k other : TreeLocals) (g : Shape) (m : Memory)
+        (act : Act) (rest : Script) (next : TreeLocals) (grown : Shape)
+        → TreeDoes h s k g m act rest next grown → Owns h other g m → AreApart k other
+        → AreApart next other }
     ensures own { (h : Header) (s : Situation) (k : TreeLocals) (g : Shape) (m : Memory) (act : Act)
-        (rest : Script) (next : TreeLocals) (grown : Shape) → TreeDoes h s k g m act rest next grown →
-        Owns h next grown (seen_after h s k m act) }
+        (rest : Script) (next : TreeLocals) (grown : Shape)
+        → TreeDoes h s k g m act rest next grown
+        → Owns h next grown (seen_after h s k m act) }
     ensures other { (h : Header) (its : Situation) (other : TreeLocals) (g : Shape) (m : Memory)
         (later : Shape) (now : Memory) →
         Owns h other g m → TreeRely h its other g m later now → Owns h other later now }

@@ -1,9 +1,11 @@
-//! Steps that don't do right. Each function does nothing: its contract says what the definitions refuse.
+//! Steps that don't do right. Each function does nothing: its contract says what the definitions
+//! refuse.
 
 ghost use Rattle.std.specs.Prelude.{◌≡◌, ◌≢◌, ◌≤◌, ℕ, ◌<◌, true, false, None};
 ghost use Rattle.vyrd_base.specs.declared.header.Header.{Header};
 ghost use Rattle.vyrd_base.specs.declared.subject.Args.{Args};
-ghost use Rattle.vyrd_base.specs.declared.subject.Method.TheVariants.{MsInsert, CaWrite, BuAppendFrom};
+ghost use Rattle.vyrd_base.specs.declared.subject.Method.TheVariants.{MsInsert, CaWrite};
+ghost use Rattle.vyrd_base.specs.declared.subject.Method.TheVariants.{BuAppendFrom};
 ghost use Rattle.vyrd_memory.specs.declared.act.Act.TheVariants.{Load, Store, Take};
 ghost use Rattle.vyrd_memory.specs.declared.op.Variant.TheVariants.{Broken};
 ghost use Rattle.vyrd_memory.specs.Alone.{Memory};
@@ -22,40 +24,52 @@ ghost use Rattle.vyrd_every.specs.Trees.RightScripts.{TreeRight};
 
 /// A slot that is looked for without its bucket's lock: the broken insert doesn't do right.
 pub fn slot_looked_for_without_the_lock()
-    ensures { (h : Header) (args : Args) →
-        IsRight (multiset h) (multiset_procedure h Broken) (record { method = MsInsert; args = args }) → ⊥ }
+    ensures { (h : Header) (args : Args)
+        → IsRight (multiset h) (multiset_procedure h Broken)
+        (record { method = MsInsert; args = args })
+        → ⊥ }
 {}
 
 /// A lock that is given back before the words are written: the broken write doesn't do right.
 pub fn lock_given_back_before_the_writes()
-    ensures { (h : Header) (args : Args) →
-        IsRight (cache h) (cache_procedure h Broken) (record { method = CaWrite; args = args }) → ⊥ }
+    ensures { (h : Header) (args : Args)
+        → IsRight (cache h) (cache_procedure h Broken) (record { method = CaWrite; args = args })
+        → ⊥ }
 {}
 
-/// Characters that are loaded without the lock of their buffer: the broken append from another buffer
-/// doesn't do right.
+/// Characters that are loaded without the lock of their buffer: the broken append from another
+/// buffer doesn't do right.
 pub fn characters_loaded_without_the_lock()
-    ensures { (h : Header) (args : Args) → args.a ≢ args.b →
-        IsRight (buffers h) (buffers_procedure h Broken) (record { method = BuAppendFrom; args = args }) → ⊥ }
+    ensures { (h : Header) (args : Args) → args.a ≢ args.b
+        → IsRight (buffers h) (buffers_procedure h Broken)
+        (record { method = BuAppendFrom; args = args })
+        → ⊥ }
 {}
 
 /// A lock that is taken below one that is held, whatever else the caller does.
 pub fn lock_taken_below_another()
-    ensures { (h : Header) (s : Situation) (k : Locals) (shown : Memory) (lock held : ℕ) (later : Script) →
-        holds s held ≡ true → lock ≤ held → DoesRight (multiset h) s k shown (perform (Take lock) later) → ⊥ }
+    ensures { (h : Header) (s : Situation) (k : Locals) (shown : Memory) (lock held : ℕ)
+        (later : Script)
+        → holds s held ≡ true → lock ≤ held
+        → DoesRight (multiset h) s k shown (perform (Take lock) later)
+        → ⊥ }
 {}
 
-/// A word of a tree's node, other than its level, that is loaded without the node's lock, whatever the
-/// caller does then.
+/// A word of a tree's node, other than its level, that is loaded without the node's lock, whatever
+/// the caller does then.
 pub fn node_loaded_without_its_lock()
-    ensures { (h : Header) (s : Situation) (k : TreeLocals) (g : Shape) (m : Memory) (node place : ℕ)
-        (rest : ℕ → Script) → node < h.size → place < 12 → place ≢ 0 → holds s (lock_of h node) ≡ false →
-        TreeRight h s k g m (step (Load (node_cell node place)) rest) → ⊥ }
+    ensures { (h : Header) (s : Situation) (k : TreeLocals) (g : Shape) (m : Memory)
+        (node place : ℕ) (rest : ℕ → Script)
+        → node < h.size → place < 12 → place ≢ 0 → holds s (lock_of h node) ≡ false
+        → TreeRight h s k g m (step (Load (node_cell node place)) rest)
+        → ⊥ }
 {}
 
 /// A root's word that is stored without its lock.
 pub fn root_stored_without_its_lock()
-    ensures { (h : Header) (s : Situation) (k : TreeLocals) (g : Shape) (m : Memory) (root : ℕ) (later : Script) →
-        k.fresh ≡ None → holds s (root_lock h) ≡ false →
-        TreeRight h s k g m (perform (Store (root_cell h) root) later) → ⊥ }
+    ensures { (h : Header) (s : Situation) (k : TreeLocals) (g : Shape) (m : Memory) (root : ℕ)
+        (later : Script)
+        → k.fresh ≡ None → holds s (root_lock h) ≡ false
+        → TreeRight h s k g m (perform (Store (root_cell h) root) later)
+        → ⊥ }
 {}

@@ -1,5 +1,7 @@
--- The words at the commits that wait, as they are kept: the words at one commit, and the writes that took effect since then.
-use Rattle.std.specs.Prelude.{◌≡◌, ℕ, Bool, false, ◌+◌, ◌<◌, ◌^◌, ◌==◌, List, [], ◌∷◌, ◌++◌, length, map, sum, take, drop, slice_index, if◌then◌else◌}
+-- The words at the commits that wait, as they are kept: the words at one commit, and the writes
+-- that took effect since then.
+use Rattle.std.specs.Prelude.{◌≡◌, ℕ, Bool, false, ◌+◌, ◌<◌, ◌^◌, ◌==◌, List, [], ◌∷◌, ◌++◌, length}
+use Rattle.std.specs.Prelude.{map, sum, take, drop, slice_index, if◌then◌else◌}
 use Rattle.std.specs.List.{All}
 use Rattle.vyrd_base.specs.declared.header.Header.{Header}
 use Rattle.vyrd_base.specs.Amounts.{Amounts}
@@ -20,7 +22,8 @@ pub record Cuts : Type 0 where
   pub specified : Amounts
   pub refused : Bool
 
--- the words at the first commit, by how many writes took effect between each commit and the one before
+-- the words at the first commit, by how many writes took effect between each commit and the one
+-- before
 abbrev pub first_of : List ℕ → List ℕ → List (ℕ × ℕ) → List ℕ
 first_of words [] writes = with_writes words writes
 first_of words (n ∷ ns) writes = with_writes words (take n writes)
@@ -39,18 +42,22 @@ since_of (n ∷ ns) writes = split_at ns (drop n writes)
 abbrev pub with_part : ℕ → List (ℕ × ℕ) → List (List (ℕ × ℕ)) → List (List (ℕ × ℕ))
 with_part behind writes [] = []
 with_part behind writes (part ∷ parts) =
-    if length parts == behind then (part ++ writes) ∷ parts else part ∷ with_part behind writes parts
+    if length parts == behind
+    then (part ++ writes) ∷ parts
+    else part ∷ with_part behind writes parts
 
 -- the first words, if that many lists of writes stand after the further ones
 abbrev pub first_with : ℕ → List (ℕ × ℕ) → List ℕ → List (List (ℕ × ℕ)) → List ℕ
-first_with behind writes first since = if length since == behind then with_writes first writes else first
+first_with behind writes first since =
+    if length since == behind then with_writes first writes else first
 
 -- the changed words, each with its value
 abbrev pub written : List ℕ → List ℕ → List (ℕ × ℕ)
 written words changed = map (λ w. (w, slice_index words w)) changed
 
 -- all words and writes are the header's, and each write is counted once
-pub record AreCuts (h : Header) (words counts : List ℕ) (writes : List (ℕ × ℕ)) (tail : ℕ) : Type 0 where
+pub record AreCuts (h : Header) (words counts : List ℕ) (writes : List (ℕ × ℕ))
+    (tail : ℕ) : Type 0 where
   pub all : length words ≡ plain_words h
   pub values : (w : ℕ) → slice_index words w < 2 ^ 63
   pub in_range : AreInRange (plain_words h) writes

@@ -1,10 +1,13 @@
--- The effects from a place of a front on, in parts between the commits, and the writes that act as they do.
-use Rattle.std.specs.Prelude.{◌≡◌, ℕ, zero, suc, Bool, true, false, ◌-◌, ◌&&◌, ◌==◌, List, [], ◌∷◌, ◌++◌, length, Option, None, if◌then◌else◌}
+-- The effects from a place of a front on, in parts between the commits, and the writes that act as
+-- they do.
+use Rattle.std.specs.Prelude.{◌≡◌, ℕ, zero, suc, Bool, true, false, ◌-◌, ◌&&◌, ◌==◌, List, [], ◌∷◌}
+use Rattle.std.specs.Prelude.{◌++◌, length, Option, None, if◌then◌else◌}
 use Rattle.std.specs.Option.{option_or}
 use Rattle.std.specs.List.{list_any}
 use Rattle.vyrd_base.specs.declared.header.Header.{Header}
 use Rattle.vyrd_base.specs.declared.log.Kind.{Kind}
-use Rattle.vyrd_base.specs.declared.log.Kind.TheVariants.{Return, Commit, BlockOpen, BlockClose, BlockCommit}
+use Rattle.vyrd_base.specs.declared.log.Kind.TheVariants.{Return, Commit, BlockOpen, BlockClose}
+use Rattle.vyrd_base.specs.declared.log.Kind.TheVariants.{BlockCommit}
 use Rattle.vyrd_base.specs.declared.log.Entry.{Entry}
 use Rattle.vyrd_base.specs.declared.log.StartWord.{StartWord}
 use Rattle.vyrd_base.specs.Places.{first_answer}
@@ -24,7 +27,9 @@ effect_parts before earlier (e ∷ later) =
 abbrev pub with_effects : ℕ → List (ℕ × ℕ) → List (List (ℕ × ℕ)) → List (List (ℕ × ℕ))
 with_effects behind effects [] = []
 with_effects behind effects (part ∷ parts) =
-    if length parts == behind then (effects ++ part) ∷ parts else part ∷ with_effects behind effects parts
+    if length parts == behind
+    then (effects ++ part) ∷ parts
+    else part ∷ with_effects behind effects parts
 
 -- after a commit a new part begins
 abbrev pub cut_if : Bool → List (List (ℕ × ℕ)) → List (List (ℕ × ℕ))
@@ -47,12 +52,14 @@ AllActAlike [] (effects ∷ parts) = ⊥
 AllActAlike (writes ∷ since) [] = ⊥
 
 -- The words are those of the first part, and the writes since act as the further parts.
-abbrev pub HasParts : Header → List StartWord → List ℕ → List (List (ℕ × ℕ)) → List (List (ℕ × ℕ)) → Type 0
+abbrev pub HasParts : Header → List StartWord → List ℕ → List (List (ℕ × ℕ)) → List (List (ℕ × ℕ))
+    → Type 0
 HasParts h starting first since [] = ⊥
-HasParts h starting first since (part ∷ parts) = (first ≡ words_with h starting part) × AllActAlike since parts
+HasParts h starting first since (part ∷ parts) =
+    (first ≡ words_with h starting part) × AllActAlike since parts
 
--- The number of the lone commit since the caller's last open, or if there is no open, of its last one. The first commit of a log
--- has the number 1, and 0 says that there is none.
+-- The number of the lone commit since the caller's last open, or if there is no open, of its last
+-- one. The first commit of a log has the number 1, and 0 says that there is none.
 abbrev pub number_at : Kind → ℕ → ℕ → ℕ
 number_at Commit commits number = suc commits
 number_at BlockOpen commits number = 0
@@ -61,7 +68,9 @@ number_at _ commits number = number
 abbrev pub inner_number : ℕ → List Entry → ℕ
 inner_number c [] = 0
 inner_number c (e ∷ earlier) =
-    if e.caller == c then number_at e.kind (commit_count earlier) (inner_number c earlier) else inner_number c earlier
+    if e.caller == c
+    then number_at e.kind (commit_count earlier) (inner_number c earlier)
+    else inner_number c earlier
 
 -- how many parts stand after that of the commit with this number, if `commits` of them were made
 abbrev pub parts_since : ℕ → ℕ → ℕ

@@ -39,8 +39,8 @@ pub record Kept : Type 0 where
   pub commits : ℕ
   pub observers : ℕ
 
--- The starting words stand for a state, the log keeps all rules, and what is kept stands for both. Its entries may still have
--- to be judged.
+-- The starting words stand for a state, the log keeps all rules, and what is kept stands for both.
+-- Its entries may still have to be judged.
 pub record HasTakenIn (k : Kept) (starting : List StartWord) (log : List Entry) : Type 0 where
   pub started : k.started ≡ length starting
   pub begun : start_verdict k.header starting ≡ None
@@ -50,7 +50,8 @@ pub record HasTakenIn (k : Kept) (starting : List StartWord) (log : List Entry) 
   pub shadow_header : k.shadow.header ≡ k.header
   pub views_header : k.views.header ≡ k.header
   pub queued : HasQueued k.header k.waiting k.taken k.callers (newest_first log)
-  pub judged : Judged k.header starting log k.state k.made k.watches k.waiting k.views.first k.views.since
+  pub judged : Judged k.header starting log k.state k.made k.watches k.waiting k.views.first
+      k.views.since
   pub kept : first_break k.header log ≡ None
   pub specified : k.views.specified ≡ k.state
   pub sound : k.views.refused ≡ false
@@ -69,7 +70,8 @@ IsSomewhere k = ∥ ((starting : List StartWord) × (log : List Entry) × IsFaul
 
 -- entries were taken in that may still have to be judged
 abbrev pub MayCatchUp : Kept → Type 0
-MayCatchUp k = ∥ ((starting : List StartWord) × (log : List Entry) × HasTakenIn k starting log × (length log ≤ 2 ^ 62)) ∥₁
+MayCatchUp k = ∥ ((starting : List StartWord) × (log : List Entry) × HasTakenIn k starting log
+    × (length log ≤ 2 ^ 62)) ∥₁
 
 -- what is kept, the verdict that stands, and whether memory was refused
 pub record JudgeView : Type 0 where
@@ -90,5 +92,6 @@ pub record HasFollowed (j : JudgeView) (starting : List StartWord) (log : List E
 -- what the entry that waits first leads to
 abbrev pub AdvanceGives : Header → List StartWord → List Entry → Kept → Advance → Type 0
 AdvanceGives h starting log k Goes = HasTakenIn k starting log
-AdvanceGives h starting log k (Stops None) = (first_fault h starting log ≡ None) × HasTakenIn k starting log
+AdvanceGives h starting log k (Stops None) =
+    (first_fault h starting log ≡ None) × HasTakenIn k starting log
 AdvanceGives h starting log k (Stops (Some v)) = first_fault h starting log ≡ Some v

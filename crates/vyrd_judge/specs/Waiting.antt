@@ -21,14 +21,18 @@ commit_of reply called = Commits called.method called.args reply
 -- the event of an entry of this kind, if it is one that is judged
 abbrev pub event_of : Place Entry → Kind → Option Event
 event_of place (Call method args) = then_some (is_observer method) (Begins method args)
-event_of place (Return reply) = then_some (is_observing place.here.caller place.earlier) (Returns reply)
-event_of place Commit = option_map (commit_of (next_reply place.here.caller place.later)) (open_call place.here.caller place.earlier)
-event_of place BlockCommit = option_map (commit_of (next_reply place.here.caller place.later)) (open_call place.here.caller place.earlier)
+event_of place (Return reply) =
+    then_some (is_observing place.here.caller place.earlier) (Returns reply)
+event_of place Commit = option_map (commit_of (next_reply place.here.caller place.later))
+    (open_call place.here.caller place.earlier)
+event_of place BlockCommit = option_map (commit_of (next_reply place.here.caller place.later))
+    (open_call place.here.caller place.earlier)
 event_of place _ = None
 
 -- the entry at a place, if it is one that is judged
 abbrev pub waiting_of : Place Entry → Event → Waiting
-waiting_of place event = record { caller = place.here.caller; position = position_of place; event = event }
+waiting_of place event =
+    record { caller = place.here.caller; position = position_of place; event = event }
 
 abbrev pub waiting_at : Place Entry → Option Waiting
 waiting_at place = option_map (waiting_of place) (event_of place place.here.kind)
@@ -39,9 +43,11 @@ waiting_after earlier later = filter_map waiting_at (places_after earlier later)
 
 -- a waiting entry, once this entry has come too: a commit may have its reply now
 abbrev pub replied_event : Entry → ℕ → Event → Event
-replied_event e c (Commits method args o) = Commits method args (option_or o (by_caller c returned e))
+replied_event e c (Commits method args o) =
+    Commits method args (option_or o (by_caller c returned e))
 replied_event e c (Begins method args) = Begins method args
 replied_event e c (Returns reply) = Returns reply
 
 abbrev pub replied : Entry → Waiting → Waiting
-replied e x = record { caller = x.caller; position = x.position; event = replied_event e x.caller x.event }
+replied e x =
+    record { caller = x.caller; position = x.position; event = replied_event e x.caller x.event }

@@ -20,7 +20,12 @@ pub record Seen : Type 0 where
 
 -- what is kept of a caller that has no open observer
 abbrev pub unwatched : Seen
-unwatched = record { is_open = false; method = MsLookup; args = record { a = 0; b = 0; c = 0 }; answers = [] }
+unwatched = record {
+  is_open = false;
+  method = MsLookup;
+  args = record { a = 0; b = 0; c = 0 };
+  answers = [];
+}
 
 -- what is kept of each caller, and the header whose methods its observers call
 pub record Watched : Type 0 where
@@ -36,15 +41,19 @@ pub record SeesAnswer (answer : ℕ) (old new : Seen) : Type 0 where
   pub is_open : new.is_open ≡ old.is_open
   pub method : new.method ≡ old.method
   pub args : new.args ≡ old.args
-  pub answers : (reply : ℕ) → has_answer new.answers reply ≡ (has_answer old.answers reply || answer == reply)
+  pub answers : (reply : ℕ)
+      → has_answer new.answers reply ≡ (has_answer old.answers reply || answer == reply)
 
--- what is kept stands for the open observer of a caller: what was called, and what the states since the call answer
-pub record IsWatched (states : List Amounts) (c : ℕ) (earlier : List Entry) (called : Called) (seen : Seen) : Type 0 where
+-- what is kept stands for the open observer of a caller: what was called, and what the states since
+-- the call answer
+pub record IsWatched (states : List Amounts) (c : ℕ) (earlier : List Entry) (called : Called)
+    (seen : Seen) : Type 0 where
   pub is_open : seen.is_open ≡ true
   pub method : seen.method ≡ called.method
   pub args : seen.args ≡ called.args
-  pub answers : (reply : ℕ) → has_answer seen.answers reply
-      ≡ list_any (λ state. answer_in state called.method called.args == reply) (states_since_call states c earlier)
+  pub answers : (reply : ℕ)
+      → has_answer seen.answers reply ≡ list_any (λ state.
+      answer_in state called.method called.args == reply) (states_since_call states c earlier)
 
 -- the same watch, which has seen this state too if it is open
 pub record SeesState (state : Amounts) (old new : Seen) : Type 0 where

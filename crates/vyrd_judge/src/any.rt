@@ -1,6 +1,8 @@
 //! The judge of a log of any structure.
 
-ghost use Rattle.std.specs.Prelude.{◌≡◌, length, ◌<◌, ◌≤◌, ◌+◌, ◌^◌, ◌∷◌, ◌++◌, true, false, List, [], Option, Some, None, Ok, IfOk, OnOk, OnErr, unwrap_or, is_none, IfSome};
+ghost use Rattle.std.specs.Prelude.{◌≡◌, length, ◌<◌, ◌≤◌, ◌+◌, ◌^◌, ◌∷◌, ◌++◌, true, false, List};
+ghost use Rattle.std.specs.Prelude.{[], Option, Some, None, Ok, IfOk, OnOk, OnErr, unwrap_or};
+ghost use Rattle.std.specs.Prelude.{is_none, IfSome};
 ghost use Rattle.std.specs.Result.{is_err};
 ghost use Rattle.vyrd_base.specs.declared.log.Entry.{Entry};
 ghost use Rattle.vyrd_base.specs.declared.log.StartWord.{StartWord};
@@ -69,8 +71,8 @@ impl AnyJudge {
         Ok(AnyJudge { judge })
     }
 
-    /// A judge of a log that begins with these words, which has followed no entry. It is `None` exactly when the words stand for
-    /// no state of the specification.
+    /// A judge of a log that begins with these words, which has followed no entry. It is `None`
+    /// exactly when the words stand for no state of the specification.
     pub fn start_from(
         alloc: Global,
         header: Header,
@@ -108,11 +110,17 @@ impl AnyJudge {
     /// Follows one more entry. The answer is the verdict so far, with this entry.
     pub fn feed(&mut self, entry: Entry) -> Result<Option<Verdict>, AllocError>
         requires few { self.old.kept.entries < 2 ^ 62 }
-        ensures answer { (starting : List StartWord) (log : List Entry) → HasFollowed self.old starting log → IfOk result (λ v. v ≡ verdict_so_far self.old.kept.header starting (log ++ entry ∷ [])) }
-        ensures followed { (starting : List StartWord) (log : List Entry) → HasFollowed self.old starting log → OnOk result (HasFollowed self.new starting (log ++ entry ∷ [])) }
+        ensures answer { (starting : List StartWord) (log : List Entry)
+            → HasFollowed self.old starting log
+            → IfOk result
+            (λ v. v ≡ verdict_so_far self.old.kept.header starting (log ++ entry ∷ [])) }
+        ensures followed { (starting : List StartWord) (log : List Entry)
+            → HasFollowed self.old starting log
+            → OnOk result (HasFollowed self.new starting (log ++ entry ∷ [])) }
         ensures so_far { IfOk result (λ v. self.new.so_far ≡ v) }
         ensures stays { OnErr result (self.new.so_far ≡ self.old.so_far) }
-        ensures stands { (v : Verdict) → self.old.so_far ≡ Some v → self.old.has_failed ≡ false → result ≡ Ok (Some v) }
+        ensures stands { (v : Verdict) → self.old.so_far ≡ Some v → self.old.has_failed ≡ false
+            → result ≡ Ok (Some v) }
         ensures has_failed { self.new.has_failed ≡ is_err result }
         ensures fails_again { self.old.has_failed ≡ true → is_err result ≡ true }
         ensures counted { self.new.kept.entries ≤ self.old.kept.entries + 1 }
@@ -129,8 +137,13 @@ impl AnyJudge {
     /// Follows further entries, in their order. The answer is the verdict so far, with all of them.
     pub fn follow(&mut self, entries: &[Entry]) -> Result<Option<Verdict>, AllocError>
         requires few { self.old.kept.entries + length entries.now ≤ 2 ^ 62 }
-        ensures answer { (starting : List StartWord) (log : List Entry) → HasFollowed self.old starting log → IfOk result (λ v. v ≡ verdict_so_far self.old.kept.header starting (log ++ entries.now)) }
-        ensures followed { (starting : List StartWord) (log : List Entry) → HasFollowed self.old starting log → OnOk result (HasFollowed self.new starting (log ++ entries.now)) }
+        ensures answer { (starting : List StartWord) (log : List Entry)
+            → HasFollowed self.old starting log
+            → IfOk result
+            (λ v. v ≡ verdict_so_far self.old.kept.header starting (log ++ entries.now)) }
+        ensures followed { (starting : List StartWord) (log : List Entry)
+            → HasFollowed self.old starting log
+            → OnOk result (HasFollowed self.new starting (log ++ entries.now)) }
         ensures so_far { IfOk result (λ v. self.new.so_far ≡ v) }
         ensures stays { OnErr result (self.new.so_far ≡ self.old.so_far) }
         ensures has_failed { OnErr result (self.new.has_failed ≡ true) }
@@ -145,12 +158,17 @@ impl AnyJudge {
         }
     }
 
-    /// Follows the log of a history: its marks and its writes, in their order. The answer is the verdict so far, with all of
-    /// them.
+    /// Follows the log of a history: its marks and its writes, in their order. The answer is the
+    /// verdict so far, with all of them.
     pub fn follow_history(&mut self, history: &[Stamped]) -> Result<Option<Verdict>, AllocError>
         requires few { self.old.kept.entries + length history.now ≤ 2 ^ 62 }
-        ensures answer { (starting : List StartWord) (log : List Entry) → HasFollowed self.old starting log → IfOk result (λ v. v ≡ verdict_so_far self.old.kept.header starting (log ++ log_of history.now)) }
-        ensures followed { (starting : List StartWord) (log : List Entry) → HasFollowed self.old starting log → OnOk result (HasFollowed self.new starting (log ++ log_of history.now)) }
+        ensures answer { (starting : List StartWord) (log : List Entry)
+            → HasFollowed self.old starting log
+            → IfOk result
+            (λ v. v ≡ verdict_so_far self.old.kept.header starting (log ++ log_of history.now)) }
+        ensures followed { (starting : List StartWord) (log : List Entry)
+            → HasFollowed self.old starting log
+            → OnOk result (HasFollowed self.new starting (log ++ log_of history.now)) }
         ensures so_far { IfOk result (λ v. self.new.so_far ≡ v) }
         ensures stays { OnErr result (self.new.so_far ≡ self.old.so_far) }
         ensures has_failed { OnErr result (self.new.has_failed ≡ true) }
@@ -179,7 +197,9 @@ impl AnyJudge {
 
     /// The verdict about the whole log, given that `end` stands after the entries.
     pub fn finish(&self) -> Result<Verdict, AllocError>
-        ensures verdict { (starting : List StartWord) (log : List Entry) → HasFollowed self.now starting log → IfOk result (λ v. v ≡ verdict self.now.kept.header starting log) }
+        ensures verdict { (starting : List StartWord) (log : List Entry)
+            → HasFollowed self.now starting log
+            → IfOk result (λ v. v ≡ verdict self.now.kept.header starting log) }
         ensures has_failed { is_err result ≡ self.now.has_failed }
     {
         match &self.judge {
@@ -193,8 +213,10 @@ impl AnyJudge {
     /// The verdict if the text breaks a rule on this line: the one that stands, or otherwise that
     /// break.
     pub fn stop(&self, line: u64, rule: Rule) -> Result<Verdict, AllocError>
-        ensures verdict { (starting : List StartWord) (log : List Entry) → HasFollowed self.now starting log →
-            IfOk result (λ v. v ≡ unwrap_or (verdict_so_far self.now.kept.header starting log) (Malformed line rule)) }
+        ensures verdict { (starting : List StartWord) (log : List Entry)
+            → HasFollowed self.now starting log
+            → IfOk result (λ v. v
+            ≡ unwrap_or (verdict_so_far self.now.kept.header starting log) (Malformed line rule)) }
         ensures has_failed { is_err result ≡ self.now.has_failed }
     {
         match &self.judge {
@@ -206,7 +228,8 @@ impl AnyJudge {
     }
 }
 
-/// The verdict about the log of a history, by the specification of its header's subject. The log is followed and not kept.
+/// The verdict about the log of a history, by the specification of its header's subject. The log is
+/// followed and not kept.
 pub fn judge_history(
     alloc: Global,
     header: Header,

@@ -1,13 +1,15 @@
 //! All that is kept of a log in which nothing is wrong so far.
 
-ghost use Rattle.std.specs.Prelude.{◌≡◌, ◌<◌, ◌≤◌, ◌+◌, ◌^◌, ◌∷◌, ◌++◌, true, List, [], length, Option, Some, None, Ok, IfOk, if◌then◌else◌};
+ghost use Rattle.std.specs.Prelude.{◌≡◌, ◌<◌, ◌≤◌, ◌+◌, ◌^◌, ◌∷◌, ◌++◌, true, List, [], length};
+ghost use Rattle.std.specs.Prelude.{Option, Some, None, Ok, IfOk, if◌then◌else◌};
 ghost use Rattle.vyrd_base.specs.declared.header.Header.{Header};
 ghost use Rattle.vyrd_base.specs.declared.log.Entry.{Entry};
 ghost use Rattle.vyrd_base.specs.declared.log.StartWord.{StartWord};
 ghost use Rattle.vyrd_base.specs.Starts.{may_start, words_at_start, state_at_start};
 ghost use Rattle.vyrd_base.specs.Commits.{is_commit};
 ghost use Rattle.vyrd_base.specs.Verdicts.{first_fault, verdict, verdict_so_far};
-ghost use Rattle.vyrd_judge.specs.Following.{Kept, HasTakenIn, IsFaultless, IsSomewhere, MayCatchUp, AdvanceGives};
+ghost use Rattle.vyrd_judge.specs.Following.{Kept, HasTakenIn, IsFaultless, IsSomewhere};
+ghost use Rattle.vyrd_judge.specs.Following.{MayCatchUp, AdvanceGives};
 ghost use Rattle.vyrd_judge.specs.declared.outcome.Advance.TheVariants.{Goes};
 
 use crate::outcome::{Advance, Outcome};
@@ -21,8 +23,8 @@ use vyrd_base::{Entry, Header, Kind, Rule, StartWord, Verdict};
 use vyrd_shape::Shape;
 use vyrd_spec::Spec;
 
-/// What is kept of a log in which nothing is wrong so far: what the rules of shape need to know of it, its words, the entries
-/// that wait to be judged, and the state at the first of these.
+/// What is kept of a log in which nothing is wrong so far: what the rules of shape need to know of
+/// it, its words, the entries that wait to be judged, and the state at the first of these.
 #[derive(Drop)]
 pub(crate) struct Follower<S: Spec> {
     /// How many starting words stand before the first entry.
@@ -61,13 +63,14 @@ impl<S: Spec> Model for Follower<S> {
       observers = f.observers;
     } };
 
-    ghost invariant = { λ f. (f.shape.header ≡ f.replay.header) × (f.words.shadow.header ≡ f.replay.header) × (f.queue.header ≡ f.replay.header)
+    ghost invariant = { λ f. (f.shape.header ≡ f.replay.header)
+        × (f.words.shadow.header ≡ f.replay.header) × (f.queue.header ≡ f.replay.header)
         × (f.started ≤ 2 ^ 32) × (f.entries ≤ 2 ^ 62) };
 }
 
 impl<S: Spec> Follower<S> {
-    /// No entry was taken in. These are the starting words, all words at the start, and the specification in the state for which
-    /// they stand.
+    /// No entry was taken in. These are the starting words, all words at the start, and the
+    /// specification in the state for which they stand.
     pub fn new(
         alloc: Global,
         header: Header,
@@ -99,14 +102,19 @@ impl<S: Spec> Follower<S> {
         })
     }
 
-    /// Takes in one more entry, and judges what can be judged then. The answer is the verdict that stands with it. After a
-    /// verdict nothing is known of what is kept, and nothing after memory has run out.
+    /// Takes in one more entry, and judges what can be judged then. The answer is the verdict that
+    /// stands with it. After a verdict nothing is known of what is kept, and nothing after memory
+    /// has run out.
     #[inline(always)]
     pub fn take_in(&mut self, entry: Entry) -> Result<Option<Verdict>, AllocError>
         requires few { self.old.entries < 2 ^ 62 }
         requires somewhere { IsSomewhere self.old }
-        ensures answer { (starting : List StartWord) (log : List Entry) → IsFaultless self.old starting log → IfOk result (λ v. v ≡ verdict_so_far self.old.header starting (log ++ entry ∷ [])) }
-        ensures follows { (starting : List StartWord) (log : List Entry) → IsFaultless self.old starting log → result ≡ Ok None → IsFaultless self.new starting (log ++ entry ∷ []) }
+        ensures answer { (starting : List StartWord) (log : List Entry)
+            → IsFaultless self.old starting log
+            → IfOk result (λ v. v ≡ verdict_so_far self.old.header starting (log ++ entry ∷ [])) }
+        ensures follows { (starting : List StartWord) (log : List Entry)
+            → IsFaultless self.old starting log → result ≡ Ok None
+            → IsFaultless self.new starting (log ++ entry ∷ []) }
         ensures counted { self.new.entries ≤ self.old.entries + 1 }
         ensures header { self.new.header ≡ self.old.header }
     {
@@ -149,8 +157,12 @@ impl<S: Spec> Follower<S> {
     fn take(&mut self, entry: Entry) -> Result<Option<Verdict>, AllocError>
         requires few { self.old.entries < 2 ^ 62 }
         requires somewhere { IsSomewhere self.old }
-        ensures answer { (starting : List StartWord) (log : List Entry) → IsFaultless self.old starting log → IfOk result (λ v. v ≡ verdict_so_far self.old.header starting (log ++ entry ∷ [])) }
-        ensures follows { (starting : List StartWord) (log : List Entry) → IsFaultless self.old starting log → result ≡ Ok None → IsFaultless self.new starting (log ++ entry ∷ []) }
+        ensures answer { (starting : List StartWord) (log : List Entry)
+            → IsFaultless self.old starting log
+            → IfOk result (λ v. v ≡ verdict_so_far self.old.header starting (log ++ entry ∷ [])) }
+        ensures follows { (starting : List StartWord) (log : List Entry)
+            → IsFaultless self.old starting log → result ≡ Ok None
+            → IsFaultless self.new starting (log ++ entry ∷ []) }
         ensures counted { self.new.entries ≤ self.old.entries + 1 }
         ensures header { self.new.header ≡ self.old.header }
     {
@@ -171,7 +183,8 @@ impl<S: Spec> Follower<S> {
 
     /// The verdict if `end` stands after the entries.
     pub fn end(&self) -> Verdict
-        ensures { (starting : List StartWord) (log : List Entry) → IsFaultless self.now starting log → result ≡ verdict self.now.header starting log }
+        ensures { (starting : List StartWord) (log : List Entry) → IsFaultless self.now starting log
+            → result ≡ verdict self.now.header starting log }
     {
         if self.shape.end().is_err() {
             return Verdict::Malformed {
@@ -186,12 +199,17 @@ impl<S: Spec> Follower<S> {
         }
     }
 
-    /// Judges all entries that wait, as far as they can be judged. The answer is the first fault so far.
+    /// Judges all entries that wait, as far as they can be judged. The answer is the first fault so
+    /// far.
     #[inline(always)]
     fn catch_up(&mut self) -> Result<Option<Verdict>, AllocError>
         requires { MayCatchUp self.old }
-        ensures answer { (starting : List StartWord) (log : List Entry) → HasTakenIn self.old starting log → IfOk result (λ v. v ≡ first_fault self.old.header starting log) }
-        ensures stays { (starting : List StartWord) (log : List Entry) → HasTakenIn self.old starting log → result ≡ Ok None → HasTakenIn self.new starting log }
+        ensures answer { (starting : List StartWord) (log : List Entry)
+            → HasTakenIn self.old starting log
+            → IfOk result (λ v. v ≡ first_fault self.old.header starting log) }
+        ensures stays { (starting : List StartWord) (log : List Entry)
+            → HasTakenIn self.old starting log → result ≡ Ok None
+            → HasTakenIn self.new starting log }
         ensures entries { self.new.entries ≡ self.old.entries }
         ensures header { self.new.header ≡ self.old.header }
     {
@@ -207,7 +225,9 @@ impl<S: Spec> Follower<S> {
     #[inline(always)]
     fn judge_first(&mut self) -> Result<Advance, AllocError>
         requires { MayCatchUp self.old }
-        ensures gives { (starting : List StartWord) (log : List Entry) → HasTakenIn self.old starting log → IfOk result (AdvanceGives self.old.header starting log self.new) }
+        ensures gives { (starting : List StartWord) (log : List Entry)
+            → HasTakenIn self.old starting log
+            → IfOk result (AdvanceGives self.old.header starting log self.new) }
         ensures less { result ≡ Ok Goes → length self.new.waiting < length self.old.waiting }
         ensures entries { self.new.entries ≡ self.old.entries }
         ensures header { self.new.header ≡ self.old.header }

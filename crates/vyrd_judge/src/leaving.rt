@@ -14,7 +14,8 @@ fn earlier(first: Option<usize>, watch: Option<Watch>, trail: usize, end: usize)
     requires within { IfSome first (λ n. n ≤ end) }
     ensures within { IfSome result (λ n. n ≤ end) }
     ensures before { (n : ℕ) → first ≡ Some n → (m : ℕ) × (result ≡ Some m) × (m ≤ n) }
-    ensures counts { (w : Watch) → watch ≡ Some w → w.trail ≡ trail → (m : ℕ) × (result ≡ Some m) × (m ≤ w.since) }
+    ensures counts { (w : Watch) → watch ≡ Some w → w.trail ≡ trail
+        → (m : ℕ) × (result ≡ Some m) × (m ≤ w.since) }
 {
     match watch {
         Some(w) if w.trail == trail => Some(w.since.min(first.unwrap_or(end))),
@@ -25,7 +26,8 @@ fn earlier(first: Option<usize>, watch: Option<Watch>, trail: usize, end: usize)
 /// The place in a trail from which on its answers count for some open observer, if one asks it.
 fn first_that_counts(watches: &[Option<Watch>], trail: usize, end: usize) -> Option<usize>
     ensures within { IfSome result (λ n. n ≤ end) }
-    ensures counts { (c : ℕ) (w : Watch) → slice_get watches.now c ≡ Some (Some w) → w.trail ≡ trail → (n : ℕ) × (result ≡ Some n) × (n ≤ w.since) }
+    ensures counts { (c : ℕ) (w : Watch) → slice_get watches.now c ≡ Some (Some w) → w.trail ≡ trail
+        → (n : ℕ) × (result ≡ Some n) × (n ≤ w.since) }
 {
     let mut first = None;
     for watch in watches {
@@ -48,7 +50,8 @@ fn moved(watch: Option<Watch>, trail: usize, n: usize) -> Option<Watch>
 
 /// All observers, once the first n answers of a trail are dropped.
 fn move_all(watches: &mut Vec<Option<Watch>>, trail: usize, n: usize)
-    requires { (c : ℕ) (w : Watch) → slice_get watches.old.items c ≡ Some (Some w) → w.trail ≡ trail → n ≤ w.since }
+    requires { (c : ℕ) (w : Watch) → slice_get watches.old.items c ≡ Some (Some w) → w.trail ≡ trail
+        → n ≤ w.since }
     ensures { watches.new.items ≡ map (moved trail n) watches.old.items }
 {
     for watch in watches.iter_mut() {
@@ -60,9 +63,12 @@ fn move_all(watches: &mut Vec<Option<Watch>>, trail: usize, n: usize)
 fn forget(trails: &mut [Trail], watches: &mut Vec<Option<Watch>>, trail: usize, n: usize)
     requires trail { trail < length trails.old }
     requires within { (t : Asked) → slice_get trails.old trail ≡ Some t → n ≤ length t.others }
-    requires uncounted { (c : ℕ) (w : Watch) → slice_get watches.old.items c ≡ Some (Some w) → w.trail ≡ trail → n ≤ w.since }
+    requires uncounted { (c : ℕ) (w : Watch) → slice_get watches.old.items c ≡ Some (Some w)
+        → w.trail ≡ trail
+        → n ≤ w.since }
     requires on { AreOn trails.old watches.old.items }
-    ensures seen { map (seen_by trails.new) watches.new.items ≡ map (seen_by trails.old) watches.old.items }
+    ensures seen { map (seen_by trails.new) watches.new.items
+        ≡ map (seen_by trails.old) watches.old.items }
     ensures on { AreOn trails.new watches.new.items }
     ensures asking { (h : Header) → AreAsking h trails.old → AreAsking h trails.new }
 {
@@ -76,7 +82,8 @@ fn forget(trails: &mut [Trail], watches: &mut Vec<Option<Watch>>, trail: usize, 
 pub(crate) fn let_go(trails: &mut [Trail], watches: &mut Vec<Option<Watch>>, trail: usize)
     requires trail { trail < length trails.old }
     requires on { AreOn trails.old watches.old.items }
-    ensures seen { map (seen_by trails.new) watches.new.items ≡ map (seen_by trails.old) watches.old.items }
+    ensures seen { map (seen_by trails.new) watches.new.items
+        ≡ map (seen_by trails.old) watches.old.items }
     ensures on { AreOn trails.new watches.new.items }
     ensures asking { (h : Header) → AreAsking h trails.old → AreAsking h trails.new }
 {

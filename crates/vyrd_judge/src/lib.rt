@@ -1,4 +1,5 @@
-//! The verdict about a log: whether what concurrent callers logged refines the specification of their data structure.
+//! The verdict about a log: whether what concurrent callers logged refines the specification of
+//! their data structure.
 //!
 //! The central type is [`Judge`]. It takes the entries of a log one by one and never looks back,
 //! and answers after each the verdict so far that `verdict_so_far` of `vyrd_base` defines: the
@@ -13,8 +14,8 @@
 //! `watch`, which is on the `trail` of its question, one of all `trails`. When an observer has
 //! returned, `leaving` drops the answers that nobody needs any more.
 //!
-//! [`judge_log`] is the plain judge of `vyrd_plain`, which has all entries before it begins. It is what this one is compared
-//! with, and shares no code with it.
+//! [`judge_log`] is the plain judge of `vyrd_plain`, which has all entries before it begins. It is
+//! what this one is compared with, and shares no code with it.
 #![tactic(auto)]
 
 mod any;

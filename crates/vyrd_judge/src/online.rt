@@ -1,6 +1,8 @@
 //! The online judge.
 
-ghost use Rattle.std.specs.Prelude.{◌≡◌, length, take, ◌<◌, ◌≤◌, ◌+◌, ◌^◌, ◌∷◌, ◌++◌, true, false, List, [], Option, Some, None, Ok, IfOk, OnOk, OnErr, unwrap_or, is_none, IfSome};
+ghost use Rattle.std.specs.Prelude.{◌≡◌, length, take, ◌<◌, ◌≤◌, ◌+◌, ◌^◌, ◌∷◌, ◌++◌, true, false};
+ghost use Rattle.std.specs.Prelude.{List, [], Option, Some, None, Ok, IfOk, OnOk, OnErr, unwrap_or};
+ghost use Rattle.std.specs.Prelude.{is_none, IfSome};
 ghost use Rattle.std.specs.Result.{is_err};
 ghost use Rattle.vyrd_base.specs.declared.log.Entry.{Entry};
 ghost use Rattle.vyrd_base.specs.declared.log.StartWord.{StartWord};
@@ -20,8 +22,8 @@ use std::marker::Model;
 use vyrd_base::{Entry, Header, Rule, Stamped, StartWord, Verdict};
 use vyrd_spec::Spec;
 
-/// A judge that takes the entries of a log one by one, in their order, and never looks back. `S` is the specification of the
-/// header's subject.
+/// A judge that takes the entries of a log one by one, in their order, and never looks back. `S` is
+/// the specification of the header's subject.
 ///
 /// After each entry it knows the verdict that stands, however the log goes on: the first fault, or
 /// the first break of a rule of shape if no fault stands before it. A commit waits until its
@@ -64,13 +66,15 @@ impl<S: Spec> Model for Judge<S> {
 
     ghost Value = { JudgeView };
 
-    ghost view = { λ j. record { kept = j.follower; so_far = j.so_far; has_failed = j.has_failed } };
+    ghost view = { λ j.
+        record { kept = j.follower; so_far = j.so_far; has_failed = j.has_failed } };
 
     ghost invariant = { λ j. j.has_failed ≡ false → j.so_far ≡ None → IsSomewhere j.follower };
 }
 
 impl<S: Spec> Judge<S> {
-    /// A judge that has followed no entry. It takes memory in proportion to the header's words and callers.
+    /// A judge that has followed no entry. It takes memory in proportion to the header's words and
+    /// callers.
     pub fn new(alloc: Global, header: Header) -> Result<Judge<S>, AllocError>
         requires subject { header.subject ≡ S.subject }
         ensures followed { IfOk result (λ j. HasFollowed j [] []) }
@@ -84,8 +88,9 @@ impl<S: Spec> Judge<S> {
         Judge::begin(alloc, header, &[], &words, spec)
     }
 
-    /// A judge of a log that begins with these words, which has followed no entry. It is `None` exactly when the words stand for
-    /// no state of the specification. It takes memory in proportion to the header's words and callers.
+    /// A judge of a log that begins with these words, which has followed no entry. It is `None`
+    /// exactly when the words stand for no state of the specification. It takes memory in
+    /// proportion to the header's words and callers.
     pub fn start_from(
         alloc: Global,
         header: Header,
@@ -139,11 +144,17 @@ impl<S: Spec> Judge<S> {
     #[inline(always)]
     pub fn feed(&mut self, entry: Entry) -> Result<Option<Verdict>, AllocError>
         requires few { self.old.kept.entries < 2 ^ 62 }
-        ensures answer { (starting : List StartWord) (log : List Entry) → HasFollowed self.old starting log → IfOk result (λ v. v ≡ verdict_so_far self.old.kept.header starting (log ++ entry ∷ [])) }
-        ensures followed { (starting : List StartWord) (log : List Entry) → HasFollowed self.old starting log → OnOk result (HasFollowed self.new starting (log ++ entry ∷ [])) }
+        ensures answer { (starting : List StartWord) (log : List Entry)
+            → HasFollowed self.old starting log
+            → IfOk result
+            (λ v. v ≡ verdict_so_far self.old.kept.header starting (log ++ entry ∷ [])) }
+        ensures followed { (starting : List StartWord) (log : List Entry)
+            → HasFollowed self.old starting log
+            → OnOk result (HasFollowed self.new starting (log ++ entry ∷ [])) }
         ensures so_far { IfOk result (λ v. self.new.so_far ≡ v) }
         ensures stays { OnErr result (self.new.so_far ≡ self.old.so_far) }
-        ensures stands { (v : Verdict) → self.old.so_far ≡ Some v → self.old.has_failed ≡ false → result ≡ Ok (Some v) }
+        ensures stands { (v : Verdict) → self.old.so_far ≡ Some v → self.old.has_failed ≡ false
+            → result ≡ Ok (Some v) }
         ensures has_failed { self.new.has_failed ≡ is_err result }
         ensures fails_again { self.old.has_failed ≡ true → is_err result ≡ true }
         ensures counted { self.new.kept.entries ≤ self.old.kept.entries + 1 }
@@ -171,8 +182,13 @@ impl<S: Spec> Judge<S> {
     /// Follows further entries, in their order. The answer is the verdict so far, with all of them.
     pub fn follow(&mut self, entries: &[Entry]) -> Result<Option<Verdict>, AllocError>
         requires few { self.old.kept.entries + length entries.now ≤ 2 ^ 62 }
-        ensures answer { (starting : List StartWord) (log : List Entry) → HasFollowed self.old starting log → IfOk result (λ v. v ≡ verdict_so_far self.old.kept.header starting (log ++ entries.now)) }
-        ensures followed { (starting : List StartWord) (log : List Entry) → HasFollowed self.old starting log → OnOk result (HasFollowed self.new starting (log ++ entries.now)) }
+        ensures answer { (starting : List StartWord) (log : List Entry)
+            → HasFollowed self.old starting log
+            → IfOk result
+            (λ v. v ≡ verdict_so_far self.old.kept.header starting (log ++ entries.now)) }
+        ensures followed { (starting : List StartWord) (log : List Entry)
+            → HasFollowed self.old starting log
+            → OnOk result (HasFollowed self.new starting (log ++ entries.now)) }
         ensures so_far { IfOk result (λ v. self.new.so_far ≡ v) }
         ensures stays { OnErr result (self.new.so_far ≡ self.old.so_far) }
         ensures has_failed { OnErr result (self.new.has_failed ≡ true) }
@@ -185,12 +201,17 @@ impl<S: Spec> Judge<S> {
         Ok(self.so_far)
     }
 
-    /// Follows the log of a history: its marks and its writes, in their order. The answer is the verdict so far, with all of
-    /// them.
+    /// Follows the log of a history: its marks and its writes, in their order. The answer is the
+    /// verdict so far, with all of them.
     pub fn follow_history(&mut self, history: &[Stamped]) -> Result<Option<Verdict>, AllocError>
         requires few { self.old.kept.entries + length history.now ≤ 2 ^ 62 }
-        ensures answer { (starting : List StartWord) (log : List Entry) → HasFollowed self.old starting log → IfOk result (λ v. v ≡ verdict_so_far self.old.kept.header starting (log ++ log_of history.now)) }
-        ensures followed { (starting : List StartWord) (log : List Entry) → HasFollowed self.old starting log → OnOk result (HasFollowed self.new starting (log ++ log_of history.now)) }
+        ensures answer { (starting : List StartWord) (log : List Entry)
+            → HasFollowed self.old starting log
+            → IfOk result
+            (λ v. v ≡ verdict_so_far self.old.kept.header starting (log ++ log_of history.now)) }
+        ensures followed { (starting : List StartWord) (log : List Entry)
+            → HasFollowed self.old starting log
+            → OnOk result (HasFollowed self.new starting (log ++ log_of history.now)) }
         ensures so_far { IfOk result (λ v. self.new.so_far ≡ v) }
         ensures stays { OnErr result (self.new.so_far ≡ self.old.so_far) }
         ensures has_failed { OnErr result (self.new.has_failed ≡ true) }
@@ -214,7 +235,9 @@ impl<S: Spec> Judge<S> {
 
     /// The verdict about the whole log, given that `end` stands after the entries.
     pub fn finish(&self) -> Result<Verdict, AllocError>
-        ensures verdict { (starting : List StartWord) (log : List Entry) → HasFollowed self.now starting log → IfOk result (λ v. v ≡ verdict self.now.kept.header starting log) }
+        ensures verdict { (starting : List StartWord) (log : List Entry)
+            → HasFollowed self.now starting log
+            → IfOk result (λ v. v ≡ verdict self.now.kept.header starting log) }
         ensures has_failed { is_err result ≡ self.now.has_failed }
     {
         if self.has_failed {
@@ -229,8 +252,10 @@ impl<S: Spec> Judge<S> {
     /// The verdict if the text breaks a rule on this line: the one that stands, or otherwise that
     /// break.
     pub fn stop(&self, line: u64, rule: Rule) -> Result<Verdict, AllocError>
-        ensures verdict { (starting : List StartWord) (log : List Entry) → HasFollowed self.now starting log →
-            IfOk result (λ v. v ≡ unwrap_or (verdict_so_far self.now.kept.header starting log) (Malformed line rule)) }
+        ensures verdict { (starting : List StartWord) (log : List Entry)
+            → HasFollowed self.now starting log
+            → IfOk result (λ v. v
+            ≡ unwrap_or (verdict_so_far self.now.kept.header starting log) (Malformed line rule)) }
         ensures has_failed { is_err result ≡ self.now.has_failed }
     {
         if self.has_failed {

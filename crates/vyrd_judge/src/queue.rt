@@ -1,6 +1,8 @@
 //! The queue of the entries that wait.
 
-ghost use Rattle.std.specs.Prelude.{◌≡◌, ◌<◌, ◌≤◌, ◌+◌, ◌-◌, ◌^◌, ◌∷◌, ◌++◌, ◌&&◌, true, false, List, [], length, Some, None, IfOk, OnOk, slice_get, slice_set, vec_len};
+ghost use Rattle.std.specs.Prelude.{◌≡◌, ◌<◌, ◌≤◌, ◌+◌, ◌-◌, ◌^◌, ◌∷◌, ◌++◌, ◌&&◌, true, false};
+ghost use Rattle.std.specs.Prelude.{List, [], length, Some, None, IfOk, OnOk, slice_get, slice_set};
+ghost use Rattle.std.specs.Prelude.{vec_len};
 ghost use Rattle.std.specs.Bool.{then_some};
 ghost use Rattle.std.specs.List.{cons_option};
 ghost use Rattle.vyrd_base.specs.Shape.{is_observing};
@@ -19,8 +21,8 @@ use std::alloc::{AllocError, Global};
 use std::collections::VecDeque;
 use vyrd_base::{Args, Entry, Header, Kind, Method};
 
-/// The entries that wait to be judged, in their order. A commit is there from its entry on, and has its reply once its
-/// execution has returned.
+/// The entries that wait to be judged, in their order. A commit is there from its entry on, and has
+/// its reply once its execution has returned.
 #[derive(Drop)]
 pub(crate) struct Queue {
     pub header: Header,
@@ -35,7 +37,8 @@ pub(crate) struct Queue {
 impl Queue {
     /// Nothing waits.
     pub fn new(alloc: Global, header: Header) -> Result<Queue, AllocError>
-        ensures queued { IfOk result (λ q. HasQueued header q.waiting.items q.taken q.callers.items []) }
+        ensures queued { IfOk result
+            (λ q. HasQueued header q.waiting.items q.taken q.callers.items []) }
         ensures waiting { IfOk result (λ q. q.waiting.items ≡ []) }
         ensures header { IfOk result (λ q. q.header ≡ header) }
     {
@@ -56,11 +59,15 @@ impl Queue {
     /// that is judged; and if it is a mutator's return, its commit has the reply.
     #[inline(always)]
     pub fn follow(&mut self, entry: Entry, position: u64) -> Result<(), AllocError>
-        requires may { MayQueue self.old.header self.old.waiting.items self.old.taken self.old.callers.items entry position }
+        requires may { MayQueue self.old.header self.old.waiting.items self.old.taken
+            self.old.callers.items entry position }
         requires few { position < 2 ^ 62 }
-        ensures taken_up { (earlier : List Entry) → HasQueued self.old.header self.old.waiting.items self.old.taken self.old.callers.items earlier →
-            Keeps self.old.header earlier entry → position ≡ length earlier →
-            OnOk result (HasTakenUp self.old.header self.old.waiting.items self.new.waiting.items self.new.taken self.new.callers.items entry earlier) }
+        ensures taken_up { (earlier : List Entry)
+            → HasQueued self.old.header self.old.waiting.items self.old.taken self.old.callers.items
+            earlier
+            → Keeps self.old.header earlier entry → position ≡ length earlier
+            → OnOk result (HasTakenUp self.old.header self.old.waiting.items self.new.waiting.items
+            self.new.taken self.new.callers.items entry earlier) }
         ensures header { self.new.header ≡ self.old.header }
     {
         let caller = entry.caller;
@@ -85,9 +92,11 @@ impl Queue {
         args: Args,
     ) -> Result<(), AllocError>
         requires { caller < self.old.header.callers }
-        ensures callers { OnOk result (self.new.callers.items ≡ slice_set self.old.callers.items caller (record { method = method; args = args; commit = 0 })) }
-        ensures waiting { OnOk result (self.new.waiting.items ≡ self.old.waiting.items
-            ++ cons_option (then_some (is_observer method) (record { caller = caller; position = position; event = Begins method args })) []) }
+        ensures callers { OnOk result (self.new.callers.items ≡ slice_set self.old.callers.items
+            caller (record { method = method; args = args; commit = 0 })) }
+        ensures waiting { OnOk result (self.new.waiting.items
+            ≡ self.old.waiting.items ++ cons_option (then_some (is_observer method)
+            (record { caller = caller; position = position; event = Begins method args })) []) }
         ensures taken { OnOk result (self.new.taken ≡ self.old.taken) }
         ensures header { self.new.header ≡ self.old.header }
     {
@@ -111,10 +120,17 @@ impl Queue {
     fn commit(&mut self, caller: u32, position: u64) -> Result<(), AllocError>
         requires caller { caller < self.old.header.callers }
         requires few { self.old.taken + length self.old.waiting.items < 2 ^ 62 }
-        ensures callers { (called : Caller) → slice_get self.old.callers.items caller ≡ Some called →
-            OnOk result (self.new.callers.items ≡ slice_set self.old.callers.items caller (record called { commit = self.old.taken + length self.old.waiting.items })) }
-        ensures waiting { (called : Caller) → slice_get self.old.callers.items caller ≡ Some called → OnOk result (self.new.waiting.items
-            ≡ self.old.waiting.items ++ record { caller = caller; position = position; event = Commits called.method called.args None } ∷ []) }
+        ensures callers { (called : Caller) → slice_get self.old.callers.items caller ≡ Some called
+            → OnOk result (self.new.callers.items ≡ slice_set self.old.callers.items caller
+            (record called { commit = self.old.taken + length self.old.waiting.items })) }
+        ensures waiting { (called : Caller) → slice_get self.old.callers.items caller ≡ Some called
+            → OnOk result (self.new.waiting.items ≡ self.old.waiting.items
+            ++ record {
+              caller = caller;
+              position = position;
+              event = Commits called.method called.args None;
+            }
+            ∷ []) }
         ensures taken { OnOk result (self.new.taken ≡ self.old.taken) }
         ensures header { self.new.header ≡ self.old.header }
     {
@@ -137,13 +153,19 @@ impl Queue {
     #[inline(always)]
     fn give_back(&mut self, caller: u32, position: u64, reply: u64) -> Result<(), AllocError>
         requires caller { caller < self.old.header.callers }
-        requires pending { (called : Caller) → slice_get self.old.callers.items caller ≡ Some called → is_observer called.method ≡ false →
-            (self.old.taken ≤ called.commit) × (called.commit - self.old.taken < length self.old.waiting.items) }
-        ensures observer { (called : Caller) → slice_get self.old.callers.items caller ≡ Some called → is_observer called.method ≡ true →
-            OnOk result (self.new.waiting.items ≡ self.old.waiting.items ++ record { caller = caller; position = position; event = Returns reply } ∷ []) }
-        ensures mutator { (called : Caller) → slice_get self.old.callers.items caller ≡ Some called → is_observer called.method ≡ false →
-            (commit : Waiting) → slice_get self.old.waiting.items (called.commit - self.old.taken) ≡ Some commit →
-            OnOk result (self.new.waiting.items ≡ slice_set self.old.waiting.items (called.commit - self.old.taken)
+        requires pending { (called : Caller) → slice_get self.old.callers.items caller ≡ Some called
+            → is_observer called.method ≡ false
+            → (self.old.taken ≤ called.commit)
+            × (called.commit - self.old.taken < length self.old.waiting.items) }
+        ensures observer { (called : Caller) → slice_get self.old.callers.items caller ≡ Some called
+            → is_observer called.method ≡ true
+            → OnOk result (self.new.waiting.items ≡ self.old.waiting.items
+            ++ record { caller = caller; position = position; event = Returns reply } ∷ []) }
+        ensures mutator { (called : Caller) → slice_get self.old.callers.items caller ≡ Some called
+            → is_observer called.method ≡ false → (commit : Waiting)
+            → slice_get self.old.waiting.items (called.commit - self.old.taken) ≡ Some commit
+            → OnOk result (self.new.waiting.items
+            ≡ slice_set self.old.waiting.items (called.commit - self.old.taken)
             (record commit { event = Commits called.method called.args (Some reply) })) }
         ensures callers { OnOk result (self.new.callers.items ≡ self.old.callers.items) }
         ensures taken { OnOk result (self.new.taken ≡ self.old.taken) }
@@ -171,7 +193,8 @@ impl Queue {
     /// The first entry that waits.
     #[inline(always)]
     pub fn first(&self) -> Option<Waiting>
-        ensures some { (x : Waiting) → result ≡ Some x → (xs : List Waiting) × (self.now.waiting.items ≡ x ∷ xs) }
+        ensures some { (x : Waiting) → result ≡ Some x
+            → (xs : List Waiting) × (self.now.waiting.items ≡ x ∷ xs) }
         ensures none { result ≡ None → self.now.waiting.items ≡ [] }
     {
         self.waiting.front().copied()
@@ -181,8 +204,11 @@ impl Queue {
     #[inline(always)]
     pub fn observer_returns(&self, entry: Entry) -> bool
         requires { entry.caller < self.now.header.callers }
-        ensures { (earlier : List Entry) → HasQueued self.now.header self.now.waiting.items self.now.taken self.now.callers.items earlier →
-            Keeps self.now.header earlier entry → result ≡ (is_return entry.kind && is_observing entry.caller earlier) }
+        ensures { (earlier : List Entry)
+            → HasQueued self.now.header self.now.waiting.items self.now.taken self.now.callers.items
+            earlier
+            → Keeps self.now.header earlier entry
+            → result ≡ (is_return entry.kind && is_observing entry.caller earlier) }
     {
         let called = self.callers[entry.caller as usize];
         match entry.kind {
@@ -195,10 +221,13 @@ impl Queue {
     #[inline(always)]
     pub fn leave(&mut self)
         requires few { self.old.taken + 1 < 2 ^ 64 }
-        ensures left { (x : Waiting) (xs : List Waiting) (earlier : List Entry) → self.old.waiting.items ≡ x ∷ xs → CanLeave x →
-            HasQueued self.old.header self.old.waiting.items self.old.taken self.old.callers.items earlier →
-            HasQueued self.old.header xs self.new.taken self.new.callers.items earlier }
-        ensures waiting { (x : Waiting) (xs : List Waiting) → self.old.waiting.items ≡ x ∷ xs → self.new.waiting.items ≡ xs }
+        ensures left { (x : Waiting) (xs : List Waiting) (earlier : List Entry)
+            → self.old.waiting.items ≡ x ∷ xs → CanLeave x
+            → HasQueued self.old.header self.old.waiting.items self.old.taken self.old.callers.items
+            earlier
+            → HasQueued self.old.header xs self.new.taken self.new.callers.items earlier }
+        ensures waiting { (x : Waiting) (xs : List Waiting) → self.old.waiting.items ≡ x ∷ xs
+            → self.new.waiting.items ≡ xs }
         ensures header { self.new.header ≡ self.old.header }
     {
         let _ = self.waiting.pop_front();

@@ -1,6 +1,7 @@
 //! The part of a log that is judged.
 
-ghost use Rattle.std.specs.Prelude.{◌≡◌, ◌<◌, ◌^◌, ◌∷◌, ℕ, List, [], true, false, Some, None, Ok, IfOk, OnOk, slice_get, slice_set, length};
+ghost use Rattle.std.specs.Prelude.{◌≡◌, ◌<◌, ◌^◌, ◌∷◌, ℕ, List, [], true, false, Some, None, Ok};
+ghost use Rattle.std.specs.Prelude.{IfOk, OnOk, slice_get, slice_set, length};
 ghost use Rattle.vyrd_base.specs.declared.log.Entry.{Entry};
 ghost use Rattle.vyrd_base.specs.declared.log.StartWord.{StartWord};
 ghost use Rattle.vyrd_base.specs.Specification.{answer_in};
@@ -56,12 +57,13 @@ impl<S: Spec> Replay<S> {
         requires caller { caller < self.old.header.callers }
         requires allowed { has_method self.old.header method args ≡ true }
         requires observer { is_observer method ≡ true }
-        ensures watches { OnOk result (self.new.watches.by_caller ≡ slice_set self.old.watches.by_caller caller (record {
-          is_open = true;
-          method = method;
-          args = args;
-          answers = answer_in (S.state self.old.spec) method args ∷ [];
-        })) }
+        ensures watches { OnOk result (self.new.watches.by_caller
+            ≡ slice_set self.old.watches.by_caller caller (record {
+              is_open = true;
+              method = method;
+              args = args;
+              answers = answer_in (S.state self.old.spec) method args ∷ [];
+            })) }
         ensures header { self.new.header ≡ self.old.header }
         ensures spec { self.new.spec ≡ self.old.spec }
     {
@@ -73,15 +75,18 @@ impl<S: Spec> Replay<S> {
     #[inline(never)]
     fn end(&mut self, caller: u32, reply: u64) -> bool
         requires caller { caller < self.old.header.callers }
-        ensures answered { (seen : Seen) → slice_get self.old.watches.by_caller caller ≡ Some seen → result ≡ has_answer seen.answers reply }
-        ensures watches { self.new.watches.by_caller ≡ slice_set self.old.watches.by_caller caller unwatched }
+        ensures answered { (seen : Seen) → slice_get self.old.watches.by_caller caller ≡ Some seen
+            → result ≡ has_answer seen.answers reply }
+        ensures watches { self.new.watches.by_caller
+            ≡ slice_set self.old.watches.by_caller caller unwatched }
         ensures header { self.new.header ≡ self.old.header }
         ensures spec { self.new.spec ≡ self.old.spec }
     {
         self.watches.end(caller, reply)
     }
 
-    /// A commit is judged by its reply and by the words there, which wait first. What is open sees the state after it.
+    /// A commit is judged by its reply and by the words there, which wait first. What is open sees
+    /// the state after it.
     #[inline(never)]
     fn commit(
         &mut self,
@@ -96,10 +101,14 @@ impl<S: Spec> Replay<S> {
         requires few { S.made self.old.spec < 2 ^ 62 }
         requires current { AreCurrent (S.state self.old.spec) self.old.watches.by_caller }
         requires sound { views.old.refused ≡ false }
-        ensures leads { (part : List (ℕ × ℕ)) (rest : List (List (ℕ × ℕ))) → views.old.since ≡ part ∷ rest → views.old.specified ≡ S.state self.old.spec →
-            IfOk result (CommitLeads self.old.header views.old.first part rest (record { method = method; args = args }) reply (S.state self.old.spec)
-            (S.made self.old.spec) self.old.watches.by_caller (S.state self.new.spec) (S.made self.new.spec) self.new.watches.by_caller views.new.first views.new.since) }
-        ensures known { views.old.specified ≡ S.state self.old.spec → IfOk result (KnowsState views.new (S.state self.new.spec)) }
+        ensures leads { (part : List (ℕ × ℕ)) (rest : List (List (ℕ × ℕ)))
+            → views.old.since ≡ part ∷ rest → views.old.specified ≡ S.state self.old.spec
+            → IfOk result (CommitLeads self.old.header views.old.first part rest
+            (record { method = method; args = args }) reply (S.state self.old.spec)
+            (S.made self.old.spec) self.old.watches.by_caller (S.state self.new.spec)
+            (S.made self.new.spec) self.new.watches.by_caller views.new.first views.new.since) }
+        ensures known { views.old.specified ≡ S.state self.old.spec
+            → IfOk result (KnowsState views.new (S.state self.new.spec)) }
         ensures header { self.new.header ≡ self.old.header }
         ensures views_header { views.new.header ≡ views.old.header }
     {
@@ -120,14 +129,19 @@ impl<S: Spec> Replay<S> {
     #[inline(always)]
     pub fn judge(&mut self, views: &mut Views, x: Waiting) -> Result<Outcome, AllocError>
         requires header { views.old.header ≡ self.old.header }
-        requires may { MayJudge self.old.header (S.state self.old.spec) (S.made self.old.spec) self.old.watches.by_caller x views.old.first views.old.since }
+        requires may { MayJudge self.old.header (S.state self.old.spec) (S.made self.old.spec)
+            self.old.watches.by_caller x views.old.first views.old.since }
         requires sound { views.old.refused ≡ false }
-        ensures gives { (starting : List StartWord) (log : List Entry) (xs : List Waiting) →
-            Judged self.old.header starting log (S.state self.old.spec) (S.made self.old.spec) self.old.watches.by_caller (x ∷ xs) views.old.first views.old.since →
-            views.old.specified ≡ S.state self.old.spec →
-            IfOk result (HeadGives self.old.header starting log (S.state self.new.spec) (S.made self.new.spec) self.new.watches.by_caller x xs views.new.first views.new.since) }
+        ensures gives { (starting : List StartWord) (log : List Entry) (xs : List Waiting)
+            → Judged self.old.header starting log (S.state self.old.spec) (S.made self.old.spec)
+            self.old.watches.by_caller (x ∷ xs) views.old.first views.old.since
+            → views.old.specified ≡ S.state self.old.spec
+            → IfOk result (HeadGives self.old.header starting log (S.state self.new.spec)
+            (S.made self.new.spec) self.new.watches.by_caller x xs views.new.first
+            views.new.since) }
         ensures leaves { result ≡ Ok Goes → CanLeave x }
-        ensures known { views.old.specified ≡ S.state self.old.spec → IfOk result (KnowsState views.new (S.state self.new.spec)) }
+        ensures known { views.old.specified ≡ S.state self.old.spec
+            → IfOk result (KnowsState views.new (S.state self.new.spec)) }
         ensures header { self.new.header ≡ self.old.header }
         ensures views_header { views.new.header ≡ views.old.header }
     {

@@ -1,4 +1,5 @@
-//! The judge beside the plain judge, logs that begin with words, histories, and what a commit costs.
+//! The judge beside the plain judge, logs that begin with words, histories, and what a commit
+//! costs.
 
 ghost use Rattle.std.specs.Prelude.{◌≡◌, ◌≤◌, ◌<◌, ◌+◌, ◌^◌, true, length};
 ghost use Rattle.vyrd_base.specs.Starts.{may_start};
@@ -39,7 +40,8 @@ fn accepted(entries: u64, commits: u64, observers: u64) -> Verdict {
     }
 }
 
-/// Logs of a multiset of size 1 with two callers, each of both versions. Their verdicts are those of `examples/logs`.
+/// Logs of a multiset of size 1 with two callers, each of both versions. Their verdicts are those
+/// of `examples/logs`.
 #[test]
 fn judges_agree_on_a_multiset(rt: HostRuntime) -> Result<(), Fail> {
     assert!(rt; agree_on(rt.alloc(), &insert_with_its_writes())?);
@@ -91,7 +93,8 @@ fn agree_on(alloc: Global, entries: &[Entry]) -> Result<bool, AllocError>
     Ok(true)
 }
 
-/// Whether the judge answers at each entry, and at the end, what the plain judge knows of the entries up to there.
+/// Whether the judge answers at each entry, and at the end, what the plain judge knows of the
+/// entries up to there.
 fn judges_agree<S: Spec>(
     alloc: Global,
     header: Header,
@@ -114,7 +117,10 @@ fn judges_agree<S: Spec>(
 }
 
 fn insert_with_its_writes() -> [Entry; 7] {
-    logged![0 INSERT, 0 Write(1, 5), 0 Write(0, 1), 0 BlockOpen, 0 Write(0, 2), 0 BlockCommit, 0 Return(1)]
+    logged![
+        0 INSERT, 0 Write(1, 5), 0 Write(0, 1), 0 BlockOpen, 0 Write(0, 2), 0 BlockCommit,
+        0 Return(1)
+    ]
 }
 
 fn insert_without_its_writes() -> [Entry; 3] {
@@ -166,7 +172,9 @@ fn cut_before_end() -> [Entry; 4] {
 }
 
 fn commit_before_its_write() -> [Entry; 7] {
-    logged![0 INSERT, 0 Write(1, 5), 0 BlockOpen, 0 Commit, 0 Write(0, 2), 0 BlockClose, 0 Return(1)]
+    logged![
+        0 INSERT, 0 Write(1, 5), 0 BlockOpen, 0 Commit, 0 Write(0, 2), 0 BlockClose, 0 Return(1)
+    ]
 }
 
 fn another_commit_between() -> [Entry; 10] {
@@ -176,15 +184,18 @@ fn another_commit_between() -> [Entry; 10] {
     ]
 }
 
-/// A write to the cache outside a block, with another caller's flush in its middle: the flush copies a torn pair.
+/// A write to the cache outside a block, with another caller's flush in its middle: the flush
+/// copies a torn pair.
 fn write_behind_a_flush() -> [Entry; 19] {
     let early = Call(Method::CaWrite, Args { a: 0, b: 1, c: 2 });
     let late = Call(Method::CaWrite, Args { a: 0, b: 3, c: 4 });
     let flush = Call(Method::CaFlush, Args { a: 0, b: 0, c: 0 });
     logged![
-        0 early, 0 BlockOpen, 0 Write(1, 1), 0 Write(2, 2), 0 Write(0, 2), 0 BlockCommit, 0 Return(1),
+        0 early, 0 BlockOpen, 0 Write(1, 1), 0 Write(2, 2), 0 Write(0, 2), 0 BlockCommit,
+        0 Return(1),
         0 late, 0 Write(1, 3),
-        1 flush, 1 BlockOpen, 1 Write(3, 3), 1 Write(4, 2), 1 Write(0, 1), 1 BlockCommit, 1 Return(1),
+        1 flush, 1 BlockOpen, 1 Write(3, 3), 1 Write(4, 2), 1 Write(0, 1), 1 BlockCommit,
+        1 Return(1),
         0 Write(2, 4), 0 Commit, 0 Return(1)
     ]
 }
@@ -195,7 +206,8 @@ fn absent_insert_replies_2() -> [Entry; 3] {
     logged![0 insert, 0 Commit, 0 Return(2)]
 }
 
-/// A call before the first append, one between the two, and one after both. Then they return in this order.
+/// A call before the first append, one between the two, and one after both. Then they return in
+/// this order.
 fn three_lengths(replies: [u64; 3]) -> [Entry; 18] {
     logged![
         1 LENGTH,
@@ -206,7 +218,8 @@ fn three_lengths(replies: [u64; 3]) -> [Entry; 18] {
     ]
 }
 
-/// A value that stands there at the start is deleted. In two buckets it stands in one that isn't its own.
+/// A value that stands there at the start is deleted. In two buckets it stands in one that isn't
+/// its own.
 #[test]
 fn a_start_is_a_state_or_none(rt: HostRuntime) -> Result<(), Fail> {
     let one = Header::new(2, Subject::Multiset, 1, 1).ok_or("no header")?;
@@ -270,8 +283,9 @@ fn did(number: u64, did: Did) -> Stamped {
     }
 }
 
-/// 4,096 values in 1,024 buckets, and then 500,000 rounds that delete one of them and insert it again. A judge that takes both
-/// views whole at each commit looks at more than four thousand million slots here.
+/// 4,096 values in 1,024 buckets, and then 500,000 rounds that delete one of them and insert it
+/// again. A judge that takes both views whole at each commit looks at more than four thousand
+/// million slots here.
 #[test]
 fn a_commit_costs_what_it_changed(rt: HostRuntime) -> Result<(), Fail> {
     let header = Header::new(1, Subject::Multiset, 1024, 1).ok_or("no header")?;

@@ -1,6 +1,7 @@
 //! A question that observers ask.
 
-ghost use Rattle.std.specs.Prelude.{◌≡◌, ◌≤◌, ◌<◌, ◌∷◌, ◌==◌, ◌&&◌, [], false, true, length, drop, OnOk, OnErr};
+ghost use Rattle.std.specs.Prelude.{◌≡◌, ◌≤◌, ◌<◌, ◌∷◌, ◌==◌, ◌&&◌, [], false, true, length, drop};
+ghost use Rattle.std.specs.Prelude.{OnOk, OnErr};
 ghost use Rattle.std.specs.List.{list_any};
 ghost use Rattle.vyrd_spec.specs.Touching.{is_touched};
 ghost use Rattle.vyrd_judge.specs.Trails.{with_answer};
@@ -29,7 +30,13 @@ impl Model for Trail {
 
     ghost Value = { Asked };
 
-    ghost view = { λ t. record { is_asked = t.is_asked; method = t.method; args = t.args; latest = t.latest; others = t.others.items } };
+    ghost view = { λ t. record {
+      is_asked = t.is_asked;
+      method = t.method;
+      args = t.args;
+      latest = t.latest;
+      others = t.others.items;
+    } };
 }
 
 impl Trail {
@@ -48,7 +55,13 @@ impl Trail {
 
     /// It is asked for the first time, in a state that answers this.
     pub fn begin(&mut self, method: Method, args: Args, answer: u64)
-        ensures { self.new ≡ record { is_asked = true; method = method; args = args; latest = answer; others = [] } }
+        ensures { self.new ≡ record {
+          is_asked = true;
+          method = method;
+          args = args;
+          latest = answer;
+          others = [];
+        } }
     {
         self.is_asked = true;
         self.method = method;
@@ -74,7 +87,9 @@ impl Trail {
 
     /// Whether it is asked, it is this question, and the last state answers this.
     pub fn is(&self, method: Method, args: Args, answer: u64) -> bool
-        ensures { result ≡ true → (self.now.is_asked ≡ true) × (self.now.method ≡ method) × (self.now.args ≡ args) × (self.now.latest ≡ answer) }
+        ensures { result ≡ true
+            → (self.now.is_asked ≡ true) × (self.now.method ≡ method) × (self.now.args ≡ args)
+            × (self.now.latest ≡ answer) }
     {
         self.is_asked && self.method == method && self.args == args && self.latest == answer
     }

@@ -1,6 +1,7 @@
 //! The questions that observers ask.
 
-ghost use Rattle.std.specs.Prelude.{◌≡◌, ◌<◌, true, false, List, Option, Some, map, slice_get, IfOk, OnOk, OnErr, IfSome};
+ghost use Rattle.std.specs.Prelude.{◌≡◌, ◌<◌, true, false, List, Option, Some, map, slice_get};
+ghost use Rattle.std.specs.Prelude.{IfOk, OnOk, OnErr, IfSome};
 ghost use Rattle.vyrd_base.specs.declared.header.Header.{Header};
 ghost use Rattle.vyrd_base.specs.Subjects.{is_observer};
 ghost use Rattle.vyrd_judge.specs.declared.watch.Watch.{Watch};
@@ -14,7 +15,8 @@ use vyrd_spec::{Spec, Touched};
 
 /// The trail of a question that the last state answers in this way, if it is asked.
 fn find(trails: &[Trail], method: Method, args: Args, answer: u64) -> Option<usize>
-    ensures { IfSome result (λ i. (t : Asked) × (slice_get trails.now i ≡ Some t) × (t.is_asked ≡ true) × (t.method ≡ method) × (t.args ≡ args) × (t.latest ≡ answer)) }
+    ensures { IfSome result (λ i. (t : Asked) × (slice_get trails.now i ≡ Some t)
+        × (t.is_asked ≡ true) × (t.method ≡ method) × (t.args ≡ args) × (t.latest ≡ answer)) }
 {
     for i in 0..trails.len() {
         if trails[i].is(method, args, answer) {
@@ -26,7 +28,8 @@ fn find(trails: &[Trail], method: Method, args: Args, answer: u64) -> Option<usi
 
 /// The first trail that isn't asked.
 fn find_free(trails: &[Trail]) -> Option<usize>
-    ensures { IfSome result (λ i. (t : Asked) × (slice_get trails.now i ≡ Some t) × (t.is_asked ≡ false)) }
+    ensures { IfSome result
+        (λ i. (t : Asked) × (slice_get trails.now i ≡ Some t) × (t.is_asked ≡ false)) }
 {
     for i in 0..trails.len() {
         if !trails[i].is_asked() {
@@ -38,7 +41,8 @@ fn find_free(trails: &[Trail]) -> Option<usize>
 
 /// A trail that isn't asked. One more is made if all are.
 fn free(alloc: Global, trails: &mut Vec<Trail>) -> Result<usize, AllocError>
-    ensures free { IfOk result (λ i. (t : Asked) × (slice_get trails.new.items i ≡ Some t) × (t.is_asked ≡ false)) }
+    ensures free { IfOk result
+        (λ i. (t : Asked) × (slice_get trails.new.items i ≡ Some t) × (t.is_asked ≡ false)) }
     ensures kept { KeepsAsked trails.old.items trails.new.items }
     ensures asking { (h : Header) → AreAsking h trails.old.items → AreAsking h trails.new.items }
 {
@@ -60,9 +64,12 @@ pub(crate) fn ask(
     args: Args,
     answer: u64,
 ) -> Result<usize, AllocError>
-    ensures asked { IfOk result (λ i. (t : Asked) × (slice_get trails.new.items i ≡ Some t) × (t.is_asked ≡ true) × (t.method ≡ method) × (t.args ≡ args) × (t.latest ≡ answer)) }
+    ensures asked { IfOk result (λ i. (t : Asked) × (slice_get trails.new.items i ≡ Some t)
+        × (t.is_asked ≡ true) × (t.method ≡ method) × (t.args ≡ args) × (t.latest ≡ answer)) }
     ensures kept { KeepsAsked trails.old.items trails.new.items }
-    ensures asking { (h : Header) → has_method h method args ≡ true → is_observer method ≡ true → AreAsking h trails.old.items → AreAsking h trails.new.items }
+    ensures asking { (h : Header) → has_method h method args ≡ true → is_observer method ≡ true
+        → AreAsking h trails.old.items
+        → AreAsking h trails.new.items }
 {
     if let Some(i) = find(trails, method, args, answer) {
         return Ok(i);
@@ -72,10 +79,11 @@ pub(crate) fn ask(
     Ok(i)
 }
 
-/// A question that is asked gets the answer of the specification's state too, which differs from the one before in the touched
-/// keys alone.
+/// A question that is asked gets the answer of the specification's state too, which differs from
+/// the one before in the touched keys alone.
 fn see<S: Spec>(trail: &mut Trail, spec: &S, touched: Touched) -> Result<(), AllocError>
-    requires allowed { trail.old.is_asked ≡ true → has_method (S.header_of spec.now) trail.old.method trail.old.args ≡ true }
+    requires allowed { trail.old.is_asked ≡ true
+        → has_method (S.header_of spec.now) trail.old.method trail.old.args ≡ true }
     requires observer { trail.old.is_asked ≡ true → is_observer trail.old.method ≡ true }
     requires subject { (S.header_of spec.now).subject ≡ S.subject }
     ensures saw { OnOk result (trail.new ≡ after_state touched (S.state spec.now) trail.old) }
@@ -95,9 +103,11 @@ pub(crate) fn see_all<S: Spec>(
 ) -> Result<(), AllocError>
     requires asking { AreAsking (S.header_of spec.now) trails.old.items }
     requires subject { (S.header_of spec.now).subject ≡ S.subject }
-    ensures saw { OnOk result (trails.new.items ≡ map (after_state touched (S.state spec.now)) trails.old.items) }
+    ensures saw { OnOk result
+        (trails.new.items ≡ map (after_state touched (S.state spec.now)) trails.old.items) }
     ensures asking { AreAsking (S.header_of spec.now) trails.new.items }
-    ensures on { (watches : List (Option Watch)) → AreOn trails.old.items watches → AreOn trails.new.items watches }
+    ensures on { (watches : List (Option Watch)) → AreOn trails.old.items watches
+        → AreOn trails.new.items watches }
 {
     for i in 0..trails.len() {
         see(&mut trails[i], spec, touched)?;

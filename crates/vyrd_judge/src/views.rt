@@ -1,7 +1,9 @@
 //! The words at the commits that wait, and what they show.
 
 ghost use Rattle.std.specs.VecDeque.{deque_len, deque_capacity};
-ghost use Rattle.std.specs.Prelude.{◌≡◌, ◌<◌, ◌≤◌, ◌^◌, ◌+◌, ◌++◌, ℕ, false, List, [], ◌∷◌, length, map, take, drop, sum, insert, replicate, slice_set, slice_index, Some, IfOk, OnOk, vec_len, vec_capacity, All};
+ghost use Rattle.std.specs.Prelude.{◌≡◌, ◌<◌, ◌≤◌, ◌^◌, ◌+◌, ◌++◌, ℕ, false, List, [], ◌∷◌, length};
+ghost use Rattle.std.specs.Prelude.{map, take, drop, sum, insert, replicate, slice_set};
+ghost use Rattle.std.specs.Prelude.{slice_index, Some, IfOk, OnOk, vec_len, vec_capacity, All};
 ghost use Rattle.vyrd_base.specs.Amounts.{with_amount, first_difference as least_difference};
 ghost use Rattle.std.specs.Result.{is_err};
 ghost use Rattle.vyrd_base.specs.Layout.{plain_words};
@@ -19,11 +21,12 @@ use vyrd_base::{Header, View};
 use vyrd_spec::{Spec, Touched};
 use vyrd_view::{Compared, Steps};
 
-/// How many changed words are kept before they are compared, so that their list doesn't grow with the log.
+/// How many changed words are kept before they are compared, so that their list doesn't grow with
+/// the log.
 const MOST_CHANGED: usize = 1024;
 
-/// The words at the last commit that was compared, and the writes that took effect since then, up to each commit that waits
-/// and after the last of them.
+/// The words at the last commit that was compared, and the writes that took effect since then, up
+/// to each commit that waits and after the last of them.
 #[derive(Drop)]
 pub(crate) struct Views {
     header: Header,
@@ -69,7 +72,8 @@ impl Views {
         requires all { length words.now ≡ plain_words header }
         requires values { (w : ℕ) → slice_index words.now w < 2 ^ 63 }
         requires changed { All (λ w. w < plain_words header) changed.items }
-        requires elsewhere { AgreeElsewhere (replicate (plain_words header) 0) words.now changed.items }
+        requires elsewhere { AgreeElsewhere (replicate (plain_words header) 0) words.now
+            changed.items }
         ensures header { IfOk result (λ v. v.header ≡ header) }
         ensures first { IfOk result (λ v. v.first ≡ words.now) }
         ensures since { IfOk result (λ v. v.since ≡ []) }
@@ -106,8 +110,10 @@ impl Views {
         requires word { word < plain_words self.old.header }
         requires value { value < 2 ^ 63 }
         requires sound { self.old.refused ≡ false }
-        ensures first { OnOk result (self.new.first ≡ first_with 0 ((word, value) ∷ []) self.old.first self.old.since) }
-        ensures since { OnOk result (self.new.since ≡ with_part 0 ((word, value) ∷ []) self.old.since) }
+        ensures first { OnOk result
+            (self.new.first ≡ first_with 0 ((word, value) ∷ []) self.old.first self.old.since) }
+        ensures since { OnOk result
+            (self.new.since ≡ with_part 0 ((word, value) ∷ []) self.old.since) }
         ensures specified { OnOk result (self.new.specified ≡ self.old.specified) }
         ensures sound { OnOk result (self.new.refused ≡ false) }
         ensures header { self.new.header ≡ self.old.header }
@@ -158,8 +164,10 @@ impl Views {
         requires changed { All (λ w. w < plain_words self.old.header) changed.now }
         requires all { length words.now ≡ plain_words self.old.header }
         requires values { (w : ℕ) → slice_index words.now w < 2 ^ 63 }
-        ensures first { OnOk result (self.new.first ≡ first_with behind (written words.now changed.now) self.old.first self.old.since) }
-        ensures since { OnOk result (self.new.since ≡ with_part behind (written words.now changed.now) self.old.since) }
+        ensures first { OnOk result (self.new.first
+            ≡ first_with behind (written words.now changed.now) self.old.first self.old.since) }
+        ensures since { OnOk result
+            (self.new.since ≡ with_part behind (written words.now changed.now) self.old.since) }
         ensures specified { self.new.specified ≡ self.old.specified }
         ensures sound { self.new.refused ≡ self.old.refused }
         ensures header { self.new.header ≡ self.old.header }
@@ -192,9 +200,15 @@ impl Views {
     /// The first commit no longer waits: its words are those to be compared.
     #[inline(always)]
     fn advance(&mut self) -> Result<(), AllocError>
-        ensures base { (part : List (ℕ × ℕ)) (rest : List (List (ℕ × ℕ))) → self.old.since ≡ part ∷ rest → OnOk result (self.new.base ≡ self.old.first) }
-        ensures first { (part : List (ℕ × ℕ)) (rest : List (List (ℕ × ℕ))) → self.old.since ≡ part ∷ rest → OnOk result (self.new.first ≡ with_writes self.old.first part) }
-        ensures since { (part : List (ℕ × ℕ)) (rest : List (List (ℕ × ℕ))) → self.old.since ≡ part ∷ rest → OnOk result (self.new.since ≡ rest) }
+        ensures base { (part : List (ℕ × ℕ)) (rest : List (List (ℕ × ℕ)))
+            → self.old.since ≡ part ∷ rest
+            → OnOk result (self.new.base ≡ self.old.first) }
+        ensures first { (part : List (ℕ × ℕ)) (rest : List (List (ℕ × ℕ)))
+            → self.old.since ≡ part ∷ rest
+            → OnOk result (self.new.first ≡ with_writes self.old.first part) }
+        ensures since { (part : List (ℕ × ℕ)) (rest : List (List (ℕ × ℕ)))
+            → self.old.since ≡ part ∷ rest
+            → OnOk result (self.new.since ≡ rest) }
         ensures specified { self.new.specified ≡ self.old.specified }
         ensures sound { self.new.refused ≡ self.old.refused }
         ensures header { self.new.header ≡ self.old.header }
@@ -229,9 +243,9 @@ impl Views {
         Ok(())
     }
 
-    /// Compares what the words at the first commit that waits show with the specification's state after it: the least key where
-    /// they differ. That commit no longer waits then. The state differs from that of the last comparison in the touched keys
-    /// alone.
+    /// Compares what the words at the first commit that waits show with the specification's state
+    /// after it: the least key where they differ. That commit no longer waits then. The state
+    /// differs from that of the last comparison in the touched keys alone.
     #[inline(always)]
     pub fn difference<S: Spec>(
         &mut self,
@@ -239,12 +253,19 @@ impl Views {
         touched: Touched,
     ) -> Result<Option<u64>, AllocError>
         requires sound { self.old.refused ≡ false }
-        ensures difference { (part : List (ℕ × ℕ)) (rest : List (List (ℕ × ℕ))) → self.old.since ≡ part ∷ rest →
-            with_touched touched (S.state spec.now) self.old.specified ≡ S.state spec.now →
-            IfOk result (λ found. found ≡ least_difference (view_of_words self.old.header self.old.first) (S.state spec.now)) }
-        ensures first { (part : List (ℕ × ℕ)) (rest : List (List (ℕ × ℕ))) → self.old.since ≡ part ∷ rest → OnOk result (self.new.first ≡ with_writes self.old.first part) }
-        ensures since { (part : List (ℕ × ℕ)) (rest : List (List (ℕ × ℕ))) → self.old.since ≡ part ∷ rest → OnOk result (self.new.since ≡ rest) }
-        ensures specified { OnOk result (self.new.specified ≡ with_touched touched (S.state spec.now) self.old.specified) }
+        ensures difference { (part : List (ℕ × ℕ)) (rest : List (List (ℕ × ℕ)))
+            → self.old.since ≡ part ∷ rest
+            → with_touched touched (S.state spec.now) self.old.specified ≡ S.state spec.now
+            → IfOk result (λ found. found
+            ≡ least_difference (view_of_words self.old.header self.old.first) (S.state spec.now)) }
+        ensures first { (part : List (ℕ × ℕ)) (rest : List (List (ℕ × ℕ)))
+            → self.old.since ≡ part ∷ rest
+            → OnOk result (self.new.first ≡ with_writes self.old.first part) }
+        ensures since { (part : List (ℕ × ℕ)) (rest : List (List (ℕ × ℕ)))
+            → self.old.since ≡ part ∷ rest
+            → OnOk result (self.new.since ≡ rest) }
+        ensures specified { OnOk result
+            (self.new.specified ≡ with_touched touched (S.state spec.now) self.old.specified) }
         ensures sound { OnOk result (self.new.refused ≡ false) }
         ensures header { self.new.header ≡ self.old.header }
     {
@@ -259,7 +280,8 @@ impl Views {
     #[inline(always)]
     fn specify<S: Spec>(&mut self, spec: &S, key: Option<u64>) -> Result<(), AllocError>
         requires sound { self.old.refused ≡ false }
-        ensures specified { OnOk result (self.new.specified ≡ with_key key (S.state spec.now) self.old.specified) }
+        ensures specified { OnOk result
+            (self.new.specified ≡ with_key key (S.state spec.now) self.old.specified) }
         ensures sound { OnOk result (self.new.refused ≡ false) }
         ensures first { self.new.first ≡ self.old.first }
         ensures since { self.new.since ≡ self.old.since }
@@ -322,7 +344,8 @@ fn tell_amount<L: Ledger>(
     requires some { 0 < blank.parts }
     requires sound { compared.old.refused ≡ false }
     ensures refused { compared.new.refused ≡ is_err result }
-    ensures ok { OnOk result (compared.new ≡ record compared.old { specified = with_amount compared.old.specified key amount }) }
+    ensures ok { OnOk result (compared.new
+        ≡ record compared.old { specified = with_amount compared.old.specified key amount }) }
     ensures header { compared.new.header ≡ compared.old.header }
 {
     let mut steps = Steps::<L>::new(blank);
@@ -341,7 +364,8 @@ fn catch_up(
     requires in_range { AreInRange (vec_len words.old) writes.old.items }
     requires room { vec_len changed.old + count ≤ vec_capacity changed.old }
     ensures words { words.new.items ≡ with_writes words.old.items (take count writes.old.items) }
-    ensures changed { changed.new.items ≡ changed.old.items ++ map (λ write. write.0) (take count writes.old.items) }
+    ensures changed { changed.new.items
+        ≡ changed.old.items ++ map (λ write. write.0) (take count writes.old.items) }
     ensures writes { writes.new.items ≡ drop count writes.old.items }
     ensures all { vec_len words.new ≡ vec_len words.old }
     ensures capacity { vec_capacity changed.old ≤ vec_capacity changed.new }
@@ -362,7 +386,8 @@ fn write_first(
     requires in_range { AreInRange (vec_len words.old) writes.old.items }
     requires room { vec_len changed.old + count ≤ vec_capacity changed.old }
     ensures words { words.new.items ≡ with_writes words.old.items (take count writes.old.items) }
-    ensures changed { changed.new.items ≡ changed.old.items ++ map (λ write. write.0) (take count writes.old.items) }
+    ensures changed { changed.new.items
+        ≡ changed.old.items ++ map (λ write. write.0) (take count writes.old.items) }
     ensures writes { writes.new.items ≡ drop count writes.old.items }
     ensures all { vec_len words.new ≡ vec_len words.old }
     ensures capacity { vec_capacity changed.old ≤ vec_capacity changed.new }
@@ -394,7 +419,8 @@ fn put(writes: &mut VecDeque<(u32, u64)>, place: usize, changed: &[u32], words: 
     requires place { place ≤ length writes.old.items }
     requires room { deque_len writes.old + length changed.now ≤ deque_capacity writes.old }
     requires changed { All (λ w. w < length words.now) changed.now }
-    ensures writes { writes.new.items ≡ take place writes.old.items ++ written words.now changed.now ++ drop place writes.old.items }
+    ensures writes { writes.new.items ≡ take place writes.old.items ++ written words.now changed.now
+        ++ drop place writes.old.items }
 {
     for (i, word) in changed.iter().enumerate() {
         put_one(writes, place + i, *word, words[*word as usize]);

@@ -1,6 +1,7 @@
 //! What is known of the open observers of all callers.
 
-ghost use Rattle.std.specs.Prelude.{◌≡◌, ◌<◌, ◌∷◌, ℕ, [], true, false, Some, None, IfOk, OnOk, length, replicate, slice_get, slice_set};
+ghost use Rattle.std.specs.Prelude.{◌≡◌, ◌<◌, ◌∷◌, ℕ, [], true, false, Some, None, IfOk, OnOk};
+ghost use Rattle.std.specs.Prelude.{length, replicate, slice_get, slice_set};
 ghost use Rattle.vyrd_base.specs.Specification.{answer_in};
 ghost use Rattle.vyrd_base.specs.Subjects.{is_observer};
 ghost use Rattle.vyrd_plain.specs.Entries.{has_method};
@@ -34,9 +35,11 @@ impl Model for Watches {
 
     ghost Value = { Watched };
 
-    ghost view = { λ w. record { header = w.header; by_caller = map (seen_by w.trails.items) w.by_caller.items } };
+    ghost view = { λ w.
+        record { header = w.header; by_caller = map (seen_by w.trails.items) w.by_caller.items } };
 
-    ghost invariant = { λ w. AreOn w.trails.items w.by_caller.items × AreAsking w.header w.trails.items };
+    ghost invariant = { λ w. AreOn w.trails.items w.by_caller.items
+        × AreAsking w.header w.trails.items };
 }
 
 impl Watches {
@@ -44,7 +47,8 @@ impl Watches {
     pub fn new(alloc: Global, header: Header) -> Result<Watches, AllocError>
         ensures header { IfOk result (λ w. w.header ≡ header) }
         ensures len { IfOk result (λ w. length w.by_caller ≡ header.callers) }
-        ensures closed { IfOk result (λ w. (c : ℕ) (seen : Seen) → slice_get w.by_caller c ≡ Some seen → seen.is_open ≡ false) }
+        ensures closed { IfOk result (λ w. (c : ℕ) (seen : Seen)
+            → slice_get w.by_caller c ≡ Some seen → seen.is_open ≡ false) }
     {
         Ok(Watches {
             alloc,
@@ -54,7 +58,8 @@ impl Watches {
         })
     }
 
-    /// An observer begins in a state that answers this. It takes time in proportion to the different questions that are asked.
+    /// An observer begins in a state that answers this. It takes time in proportion to the
+    /// different questions that are asked.
     pub fn begin(
         &mut self,
         caller: u32,
@@ -65,12 +70,8 @@ impl Watches {
         requires caller { caller < length self.old.by_caller }
         requires allowed { has_method self.old.header method args ≡ true }
         requires observer { is_observer method ≡ true }
-        ensures watches { OnOk result (self.new.by_caller ≡ slice_set self.old.by_caller caller (record {
-          is_open = true;
-          method = method;
-          args = args;
-          answers = answer ∷ [];
-        })) }
+        ensures watches { OnOk result (self.new.by_caller ≡ slice_set self.old.by_caller caller
+            (record { is_open = true; method = method; args = args; answers = answer ∷ [] })) }
         ensures header { self.new.header ≡ self.old.header }
         ensures len { length self.new.by_caller ≡ length self.old.by_caller }
     {
@@ -82,11 +83,12 @@ impl Watches {
         Ok(())
     }
 
-    /// An observer returns. It says whether some state since its call answers the reply. It takes time in proportion to the
-    /// callers and to the answers of its trail.
+    /// An observer returns. It says whether some state since its call answers the reply. It takes
+    /// time in proportion to the callers and to the answers of its trail.
     pub fn end(&mut self, caller: u32, reply: u64) -> bool
         requires caller { caller < length self.old.by_caller }
-        ensures answered { (seen : Seen) → slice_get self.old.by_caller caller ≡ Some seen → result ≡ has_answer seen.answers reply }
+        ensures answered { (seen : Seen) → slice_get self.old.by_caller caller ≡ Some seen
+            → result ≡ has_answer seen.answers reply }
         ensures watches { self.new.by_caller ≡ slice_set self.old.by_caller caller unwatched }
         ensures header { self.new.header ≡ self.old.header }
         ensures len { length self.new.by_caller ≡ length self.old.by_caller }
@@ -102,14 +104,17 @@ impl Watches {
         }
     }
 
-    /// Every open observer sees the specification's state too, which differs from the one before in the touched keys alone. It
-    /// takes time in proportion to the different questions that are asked.
+    /// Every open observer sees the specification's state too, which differs from the one before in
+    /// the touched keys alone. It takes time in proportion to the different questions that are
+    /// asked.
     pub fn see_all<S: Spec>(&mut self, spec: &S, touched: Touched) -> Result<(), AllocError>
         requires header { S.header_of spec.now ≡ self.old.header }
         requires subject { self.old.header.subject ≡ S.subject }
-        requires current { (c : ℕ) (seen : Seen) → slice_get self.old.by_caller c ≡ Some seen → seen.is_open ≡ true →
-            is_touched touched seen.args.a ≡ false → has_answer seen.answers (answer_in (S.state spec.now) seen.method seen.args) ≡ true }
-        ensures seen { OnOk result (AllSee (S.state spec.now) self.old.by_caller self.new.by_caller) }
+        requires current { (c : ℕ) (seen : Seen) → slice_get self.old.by_caller c ≡ Some seen
+            → seen.is_open ≡ true → is_touched touched seen.args.a ≡ false
+            → has_answer seen.answers (answer_in (S.state spec.now) seen.method seen.args) ≡ true }
+        ensures seen { OnOk result
+            (AllSee (S.state spec.now) self.old.by_caller self.new.by_caller) }
         ensures current { OnOk result (AreCurrent (S.state spec.now) self.new.by_caller) }
         ensures header { self.new.header ≡ self.old.header }
         ensures len { length self.new.by_caller ≡ length self.old.by_caller }

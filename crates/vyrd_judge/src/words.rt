@@ -1,6 +1,7 @@
 //! The words of a log, and what of them waits to be compared.
 
-ghost use Rattle.std.specs.Prelude.{◌≡◌, ◌<◌, ◌^◌, ℕ, false, List, [], length, slice_index, IfOk, OnOk, replicate, vec_len, All};
+ghost use Rattle.std.specs.Prelude.{◌≡◌, ◌<◌, ◌^◌, ℕ, false, List, [], length, slice_index, IfOk};
+ghost use Rattle.std.specs.Prelude.{OnOk, replicate, vec_len, All};
 ghost use Rattle.vyrd_base.specs.declared.log.Entry.{Entry};
 ghost use Rattle.vyrd_base.specs.declared.log.StartWord.{StartWord};
 ghost use Rattle.vyrd_base.specs.Commits.{commit_count};
@@ -15,7 +16,8 @@ use std::alloc::{AllocError, Global};
 use vyrd_base::{Entry, Header, Kind, View};
 use vyrd_shadow::Shadow;
 
-/// The words after the entries so far, with what open blocks keep back, and the words at the commits that wait.
+/// The words after the entries so far, with what open blocks keep back, and the words at the
+/// commits that wait.
 #[derive(Drop)]
 pub(crate) struct Words {
     pub shadow: Shadow,
@@ -40,7 +42,8 @@ impl Words {
         requires all { length words.now ≡ plain_words header }
         requires values { All (λ value. value < 2 ^ 63) words.now }
         requires changed { All (λ w. w < plain_words header) changed.items }
-        requires elsewhere { AgreeElsewhere (replicate (plain_words header) 0) words.now changed.items }
+        requires elsewhere { AgreeElsewhere (replicate (plain_words header) 0) words.now
+            changed.items }
         ensures words { (starting : List StartWord) → words.now ≡ words_at_start header starting →
             IfOk result (λ w. HasWords w.shadow w.inner.items starting []) }
         ensures header { IfOk result (λ w. w.shadow.header ≡ header) }
@@ -65,9 +68,11 @@ impl Words {
         requires may { MayFollow self.old.shadow self.old.inner.items entry commits }
         requires few { commits < 2 ^ 62 }
         requires sound { self.old.views.refused ≡ false }
-        ensures taken { (starting : List StartWord) (earlier : List Entry) → HasWords self.old.shadow self.old.inner.items starting earlier →
-            Keeps self.old.shadow.header earlier entry → commits ≡ commit_count earlier →
-            OnOk result (HasTaken self.new.shadow self.new.inner.items self.old.views self.new.views starting entry earlier) }
+        ensures taken { (starting : List StartWord) (earlier : List Entry)
+            → HasWords self.old.shadow self.old.inner.items starting earlier
+            → Keeps self.old.shadow.header earlier entry → commits ≡ commit_count earlier
+            → OnOk result (HasTaken self.new.shadow self.new.inner.items self.old.views
+            self.new.views starting entry earlier) }
         ensures specified { OnOk result (self.new.views.specified ≡ self.old.views.specified) }
         ensures sound { OnOk result (self.new.views.refused ≡ false) }
         ensures header { self.new.shadow.header ≡ self.old.shadow.header }
@@ -111,8 +116,11 @@ impl Words {
     fn pass_on(&mut self) -> Result<(), AllocError>
         requires { self.old.views.refused ≡ false }
         ensures within { All (λ w. w < plain_words self.old.shadow.header) self.old.shadow.changed }
-        ensures first { OnOk result (self.new.views.first ≡ first_with 0 (written self.old.shadow.words self.old.shadow.changed) self.old.views.first self.old.views.since) }
-        ensures since { OnOk result (self.new.views.since ≡ with_part 0 (written self.old.shadow.words self.old.shadow.changed) self.old.views.since) }
+        ensures first { OnOk result (self.new.views.first
+            ≡ first_with 0 (written self.old.shadow.words self.old.shadow.changed)
+            self.old.views.first self.old.views.since) }
+        ensures since { OnOk result (self.new.views.since ≡ with_part 0
+            (written self.old.shadow.words self.old.shadow.changed) self.old.views.since) }
         ensures specified { OnOk result (self.new.views.specified ≡ self.old.views.specified) }
         ensures sound { OnOk result (self.new.views.refused ≡ false) }
         ensures views_header { self.new.views.header ≡ self.old.views.header }
@@ -131,8 +139,11 @@ impl Words {
         requires some { 0 < behind }
         requires sound { self.old.views.refused ≡ false }
         ensures within { All (λ w. w < plain_words self.old.shadow.header) self.old.shadow.changed }
-        ensures first { OnOk result (self.new.views.first ≡ first_with behind (written self.old.shadow.words self.old.shadow.changed) self.old.views.first self.old.views.since) }
-        ensures since { OnOk result (self.new.views.since ≡ with_part behind (written self.old.shadow.words self.old.shadow.changed) self.old.views.since) }
+        ensures first { OnOk result (self.new.views.first
+            ≡ first_with behind (written self.old.shadow.words self.old.shadow.changed)
+            self.old.views.first self.old.views.since) }
+        ensures since { OnOk result (self.new.views.since ≡ with_part behind
+            (written self.old.shadow.words self.old.shadow.changed) self.old.views.since) }
         ensures specified { OnOk result (self.new.views.specified ≡ self.old.views.specified) }
         ensures sound { OnOk result (self.new.views.refused ≡ false) }
         ensures views_header { self.new.views.header ≡ self.old.views.header }
@@ -154,8 +165,10 @@ fn give(views: &mut Views, changed: &[u32], words: &[u64]) -> Result<(), AllocEr
     requires all { length words.now ≡ plain_words views.old.header }
     requires values { (w : ℕ) → slice_index words.now w < 2 ^ 63 }
     requires sound { views.old.refused ≡ false }
-    ensures first { OnOk result (views.new.first ≡ first_with 0 (written words.now changed.now) views.old.first views.old.since) }
-    ensures since { OnOk result (views.new.since ≡ with_part 0 (written words.now changed.now) views.old.since) }
+    ensures first { OnOk result (views.new.first
+        ≡ first_with 0 (written words.now changed.now) views.old.first views.old.since) }
+    ensures since { OnOk result
+        (views.new.since ≡ with_part 0 (written words.now changed.now) views.old.since) }
     ensures specified { OnOk result (views.new.specified ≡ views.old.specified) }
     ensures sound { OnOk result (views.new.refused ≡ false) }
     ensures header { views.new.header ≡ views.old.header }

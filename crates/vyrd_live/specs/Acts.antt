@@ -13,7 +13,8 @@ abbrev pub MayAct : Plan → HandView → Act → Type 0
 MayAct plan hand (Load cell) = cell < plan.plain
 MayAct plan hand (Store cell value) = (cell < plan.plain) × (value < 2 ^ 63)
 MayAct plan hand (Take lock) = (plan.plain ≤ lock) × (lock < plan.plain + plan.locks)
-MayAct plan hand (Give lock) = (plan.plain ≤ lock) × (lock < plan.plain + plan.locks) × Holds hand lock
+MayAct plan hand (Give lock) =
+    (plan.plain ≤ lock) × (lock < plan.plain + plan.locks) × Holds hand lock
 MayAct plan hand (Mark kind) = is_write kind ≡ false
 MayAct plan hand Done = ⊥
 

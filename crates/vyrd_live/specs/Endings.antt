@@ -13,7 +13,8 @@ HasEnded h limit script Finished events = PlaysToTheEnd script events × HadRoom
 HasEnded h limit script Spent events = StopsForRoom h limit script events
 HasEnded h limit script Memory events = ⊤
 
--- Of the first n endings none was for lack of memory, and this one is the first that was for lack of room, if there is one.
+-- Of the first n endings none was for lack of memory, and this one is the first that was for lack
+-- of room, if there is one.
 abbrev pub IsFirstSpent : List Ending → ℕ → Option ℕ → Type 0
 IsFirstSpent endings n None = (i : ℕ) → i < n → slice_index_or endings i Finished ≡ Finished
 IsFirstSpent endings n (Some first) = (first < n) × (slice_index_or endings first Finished ≡ Spent)

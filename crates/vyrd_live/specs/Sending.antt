@@ -5,9 +5,10 @@ use Rattle.vyrd_base.specs.declared.history.Stamped.{Stamped}
 use Rattle.vyrd_trace.specs.Hands.{HandView}
 use Rattle.vyrd_relay.specs.Ends.{RelayView, SenderView}
 
--- The sender, which is of this relay and of the hand's caller, has sent as many of the lane's first events as `place` says. All
--- events of the lane are the caller's.
-pub record HasSent (relay : RelayView) (sender : SenderView) (place : ℕ) (hand : HandView) : Type 0 where
+-- The sender, which is of this relay and of the hand's caller, has sent as many of the lane's first
+-- events as `place` says. All events of the lane are the caller's.
+pub record HasSent (relay : RelayView) (sender : SenderView) (place : ℕ)
+    (hand : HandView) : Type 0 where
   pub queue : sender.queue ≡ relay.queue
   pub caller : sender.caller ≡ hand.caller
   pub within : place ≤ length hand.lane

@@ -1,5 +1,7 @@
--- The events that a verifier has taken in, in the order in which they came, and what it keeps of them.
-use Rattle.std.specs.Prelude.{◌≡◌, ℕ, zero, suc, ◌<◌, ◌≤◌, ◌==◌, not, ◌&&◌, Bool, true, false, List, [], ◌∷◌, ◌++◌, Option, Some, None, is_some, if◌then◌else◌}
+-- The events that a verifier has taken in, in the order in which they came, and what it keeps of
+-- them.
+use Rattle.std.specs.Prelude.{◌≡◌, ℕ, zero, suc, ◌<◌, ◌≤◌, ◌==◌, not, ◌&&◌, Bool, true, false, List}
+use Rattle.std.specs.Prelude.{[], ◌∷◌, ◌++◌, Option, Some, None, is_some, if◌then◌else◌}
 use Rattle.std.specs.Option.{option_to_list}
 use Rattle.vyrd_base.specs.declared.header.Header.{Header}
 use Rattle.vyrd_base.specs.declared.history.Stamped.{Stamped}
@@ -17,8 +19,8 @@ abbrev pub in_order_below : ℕ → List Stamped → List Stamped
 in_order_below zero taken = []
 in_order_below (suc n) taken = in_order_below n taken ++ option_to_list (numbered n taken)
 
--- What contracts see of a verifier: the header, the judge, the events that it holds, and the number of the event that was refused
--- for lack of memory.
+-- What contracts see of a verifier: the header, the judge, the events that it holds, and the number
+-- of the event that was refused for lack of memory.
 pub record VerifierView : Type 0 where
   pub header : Header
   pub judge : JudgeView
@@ -48,12 +50,14 @@ pub record IsTaking (judge : JudgeView) (kept : Kept) (taken : List Stamped) : T
   pub in_hand : AreKept kept taken
   pub judged : HasFollowed judge [] (log_of (in_order_below kept.next taken))
 
--- `next` is the least number that no event taken in has. The events before it were judged, and the others are held.
+-- `next` is the least number that no event taken in has. The events before it were judged, and the
+-- others are held.
 pub record IsJudging (v : VerifierView) (taken : List Stamped) : Type 0 where
   pub taking : IsTaking v.judge v.kept taken
   pub missing : numbered v.kept.next taken ≡ None
 
--- The verifier has taken in these events. Their numbers are known also after memory was refused, and nothing else is then.
+-- The verifier has taken in these events. Their numbers are known also after memory was refused,
+-- and nothing else is then.
 pub record HasTakenIn (v : VerifierView) (taken : List Stamped) : Type 0 where
   pub known : (n : ℕ) → has_number v n ≡ is_some (numbered n taken)
   pub judging : has_failed v ≡ false → IsJudging v taken

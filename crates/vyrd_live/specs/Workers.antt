@@ -16,7 +16,8 @@ use Rattle.vyrd_live.specs.Working.{dids_of, IsMemoryOf}
 use Rattle.vyrd_live.specs.LiveRuns.{AllHadRoom, IsOverrun}
 
 -- a machine that hasn't begun, with the hand that it will be played on
-pub record IsFresh {M : Type 0} (header_of : M → Header) (script : M → Script) (traced : TracedView) (machine : M) (hand : HandView) : Type 0 where
+pub record IsFresh {M : Type 0} (header_of : M → Header) (script : M → Script)
+    (traced : TracedView) (machine : M) (hand : HandView) : Type 0 where
   pub hand_of : IsOf traced hand
   pub empty : hand.lane ≡ []
   pub between : is_between (script machine) ≡ true
@@ -36,10 +37,12 @@ pub record HasWorked {M : Type 0} (header_of : M → Header) (script : M → Scr
     (ending : Ending) : Type 0 where
   pub hand_of : IsOf traced after
   pub caller : after.caller ≡ before.caller
-  pub ended : HasEnded (header_of machine) traced.plan.limit (script machine) ending (dids_of after.lane)
+  pub ended : HasEnded (header_of machine) traced.plan.limit (script machine) ending
+      (dids_of after.lane)
   pub long : ending ≡ Spent → traced.plan.limit < ahead machine
 
--- how workers have played these scripts: all to the end, or until the limit ended the run at this caller
+-- how workers have played these scripts: all to the end, or until the limit ended the run at this
+-- caller
 abbrev pub HavePlayed : Header → ℕ → List Script → List Stamped → Option ℕ → Type 0
 HavePlayed h limit scripts history None = PlayToTheEnd scripts history × AllHadRoom h limit history
 HavePlayed h limit scripts history (Some caller) = IsOverrun h limit scripts caller history

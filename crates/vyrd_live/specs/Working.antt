@@ -30,7 +30,8 @@ pub record FitsHand (h : Header) (left : Script) (hand : HandView) : Type 0 wher
   pub sound : IsSound h situation left
   pub held : (lock : ℕ) → holds situation lock ≡ true → (plain_words h ≤ lock) × Holds hand lock
 
--- The hand's lane is what the script wants up to now, each operation in it began with room, and what is left can be played on.
+-- The hand's lane is what the script wants up to now, each operation in it began with room, and
+-- what is left can be played on.
 pub record IsWorking (h : Header) (script left : Script) (hand : HandView) : Type 0 where
   pub plays : Plays script (dids_of hand.lane)
   pub left_is : left ≡ left_after script (dids_of hand.lane)

@@ -12,8 +12,8 @@ use vyrd_memory::Act;
 use vyrd_relay::Relay;
 use vyrd_trace::{Hand, Traced};
 
-/// Does the act, and answers what it found: the value that was loaded, and 0 for any other act. It waits for as long as the act
-/// is busy, and sends what it can meanwhile.
+/// Does the act, and answers what it found: the value that was loaded, and 0 for any other act. It
+/// waits for as long as the act is busy, and sends what it can meanwhile.
 pub(crate) fn act<R: Wait>(
     rt: &R,
     traced: &Traced,

@@ -40,8 +40,10 @@ pub fn run_by_turns<M: WorkMachine>(alloc: Global, work: &Work) -> Result<Option
 fn machines_of<M: WorkMachine>(alloc: Global, work: &Work) -> Result<Vec<M>, AllocError>
     requires limits { KeepsLimits (workload_of work.now) }
     ensures count { IfOk result (λ machines. length machines.items ≡ work.now.header.callers) }
-    ensures header { IfOk result (λ machines. All (λ m. M.header_of m ≡ work.now.header) machines.items) }
-    ensures scripts { IfOk result (λ machines. map M.script machines.items ≡ work_scripts (workload_of work.now)) }
+    ensures header { IfOk result
+        (λ machines. All (λ m. M.header_of m ≡ work.now.header) machines.items) }
+    ensures scripts { IfOk result
+        (λ machines. map M.script machines.items ≡ work_scripts (workload_of work.now)) }
 {
     let mut machines = Vec::new(alloc);
     for caller in 0..work.header.callers() {

@@ -1,16 +1,20 @@
-//! Runs of a workload, judged: live ones, with the callers on threads of their own over one traced memory, and those by turns.
+//! Runs of a workload, judged: live ones, with the callers on threads of their own over one traced
+//! memory, and those by turns.
 //!
-//! The central call is [`run_live`]; [`run_by_turns`] is the same without threads, over plain memory. In a live run each
-//! caller's machine is played by a worker with a thread of its own, and what the workers leave is one legal history in which
-//! each caller's part plays the caller's script. A [`Run`] has this history, the memory at the end and the verdict about the
-//! history's log. [`judged`] adds the verdict to a history of any run.
+//! The central call is [`run_live`]; [`run_by_turns`] is the same without threads, over plain
+//! memory. In a live run each caller's machine is played by a worker with a thread of its own, and
+//! what the workers leave is one legal history in which each caller's part plays the caller's
+//! script. A [`Run`] has this history, the memory at the end and the verdict about the history's
+//! log. [`judged`] adds the verdict to a history of any run.
 //!
-//! A [`Verifier`] judges a history while its events come in, in whatever order. A live run has one beside its workers: they send
-//! their events through a relay as far as it has room, and what didn't reach the verifier is taken in once they have ended.
+//! A [`Verifier`] judges a history while its events come in, in whatever order. A live run has one
+//! beside its workers: they send their events through a relay as far as it has room, and what
+//! didn't reach the verifier is taken in once they have ended.
 //!
-//! What a run promises stands in `specs/`: `LiveRuns` and `TurnRuns` say what it leaves, and `Rooms` when a limit leaves room for
-//! an operation. No promise says that two threads ran at one time, or that the verifier judged
-//! anything before the workers ended; tests with gates speak of that.
+//! What a run promises stands in `specs/`: `LiveRuns` and `TurnRuns` say what it leaves, and
+//! `Rooms` when a limit leaves room for an operation. No promise says that two threads ran at one
+//! time, or that the verifier judged anything before the workers ended; tests with gates speak of
+//! that.
 #![tactic(auto)]
 
 mod acting;

@@ -58,12 +58,17 @@ pub fn run_live<R: Threads + Wait + Sync, G: Gate>(
 ) -> Result<Run, LiveFault>
     requires limit { limit ≤ most_events }
     requires limits { KeepsLimits (workload_of work.now) }
-    ensures legal { IfOk result (λ run. is_legal (cells_of work.now.header) run.history.items ≡ true) }
-    ensures parts { IfOk result (λ run. PlayToTheEnd (work_scripts (workload_of work.now)) run.history.items) }
-    ensures words { IfOk result (λ run. run.words.items ≡ memory_after work.now.header (newest_first run.history.items)) }
-    ensures verdict { IfOk result (λ run. run.verdict ≡ verdict work.now.header [] (log_of run.history.items)) }
+    ensures legal { IfOk result
+        (λ run. is_legal (cells_of work.now.header) run.history.items ≡ true) }
+    ensures parts { IfOk result
+        (λ run. PlayToTheEnd (work_scripts (workload_of work.now)) run.history.items) }
+    ensures words { IfOk result
+        (λ run. run.words.items ≡ memory_after work.now.header (newest_first run.history.items)) }
+    ensures verdict { IfOk result
+        (λ run. run.verdict ≡ verdict work.now.header [] (log_of run.history.items)) }
     ensures room { IfOk result (λ run. AllHadRoom work.now.header limit run.history.items) }
-    ensures cause { IfErr result (IsCause work.now.header limit (work_scripts (workload_of work.now))) }
+    ensures cause { IfErr result
+        (IsCause work.now.header limit (work_scripts (workload_of work.now))) }
     ensures too_low { IfErr result (IsTooLow (workload_of work.now) limit) }
     ensures every_schedule { IsCorrect (workload_of work.now) →
         IfOk result (λ run. run.verdict ≡ accepted (log_of run.history.items)) }
@@ -105,11 +110,16 @@ fn play<R: Threads + Wait + Sync, G: Gate, M: WorkMachine + Send>(
 ) -> Result<Played, AllocError>
     requires limit { limit ≤ most_events }
     requires limits { KeepsLimits (workload_of work.now) }
-    ensures legal { IfOk result (λ played. is_legal (cells_of work.now.header) played.history.items ≡ true) }
-    ensures words { IfOk result (λ played. played.words.items ≡ memory_after work.now.header (newest_first played.history.items)) }
-    ensures long { IfOk result (λ played. IfSome played.spent (λ caller. limit < bounds_of work.now.header (ops_of caller work.now.ops.items))) }
-    ensures played { IfOk result (λ played. HavePlayed work.now.header limit (work_scripts (workload_of work.now)) played.history.items played.spent) }
-    ensures verdict { IfOk result (λ played. IfSome played.verdict (λ v. v ≡ verdict work.now.header [] (log_of played.history.items))) }
+    ensures legal { IfOk result
+        (λ played. is_legal (cells_of work.now.header) played.history.items ≡ true) }
+    ensures words { IfOk result (λ played. played.words.items
+        ≡ memory_after work.now.header (newest_first played.history.items)) }
+    ensures long { IfOk result (λ played. IfSome played.spent
+        (λ caller. limit < bounds_of work.now.header (ops_of caller work.now.ops.items))) }
+    ensures played { IfOk result (λ played. HavePlayed work.now.header limit
+        (work_scripts (workload_of work.now)) played.history.items played.spent) }
+    ensures verdict { IfOk result (λ played. IfSome played.verdict
+        (λ v. v ≡ verdict work.now.header [] (log_of played.history.items))) }
 {
     let header = &work.header;
     let (traced, hands) = Traced::new(
@@ -132,7 +142,8 @@ fn workers_of<M: WorkMachine>(
     requires limits { KeepsLimits (workload_of work.now) }
     requires callers { All (λ h. h.caller < work.now.header.callers) hands.items }
     ensures hands { IfOk result (λ workers. map (λ w. w.hand) workers.items ≡ hands.items) }
-    ensures made { IfOk result (λ workers. All (λ w. IsWorkerOf M.header_of M.script M.ahead (workload_of work.now) w.machine w.hand) workers.items) }
+    ensures made { IfOk result (λ workers. All (λ w. IsWorkerOf M.header_of M.script M.ahead
+        (workload_of work.now) w.machine w.hand) workers.items) }
 {
     let mut workers = Vec::new(alloc);
     for hand in hands {

@@ -19,8 +19,8 @@ pub(crate) struct Outbox {
 }
 
 impl Outbox {
-    /// Sends the events of the lane that weren't sent yet, until one finds the relay full. It never waits for room, and some
-    /// calls after one that found none do nothing.
+    /// Sends the events of the lane that weren't sent yet, until one finds the relay full. It never
+    /// waits for room, and some calls after one that found none do nothing.
     pub(crate) fn send<R: Wait>(&mut self, rt: &R, relay: &Relay, hand: &Hand)
         requires { HasSent relay.now self.old.sender self.old.place hand.now }
         ensures { HasSent relay.now self.new.sender self.new.place hand.now }

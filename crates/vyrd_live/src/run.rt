@@ -18,9 +18,11 @@ pub struct Run {
 /// A live run that the limit of events ended.
 #[derive(Debug, Drop)]
 pub struct Overrun {
-    /// The least caller that stopped because its next operation might have had more events than the limit leaves.
+    /// The least caller that stopped because its next operation might have had more events than the
+    /// limit leaves.
     pub caller: u32,
-    /// The events of all callers, in their order, numbered from 0. A caller that didn't stop so has done all of its operations.
+    /// The events of all callers, in their order, numbered from 0. A caller that didn't stop so has
+    /// done all of its operations.
     pub history: Vec<Stamped>,
 }
 

@@ -1,4 +1,5 @@
-//! Live runs of small workloads, with gates that hold callers in the middle of their work, and a verifier by itself.
+//! Live runs of small workloads, with gates that hold callers in the middle of their work, and a
+//! verifier by itself.
 
 ghost use Rattle.std.specs.Prelude.{◌≡◌, ◌<◌, ◌≤◌, ◌^◌};
 ghost use Rattle.vyrd_trace.specs.Hands.{most_events};
@@ -110,8 +111,8 @@ fn bound_of_events(rt: HostRuntime) -> Result<(), Fail> {
     Ok(())
 }
 
-/// A gate that holds each of two callers in the middle of its work until the other one has come to a place. It counts how often
-/// it is asked, and gives up after a number of questions.
+/// A gate that holds each of two callers in the middle of its work until the other one has come to
+/// a place. It counts how often it is asked, and gives up after a number of questions.
 #[derive(Drop)]
 struct Turnstile {
     asked: AtomicU64,
@@ -133,7 +134,8 @@ impl Turnstile {
         }
     }
 
-    /// Whether the caller has come so far that the other one may go on. It notes that this one has come to its place.
+    /// Whether the caller has come so far that the other one may go on. It notes that this one has
+    /// come to its place.
     fn has_come(&self, caller: u32, place: u64) -> bool {
         match (caller, place) {
             (0, 2) => {
@@ -182,7 +184,8 @@ fn schedule_forced_by_the_gate(rt: HostRuntime) -> Result<(), Fail> {
     Ok(())
 }
 
-/// Four callers, each of which inserts its key, looks for it, deletes it and looks for it twice, ten times over.
+/// Four callers, each of which inserts its key, looks for it, deletes it and looks for it twice,
+/// ten times over.
 fn four_callers(alloc: Global) -> Result<Vec<u8>, AllocError> {
     let lines = [
         b"op 0 insert 0\nop 0 lookup 0\nop 0 delete 0\nop 0 lookup 0\nop 0 lookup 0\n",
@@ -216,8 +219,9 @@ fn four_callers_beside(rt: HostRuntime) -> Result<(), Fail> {
     Ok(())
 }
 
-/// A gate that holds caller 0 at its ninth event until the verifier asked for its eighth. With one caller the verifier asks as
-/// caller 1. The gate gives up after a number of questions, and remembers it.
+/// A gate that holds caller 0 at its ninth event until the verifier asked for its eighth. With one
+/// caller the verifier asks as caller 1. The gate gives up after a number of questions, and
+/// remembers it.
 #[derive(Drop)]
 struct Beside {
     asked: AtomicU64,
@@ -281,7 +285,8 @@ fn take_new(verifier: &mut Verifier, event: Stamped) -> Result<Option<Verdict>, 
     verifier.take_in(event)
 }
 
-/// A delete of a key that isn't there replies 1. Its events are taken in last first, and this is answered after each of them.
+/// A delete of a key that isn't there replies 1. Its events are taken in last first, and this is
+/// answered after each of them.
 fn answers_backwards(
     verifier: &mut Verifier,
 ) -> Result<(Option<Verdict>, Option<Verdict>, Option<Verdict>), AllocError> {

@@ -1,6 +1,7 @@
 //! A verifier: it takes in events in any order, and judges those whose turn has come.
 
-ghost use Rattle.std.specs.Prelude.{◌≡◌, ◌≢◌, ℕ, ◌+◌, ◌<◌, ◌≤◌, ◌^◌, true, false, List, [], ◌∷◌, ◌++◌, None, is_some, Ok, IfOk, OnOk, OnErr};
+ghost use Rattle.std.specs.Prelude.{◌≡◌, ◌≢◌, ℕ, ◌+◌, ◌<◌, ◌≤◌, ◌^◌, true, false, List, [], ◌∷◌};
+ghost use Rattle.std.specs.Prelude.{◌++◌, None, is_some, Ok, IfOk, OnOk, OnErr};
 ghost use Rattle.std.specs.Option.{option_to_list};
 ghost use Rattle.std.specs.Result.{is_err};
 ghost use Rattle.vyrd_base.specs.declared.log.Entry.{Entry};
@@ -9,7 +10,8 @@ ghost use Rattle.vyrd_base.specs.Histories.{logged, log_of};
 ghost use Rattle.vyrd_base.specs.Verdicts.{verdict_so_far, verdict};
 ghost use Rattle.vyrd_judge.specs.Following.{HasFollowed};
 ghost use Rattle.vyrd_relay.specs.Numbers.{held, has};
-ghost use Rattle.vyrd_live.specs.Taken.{numbered, in_order_below, has_failed, has_number, IsTaking, HasTakenIn};
+ghost use Rattle.vyrd_live.specs.Taken.{numbered, in_order_below, has_failed, has_number, IsTaking};
+ghost use Rattle.vyrd_live.specs.Taken.{HasTakenIn};
 
 use std::alloc::{AllocError, Global};
 use std::marker::Model;
@@ -22,12 +24,13 @@ const NUMBERS: u64 = 1 << 62;
 
 /// Judges a history while its events come in, in whatever order.
 ///
-/// It has judged the events with the numbers 0 to m - 1, where m is the least number that wasn't taken in, and doesn't keep
-/// them. Those with greater numbers it holds. Time: an event takes what [`AnyJudge::feed`] takes, and what [`Reorder`] takes to
-/// put it in order. Memory: that of the judge, and in proportion to the events held.
+/// It has judged the events with the numbers 0 to m - 1, where m is the least number that wasn't
+/// taken in, and doesn't keep them. Those with greater numbers it holds. Time: an event takes what
+/// [`AnyJudge::feed`] takes, and what [`Reorder`] takes to put it in order. Memory: that of the
+/// judge, and in proportion to the events held.
 ///
-/// Out of memory may be met in [`Verifier::take_in`] alone. From then on `take_in` and `finish` answer it, and `had` goes on to
-/// say what was taken in.
+/// Out of memory may be met in [`Verifier::take_in`] alone. From then on `take_in` and `finish`
+/// answer it, and `had` goes on to say what was taken in.
 #[derive(Drop)]
 pub struct Verifier {
     judge: AnyJudge,
@@ -42,9 +45,15 @@ impl Model for Verifier {
 
     ghost Value = { VerifierView };
 
-    ghost view = { λ v. record { header = v.judge.kept.header; judge = v.judge; kept = v.reorder; refused = v.refused } };
+    ghost view = { λ v. record {
+      header = v.judge.kept.header;
+      judge = v.judge;
+      kept = v.reorder;
+      refused = v.refused;
+    } };
 
-    ghost invariant = { λ v. (v.judge.kept.entries ≤ v.reorder.next) × (v.refused ≡ None → v.judge.has_failed ≡ false) };
+    ghost invariant = { λ v. (v.judge.kept.entries ≤ v.reorder.next)
+        × (v.refused ≡ None → v.judge.has_failed ≡ false) };
 }
 
 impl Verifier {
@@ -72,9 +81,12 @@ impl Verifier {
         requires number { item.number < 2 ^ 62 }
         requires new { has_number self.old item.number ≡ false }
         ensures answer { (taken : List Stamped) → HasTakenIn self.old taken
-            → IfOk result (λ v. v ≡ verdict_so_far self.old.header [] (log_of (in_order_below self.new.kept.next (taken ++ item ∷ [])))) }
-        ensures taken { (taken : List Stamped) → HasTakenIn self.old taken → OnOk result (HasTakenIn self.new (taken ++ item ∷ [])) }
-        ensures refused { (taken : List Stamped) → HasTakenIn self.old taken → OnErr result (HasTakenIn self.new taken) }
+            → IfOk result (λ v. v ≡ verdict_so_far self.old.header []
+            (log_of (in_order_below self.new.kept.next (taken ++ item ∷ [])))) }
+        ensures taken { (taken : List Stamped) → HasTakenIn self.old taken
+            → OnOk result (HasTakenIn self.new (taken ++ item ∷ [])) }
+        ensures refused { (taken : List Stamped) → HasTakenIn self.old taken
+            → OnErr result (HasTakenIn self.new taken) }
         ensures has_failed { has_failed self.new ≡ is_err result }
         ensures fails_again { has_failed self.old ≡ true → is_err result ≡ true }
         ensures header { self.new.header ≡ self.old.header }
@@ -118,16 +130,18 @@ impl Verifier {
     /// Whether an event with this number was taken in. It takes no memory.
     pub fn had(&self, number: u64) -> bool
         ensures value { result ≡ has_number self.now number }
-        ensures taken { (taken : List Stamped) → HasTakenIn self.now taken → result ≡ is_some (numbered number taken) }
+        ensures taken { (taken : List Stamped) → HasTakenIn self.now taken
+            → result ≡ is_some (numbered number taken) }
     {
         self.refused != Some(number) && self.reorder.had(number)
     }
 
-    /// The verdict about the whole log of the events before the least number that wasn't taken in. It takes no memory, and out of
-    /// memory comes exactly when an earlier `take_in` answered it.
+    /// The verdict about the whole log of the events before the least number that wasn't taken in.
+    /// It takes no memory, and out of memory comes exactly when an earlier `take_in` answered it.
     pub fn finish(&self) -> Result<Verdict, AllocError>
         ensures verdict { (taken : List Stamped) → HasTakenIn self.now taken
-            → IfOk result (λ v. v ≡ verdict self.now.header [] (log_of (in_order_below self.now.kept.next taken))) }
+            → IfOk result (λ v. v
+            ≡ verdict self.now.header [] (log_of (in_order_below self.now.kept.next taken))) }
         ensures has_failed { is_err result ≡ has_failed self.now }
     {
         if self.refused.is_some() {
@@ -143,7 +157,8 @@ fn follow(judge: &mut AnyJudge, reorder: &mut Reorder, item: Stamped) -> Result<
     requires new { has reorder.old item.number ≡ false }
     requires few { judge.old.kept.entries ≤ reorder.old.next }
     requires going { judge.old.has_failed ≡ false }
-    ensures followed { (taken : List Stamped) → IsTaking judge.old reorder.old taken → OnOk result (IsTaking judge.new reorder.new (taken ++ item ∷ [])) }
+    ensures followed { (taken : List Stamped) → IsTaking judge.old reorder.old taken
+        → OnOk result (IsTaking judge.new reorder.new (taken ++ item ∷ [])) }
     ensures missing { OnOk result (held reorder.new reorder.new.next ≡ None) }
     ensures had { OnErr result ((n : ℕ) → n ≢ item.number → has reorder.new n ≡ has reorder.old n) }
     ensures few { judge.new.kept.entries ≤ reorder.new.next }
@@ -164,7 +179,8 @@ fn place(judge: &mut AnyJudge, reorder: &mut Reorder, item: Stamped) -> Result<(
     requires new { has reorder.old item.number ≡ false }
     requires few { judge.old.kept.entries ≤ reorder.old.next }
     requires going { judge.old.has_failed ≡ false }
-    ensures followed { (taken : List Stamped) → IsTaking judge.old reorder.old taken → OnOk result (IsTaking judge.new reorder.new (taken ++ item ∷ [])) }
+    ensures followed { (taken : List Stamped) → IsTaking judge.old reorder.old taken
+        → OnOk result (IsTaking judge.new reorder.new (taken ++ item ∷ [])) }
     ensures had { (n : ℕ) → n ≢ item.number → has reorder.new n ≡ has reorder.old n }
     ensures few { judge.new.kept.entries ≤ reorder.new.next }
     ensures going { OnOk result (judge.new.has_failed ≡ false) }
@@ -180,9 +196,12 @@ fn place(judge: &mut AnyJudge, reorder: &mut Reorder, item: Stamped) -> Result<(
 fn advance(judge: &mut AnyJudge, reorder: &mut Reorder) -> Result<bool, AllocError>
     requires few { judge.old.kept.entries ≤ reorder.old.next }
     requires going { judge.old.has_failed ≡ false }
-    ensures followed { (taken : List Stamped) → IsTaking judge.old reorder.old taken → OnOk result (IsTaking judge.new reorder.new taken) }
-    ensures goes { result ≡ Ok true → (reorder.new.next ≡ reorder.old.next + 1) × (reorder.old.next < 2 ^ 62) }
-    ensures missing { result ≡ Ok false → (reorder.new ≡ reorder.old) × (held reorder.old reorder.old.next ≡ None) }
+    ensures followed { (taken : List Stamped) → IsTaking judge.old reorder.old taken
+        → OnOk result (IsTaking judge.new reorder.new taken) }
+    ensures goes { result ≡ Ok true
+        → (reorder.new.next ≡ reorder.old.next + 1) × (reorder.old.next < 2 ^ 62) }
+    ensures missing { result ≡ Ok false
+        → (reorder.new ≡ reorder.old) × (held reorder.old reorder.old.next ≡ None) }
     ensures had { (n : ℕ) → has reorder.new n ≡ has reorder.old n }
     ensures few { judge.new.kept.entries ≤ reorder.new.next }
     ensures going { OnOk result (judge.new.has_failed ≡ false) }
@@ -200,7 +219,8 @@ fn show(judge: &mut AnyJudge, event: Stamped) -> Result<(), AllocError>
     requires few { judge.old.kept.entries < 2 ^ 62 }
     requires going { judge.old.has_failed ≡ false }
     ensures followed { (log : List Entry) → HasFollowed judge.old [] log
-        → OnOk result (HasFollowed judge.new [] (log ++ option_to_list (logged event.caller event.did))) }
+        → OnOk result
+        (HasFollowed judge.new [] (log ++ option_to_list (logged event.caller event.did))) }
     ensures counted { judge.new.kept.entries ≤ judge.old.kept.entries + 1 }
     ensures going { OnOk result (judge.new.has_failed ≡ false) }
     ensures header { judge.new.kept.header ≡ judge.old.kept.header }

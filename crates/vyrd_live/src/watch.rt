@@ -1,6 +1,7 @@
 //! The verifier beside the workers.
 
-ghost use Rattle.std.specs.Prelude.{◌≡◌, ◌<◌, ◌≤◌, ◌-◌, true, false, List, [], ◌∷◌, ◌++◌, length, take, drop, IfOk, IfSome, IfNone};
+ghost use Rattle.std.specs.Prelude.{◌≡◌, ◌<◌, ◌≤◌, ◌-◌, true, false, List, [], ◌∷◌, ◌++◌, length};
+ghost use Rattle.std.specs.Prelude.{take, drop, IfOk, IfSome, IfNone};
 ghost use Rattle.std.specs.List.{All};
 ghost use Rattle.vyrd_base.specs.declared.header.Header.{Header};
 ghost use Rattle.vyrd_base.specs.declared.history.Stamped.{Stamped};
@@ -8,7 +9,8 @@ ghost use Rattle.vyrd_base.specs.Histories.{log_of};
 ghost use Rattle.vyrd_base.specs.Verdicts.{verdict};
 ghost use Rattle.vyrd_relay.specs.Knowledge.{HasBeginning};
 ghost use Rattle.vyrd_live.specs.Taken.{in_order_below};
-ghost use Rattle.vyrd_live.specs.Beside.{HasWatched, IsSameReceiver, lanes_sent, AreOfSenders, IsClosing};
+ghost use Rattle.vyrd_live.specs.Beside.{HasWatched, IsSameReceiver, lanes_sent, AreOfSenders};
+ghost use Rattle.vyrd_live.specs.Beside.{IsClosing};
 
 use crate::outbox::Outbox;
 use crate::verifier::Verifier;
@@ -64,7 +66,8 @@ impl Watch {
         requires receiver { self.receiver.queue ≡ relay.now.queue }
         requires theirs { AreOfSenders self.receiver }
         ensures same { IsSameReceiver self.receiver result.receiver }
-        ensures watched { (h : Header) → HasWatched h self self.receiver.had → HasWatched h result result.receiver.had }
+        ensures watched { (h : Header) → HasWatched h self self.receiver.had
+            → HasWatched h result result.receiver.had }
         ensures theirs { AreOfSenders result.receiver }
     {
         let mut watch = self;
@@ -135,14 +138,16 @@ impl Watch {
         }
     }
 
-    /// Takes in the senders of the workers, which have ended: what was had of each is a beginning of what it sent.
+    /// Takes in the senders of the workers, which have ended: what was had of each is a beginning
+    /// of what it sent.
     pub(crate) fn settle<R: Wait>(&mut self, rt: &R, relay: &Relay, outboxes: Vec<Outbox>)
         requires receiver { self.old.receiver.queue ≡ relay.now.queue }
         requires first { self.old.receiver.settled ≡ [] }
         requires senders { All (λ o. o.sender.queue ≡ relay.now.queue) outboxes.items }
         ensures senders { self.new.receiver.senders ≡ self.old.receiver.senders }
         ensures had { self.new.receiver.had ≡ self.old.receiver.had }
-        ensures verifier { (self.new.stands ≡ self.old.stands) × (self.new.verifier ≡ self.old.verifier) }
+        ensures verifier { (self.new.stands ≡ self.old.stands)
+            × (self.new.verifier ≡ self.old.verifier) }
         ensures settled { self.new.receiver.settled ≡ lanes_sent outboxes.items }
         ensures beginnings { All (HasBeginning self.new.receiver.had) self.new.receiver.settled }
     {
@@ -152,8 +157,8 @@ impl Watch {
         }
     }
 
-    /// The verdict about the log of a history, where the verifier stands and can take in the events from the least number on that
-    /// it hasn't taken in.
+    /// The verdict about the log of a history, where the verifier stands and can take in the events
+    /// from the least number on that it hasn't taken in.
     pub(crate) fn verdict(&mut self, history: &[Stamped]) -> Option<Verdict>
         ensures { (h : Header) (taken : List Stamped) → HasWatched h self.old taken
             → IfSome result (λ v. IsClosing h v taken history.now) }
@@ -167,7 +172,8 @@ impl Watch {
         self.closing()
     }
 
-    /// Takes in the events of a history from the least number on that wasn't taken in, and answers whether it came to the end.
+    /// Takes in the events of a history from the least number on that wasn't taken in, and answers
+    /// whether it came to the end.
     fn take_rest(&mut self, history: &[Stamped]) -> bool
         ensures { (h : Header) (taken : List Stamped) → result ≡ true → HasWatched h self.old taken
             → HasWatched h self.new (taken ++ drop self.old.verifier.kept.next history.now) }
@@ -179,8 +185,8 @@ impl Watch {
         self.take_run(history, place) == history.len()
     }
 
-    /// Takes in the event at this place of a lane or of a history, and those after it as long as their numbers follow each other.
-    /// It answers where it stopped.
+    /// Takes in the event at this place of a lane or of a history, and those after it as long as
+    /// their numbers follow each other. It answers where it stopped.
     fn take_run(&mut self, lane: &[Stamped], place: usize) -> usize
         requires { place < length lane.now }
         ensures end { (place < result) × (result ≤ length lane.now) }
@@ -200,7 +206,8 @@ impl Watch {
     /// The verdict about all that was taken in, if the verifier stands.
     fn closing(&self) -> Option<Verdict>
         ensures verdict { (h : Header) (taken : List Stamped) → HasWatched h self.now taken
-            → IfSome result (λ v. v ≡ verdict h [] (log_of (in_order_below self.now.verifier.kept.next taken))) }
+            → IfSome result
+            (λ v. v ≡ verdict h [] (log_of (in_order_below self.now.verifier.kept.next taken))) }
         ensures stands { IfSome result (λ _. self.now.stands ≡ true) }
     {
         if !self.stands {

@@ -59,9 +59,10 @@ impl Stopped {
 impl<M: Machine> Worker<M> {
     /// Plays the machine until all of its operations are done, or until the next one has no room.
     ///
-    /// It asks the gate before each event. Before an operation it makes room for all of the operation's events, so that it stops
-    /// only between operations. After each event, and while it waits, it sends what the relay has room for. It may wait forever:
-    /// for the gate, or for a lock that nobody gives back.
+    /// It asks the gate before each event. Before an operation it makes room for all of the
+    /// operation's events, so that it stops only between operations. After each event, and while it
+    /// waits, it sends what the relay has room for. It may wait forever: for the gate, or for a
+    /// lock that nobody gives back.
     pub(crate) fn work<R: Wait, G: Gate>(
         self,
         rt: &R,
@@ -93,7 +94,8 @@ impl<M: Machine> Worker<M> {
     ) -> Ending
         requires fresh { IsFresh M.header_of M.script traced.now self.old.machine self.old.hand }
         requires sent { HasSent relay.now outbox.old.sender outbox.old.place self.old.hand }
-        ensures worked { HasWorked M.header_of M.script M.ahead traced.now self.old.machine self.old.hand self.new.hand result }
+        ensures worked { HasWorked M.header_of M.script M.ahead traced.now self.old.machine
+            self.old.hand self.new.hand result }
         ensures sent { HasSent relay.now outbox.new.sender outbox.new.place self.new.hand }
     {
         while self.machine.wants() != Act::Done {
@@ -111,12 +113,17 @@ impl<M: Machine> Worker<M> {
     /// Makes room for the next operation, where none is under way.
     fn make_room(&mut self) -> Result<(), Reserve>
         requires goes_on { next_act (M.script self.old.machine) ≢ Done }
-        requires in_time { is_between (M.script self.old.machine) ≡ false → ∥ EndsWithin self.old.hand.spare (M.script self.old.machine) ∥₁ }
+        requires in_time { is_between (M.script self.old.machine) ≡ false
+            → ∥ EndsWithin self.old.hand.spare (M.script self.old.machine) ∥₁ }
         ensures machine { self.new.machine ≡ self.old.machine }
         ensures hand { self.new.hand ≡ with_spare self.old.hand self.new.hand.spare }
-        ensures room { IfOk result (λ _. HasRoomAhead (M.header_of self.old.machine) (M.script self.old.machine) self.new.hand) }
-        ensures long { result ≡ Err reserve.Spent → self.old.hand.limit < length self.old.hand.lane + M.ahead self.old.machine }
-        ensures spent { result ≡ Err reserve.Spent → HasNoRoom (M.header_of self.old.machine) self.old.hand.limit (length self.old.hand.lane) (next_act (M.script self.old.machine)) }
+        ensures room { IfOk result (λ _. HasRoomAhead (M.header_of self.old.machine)
+            (M.script self.old.machine) self.new.hand) }
+        ensures long { result ≡ Err reserve.Spent
+            → self.old.hand.limit < length self.old.hand.lane + M.ahead self.old.machine }
+        ensures spent { result ≡ Err reserve.Spent
+            → HasNoRoom (M.header_of self.old.machine) self.old.hand.limit
+            (length self.old.hand.lane) (next_act (M.script self.old.machine)) }
     {
         if self.machine.between() {
             self.hand.reserve(self.machine.op_left())?;
@@ -136,7 +143,8 @@ impl<M: Machine> Worker<M> {
         requires hand { IsOf traced.now self.old.hand × (0 < self.old.hand.spare) }
         requires may { MayAct traced.now.plan self.old.hand (next_act (M.script self.old.machine)) }
         requires sent { HasSent relay.now outbox.old.sender outbox.old.place self.old.hand }
-        ensures made { (answer : ℕ) × (M.script self.new.machine ≡ after_answer (M.script self.old.machine) answer)
+        ensures made { (answer : ℕ)
+            × (M.script self.new.machine ≡ after_answer (M.script self.old.machine) answer)
             × HasActed (next_act (M.script self.old.machine)) answer self.old.hand self.new.hand }
         ensures header { M.header_of self.new.machine ≡ M.header_of self.old.machine }
         ensures falls { M.ahead self.new.machine < M.ahead self.old.machine }

@@ -1,6 +1,7 @@
 //! All workers of a live run, each in a thread of its own, and the verifier beside them.
 
-ghost use Rattle.std.specs.Prelude.{◌≡◌, ◌<◌, ◌≤◌, ℕ, true, List, [], ◌++◌, length, map, IfOk, IfSome, vec_len, slice_index_or};
+ghost use Rattle.std.specs.Prelude.{◌≡◌, ◌<◌, ◌≤◌, ℕ, true, List, [], ◌++◌, length, map, IfOk};
+ghost use Rattle.std.specs.Prelude.{IfSome, vec_len, slice_index_or};
 ghost use Rattle.std.specs.List.{All};
 ghost use Rattle.std.specs.Thread.{IsSync};
 ghost use Rattle.vyrd_base.specs.declared.header.Header.{Header};
@@ -41,11 +42,12 @@ pub(crate) struct Played {
     pub(crate) verdict: Option<Verdict>,
 }
 
-/// How many events may be on their way to the verifier at a time. A worker that finds the relay full goes on, and sends later.
+/// How many events may be on their way to the verifier at a time. A worker that finds the relay
+/// full goes on, and sends later.
 const RELAY_CAPACITY: u64 = 1024;
 
-/// Plays all workers and closes their memory. The workers have all of its hands, in the order of their callers. A verifier takes
-/// in beside them what they do.
+/// Plays all workers and closes their memory. The workers have all of its hands, in the order of
+/// their callers. A verifier takes in beside them what they do.
 ///
 /// Each worker has a thread of its own. If one can't be started, its worker is run by the thread
 /// that would have started it. The error comes if there is no memory.
@@ -60,13 +62,20 @@ pub(crate) fn play_all<R: Threads + Wait + Sync, G: Gate, M: Machine + Send>(
     requires fresh { All (λ w. IsFresh M.header_of M.script traced w.machine w.hand) workers.items }
     requires hands { AreAll traced (map (λ w. w.hand) workers.items) }
     requires few { vec_len workers ≤ 64 }
-    requires callers { (header.callers ≡ traced.plan.callers) × (vec_len workers ≡ header.callers) × (1 ≤ header.callers) }
-    ensures legal { IfOk result (λ played. is_legal (cells_in traced.plan) played.history.items ≡ true) }
-    ensures words { IfOk result (λ played. played.words.items ≡ last_values traced.plan played.history.items) }
-    ensures long { IfOk result (λ played. IfSome played.spent (λ caller. (w : _) → traced.plan.limit < M.ahead (slice_index_or workers.items caller w).machine)) }
-    ensures played { IfOk result (λ played. (h : Header) → AreMadeFor h (map (λ w. M.header_of w.machine) workers.items)
-        → HavePlayed h traced.plan.limit (map (λ w. M.script w.machine) workers.items) played.history.items played.spent) }
-    ensures verdict { IfOk result (λ played. IfSome played.verdict (λ v. v ≡ verdict header [] (log_of played.history.items))) }
+    requires callers { (header.callers ≡ traced.plan.callers) × (vec_len workers ≡ header.callers)
+        × (1 ≤ header.callers) }
+    ensures legal { IfOk result
+        (λ played. is_legal (cells_in traced.plan) played.history.items ≡ true) }
+    ensures words { IfOk result
+        (λ played. played.words.items ≡ last_values traced.plan played.history.items) }
+    ensures long { IfOk result (λ played. IfSome played.spent (λ caller. (w : _)
+        → traced.plan.limit < M.ahead (slice_index_or workers.items caller w).machine)) }
+    ensures played { IfOk result (λ played. (h : Header)
+        → AreMadeFor h (map (λ w. M.header_of w.machine) workers.items)
+        → HavePlayed h traced.plan.limit (map (λ w. M.script w.machine) workers.items)
+        played.history.items played.spent) }
+    ensures verdict { IfOk result (λ played. IfSome played.verdict
+        (λ v. v ≡ verdict header [] (log_of played.history.items))) }
 {
     let (relay, senders, receiver) = Relay::new(alloc, RELAY_CAPACITY, header.callers())?;
     let jobs = jobs_of(alloc, &relay, workers, senders)?;
@@ -99,7 +108,8 @@ fn jobs_of<M: Machine>(
     requires senders { All (λ s. (s.queue ≡ relay.now.queue) × (s.sent ≡ [])) senders.items }
     requires callers { map (λ w. w.hand.caller) workers.items ≡ map (λ s. s.caller) senders.items }
     ensures workers { IfOk result (λ jobs. map (λ j. j.0) jobs.items ≡ workers.items) }
-    ensures sent { IfOk result (λ jobs. All (λ j. HasSent relay.now j.1.sender j.1.place j.0.hand) jobs.items) }
+    ensures sent { IfOk result
+        (λ jobs. All (λ j. HasSent relay.now j.1.sender j.1.place j.0.hand) jobs.items) }
 {
     let mut jobs = Vec::with_capacity(alloc, workers.len())?;
     let mut left = senders.into_iter();
@@ -128,15 +138,18 @@ fn beside<R: Threads + Wait + Sync, G: Gate, M: Machine + Send>(
     jobs: Vec<(Worker<M>, Outbox)>,
     watch: Watch,
 ) -> Result<(Vec<(Stopped, Outbox)>, Watch), AllocError>
-    requires fresh { All (λ j. IsFresh M.header_of M.script traced.now j.0.machine j.0.hand) jobs.items }
+    requires fresh { All (λ j. IsFresh M.header_of M.script traced.now j.0.machine j.0.hand)
+        jobs.items }
     requires sent { All (λ j. HasSent relay.now j.1.sender j.1.place j.0.hand) jobs.items }
     requires receiver { watch.receiver.queue ≡ relay.now.queue }
     requires theirs { AreOfSenders watch.receiver }
     ensures count { IfOk result (λ r. vec_len r.0 ≡ vec_len jobs) }
-    ensures each { IfOk result (λ r. (i : ℕ) (j : _) (d : _) → i < vec_len jobs → HasWorked M.header_of M.script M.ahead traced.now
+    ensures each { IfOk result (λ r. (i : ℕ) (j : _) (d : _) → i < vec_len jobs
+        → HasWorked M.header_of M.script M.ahead traced.now
         (slice_index_or jobs.items i j).0.machine (slice_index_or jobs.items i j).0.hand
         (slice_index_or r.0.items i d).0.hand (slice_index_or r.0.items i d).0.ending) }
-    ensures sent { IfOk result (λ r. All (λ d. HasSent relay.now d.1.sender d.1.place d.0.hand) r.0.items) }
+    ensures sent { IfOk result
+        (λ r. All (λ d. HasSent relay.now d.1.sender d.1.place d.0.hand) r.0.items) }
     ensures same { IfOk result (λ r. IsSameReceiver watch.receiver r.1.receiver) }
     ensures watched { IfOk result (λ r. (h : Header) → HasWatched h watch watch.receiver.had
         → HasWatched h r.1 r.1.receiver.had) }
@@ -156,14 +169,16 @@ fn beside<R: Threads + Wait + Sync, G: Gate, M: Machine + Send>(
             ensures theirs { AreOfSenders result.receiver }
         { watch.watched(rt, relay, gate, over) },
         move || -> Result<Vec<(Stopped, Outbox)>, AllocError>
-            requires { All (λ j. IsFresh M.header_of M.script traced.now j.0.machine j.0.hand) jobs.items
+            requires { All (λ j. IsFresh M.header_of M.script traced.now j.0.machine j.0.hand)
+                jobs.items
                 × All (λ j. HasSent relay.now j.1.sender j.1.place j.0.hand) jobs.items }
             ensures count { IfOk result (λ all. vec_len all ≡ vec_len jobs) }
             ensures each { IfOk result (λ all. (i : ℕ) (j : _) (d : _) → i < vec_len jobs
                 → HasWorked M.header_of M.script M.ahead traced.entry.now
                 (slice_index_or jobs.items i j).0.machine (slice_index_or jobs.items i j).0.hand
                 (slice_index_or all.items i d).0.hand (slice_index_or all.items i d).0.ending) }
-            ensures sent { IfOk result (λ all. All (λ d. HasSent relay.entry.now d.1.sender d.1.place d.0.hand) all.items) }
+            ensures sent { IfOk result (λ all.
+                All (λ d. HasSent relay.entry.now d.1.sender d.1.place d.0.hand) all.items) }
         {
             let done = work_all(rt, traced, gate, relay, jobs);
             over.store(true, Ordering::SeqCst);
@@ -181,22 +196,26 @@ fn work_all<R: Threads + Wait + Sync, G: Gate, M: Machine + Send>(
     relay: &Relay,
     jobs: Vec<(Worker<M>, Outbox)>,
 ) -> Result<Vec<(Stopped, Outbox)>, AllocError>
-    requires fresh { All (λ j. IsFresh M.header_of M.script traced.now j.0.machine j.0.hand) jobs.items }
+    requires fresh { All (λ j. IsFresh M.header_of M.script traced.now j.0.machine j.0.hand)
+        jobs.items }
     requires sent { All (λ j. HasSent relay.now j.1.sender j.1.place j.0.hand) jobs.items }
     ensures count { IfOk result (λ all. vec_len all ≡ vec_len jobs) }
-    ensures each { IfOk result (λ all. (i : ℕ) (j : _) (d : _) → i < vec_len jobs → HasWorked M.header_of M.script M.ahead traced.now
+    ensures each { IfOk result (λ all. (i : ℕ) (j : _) (d : _) → i < vec_len jobs
+        → HasWorked M.header_of M.script M.ahead traced.now
         (slice_index_or jobs.items i j).0.machine (slice_index_or jobs.items i j).0.hand
         (slice_index_or all.items i d).0.hand (slice_index_or all.items i d).0.ending) }
-    ensures sent { IfOk result (λ all. All (λ d. HasSent relay.now d.1.sender d.1.place d.0.hand) all.items) }
+    ensures sent { IfOk result
+        (λ all. All (λ d. HasSent relay.now d.1.sender d.1.place d.0.hand) all.items) }
 {
     thread::map_vec(
         rt,
         jobs,
         &|job: (Worker<M>, Outbox)| -> (Stopped, Outbox)
-            requires { IsSync G.row × IsFresh M.header_of M.script traced.now job.0.machine job.0.hand
+            requires { IsSync G.row
+                × IsFresh M.header_of M.script traced.now job.0.machine job.0.hand
                 × HasSent relay.now job.1.sender job.1.place job.0.hand }
-            ensures worked { HasWorked M.header_of M.script M.ahead traced.entry.now job.0.machine job.0.hand
-                result.0.hand result.0.ending }
+            ensures worked { HasWorked M.header_of M.script M.ahead traced.entry.now job.0.machine
+                job.0.hand result.0.hand result.0.ending }
             ensures sent { HasSent relay.entry.now result.1.sender result.1.place result.0.hand }
         {
             let (worker, outbox) = job;
@@ -226,7 +245,8 @@ fn part_all(
 /// stopped because there was no memory.
 fn first_spent(stopped: &[Stopped]) -> Result<Option<u32>, AllocError>
     requires { length stopped.now ≤ 64 }
-    ensures { IfOk result (λ first. IsFirstSpent (map (λ s. s.ending) stopped.now) (length stopped.now) first) }
+    ensures { IfOk result
+        (λ first. IsFirstSpent (map (λ s. s.ending) stopped.now) (length stopped.now) first) }
 {
     let mut first = None;
     for (caller, one) in stopped.iter().enumerate() {
@@ -249,9 +269,11 @@ fn hands_of(alloc: Global, stopped: Vec<Stopped>) -> Result<Vec<Hand>, AllocErro
         .collect(alloc)
 }
 
-/// The verdict about a history, where no caller is spent and the verifier that took in some of it stands.
+/// The verdict about a history, where no caller is spent and the verifier that took in some of it
+/// stands.
 fn closing_verdict(watch: Watch, spent: Option<u32>, history: &[Stamped]) -> Option<Verdict>
-    ensures { (h : Header) (taken : List Stamped) → HasWatched h watch taken → IfSome result (λ v. IsClosing h v taken history.now) }
+    ensures { (h : Header) (taken : List Stamped) → HasWatched h watch taken
+        → IfSome result (λ v. IsClosing h v taken history.now) }
 {
     if spent.is_some() {
         return None;

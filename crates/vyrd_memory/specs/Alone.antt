@@ -1,5 +1,7 @@
--- An operation that is played alone, from words that represent a state, does what the specification says.
-use Rattle.std.specs.Prelude.{◌≡◌, ◌↔◌, ℕ, ◌+◌, ◌==◌, Bool, true, false, List, map, Option, Some, None, IsSome, IsSomeAnd, if◌then◌else◌}
+-- An operation that is played alone, from words that represent a state, does what the specification
+-- says.
+use Rattle.std.specs.Prelude.{◌≡◌, ◌↔◌, ℕ, ◌+◌, ◌==◌, Bool, true, false, List, map, Option, Some}
+use Rattle.std.specs.Prelude.{None, IsSome, IsSomeAnd, if◌then◌else◌}
 use Rattle.vyrd_base.specs.declared.header.Header.{Header}
 use Rattle.vyrd_base.specs.declared.log.Kind.{Kind}
 use Rattle.vyrd_base.specs.declared.log.Kind.TheVariants.{Return}
@@ -45,7 +47,8 @@ abbrev pub alone : ℕ → Script → Memory → Option Outcome
 alone c stop memory = None
 alone c (step (Load cell) rest) memory = alone c (rest (memory cell)) memory
 alone c (step (Store cell value) rest) memory = alone c (rest 0) (with_cell memory cell value)
-alone c (step (Take lock) rest) memory = if memory lock == 0 then alone c (rest 0) (with_cell memory lock (c + 1)) else None
+alone c (step (Take lock) rest) memory =
+    if memory lock == 0 then alone c (rest 0) (with_cell memory lock (c + 1)) else None
 alone c (step (Give lock) rest) memory = alone c (rest 0) (with_cell memory lock 0)
 alone c (step (Mark kind) rest) memory = after_kind kind memory (alone c (rest 0) memory)
 alone c (step Done rest) memory = None
@@ -54,13 +57,17 @@ alone c (step Done rest) memory = None
 abbrev pub GivesUpWhere : Type 0 → Option Outcome → Type 0
 GivesUpWhere P end = IsSomeAnd end (λ outcome. outcome.reply ≡ 0 ↔ P)
 
--- what the specification says of an operation: an observer answers in the state and changes nothing, and a mutator leads on
+-- what the specification says of an operation: an observer answers in the state and changes
+-- nothing, and a mutator leads on
 abbrev pub state_after : Bool → Op → ℕ → Amounts → Option Amounts
-state_after true op reply state = if reply == answer_in state op.method op.args then Some state else None
+state_after true op reply state =
+    if reply == answer_in state op.method op.args then Some state else None
 state_after false op reply state = next_state op.method op.args reply state
 
--- the operation with this script, played alone from a memory that represents a state, does what the specification says
-pub record MeetsSpecification (h : Header) (op : Op) (script : Script) (c : ℕ) (memory : Memory) (state : Amounts) : Type 0 where
+-- the operation with this script, played alone from a memory that represents a state, does what the
+-- specification says
+pub record MeetsSpecification (h : Header) (op : Op) (script : Script) (c : ℕ) (memory : Memory)
+    (state : Amounts) : Type 0 where
   pub outcome : Outcome
   pub ends : alone c script memory ≡ Some outcome
   pub after : state_in h outcome.memory ≡ state_after (is_observer op.method) op outcome.reply state
@@ -68,5 +75,6 @@ pub record MeetsSpecification (h : Header) (op : Op) (script : Script) (c : ℕ)
 
 -- so it does whoever calls it, and from whatever state
 abbrev pub IsRightAlone : Header → Op → Script → Type 0
-IsRightAlone h op script = (c : ℕ) (memory : Memory) (state : Amounts) → state_in h memory ≡ Some state
+IsRightAlone h op script =
+    (c : ℕ) (memory : Memory) (state : Amounts) → state_in h memory ≡ Some state
     → MeetsSpecification h op script c memory state

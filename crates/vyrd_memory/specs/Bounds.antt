@@ -11,15 +11,16 @@ use Rattle.vyrd_memory.specs.declared.act.Act.TheVariants.{Mark}
 use Rattle.vyrd_memory.specs.declared.op.Op.{Op}
 use Rattle.vyrd_memory.specs.Scripts.{Script, stop, step, is_stop, IsAnswer}
 
--- the most operations of a caller, and the most events of an operation: those of an insert into a tree of 1,024 nodes
+-- the most operations of a caller, and the most events of an operation: those of an insert into a
+-- tree of 1,024 nodes
 abbrev pub most_ops : ℕ
 most_ops = 200000
 
 abbrev pub most_op_events : ℕ
 most_op_events = 279208
 
--- A walk through a tree of n nodes visits each node once at most. An insert walks once, and once more in each of the 16 rounds
--- in which the tree may grow upwards.
+-- A walk through a tree of n nodes visits each node once at most. An insert walks once, and once
+-- more in each of the 16 rounds in which the tree may grow upwards.
 abbrev pub tree_bound : ℕ → Method → ℕ
 tree_bound n TrInsert = 17 * (16 * n + 40)
 tree_bound n _ = 16 * n + 40
@@ -49,12 +50,15 @@ is_return _ = false
 abbrev pub EndsByReturn : ℕ → Script → Type 0
 EndsByReturn n stop = ⊥
 EndsByReturn n (step act rest) = (1 ≤ n) × (is_return act ≡ true → is_stop (rest 0) ≡ true)
-    × (is_return act ≡ false → (answer : ℕ) → IsAnswer act answer → EndsByReturn (n - 1) (rest answer))
+    × (is_return act ≡ false → (answer : ℕ) → IsAnswer act answer
+    → EndsByReturn (n - 1) (rest answer))
 
--- Whatever is loaded, the operation under way ends within n acts. Where the script ends, none is under way.
+-- Whatever is loaded, the operation under way ends within n acts. Where the script ends, none is
+-- under way.
 abbrev pub EndsWithin : ℕ → Script → Type 0
 EndsWithin n stop = ⊤
-EndsWithin n (step act rest) = (1 ≤ n) × (is_return act ≡ false → (answer : ℕ) → IsAnswer act answer → EndsWithin (n - 1) (rest answer))
+EndsWithin n (step act rest) = (1 ≤ n) × (is_return act ≡ false → (answer : ℕ) → IsAnswer act answer
+    → EndsWithin (n - 1) (rest answer))
 
 -- what an act takes of the bounds that are ahead: a call takes the bound of its operation
 abbrev pub bound_taken : Header → Act → ℕ
@@ -64,4 +68,5 @@ bound_taken h _ = 0
 -- Whatever is loaded, n is the sum of the bounds of the operations that the script calls.
 abbrev pub SumsUp : Header → ℕ → Script → Type 0
 SumsUp h n stop = n ≡ 0
-SumsUp h n (step act rest) = (bound_taken h act ≤ n) × ((answer : ℕ) → IsAnswer act answer → SumsUp h (n - bound_taken h act) (rest answer))
+SumsUp h n (step act rest) = (bound_taken h act ≤ n)
+    × ((answer : ℕ) → IsAnswer act answer → SumsUp h (n - bound_taken h act) (rest answer))

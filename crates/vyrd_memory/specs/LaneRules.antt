@@ -29,30 +29,37 @@ AreSmallReads (did ∷ earlier) = AreSmallReads earlier
 abbrev pub KeepsTheRules : Header → ℕ → List Entry → Type 0
 KeepsTheRules h c [] = Unit {0}
 KeepsTheRules h c (e ∷ earlier) =
-    (e.caller ≡ c → (rule : Rule) → broken_rule h earlier e ≡ Some rule → rule ≡ BlockRaced) × KeepsTheRules h c earlier
+    (e.caller ≡ c → (rule : Rule) → broken_rule h earlier e ≡ Some rule → rule ≡ BlockRaced)
+    × KeepsTheRules h c earlier
 
 -- Whatever else is in a history: if the caller's part plays a sound script, however far, and reads
 -- values below 2^63 alone, the caller's entries in the log keep all rules of shape, except that
 -- they may race.
 abbrev pub LanesKeepTheRules : Type 0
-LanesKeepTheRules = (h : Header) (c : ℕ) (script : Script) (history : List Stamped) → c < h.callers → IsSound h at_rest script
-    → Plays script (part_of c (newest_first history)) → AreSmallReads (part_of c (newest_first history))
+LanesKeepTheRules = (h : Header) (c : ℕ) (script : Script) (history : List Stamped) → c < h.callers
+    → IsSound h at_rest script → Plays script (part_of c (newest_first history))
+    → AreSmallReads (part_of c (newest_first history))
     → KeepsTheRules h c (newest_first (log_of history))
 
 -- If it plays the script to its end, the caller has no open execution.
 abbrev pub EndedLanesAreClosed : Type 0
-EndedLanesAreClosed = (h : Header) (c : ℕ) (script : Script) (history : List Stamped) → c < h.callers → IsSound h at_rest script
-    → PlaysToTheEnd script (part_of c (newest_first history)) → AreSmallReads (part_of c (newest_first history))
+EndedLanesAreClosed =
+    (h : Header) (c : ℕ) (script : Script) (history : List Stamped) → c < h.callers
+    → IsSound h at_rest script → PlaysToTheEnd script (part_of c (newest_first history))
+    → AreSmallReads (part_of c (newest_first history))
     → open_call c (newest_first (log_of history)) ≡ None
 
--- So the log of a legal history in which all scripts are played to their end breaks no rule first but that of raced blocks, ..
+-- So the log of a legal history in which all scripts are played to their end breaks no rule first
+-- but that of raced blocks, ..
 abbrev pub OnlyRacesBreakRules : Type 0
-OnlyRacesBreakRules = (h : Header) (scripts : List Script) (history : List Stamped)
-    → AreSoundScripts h scripts → is_legal (cells_of h) history ≡ true → PlayToTheEnd scripts history
-    → (rule : Rule) → first_break h (log_of history) ≡ Some rule → rule ≡ BlockRaced
+OnlyRacesBreakRules =
+    (h : Header) (scripts : List Script) (history : List Stamped) → AreSoundScripts h scripts
+    → is_legal (cells_of h) history ≡ true → PlayToTheEnd scripts history → (rule : Rule)
+    → first_break h (log_of history) ≡ Some rule → rule ≡ BlockRaced
 
 -- .. and no execution is open at its end.
 abbrev pub NoneIsOpenAtTheEnd : Type 0
-NoneIsOpenAtTheEnd = (h : Header) (scripts : List Script) (history : List Stamped)
-    → AreSoundScripts h scripts → is_legal (cells_of h) history ≡ true → PlayToTheEnd scripts history
+NoneIsOpenAtTheEnd =
+    (h : Header) (scripts : List Script) (history : List Stamped) → AreSoundScripts h scripts
+    → is_legal (cells_of h) history ≡ true → PlayToTheEnd scripts history
     → is_call_open h (newest_first (log_of history)) ≡ false

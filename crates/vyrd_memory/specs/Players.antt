@@ -7,9 +7,11 @@ use Rattle.vyrd_memory.specs.declared.op.Op.{Op}
 use Rattle.vyrd_memory.specs.Arguments.{are_small}
 use Rattle.vyrd_memory.specs.Bounds.{bound_of}
 
--- whether an operation may be called: the method is of the header's subject, and its arguments are in range
+-- whether an operation may be called: the method is of the header's subject, and its arguments are
+-- in range
 abbrev pub is_callable : Header → Op → Bool
-is_callable h op = same_subject (subject_of op.method) h.subject && are_args h.size op.method op.args && are_small op.args
+is_callable h op = same_subject (subject_of op.method) h.subject
+    && are_args h.size op.method op.args && are_small op.args
 
 -- whether all may be called
 abbrev pub are_callable : Header → List Op → Bool

@@ -1,5 +1,8 @@
--- Machines in the middle of a run by turns, with the plain memory and the history that they have so far.
-use Rattle.std.specs.Prelude.{◌≡◌, ℕ, zero, suc, ◌+◌, ◌<◌, ◌^◌, ◌==◌, List, [], ◌∷◌, ◌++◌, length, map, slice_get, slice_index, set, ⊤, Option, Some, None, if◌then◌else◌}
+-- Machines in the middle of a run by turns, with the plain memory and the history that they have so
+-- far.
+use Rattle.std.specs.Prelude.{◌≡◌, ℕ, zero, suc, ◌+◌, ◌<◌, ◌^◌, ◌==◌, List, [], ◌∷◌, ◌++◌, length}
+use Rattle.std.specs.Prelude.{map, slice_get, slice_index, set, ⊤, Option, Some, None}
+use Rattle.std.specs.Prelude.{if◌then◌else◌}
 use Rattle.vyrd_base.specs.declared.header.Header.{Header}
 use Rattle.vyrd_base.specs.declared.history.Did.{Did}
 use Rattle.vyrd_base.specs.declared.history.Did.TheVariants.{Read, Wrote, Took, Gave, Marked}
@@ -47,17 +50,21 @@ IsWithin n Done = ⊤
 abbrev pub memory_after : Header → List Stamped → List ℕ
 memory_after h earlier = map (value_in earlier) (numbers_below (plain_words h + lock_words h))
 
--- Each machine was made for the header, and the words are its plain words and locks, each below 2^63.
-pub record IsReady {M : Type 0} (h : Header) (header_of : M → Header) (machines : List M) (words : List ℕ) : Type 0 where
+-- Each machine was made for the header, and the words are its plain words and locks, each below
+-- 2^63.
+pub record IsReady {M : Type 0} (h : Header) (header_of : M → Header) (machines : List M)
+    (words : List ℕ) : Type 0 where
   pub made : (i : ℕ) (m : M) → slice_get machines i ≡ Some m → header_of m ≡ h
   pub room : length words ≡ plain_words h + lock_words h
   pub small : (cell : ℕ) → slice_index words cell < 2 ^ 63
 
--- Each machine is where its script is after its events, and the words are those that the history leaves.
-pub record IsPlaying {M : Type 0} (h : Header) (script : M
-    → Script) (scripts : List Script) (machines : List M) (words : List ℕ) (history : List Stamped) : Type 0 where
+-- Each machine is where its script is after its events, and the words are those that the history
+-- leaves.
+pub record IsPlaying {M : Type 0} (h : Header) (script : M → Script) (scripts : List Script)
+    (machines : List M) (words : List ℕ) (history : List Stamped) : Type 0 where
   pub count : length machines ≡ length scripts
-  pub left : (i : ℕ) (m : M) → slice_get machines i ≡ Some m → script m ≡ left_after (script_of scripts i) (part_of i (newest_first history))
+  pub left : (i : ℕ) (m : M) → slice_get machines i ≡ Some m
+      → script m ≡ left_after (script_of scripts i) (part_of i (newest_first history))
   pub words_are : words ≡ memory_after h (newest_first history)
 
 -- how many events the machines have before them at most
@@ -75,12 +82,15 @@ abbrev pub scene : {M : Type 0} → List M → List ℕ → List Stamped → Sce
 scene machines words history = record { machines = machines; words = words; history = history }
 
 -- between two moments these callers have had their turns, one after the other
-pub record HasPlayed {M : Type 0} (h : Header) (header_of : M → Header) (script : M → Script) (callers : List ℕ) (before now : Scene M) : Type 0 where
+pub record HasPlayed {M : Type 0} (h : Header) (header_of : M → Header) (script : M → Script)
+    (callers : List ℕ) (before now : Scene M) : Type 0 where
   pub ready : IsReady h header_of now.machines now.words
   pub count : length now.machines ≡ length before.machines
-  pub plays : (scripts : List Script) → IsPlaying h script scripts before.machines before.words before.history
+  pub plays : (scripts : List Script)
+      → IsPlaying h script scripts before.machines before.words before.history
       → IsPlaying h script scripts now.machines now.words now.history
-  pub history : (scripts : List Script) → IsPlaying h script scripts before.machines before.words before.history
+  pub history : (scripts : List Script)
+      → IsPlaying h script scripts before.machines before.words before.history
       → newest_first now.history ≡ after_turns scripts callers (newest_first before.history)
 
 -- this many rounds over n callers
@@ -89,8 +99,11 @@ rounds_over n zero = []
 rounds_over n (suc rounds) = numbers_below n ++ rounds_over n rounds
 
 -- some rounds have been played, and in another there would be no event
-pub record HaveComeToRest {M : Type 0} (h : Header) (header_of : M → Header) (script : M → Script) (before now : Scene M) : Type 0 where
+pub record HaveComeToRest {M : Type 0} (h : Header) (header_of : M → Header) (script : M → Script)
+    (before now : Scene M) : Type 0 where
   pub rounds : ℕ
   pub played : HasPlayed h header_of script (rounds_over (length before.machines) rounds) before now
-  pub still : (scripts : List Script) → IsPlaying h script scripts before.machines before.words before.history
-      → after_turns scripts (numbers_below (length before.machines)) (newest_first now.history) ≡ newest_first now.history
+  pub still : (scripts : List Script)
+      → IsPlaying h script scripts before.machines before.words before.history
+      → after_turns scripts (numbers_below (length before.machines)) (newest_first now.history)
+      ≡ newest_first now.history

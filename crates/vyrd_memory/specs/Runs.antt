@@ -24,44 +24,54 @@ pub record AreSoundScripts (h : Header) (scripts : List Script) : Type 0 where
   pub count : length scripts ≡ h.callers
   pub sound : (c : ℕ) → c < h.callers → IsSound h at_rest (script_of scripts c)
 
--- Each caller's part of the history is the whole of what its script wants. A caller that has no script does nothing.
+-- Each caller's part of the history is the whole of what its script wants. A caller that has no
+-- script does nothing.
 abbrev pub PlayToTheEnd : List Script → List Stamped → Type 0
-PlayToTheEnd scripts history = (c : ℕ) → PlaysToTheEnd (script_of scripts c) (part_of c (newest_first history))
+PlayToTheEnd scripts history =
+    (c : ℕ) → PlaysToTheEnd (script_of scripts c) (part_of c (newest_first history))
 
 -- The history that sound scripts leave when they are played by turns is legal.
 abbrev pub RunsByTurnsAreLegal : Type 0
-RunsByTurnsAreLegal = (h : Header) (scripts : List Script) (turns : List Turn) (history : List Stamped)
-    → AreSoundScripts h scripts → RunsTo scripts turns history → is_legal (cells_of h) history ≡ true
+RunsByTurnsAreLegal =
+    (h : Header) (scripts : List Script) (turns : List Turn) (history : List Stamped)
+    → AreSoundScripts h scripts → RunsTo scripts turns history
+    → is_legal (cells_of h) history ≡ true
 
 -- In that history each script is played to its end.
 abbrev pub RunsByTurnsPlayToTheEnd : Type 0
-RunsByTurnsPlayToTheEnd = (h : Header) (scripts : List Script) (turns : List Turn) (history : List Stamped)
-    → AreSoundScripts h scripts → RunsTo scripts turns history → PlayToTheEnd scripts history
+RunsByTurnsPlayToTheEnd =
+    (h : Header) (scripts : List Script) (turns : List Turn) (history : List Stamped)
+    → AreSoundScripts h scripts → RunsTo scripts turns history
+    → PlayToTheEnd scripts history
 
 -- Whatever legal history sound scripts leave when they are played to their end, by turns or all at
 -- once: if the verdict about its log names a broken rule, the rule is that of a write to a word
 -- that another caller's open block has written.
 abbrev pub OnlyRacesAreMalformed : Type 0
-OnlyRacesAreMalformed = (h : Header) (scripts : List Script) (history : List Stamped)
-    → AreSoundScripts h scripts → is_legal (cells_of h) history ≡ true → PlayToTheEnd scripts history
-    → (line : ℕ) (rule : Rule) → verdict h [] (log_of history) ≡ Malformed line rule → rule ≡ BlockRaced
+OnlyRacesAreMalformed =
+    (h : Header) (scripts : List Script) (history : List Stamped) → AreSoundScripts h scripts
+    → is_legal (cells_of h) history ≡ true → PlayToTheEnd scripts history → (line : ℕ) (rule : Rule)
+    → verdict h [] (log_of history) ≡ Malformed line rule → rule ≡ BlockRaced
 
 -- whether an entry, if it is a call, is one of the header's subject with arguments in range
 abbrev pub is_call_of : Header → Kind → Bool
-is_call_of h (Call method args) = same_subject (subject_of method) h.subject && are_args h.size method args
+is_call_of h (Call method args) =
+    same_subject (subject_of method) h.subject && are_args h.size method args
 is_call_of h _ = true
 
 -- The calls in that log are of the header's subject, and their arguments are in range.
 abbrev pub LoggedCallsFit : Type 0
-LoggedCallsFit = (h : Header) (scripts : List Script) (history : List Stamped)
-    → AreSoundScripts h scripts → is_legal (cells_of h) history ≡ true → PlayToTheEnd scripts history
+LoggedCallsFit =
+    (h : Header) (scripts : List Script) (history : List Stamped) → AreSoundScripts h scripts
+    → is_legal (cells_of h) history ≡ true → PlayToTheEnd scripts history
     → AllByRecursion (λ e. is_call_of h e.kind ≡ true) (log_of history)
 
 -- Scripts that are played by the same turns leave the same history.
 abbrev pub TurnsHaveOneEnd : Type 0
-TurnsHaveOneEnd = (scripts : List Script) (turns : List Turn) (a b : List Stamped) → RunsTo scripts turns a → RunsTo scripts turns b → a ≡ b
+TurnsHaveOneEnd = (scripts : List Script) (turns : List Turn) (a b : List Stamped)
+    → RunsTo scripts turns a → RunsTo scripts turns b → a ≡ b
 
 -- A run by turns that ends doesn't get stuck.
 abbrev pub EndedRunsArentStuck : Type 0
-EndedRunsArentStuck = (scripts : List Script) (turns : List Turn) (history : List Stamped) → RunsTo scripts turns history
-    → GetsStuck scripts turns → ⊥
+EndedRunsArentStuck = (scripts : List Script) (turns : List Turn) (history : List Stamped)
+    → RunsTo scripts turns history → GetsStuck scripts turns → ⊥

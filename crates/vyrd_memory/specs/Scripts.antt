@@ -1,6 +1,7 @@
--- Scripts. What a caller does is a procedure: an act, and how it goes on after the answer. A load is answered by the value that
--- it found, which is below 2^63, and any other act by 0.
-use Rattle.std.specs.Prelude.{◌≡◌, ℕ, ◌<◌, ◌^◌, ⊤, Bool, true, false, List, [], ◌∷◌, Option, Some, None}
+-- Scripts. What a caller does is a procedure: an act, and how it goes on after the answer. A load
+-- is answered by the value that it found, which is below 2^63, and any other act by 0.
+use Rattle.std.specs.Prelude.{◌≡◌, ℕ, ◌<◌, ◌^◌, ⊤, Bool, true, false, List, [], ◌∷◌, Option, Some}
+use Rattle.std.specs.Prelude.{None}
 use Rattle.vyrd_base.specs.declared.log.Kind.TheVariants.{Call, Return, Commit}
 use Rattle.vyrd_base.specs.declared.history.Did.{Did}
 use Rattle.vyrd_base.specs.declared.history.Did.TheVariants.{Read, Wrote, Took, Gave, Marked}
@@ -50,10 +51,12 @@ abbrev pub followed_by : Script → Script → Script
 followed_by stop later = later
 followed_by (step act rest) later = step act (λ answer. followed_by (rest answer) later)
 
--- The operations one after the other. Each begins with the mark of its call, and what follows is given for each.
+-- The operations one after the other. Each begins with the mark of its call, and what follows is
+-- given for each.
 abbrev pub operations : (Op → Script) → List Op → Script
 operations body [] = stop
-operations body (op ∷ ops) = perform (Mark (Call op.method op.args)) (followed_by (body op) (operations body ops))
+operations body (op ∷ ops) =
+    perform (Mark (Call op.method op.args)) (followed_by (body op) (operations body ops))
 
 -- whether an act begins an operation, or there is none
 abbrev pub is_call_or_done : Act → Bool
@@ -87,7 +90,9 @@ left_after script (did ∷ earlier) = after_answer (left_after script earlier) (
 -- each event is what the script wants after the events before it; the newest stands first
 abbrev pub Plays : Script → List Did → Type 0
 Plays script [] = ⊤
-Plays script (did ∷ earlier) = (event_of (next_act (left_after script earlier)) (answer_of did) ≡ Some did) × Plays script earlier
+Plays script (did ∷ earlier) =
+    (event_of (next_act (left_after script earlier)) (answer_of did) ≡ Some did)
+    × Plays script earlier
 
 -- the events are the whole of what the script wants
 pub record PlaysToTheEnd (script : Script) (events : List Did) : Type 0 where

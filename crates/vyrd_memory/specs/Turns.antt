@@ -1,7 +1,8 @@
 -- The run by turns: a history that scripts, one for each caller, leave when they are played one
 -- event at a time. First come the turns that are given, then rounds over all callers, until all
 -- scripts are done.
-use Rattle.std.specs.Prelude.{◌≡◌, ℕ, zero, suc, Bool, true, false, not, ◌&&◌, ◌||◌, ◌==◌, List, [], ◌∷◌, length, flat_map, filter_map, replicate, slice_index_or}
+use Rattle.std.specs.Prelude.{◌≡◌, ℕ, zero, suc, Bool, true, false, not, ◌&&◌, ◌||◌, ◌==◌, List, []}
+use Rattle.std.specs.Prelude.{◌∷◌, length, flat_map, filter_map, replicate, slice_index_or}
 use Rattle.std.specs.Prelude.{Option, Some, None, if◌then◌else◌}
 use Rattle.std.specs.List.{list_all}
 use Rattle.vyrd_base.specs.declared.history.Did.{Did}
@@ -42,7 +43,8 @@ event_now earlier Done = None
 -- one more event, if there is one
 abbrev pub with_event : ℕ → List Stamped → Option Did → List Stamped
 with_event c earlier None = earlier
-with_event c earlier (Some did) = record { number = length earlier; caller = c; did = did } ∷ earlier
+with_event c earlier (Some did) =
+    record { number = length earlier; caller = c; did = did } ∷ earlier
 
 -- a turn of a caller
 abbrev pub after_turn : List Script → ℕ → List Stamped → List Stamped
@@ -51,7 +53,8 @@ after_turn scripts c earlier = with_event c earlier (event_now earlier (act_of s
 -- turns of these callers, one after the other
 abbrev pub after_turns : List Script → List ℕ → List Stamped → List Stamped
 after_turns scripts [] earlier = earlier
-after_turns scripts (c ∷ callers) earlier = after_turns scripts callers (after_turn scripts c earlier)
+after_turns scripts (c ∷ callers) earlier =
+    after_turns scripts callers (after_turn scripts c earlier)
 
 -- each of the turns as often as it says
 abbrev pub turns_of : List Turn → List ℕ
@@ -60,7 +63,8 @@ turns_of turns = flat_map (λ turn. replicate turn.count turn.caller) turns
 -- this many rounds over all callers
 abbrev pub after_rounds : List Script → ℕ → List Stamped → List Stamped
 after_rounds scripts zero earlier = earlier
-after_rounds scripts (suc n) earlier = after_rounds scripts n (after_turns scripts (numbers_below (length scripts)) earlier)
+after_rounds scripts (suc n) earlier =
+    after_rounds scripts n (after_turns scripts (numbers_below (length scripts)) earlier)
 
 -- the history after the turns and this many rounds, the newest event first
 abbrev pub run_for : List Script → List Turn → ℕ → List Stamped
@@ -73,7 +77,8 @@ is_done _ = false
 
 -- whether all scripts are done
 abbrev pub are_done : List Script → List Stamped → Bool
-are_done scripts earlier = list_all (λ c. is_done (act_of scripts c earlier)) (numbers_below (length scripts))
+are_done scripts earlier =
+    list_all (λ c. is_done (act_of scripts c earlier)) (numbers_below (length scripts))
 
 -- whether an act takes a lock that is held
 abbrev pub is_held_up : List Stamped → Act → Bool
@@ -83,10 +88,12 @@ is_held_up earlier _ = false
 -- whether some script isn't done, and each such script takes a lock that is held
 abbrev pub are_stuck : List Script → List Stamped → Bool
 are_stuck scripts earlier = not (are_done scripts earlier)
-    && list_all (λ c. is_done (act_of scripts c earlier) || is_held_up earlier (act_of scripts c earlier)) (numbers_below (length scripts))
+    && list_all (λ c. is_done (act_of scripts c earlier)
+    || is_held_up earlier (act_of scripts c earlier)) (numbers_below (length scripts))
 
 -- the run by turns ends, with this history
-pub record RunsTo (scripts : List Script) (turns : List Turn) (history : List Stamped) : Type 0 where
+pub record RunsTo (scripts : List Script) (turns : List Turn)
+    (history : List Stamped) : Type 0 where
   pub rounds : ℕ
   pub history_is : newest_first history ≡ run_for scripts turns rounds
   pub done : are_done scripts (newest_first history) ≡ true

@@ -1,5 +1,6 @@
--- A small script, which the machines of the tests play: a call that takes both locks of a multiset of two buckets, loads word 1
--- and stores a number there. One of the two callers may take the locks in the other order.
+-- A small script, which the machines of the tests play: a call that takes both locks of a multiset
+-- of two buckets, loads word 1 and stores a number there. One of the two callers may take the locks
+-- in the other order.
 use Rattle.std.specs.Prelude.{ℕ, zero, suc, ◌-◌, Bool, true, false, List, [], ◌∷◌, refl}
 use Rattle.vyrd_base.specs.declared.header.Header.{Header}
 use Rattle.vyrd_base.specs.declared.subject.Subject.TheVariants.{Multiset}
@@ -21,7 +22,8 @@ listed (act ∷ acts) = perform act (listed acts)
 -- what a visit does after its call
 abbrev pub visit_on : ℕ → ℕ → ℕ → List Act
 visit_on first second value =
-    Take first ∷ Take second ∷ Load 1 ∷ Store 1 value ∷ Mark Commit ∷ Give second ∷ Give first ∷ Mark (Return 1) ∷ []
+    Take first ∷ Take second ∷ Load 1 ∷ Store 1 value ∷ Mark Commit ∷ Give second ∷ Give first
+    ∷ Mark (Return 1) ∷ []
 
 -- the same, by whether the visit takes the locks crosswise
 abbrev pub rest_of_visit : Bool → List Act

@@ -14,10 +14,12 @@ const CACHE: u64 = 16;
 /// The most events of an operation on string buffers.
 const BUFFERS: u64 = 32;
 
-/// How many walks an insert into a tree makes at most: one down to the leaf, and one for each of 16 rounds upwards.
+/// How many walks an insert into a tree makes at most: one down to the leaf, and one for each of 16
+/// rounds upwards.
 const INSERT_WALKS: u64 = 17;
 
-/// The bound of an operation of the method, with the marks of its call and its return: at most 279,208 events.
+/// The bound of an operation of the method, with the marks of its call and its return: at most
+/// 279,208 events.
 pub(crate) fn bound(header: &Header, method: Method) -> u64
     ensures bound { result ≡ bound_of header.now method }
     ensures some { 1 ≤ result }

@@ -1,7 +1,10 @@
 //! Laws of runs, by turns and all at once. Each function does nothing: its contract is the law.
 
-ghost use Rattle.vyrd_memory.specs.LaneRules.{EndedLanesAreClosed, LanesKeepTheRules, NoneIsOpenAtTheEnd, OnlyRacesBreakRules};
-ghost use Rattle.vyrd_memory.specs.Runs.{EndedRunsArentStuck, LoggedCallsFit, OnlyRacesAreMalformed, RunsByTurnsAreLegal, RunsByTurnsPlayToTheEnd, TurnsHaveOneEnd};
+ghost use Rattle.vyrd_memory.specs.LaneRules.{EndedLanesAreClosed, LanesKeepTheRules};
+ghost use Rattle.vyrd_memory.specs.LaneRules.{NoneIsOpenAtTheEnd, OnlyRacesBreakRules};
+ghost use Rattle.vyrd_memory.specs.Runs.{EndedRunsArentStuck, LoggedCallsFit};
+ghost use Rattle.vyrd_memory.specs.Runs.{OnlyRacesAreMalformed, RunsByTurnsAreLegal};
+ghost use Rattle.vyrd_memory.specs.Runs.{RunsByTurnsPlayToTheEnd, TurnsHaveOneEnd};
 
 /// A run by turns of sound scripts is a legal history, and each script is played to its end in it.
 pub fn run_by_turns_is_legal()

@@ -1,8 +1,9 @@
 //! Step machines over plain memory, played by turns.
 //!
-//! The central trait is [`Machine`]: a caller of a structure that says one act at a time what it wants and is told what it found.
-//! What it wants is given by a script, a procedure that each structure defines. [`Player`] makes a machine of any structure's
-//! operations, and [`run_turns`] plays machines over plain memory in a given order and answers the one history of that order.
+//! The central trait is [`Machine`]: a caller of a structure that says one act at a time what it
+//! wants and is told what it found. What it wants is given by a script, a procedure that each
+//! structure defines. [`Player`] makes a machine of any structure's operations, and [`run_turns`]
+//! plays machines over plain memory in a given order and answers the one history of that order.
 #![tactic(auto)]
 
 mod act;

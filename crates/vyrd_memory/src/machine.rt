@@ -6,7 +6,8 @@ ghost use Rattle.vyrd_base.specs.declared.log.Kind.TheVariants.{Call};
 ghost use Rattle.vyrd_base.specs.declared.subject.Method.{Method};
 ghost use Rattle.vyrd_base.specs.declared.subject.Args.{Args};
 ghost use Rattle.vyrd_memory.specs.declared.act.Act.TheVariants.{Mark, Done};
-ghost use Rattle.vyrd_memory.specs.Scripts.{Script, stop, next_act, after_answer, is_between, IsAnswer};
+ghost use Rattle.vyrd_memory.specs.Scripts.{Script, stop, next_act, after_answer, is_between};
+ghost use Rattle.vyrd_memory.specs.Scripts.{IsAnswer};
 ghost use Rattle.vyrd_memory.specs.Soundness.{IsSoundSomewhere};
 ghost use Rattle.vyrd_memory.specs.Bounds.{bound_of, EndsWithin, SumsUp, is_return};
 
@@ -28,14 +29,16 @@ pub trait Machine: Drop {
     // How many events there are to come at most.
     ghost ahead: { Self → ℕ };
 
-    // How many of them to the end of the operation under way, or of the next one where none is under way.
+    // How many of them to the end of the operation under way, or of the next one where none is
+    // under way.
     ghost op_ahead: { Self → ℕ };
 
     /// What comes next.
     fn wants(&self) -> Act
         ensures { result ≡ next_act (script self.now) };
 
-    /// Goes on with the answer to what came next: the value that was loaded, and 0 after any other act.
+    /// Goes on with the answer to what came next: the value that was loaded, and 0 after any other
+    /// act.
     fn took(&mut self, answer: u64)
         requires goes_on { next_act (script self.old) ≢ Done }
         requires answer { IsAnswer (next_act (script self.old)) answer }
@@ -44,7 +47,8 @@ pub trait Machine: Drop {
         ensures caller { caller_of self.new ≡ caller_of self.old }
         ensures falls { ahead self.new < ahead self.old };
 
-    /// How many events there are to come at most: the bounds of all operations to come, and what is left of the one under way.
+    /// How many events there are to come at most: the bounds of all operations to come, and what is
+    /// left of the one under way.
     fn left(&self) -> u64
         ensures { result ≡ ahead self.now };
 
@@ -57,23 +61,28 @@ pub trait Machine: Drop {
     fn between(&self) -> bool
         ensures { result ≡ is_between (script self.now) };
 
-    // The script keeps to its cells, holds what it gives, takes nothing that it holds, and breaks no rule of shape.
+    // The script keeps to its cells, holds what it gives, takes nothing that it holds, and breaks
+    // no rule of shape.
     ghost is_sound: { (m : Self) → IsSoundSomewhere (header_of m) (script m) };
 
     // The operation under way ends in time.
     ghost ends_in_time: { (m : Self) → ∥ EndsWithin (op_ahead m) (script m) ∥₁ };
 
     // Between operations the bound is that of the next one.
-    ghost next_bound: { (m : Self) (method : Method) (args : Args) → next_act (script m) ≡ Mark (Call method args) → op_ahead m ≡ bound_of (header_of m) method };
+    ghost next_bound: { (m : Self) (method : Method) (args : Args)
+        → next_act (script m) ≡ Mark (Call method args)
+        → op_ahead m ≡ bound_of (header_of m) method };
 
     // Between operations what is ahead is the sum of the bounds of those to come.
-    ghost sums: { (m : Self) → is_between (script m) ≡ true → SumsUp (header_of m) (ahead m) (script m) };
+    ghost sums: { (m : Self) → is_between (script m) ≡ true
+        → SumsUp (header_of m) (ahead m) (script m) };
 
     // What is ahead of the operation under way is ahead.
     ghost op_is_ahead: { (m : Self) → op_ahead m ≤ ahead m };
 
     // After its return no operation is under way.
-    ghost rests: { (m : Self) → is_return (next_act (script m)) ≡ true → is_between (after_answer (script m) 0) ≡ true };
+    ghost rests: { (m : Self) → is_return (next_act (script m)) ≡ true
+        → is_between (after_answer (script m) 0) ≡ true };
 
     // At the end there is nothing ahead.
     ghost done: { (m : Self) → script m ≡ stop → ahead m ≡ 0 };

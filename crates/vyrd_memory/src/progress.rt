@@ -18,10 +18,11 @@ use crate::act::Act;
 use crate::op::{Op, Variant};
 use vyrd_base::Header;
 
-/// How far an operation of a structure has come, after the mark of its call: a place in its procedure and a few numbers.
+/// How far an operation of a structure has come, after the mark of its call: a place in its
+/// procedure and a few numbers.
 ///
-/// A type of this trait is what `Player` needs of a structure. The procedure of each method is a script of its own, which the
-/// type meets step by step.
+/// A type of this trait is what `Player` needs of a structure. The procedure of each method is a
+/// script of its own, which the type meets step by step.
 pub trait Progress: Copy {
     // The structure.
     ghost subject: { Subject };
@@ -54,14 +55,20 @@ pub trait Progress: Copy {
         ensures { rest header.now result ≡ after_answer (rest header.now self) answer };
 
     // Each procedure is sound.
-    ghost is_sound: { (h : Header) (variant : Variant) (op : Op) → h.subject ≡ subject → subject_of op.method ≡ subject
-        → are_args h.size op.method op.args ≡ true → are_small op.args ≡ true → IsSound h (just_called op.method) (procedure h variant op) };
+    ghost is_sound: { (h : Header) (variant : Variant) (op : Op) → h.subject ≡ subject
+        → subject_of op.method ≡ subject → are_args h.size op.method op.args ≡ true
+        → are_small op.args ≡ true
+        → IsSound h (just_called op.method) (procedure h variant op) };
 
     // With the mark of its call it keeps to its bound, and its return is its end.
-    ghost ends_in_time: { (h : Header) (variant : Variant) (op : Op) → h.subject ≡ subject → subject_of op.method ≡ subject
-        → are_args h.size op.method op.args ≡ true → are_small op.args ≡ true → EndsByReturn (bound_of h op.method - 1) (procedure h variant op) };
+    ghost ends_in_time: { (h : Header) (variant : Variant) (op : Op) → h.subject ≡ subject
+        → subject_of op.method ≡ subject → are_args h.size op.method op.args ≡ true
+        → are_small op.args ≡ true
+        → EndsByReturn (bound_of h op.method - 1) (procedure h variant op) };
 
     // Played alone, a correct one does what the specification says.
-    ghost is_right_alone: { (h : Header) (op : Op) → h.subject ≡ subject → subject_of op.method ≡ subject
-        → are_args h.size op.method op.args ≡ true → are_small op.args ≡ true → IsRightAlone h op (procedure h Correct op) };
+    ghost is_right_alone: { (h : Header) (op : Op) → h.subject ≡ subject
+        → subject_of op.method ≡ subject → are_args h.size op.method op.args ≡ true
+        → are_small op.args ≡ true
+        → IsRightAlone h op (procedure h Correct op) };
 }

@@ -1,8 +1,11 @@
-//! The run by turns of a small script, which two callers play: what the plain memory answers, and where they get stuck.
+//! The run by turns of a small script, which two callers play: what the plain memory answers, and
+//! where they get stuck.
 
 ghost use Rattle.std.specs.Prelude.{◌≡◌, ◌<◌, ◌≤◌, All, IfSome, drop};
 ghost use Rattle.vyrd_memory.specs.Visits.{visited, visit, listed, ahead_after};
-ghost use Rattle.vyrd_memory.specs.Laws.Visits.{visit_is_sound, visit_ends, visit_bound, visit_sums, visit_is_ahead, visit_rests, visit_done};
+ghost use Rattle.vyrd_memory.specs.Laws.Visits.{visit_is_sound, visit_ends, visit_bound};
+ghost use Rattle.vyrd_memory.specs.Laws.Visits.{visit_sums, visit_is_ahead, visit_rests};
+ghost use Rattle.vyrd_memory.specs.Laws.Visits.{visit_done};
 
 use crate::{Act, Machine, Ran, StepFault, Turn, run_turns};
 use std::alloc::Global;
@@ -134,7 +137,8 @@ fn event(crosses: bool, place: usize, found: u64) -> Option<Did> {
     }
 }
 
-/// The history in which the callers have their events in this order, and their loads find these values.
+/// The history in which the callers have their events in this order, and their loads find these
+/// values.
 fn history(
     alloc: Global,
     crosses: bool,
@@ -160,8 +164,8 @@ fn history(
 
 #[test]
 fn visits_by_turns(rt: HostRuntime) -> Result<(), Fail> {
-    // Whether the second caller takes the locks crosswise, the turns, whose event each one is, what the loads of the two callers
-    // find, and word 1 at the end.
+    // Whether the second caller takes the locks crosswise, the turns, whose event each one is, what
+    // the loads of the two callers find, and word 1 at the end.
     let cases = [
         (
             false,

@@ -1,13 +1,15 @@
 //! The run by turns: machines over plain memory, one event at a time.
 
-ghost use Rattle.std.specs.Prelude.{◌≡◌, ◌<◌, ◌≤◌, ◌+◌, true, false, IfOk, MatchOption, Ok, Err, All, [], ◌∷◌, length, vec_len, map, replicate, Some};
+ghost use Rattle.std.specs.Prelude.{◌≡◌, ◌<◌, ◌≤◌, ◌+◌, true, false, IfOk, MatchOption, Ok, Err};
+ghost use Rattle.std.specs.Prelude.{All, [], ◌∷◌, length, vec_len, map, replicate, Some};
 ghost use Rattle.std.specs.List.{list_all};
 ghost use Rattle.vyrd_base.specs.Places.{newest_first, numbers_below};
 ghost use Rattle.vyrd_base.specs.Layout.{plain_words, lock_words};
 ghost use Rattle.vyrd_memory.specs.declared.turns.StepFault.TheVariants.{Stuck};
 ghost use Rattle.vyrd_memory.specs.Scripts.{next_act, answer_of};
 ghost use Rattle.vyrd_memory.specs.Turns.{turns_of, is_done, RunsTo, GetsStuck};
-ghost use Rattle.vyrd_memory.specs.Playing.{event_in, words_after_event, IsWithin, IsReady, HasPlayed, HaveComeToRest, scene, memory_after, total};
+ghost use Rattle.vyrd_memory.specs.Playing.{event_in, words_after_event, IsWithin, IsReady};
+ghost use Rattle.vyrd_memory.specs.Playing.{HasPlayed, HaveComeToRest, scene, memory_after, total};
 
 use crate::act::Act;
 use crate::machine::Machine;
@@ -29,7 +31,8 @@ pub struct Ran {
 /// Why a run by turns has no end.
 #[derive(Clone, Copy, Debug, PartialEq, Eq)]
 pub enum StepFault {
-    /// The turns are used up, some machine isn't done, and each such machine wants a lock that is held.
+    /// The turns are used up, some machine isn't done, and each such machine wants a lock that is
+    /// held.
     Stuck,
     /// There was no memory.
     Memory,
@@ -86,7 +89,8 @@ fn turn<M: Machine>(
     requires caller { caller < length machines.old }
     requires ready { IsReady header.now M.header_of machines.old words.old.items }
     ensures played { IfOk result (λ moved. HasPlayed header.now M.header_of M.script (caller ∷ [])
-        (scene machines.old words.old.items history.old.items) (scene machines.new words.new.items history.new.items)) }
+        (scene machines.old words.old.items history.old.items)
+        (scene machines.new words.new.items history.new.items)) }
     ensures still { result ≡ Ok false → history.new.items ≡ history.old.items }
     ensures falls { result ≡ Ok true → total M.ahead machines.new < total M.ahead machines.old }
     ensures rests { result ≡ Ok false → total M.ahead machines.new ≤ total M.ahead machines.old }
@@ -123,8 +127,9 @@ fn round<M: Machine>(
 ) -> Result<bool, AllocError>
     requires few { length machines.old ≤ 64 }
     requires ready { IsReady header.now M.header_of machines.old words.old.items }
-    ensures played { IfOk result (λ moved. HasPlayed header.now M.header_of M.script (numbers_below (length machines.old))
-        (scene machines.old words.old.items history.old.items) (scene machines.new words.new.items history.new.items)) }
+    ensures played { IfOk result (λ moved. HasPlayed header.now M.header_of M.script
+        (numbers_below (length machines.old)) (scene machines.old words.old.items history.old.items)
+        (scene machines.new words.new.items history.new.items)) }
     ensures still { result ≡ Ok false → history.new.items ≡ history.old.items }
     ensures falls { result ≡ Ok true → total M.ahead machines.new < total M.ahead machines.old }
 {
@@ -147,8 +152,10 @@ fn repeat<M: Machine>(
 ) -> Result<(), AllocError>
     requires caller { turns.now.caller < length machines.old }
     requires ready { IsReady header.now M.header_of machines.old words.old.items }
-    ensures played { IfOk result (λ u. HasPlayed header.now M.header_of M.script (replicate turns.now.count turns.now.caller)
-        (scene machines.old words.old.items history.old.items) (scene machines.new words.new.items history.new.items)) }
+    ensures played { IfOk result (λ u. HasPlayed header.now M.header_of M.script
+        (replicate turns.now.count turns.now.caller)
+        (scene machines.old words.old.items history.old.items)
+        (scene machines.new words.new.items history.new.items)) }
 {
     for _time in 0..turns.count {
         turn(header, machines, turns.caller, words, history)?;
@@ -166,8 +173,9 @@ fn repeat_all<M: Machine>(
 ) -> Result<(), AllocError>
     requires callers { All (λ turn. turn.caller < length machines.old) turns.now }
     requires ready { IsReady header.now M.header_of machines.old words.old.items }
-    ensures played { IfOk result (λ u. HasPlayed header.now M.header_of M.script (turns_of turns.now)
-        (scene machines.old words.old.items history.old.items) (scene machines.new words.new.items history.new.items)) }
+    ensures played { IfOk result (λ u. HasPlayed header.now M.header_of M.script
+        (turns_of turns.now) (scene machines.old words.old.items history.old.items)
+        (scene machines.new words.new.items history.new.items)) }
 {
     for turn in turns {
         repeat(header, machines, turn, words, history)?;
@@ -185,7 +193,8 @@ fn play_rounds<M: Machine>(
     requires few { length machines.old ≤ 64 }
     requires ready { IsReady header.now M.header_of machines.old words.old.items }
     ensures rest { IfOk result (λ u. HaveComeToRest header.now M.header_of M.script
-        (scene machines.old words.old.items history.old.items) (scene machines.new words.new.items history.new.items)) }
+        (scene machines.old words.old.items history.old.items)
+        (scene machines.new words.new.items history.new.items)) }
 {
     while round(header, machines, words, history)? {}
     Ok(())
@@ -205,7 +214,8 @@ fn are_done<M: Machine>(machines: &[M]) -> bool
 
 /// All words 0 and all locks free.
 fn zeros(alloc: Global, header: &Header) -> Result<Vec<u64>, AllocError>
-    ensures { IfOk result (λ words. words.items ≡ replicate (plain_words header.now + lock_words header.now) 0) }
+    ensures { IfOk result
+        (λ words. words.items ≡ replicate (plain_words header.now + lock_words header.now) 0) }
 {
     let cells = header.plain_words() as usize + header.lock_words() as usize;
     Vec::from_elem(alloc, 0u64, cells)
@@ -223,7 +233,8 @@ fn play<M: Machine>(
     requires turns { All (λ turn. turn.caller < header.now.callers) turns.now }
     ensures runs { IfOk result (λ ran. MatchOption ran
         (GetsStuck (map M.script machines.old) turns.now)
-        (λ r. RunsTo (map M.script machines.old) turns.now r.history.items × (r.words.items ≡ memory_after header.now (newest_first r.history.items)))) }
+        (λ r. RunsTo (map M.script machines.old) turns.now r.history.items
+        × (r.words.items ≡ memory_after header.now (newest_first r.history.items)))) }
 {
     let mut words = zeros(alloc, header)?;
     let mut history = Vec::new(alloc);
@@ -236,11 +247,12 @@ fn play<M: Machine>(
     }
 }
 
-/// Plays machines over plain memory, from all words 0 and all locks free: first the turns that are given, and then rounds over
-/// all callers, until all machines are done. Machine i is that of caller i. A turn of a machine that is done, or that wants
-/// a lock which is held, has no event.
+/// Plays machines over plain memory, from all words 0 and all locks free: first the turns that are
+/// given, and then rounds over all callers, until all machines are done. Machine i is that of
+/// caller i. A turn of a machine that is done, or that wants a lock which is held, has no event.
 ///
-/// The answer is a function of the machines' scripts and the turns. It takes time and memory for each event.
+/// The answer is a function of the machines' scripts and the turns. It takes time and memory for
+/// each event.
 pub fn run_turns<M: Machine>(
     alloc: Global,
     header: Header,
@@ -250,8 +262,10 @@ pub fn run_turns<M: Machine>(
     requires count { length machines.old ≡ header.callers }
     requires header { All (λ m. M.header_of m ≡ header) machines.old }
     requires turns { All (λ turn. turn.caller < header.callers) turns.now }
-    ensures history { IfOk result (λ ran. RunsTo (map M.script machines.old) turns.now ran.history.items) }
-    ensures words { IfOk result (λ ran. ran.words.items ≡ memory_after header (newest_first ran.history.items)) }
+    ensures history { IfOk result
+        (λ ran. RunsTo (map M.script machines.old) turns.now ran.history.items) }
+    ensures words { IfOk result
+        (λ ran. ran.words.items ≡ memory_after header (newest_first ran.history.items)) }
     ensures stuck { result ≡ Err Stuck → GetsStuck (map M.script machines.old) turns.now }
 {
     match play(alloc, &header, machines, turns) {

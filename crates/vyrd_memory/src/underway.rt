@@ -1,6 +1,7 @@
 //! What a player has under way.
 
-ghost use Rattle.std.specs.Prelude.{◌≡◌, ◌+◌, ◌<◌, ◌≤◌, ◌-◌, true, IfSome, Option, Some, None, is_none, is_some};
+ghost use Rattle.std.specs.Prelude.{◌≡◌, ◌+◌, ◌<◌, ◌≤◌, ◌-◌, true, IfSome, Option, Some, None};
+ghost use Rattle.std.specs.Prelude.{is_none, is_some};
 ghost use Rattle.std.specs.Option.{option_map_or};
 ghost use Rattle.vyrd_base.specs.Subjects.{subject_of, are_args};
 ghost use Rattle.vyrd_memory.specs.Scripts.{stop, next_act, after_answer, IsAnswer};
@@ -42,7 +43,8 @@ impl<P: Progress> Underway<P> {
     pub fn begin(&mut self, variant: Variant, op: Op)
         requires method { subject_of op.method ≡ P.subject }
         requires args { are_args self.old.header.size op.method op.args ≡ true }
-        ensures begins { IfSome self.new.progress (λ p. P.rest self.new.header p ≡ P.procedure self.old.header variant op) }
+        ensures begins { IfSome self.new.progress
+            (λ p. P.rest self.new.header p ≡ P.procedure self.old.header variant op) }
         ensures some { is_some self.new.progress ≡ true }
         ensures left { self.new.left + 1 ≡ bound_of self.old.header op.method }
         ensures header { self.new.header ≡ self.old.header }
@@ -55,7 +57,8 @@ impl<P: Progress> Underway<P> {
     /// Goes on with the answer. Its return ends the operation.
     pub fn go_on(&mut self, answer: u64)
         requires some { is_some self.old.progress ≡ true }
-        requires answer { IfSome self.old.progress (λ p. IsAnswer (next_act (P.rest self.old.header p)) answer) }
+        requires answer { IfSome self.old.progress
+            (λ p. IsAnswer (next_act (P.rest self.old.header p)) answer) }
         ensures script { option_map_or (P.rest self.new.header) self.new.progress stop
             ≡ after_answer (option_map_or (P.rest self.old.header) self.old.progress stop) answer }
         ensures falls { self.new.left < self.old.left }

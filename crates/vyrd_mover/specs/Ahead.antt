@@ -1,6 +1,7 @@
--- What is kept while a history is gone through from its end: for each caller what its block has ahead, how many blocks end, and
--- the first that is broken.
-use Rattle.std.specs.Prelude.{◌≡◌, ℕ, ◌+◌, ◌<◌, ◌≤◌, Bool, true, false, List, [], ◌∷◌, length, slice_index_or, slice_set, Option, Some, None, if◌then◌else◌}
+-- What is kept while a history is gone through from its end: for each caller what its block has
+-- ahead, how many blocks end, and the first that is broken.
+use Rattle.std.specs.Prelude.{◌≡◌, ℕ, ◌+◌, ◌<◌, ◌≤◌, Bool, true, false, List, [], ◌∷◌, length}
+use Rattle.std.specs.Prelude.{slice_index_or, slice_set, Option, Some, None, if◌then◌else◌}
 use Rattle.std.specs.Option.{option_map, option_or}
 use Rattle.std.specs.List.{filter_map}
 use Rattle.vyrd_base.specs.declared.log.Kind.TheVariants.{BlockOpen, BlockClose, BlockCommit}
@@ -24,11 +25,13 @@ first_not_left free events = first_answer (line_of_other free) events
 -- more event, the first that isn't a left mover
 abbrev pub break_line : (ℕ → Bool) → List Stamped → Option ℕ
 break_line free [] = None
-break_line free (e ∷ later) = if is_right_mover free e then break_line free later else first_not_left free later
+break_line free (e ∷ later) =
+    if is_right_mover free e then break_line free later else first_not_left free later
 
 -- what is kept of the events of a block
 abbrev pub kept_of : (ℕ → Bool) → List Stamped → Ahead
-kept_of free events = record { not_left = first_not_left free events; uncut = break_line free events }
+kept_of free events =
+    record { not_left = first_not_left free events; uncut = break_line free events }
 
 -- what the caller has ahead up to its next block end, if there is one
 abbrev pub ahead_of : (ℕ → Bool) → ℕ → List Stamped → Option Ahead
@@ -41,8 +44,8 @@ with_event e is_left is_right ahead = record {
   uncut = if is_right then ahead.uncut else ahead.not_left;
 }
 
--- what is kept of a history from some place on: what each caller has ahead, how many blocks end, and the lines of the first
--- broken one
+-- what is kept of a history from some place on: what each caller has ahead, how many blocks end,
+-- and the lines of the first broken one
 pub record Surveyed : Type 0 where
   pub ahead : List (Option Ahead)
   pub blocks : ℕ
@@ -50,7 +53,8 @@ pub record Surveyed : Type 0 where
 
 -- the same with other things ahead of a caller
 abbrev pub with_ahead : Surveyed → ℕ → Option Ahead → Surveyed
-with_ahead s c ahead = record { ahead = slice_set s.ahead c ahead; blocks = s.blocks; broken = s.broken }
+with_ahead s c ahead =
+    record { ahead = slice_set s.ahead c ahead; blocks = s.blocks; broken = s.broken }
 
 -- the same with a block opened before it, by what its caller has ahead
 abbrev pub opened_before : Surveyed → Stamped → Option Ahead → Surveyed
@@ -71,14 +75,20 @@ preceded_by free s e (Marked BlockOpen) = opened_before s e (ahead_at s e)
 preceded_by free s e (Marked BlockClose) = with_ahead s e.caller (Some (kept_of free []))
 preceded_by free s e (Marked BlockCommit) = with_ahead s e.caller (Some (kept_of free []))
 preceded_by free s e (Marked kind) = s
-preceded_by free s e (Took lock) = with_ahead s e.caller (option_map (with_event e false true) (ahead_at s e))
-preceded_by free s e (Gave lock) = with_ahead s e.caller (option_map (with_event e true false) (ahead_at s e))
-preceded_by free s e (Read cell value) = with_ahead s e.caller (option_map (with_event e (free cell) (free cell)) (ahead_at s e))
-preceded_by free s e (Wrote cell value) = with_ahead s e.caller (option_map (with_event e (free cell) (free cell)) (ahead_at s e))
+preceded_by free s e (Took lock) =
+    with_ahead s e.caller (option_map (with_event e false true) (ahead_at s e))
+preceded_by free s e (Gave lock) =
+    with_ahead s e.caller (option_map (with_event e true false) (ahead_at s e))
+preceded_by free s e (Read cell value) =
+    with_ahead s e.caller (option_map (with_event e (free cell) (free cell)) (ahead_at s e))
+preceded_by free s e (Wrote cell value) =
+    with_ahead s e.caller (option_map (with_event e (free cell) (free cell)) (ahead_at s e))
 
 -- what is kept says what these events say, whatever stands before them
 pub record HasSurveyed (free : ℕ → Bool) (later : List Stamped) (s : Surveyed) : Type 0 where
   pub ahead : (c : ℕ) → c < length s.ahead → slice_index_or s.ahead c None ≡ ahead_of free c later
-  pub blocks : (earlier : List Stamped) → s.blocks ≡ length (filter_map block_at (places_after earlier later))
+  pub blocks : (earlier : List Stamped)
+      → s.blocks ≡ length (filter_map block_at (places_after earlier later))
   pub few : s.blocks ≤ length later
-  pub broken : (earlier : List Stamped) → s.broken ≡ first_answer (broken_at free) (places_after earlier later)
+  pub broken : (earlier : List Stamped)
+      → s.broken ≡ first_answer (broken_at free) (places_after earlier later)

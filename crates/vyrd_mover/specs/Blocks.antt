@@ -1,5 +1,6 @@
 -- The blocks of a history, and the first of them that isn't reducible.
-use Rattle.std.specs.Prelude.{ℕ, ◌+◌, Bool, true, false, not, ◌&&◌, ◌==◌, List, [], ◌∷◌, length, Option, Some, None, if◌then◌else◌}
+use Rattle.std.specs.Prelude.{ℕ, ◌+◌, Bool, true, false, not, ◌&&◌, ◌==◌, List, [], ◌∷◌, length}
+use Rattle.std.specs.Prelude.{Option, Some, None, if◌then◌else◌}
 use Rattle.std.specs.Option.{option_map, option_and_then}
 use Rattle.std.specs.List.{filter, filter_map}
 use Rattle.vyrd_base.specs.declared.log.Kind.TheVariants.{BlockOpen, BlockClose, BlockCommit}
@@ -32,7 +33,9 @@ is_block_end _ = false
 -- the events up to and with the next block end of the caller, if there is one
 abbrev pub up_to_end : ℕ → List Stamped → Option (List Stamped)
 up_to_end c [] = None
-up_to_end c (e ∷ later) = if e.caller == c && is_block_end e.did then Some (e ∷ []) else option_map (◌∷◌ e) (up_to_end c later)
+up_to_end c (e ∷ later) = if e.caller == c && is_block_end e.did
+    then Some (e ∷ [])
+    else option_map (◌∷◌ e) (up_to_end c later)
 
 -- the caller's reads, writes, takes and gives among these events
 abbrev pub events_of : ℕ → List Stamped → List Stamped
@@ -40,7 +43,9 @@ events_of c history = filter (λ e. e.caller == c && not (is_mark e.did)) histor
 
 -- the events of the block that is opened at a place, if one is and it ends
 abbrev pub block_at : Place Stamped → Option (List Stamped)
-block_at place = if is_block_open place.here.did then option_map (events_of place.here.caller) (up_to_end place.here.caller place.later) else None
+block_at place = if is_block_open place.here.did
+    then option_map (events_of place.here.caller) (up_to_end place.here.caller place.later)
+    else None
 
 -- whether the caller's events among these, which are those of a block, have a cut in this history
 abbrev pub is_reducible : Cells → List Stamped → ℕ → List Stamped → Bool
@@ -52,7 +57,9 @@ line_of e = e.number + 2
 
 -- the lines of a block's open and of its break, if it isn't reducible, by its open and its events
 abbrev pub broken_lines : (ℕ → Bool) → Stamped → List Stamped → Option (ℕ × ℕ)
-broken_lines free opening events = if has_cut free events then None else option_map (λ e. (line_of opening, line_of e)) (break_of free events)
+broken_lines free opening events = if has_cut free events
+    then None
+    else option_map (λ e. (line_of opening, line_of e)) (break_of free events)
 
 -- the same of the block that is opened at a place
 abbrev pub broken_at : (ℕ → Bool) → Place Stamped → Option (ℕ × ℕ)
@@ -73,4 +80,5 @@ said_of (Some lines) count = Broken lines.0 lines.1
 
 -- the answer about a history's blocks
 unfoldable pub blocks_of : Cells → List Stamped → Blocks
-blocks_of cells history = said_of (first_broken (is_race_free cells history) history) (blocks_ended history)
+blocks_of cells history =
+    said_of (first_broken (is_race_free cells history) history) (blocks_ended history)

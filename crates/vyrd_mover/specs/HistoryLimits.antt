@@ -1,5 +1,6 @@
--- What a history keeps to that has a text: its header has version 1, it is legal, its blocks are opened and ended in turn, its
--- numbers and marks can be spelled, and its lines are at most 4,000,000.
+-- What a history keeps to that has a text: its header has version 1, it is legal, its blocks are
+-- opened and ended in turn, its numbers and marks can be spelled, and its lines are at most
+-- 4,000,000.
 use Rattle.std.specs.Prelude.{◌≡◌, ◌+◌, ◌≤◌, true, length}
 use Rattle.std.specs.List.{AllByRecursion}
 use Rattle.vyrd_base.specs.Histories.{cells_of, is_legal}

@@ -1,7 +1,10 @@
--- What bytes say as a history, or their first bad line with the first rule that it breaks. The bytes are cut at their line
--- feeds. Line 1 has to spell a header, and each later line an event or `end`, after which nothing follows. Each event has to be
--- legal after those before it, and each caller's blocks have to be opened and ended in turn.
-use Rattle.std.specs.Prelude.{ℕ, ◌+◌, ◌==◌, Bool, true, false, not, ◌&&◌, ◌||◌, nat_lt, List, [], ◌∷◌, ◌++◌, length, Option, Some, None, unwrap_or, Result, Ok, Err, if◌then◌else◌}
+-- What bytes say as a history, or their first bad line with the first rule that it breaks. The
+-- bytes are cut at their line feeds. Line 1 has to spell a header, and each later line an event or
+-- `end`, after which nothing follows. Each event has to be legal after those before it, and each
+-- caller's blocks have to be opened and ended in turn.
+use Rattle.std.specs.Prelude.{ℕ, ◌+◌, ◌==◌, Bool, true, false, not, ◌&&◌, ◌||◌, nat_lt, List, []}
+use Rattle.std.specs.Prelude.{◌∷◌, ◌++◌, length, Option, Some, None, unwrap_or, Result, Ok, Err}
+use Rattle.std.specs.Prelude.{if◌then◌else◌}
 use Rattle.std.specs.Str.{bytes_eq}
 use Rattle.std.specs.List.{slice_split, list_all}
 use Rattle.vyrd_base.specs.declared.header.Header.{Header}
@@ -10,7 +13,9 @@ use Rattle.vyrd_base.specs.Places.{Place, places, newest_first, first_answer}
 use Rattle.vyrd_base.specs.Histories.{cells_of, is_legal_at}
 use Rattle.vyrd_base.specs.Spelling.{end_line}
 use Rattle.vyrd_mover.specs.declared.fault.HistoryRule.{HistoryRule}
-use Rattle.vyrd_mover.specs.declared.fault.HistoryRule.TheVariants.{TooManyLines, AfterEnd, BadHeader, BadLine, NotLegal, BlockMark, NoLineFeed, NoEnd}
+use Rattle.vyrd_mover.specs.declared.fault.HistoryRule.TheVariants.{TooManyLines, AfterEnd}
+use Rattle.vyrd_mover.specs.declared.fault.HistoryRule.TheVariants.{BadHeader, BadLine, NotLegal}
+use Rattle.vyrd_mover.specs.declared.fault.HistoryRule.TheVariants.{BlockMark, NoLineFeed, NoEnd}
 use Rattle.vyrd_mover.specs.Blocks.{is_block_open, is_block_end}
 use Rattle.vyrd_mover.specs.HistoryText.{Recorded}
 use Rattle.vyrd_mover.specs.HistoryLines.{history_header_in, event_in}
@@ -26,7 +31,11 @@ refused n rule = Err (record { line = n; rule = rule })
 
 -- what an event of the caller says of its block: opened, or ended
 abbrev pub block_state : ℕ → Stamped → Option Bool
-block_state c e = if e.caller == c then (if is_block_open e.did then Some true else (if is_block_end e.did then Some false else None)) else None
+block_state c e = if e.caller == c
+    then (if is_block_open e.did
+    then Some true
+    else (if is_block_end e.did then Some false else None))
+    else None
 
 -- whether the caller has an open block after these events, given the newest first
 abbrev pub in_block : ℕ → List Stamped → Bool
@@ -85,7 +94,8 @@ unless_too_many n rule = if nat_lt 4000000 n then TooManyLines else rule
 -- the bytes of line n, after the last line feed: with more than 64 of them they begin no good line
 abbrev pub unfinished_rule : ℕ → HistoryRule → List ℕ → HistoryRule
 unfinished_rule n bad [] = NoEnd
-unfinished_rule n bad (b ∷ rest) = unless_too_many n (if nat_lt 64 (length (b ∷ rest)) then bad else NoLineFeed)
+unfinished_rule n bad (b ∷ rest) =
+    unless_too_many n (if nat_lt 64 (length (b ∷ rest)) then bad else NoLineFeed)
 
 -- Nothing follows the line `end`, after which line n would come: the lines from there on are one
 -- without bytes.

@@ -1,5 +1,7 @@
--- What the parts of a history's lines spell: the reader of a part finds exactly what has the text as its spelling.
-use Rattle.std.specs.Prelude.{◌≡◌, ℕ, ◌<◌, ◌^◌, Bool, true, false, ◌&&◌, nat_lt, List, [], ◌∷◌, ◌++◌, Option, Some, None, codes, decimal}
+-- What the parts of a history's lines spell: the reader of a part finds exactly what has the text
+-- as its spelling.
+use Rattle.std.specs.Prelude.{◌≡◌, ℕ, ◌<◌, ◌^◌, Bool, true, false, ◌&&◌, nat_lt, List, [], ◌∷◌}
+use Rattle.std.specs.Prelude.{◌++◌, Option, Some, None, codes, decimal}
 use Rattle.vyrd_base.specs.declared.subject.Subject.{Subject}
 use Rattle.vyrd_base.specs.declared.history.Did.{Did}
 use Rattle.vyrd_base.specs.declared.history.Did.TheVariants.{Read, Wrote, Took, Gave, Marked}
@@ -8,12 +10,14 @@ use Rattle.vyrd_mover.specs.HistoryText.{history_header_line, event_line}
 
 -- the size and the number of callers whose text it is
 abbrev pub AreBoundsRead : List ℕ → Option (ℕ × ℕ) → Type 0
-AreBoundsRead text None = (size callers : ℕ) → size < 2 ^ 32 → callers < 2 ^ 32 → text ≡ decimal size ++ 32 ∷ decimal callers → ⊥
+AreBoundsRead text None = (size callers : ℕ) → size < 2 ^ 32 → callers < 2 ^ 32
+    → text ≡ decimal size ++ 32 ∷ decimal callers → ⊥
 AreBoundsRead text (Some (size, callers)) = text ≡ decimal size ++ 32 ∷ decimal callers
 
 -- the subject, the size and the number of callers whose line it is
 abbrev pub IsFirstRead : List ℕ → Option (Subject × ℕ × ℕ) → Type 0
-IsFirstRead line None = (subject : Subject) (size callers : ℕ) → size < 2 ^ 32 → callers < 2 ^ 32 → line ≡ history_header_line subject size callers → ⊥
+IsFirstRead line None = (subject : Subject) (size callers : ℕ) → size < 2 ^ 32 → callers < 2 ^ 32
+    → line ≡ history_header_line subject size callers → ⊥
 IsFirstRead line (Some (subject, size, callers)) = line ≡ history_header_line subject size callers
 
 -- whether it is a read, a write, a take or a give whose numbers are in the text's ranges
@@ -34,7 +38,8 @@ act_text (Marked kind) = []
 
 -- the cell below 2^32 and the value below 2^64 whose text it is
 abbrev pub IsPairRead : List ℕ → Option (ℕ × ℕ) → Type 0
-IsPairRead text None = (cell value : ℕ) → cell < 2 ^ 32 → value < 2 ^ 64 → text ≡ decimal cell ++ 32 ∷ decimal value → ⊥
+IsPairRead text None = (cell value : ℕ) → cell < 2 ^ 32 → value < 2 ^ 64
+    → text ≡ decimal cell ++ 32 ∷ decimal value → ⊥
 IsPairRead text (Some (cell, value)) = text ≡ decimal cell ++ 32 ∷ decimal value
 
 -- the read, write, take or give whose text it is
@@ -44,5 +49,7 @@ IsActRead text (Some did) = (is_act did ≡ true) × (text ≡ act_text did)
 
 -- the event with this number, a read, write, take or give, whose line it is
 abbrev pub IsStampedRead : ℕ → List ℕ → Option Stamped → Type 0
-IsStampedRead number line None = (e : Stamped) → e.caller < 2 ^ 32 → is_act e.did ≡ true → line ≡ event_line e → ⊥
-IsStampedRead number line (Some e) = (e.number ≡ number) × (e.caller < 2 ^ 32) × (is_act e.did ≡ true) × (line ≡ event_line e)
+IsStampedRead number line None =
+    (e : Stamped) → e.caller < 2 ^ 32 → is_act e.did ≡ true → line ≡ event_line e → ⊥
+IsStampedRead number line (Some e) =
+    (e.number ≡ number) × (e.caller < 2 ^ 32) × (is_act e.did ≡ true) × (line ≡ event_line e)

@@ -1,6 +1,6 @@
--- A history as a list with its header, and its one text: a line for the header, a line for each event, and the line `end`. The
--- event with the number i stands on line i + 2. Numbers, spaces and line feeds are those of a log, and so are the lines of
--- marks.
+-- A history as a list with its header, and its one text: a line for the header, a line for each
+-- event, and the line `end`. The event with the number i stands on line i + 2. Numbers, spaces and
+-- line feeds are those of a log, and so are the lines of marks.
 use Rattle.std.specs.Prelude.{ℕ, List, [], ◌∷◌, ◌++◌, map, codes, decimal, flat_map}
 use Rattle.vyrd_base.specs.declared.header.Header.{Header}
 use Rattle.vyrd_base.specs.declared.subject.Subject.{Subject}
@@ -21,12 +21,15 @@ recorded_of past = record { header = past.header; history = past.history.items }
 
 -- line 1: `history`, the subject, the size and the number of callers
 abbrev pub history_header_line : Subject → ℕ → ℕ → List ℕ
-history_header_line subject size callers = spaced (codes "history" ∷ subject_name subject ∷ decimal size ∷ decimal callers ∷ [])
+history_header_line subject size callers =
+    spaced (codes "history" ∷ subject_name subject ∷ decimal size ∷ decimal callers ∷ [])
 
 -- a later line: the caller's number, and what it did
 abbrev pub did_line : ℕ → Did → List ℕ
-did_line caller (Read cell value) = spaced (decimal caller ∷ codes "read" ∷ decimal cell ∷ decimal value ∷ [])
-did_line caller (Wrote cell value) = spaced (decimal caller ∷ codes "wrote" ∷ decimal cell ∷ decimal value ∷ [])
+did_line caller (Read cell value) =
+    spaced (decimal caller ∷ codes "read" ∷ decimal cell ∷ decimal value ∷ [])
+did_line caller (Wrote cell value) =
+    spaced (decimal caller ∷ codes "wrote" ∷ decimal cell ∷ decimal value ∷ [])
 did_line caller (Took lock) = spaced (decimal caller ∷ codes "took" ∷ decimal lock ∷ [])
 did_line caller (Gave lock) = spaced (decimal caller ∷ codes "gave" ∷ decimal lock ∷ [])
 did_line caller (Marked kind) = entry_line (record { caller = caller; kind = kind })
@@ -37,7 +40,8 @@ event_line e = did_line e.caller e.did
 
 -- all lines, without their line feeds
 abbrev pub history_lines : Recorded → List (List ℕ)
-history_lines r = history_header_line r.header.subject r.header.size r.header.callers ∷ map event_line r.history ++ end_line ∷ []
+history_lines r = history_header_line r.header.subject r.header.size r.header.callers
+    ∷ map event_line r.history ++ end_line ∷ []
 
 -- the text of a history
 unfoldable pub history_text : Recorded → List ℕ

@@ -2,7 +2,8 @@
 -- another caller does next, a give with what another caller did just before, and an access of a
 -- race-free cell with both. If a list has a cut, all its events can be brought together at the one
 -- event where it is cut.
-use Rattle.std.specs.Prelude.{ℕ, ◌+◌, Bool, true, false, ◌&&◌, ◌||◌, List, ◌∷◌, length, take, drop, Option, Some, None, if◌then◌else◌}
+use Rattle.std.specs.Prelude.{ℕ, ◌+◌, Bool, true, false, ◌&&◌, ◌||◌, List, ◌∷◌, length, take, drop}
+use Rattle.std.specs.Prelude.{Option, Some, None, if◌then◌else◌}
 use Rattle.std.specs.List.{list_all, list_any}
 use Rattle.vyrd_base.specs.declared.history.Did.{Did}
 use Rattle.vyrd_base.specs.declared.history.Did.TheVariants.{Read, Wrote, Took, Gave, Marked}
@@ -41,9 +42,11 @@ is_right_mover free e = is_take e.did || is_free_access free e.did
 abbrev pub is_left_mover : (ℕ → Bool) → Stamped → Bool
 is_left_mover free e = is_give e.did || is_free_access free e.did
 
--- whether the list has a cut at place i: right movers alone stand before this place, and left movers alone after it
+-- whether the list has a cut at place i: right movers alone stand before this place, and left
+-- movers alone after it
 abbrev pub is_cut : (ℕ → Bool) → List Stamped → ℕ → Bool
-is_cut free events i = list_all (is_right_mover free) (take i events) && list_all (is_left_mover free) (drop (i + 1) events)
+is_cut free events i = list_all (is_right_mover free) (take i events)
+    && list_all (is_left_mover free) (drop (i + 1) events)
 
 -- whether the list has a cut at one of its places, or at its end
 unfoldable pub has_cut : (ℕ → Bool) → List Stamped → Bool
@@ -51,7 +54,8 @@ has_cut free events = list_any (is_cut free events) (numbers_below (length event
 
 -- the event at a place, if the list up to and with it has no cut
 abbrev pub uncut_at : (ℕ → Bool) → Place Stamped → Option Stamped
-uncut_at free place = if has_cut free (newest_first (place.here ∷ place.earlier)) then None else Some place.here
+uncut_at free place =
+    if has_cut free (newest_first (place.here ∷ place.earlier)) then None else Some place.here
 
 -- the last event of the shortest prefix that has no cut
 abbrev pub break_of : (ℕ → Bool) → List Stamped → Option Stamped

@@ -26,7 +26,8 @@ is_access_of cell (Marked kind) = false
 
 -- whether all reads and writes of the cell are this caller's
 abbrev pub is_used_by_alone : List Stamped → ℕ → ℕ → Bool
-is_used_by_alone history cell caller = list_all (λ e. not (is_access_of cell e.did) || e.caller == caller) history
+is_used_by_alone history cell caller =
+    list_all (λ e. not (is_access_of cell e.did) || e.caller == caller) history
 
 -- whether none of them is a write
 abbrev pub is_unwritten : List Stamped → ℕ → Bool
@@ -34,13 +35,17 @@ is_unwritten history cell = list_all (λ e. not (is_write_to cell e.did)) histor
 
 -- whether the event's caller holds the lock, if the event reads or writes the cell
 abbrev pub is_guarded_at : ℕ → ℕ → Place Stamped → Bool
-is_guarded_at cell lock place = not (is_access_of cell place.here.did) || value_in place.earlier lock == place.here.caller + 1
+is_guarded_at cell lock place =
+    not (is_access_of cell place.here.did) || value_in place.earlier lock == place.here.caller + 1
 
 -- whether at each read and write of the cell the lock has the value of that event's caller plus 1
 abbrev pub is_guarded_by : List Stamped → ℕ → ℕ → Bool
 is_guarded_by history cell lock = list_all (is_guarded_at cell lock) (places history)
 
--- whether a plain cell is race-free: it is used by one caller alone, or never written, or some lock guards it
+-- whether a plain cell is race-free: it is used by one caller alone, or never written, or some lock
+-- guards it
 unfoldable pub is_race_free : Cells → List Stamped → ℕ → Bool
-is_race_free cells history cell = list_any (is_used_by_alone history cell) (numbers_below cells.callers)
-    || is_unwritten history cell || list_any (is_guarded_by history cell) (numbers_from cells.plain cells.locks)
+is_race_free cells history cell =
+    list_any (is_used_by_alone history cell) (numbers_below cells.callers)
+    || is_unwritten history cell
+    || list_any (is_guarded_by history cell) (numbers_from cells.plain cells.locks)

@@ -3,7 +3,9 @@
 use Rattle.std.specs.Prelude.{◌≡◌, ⊤, ℕ, List, ◌++◌, Result, Err, codes, decimal}
 use Rattle.vyrd_base.specs.Spelling.{ended_line}
 use Rattle.vyrd_mover.specs.declared.fault.HistoryRule.{HistoryRule}
-use Rattle.vyrd_mover.specs.declared.fault.HistoryRule.TheVariants.{TooManyLines, AfterEnd, BadHeader, BadLine, NotLegal, BlockMark, NoLineFeed, NoEnd}
+use Rattle.vyrd_mover.specs.declared.fault.HistoryRule.TheVariants.{TooManyLines, AfterEnd}
+use Rattle.vyrd_mover.specs.declared.fault.HistoryRule.TheVariants.{BadHeader, BadLine, NotLegal}
+use Rattle.vyrd_mover.specs.declared.fault.HistoryRule.TheVariants.{BlockMark, NoLineFeed, NoEnd}
 use Rattle.vyrd_mover.specs.declared.fault.HistoryFault.{HistoryFault}
 use Rattle.vyrd_mover.specs.declared.fault.HistoryFault.TheVariants.{Refused, Memory}
 use Rattle.vyrd_mover.specs.HistoryText.{Recorded}
@@ -22,7 +24,8 @@ history_rule_text NoEnd = codes "no end"
 
 -- the line that names a bad line and its rule, with its line feed
 abbrev pub history_refusal_text : ℕ → HistoryRule → List ℕ
-history_refusal_text line rule = ended_line (codes "history refused at line " ++ decimal line ++ codes ": " ++ history_rule_text rule)
+history_refusal_text line rule = ended_line (codes "history refused at line " ++ decimal line
+    ++ codes ": " ++ history_rule_text rule)
 
 -- what a refusal says of a reading; if memory ran out, nothing is known
 abbrev pub IsRefusal : HistoryFault → Result Recorded Refusal → Type 0

@@ -1,5 +1,7 @@
--- What is remembered of the events so far: the value of each cell, and which callers have an open block.
-use Rattle.std.specs.Prelude.{◌≡◌, ℕ, ◌+◌, ◌<◌, Bool, true, false, List, length, slice_index, slice_index_or, slice_set}
+-- What is remembered of the events so far: the value of each cell, and which callers have an open
+-- block.
+use Rattle.std.specs.Prelude.{◌≡◌, ℕ, ◌+◌, ◌<◌, Bool, true, false, List, length, slice_index}
+use Rattle.std.specs.Prelude.{slice_index_or, slice_set}
 use Rattle.vyrd_base.specs.declared.header.Header.{Header}
 use Rattle.vyrd_base.specs.declared.log.Kind.TheVariants.{BlockOpen, BlockClose, BlockCommit}
 use Rattle.vyrd_base.specs.declared.history.Did.{Did}
@@ -30,8 +32,11 @@ open_after open_blocks caller (Took lock) = open_blocks
 open_after open_blocks caller (Gave lock) = open_blocks
 
 -- what is remembered says what these events leave
-pub record Remembers (h : Header) (values : List ℕ) (open_blocks : List Bool) (history : List Stamped) : Type 0 where
+pub record Remembers (h : Header) (values : List ℕ) (open_blocks : List Bool)
+    (history : List Stamped) : Type 0 where
   pub all_values : length values ≡ plain_words h + lock_words h
   pub all_callers : length open_blocks ≡ h.callers
-  pub values_are : (cell : ℕ) → cell < plain_words h + lock_words h → slice_index values cell ≡ value_in (newest_first history) cell
-  pub blocks_are : (c : ℕ) → c < h.callers → slice_index_or open_blocks c false ≡ in_block c (newest_first history)
+  pub values_are : (cell : ℕ) → cell < plain_words h + lock_words h
+      → slice_index values cell ≡ value_in (newest_first history) cell
+  pub blocks_are : (c : ℕ) → c < h.callers
+      → slice_index_or open_blocks c false ≡ in_block c (newest_first history)

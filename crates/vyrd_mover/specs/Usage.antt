@@ -1,6 +1,7 @@
--- What is kept of a plain cell while a history is gone through: who has used it, whether it was written, and which locks may
--- guard it.
-use Rattle.std.specs.Prelude.{◌≡◌, ℕ, ◌+◌, ◌-◌, ◌<◌, Bool, true, false, not, ◌||◌, ◌==◌, List, [], length, slice_index, slice_index_or, slice_set, if◌then◌else◌}
+-- What is kept of a plain cell while a history is gone through: who has used it, whether it was
+-- written, and which locks may guard it.
+use Rattle.std.specs.Prelude.{◌≡◌, ℕ, ◌+◌, ◌-◌, ◌<◌, Bool, true, false, not, ◌||◌, ◌==◌, List, []}
+use Rattle.std.specs.Prelude.{length, slice_index, slice_index_or, slice_set, if◌then◌else◌}
 use Rattle.std.specs.List.{filter}
 use Rattle.vyrd_base.specs.declared.history.Did.{Did}
 use Rattle.vyrd_base.specs.declared.history.Did.TheVariants.{Read, Wrote, Took, Gave, Marked}
@@ -49,13 +50,16 @@ joined Many caller = Many
 abbrev pub has_value : List ℕ → ℕ → ℕ → Bool
 has_value values held lock = slice_index values lock == held
 
--- what is kept of a cell after one more use, given the value of each lock, by its cell, where the locks begin
+-- what is kept of a cell after one more use, given the value of each lock, by its cell, where the
+-- locks begin
 abbrev pub used_by : List ℕ → ℕ → ℕ → Bool → Use → Use
 used_by values first_lock caller is_write kept = record {
   users = joined kept.users caller;
   written = kept.written || is_write;
   guards = filter (has_value values (caller + 1))
-      (if is_used kept.users then kept.guards else numbers_from first_lock (length values - first_lock));
+      (if is_used kept.users
+      then kept.guards
+      else numbers_from first_lock (length values - first_lock));
 }
 
 -- nothing is known of a cell that wasn't used
@@ -71,15 +75,18 @@ pub record Kept : Type 0 where
 abbrev pub with_use : Kept → ℕ → ℕ → Bool → Kept
 with_use all cell caller is_write = record {
   values = all.values;
-  cells = slice_set all.cells cell (used_by all.values (length all.cells) caller is_write (slice_index_or all.cells cell unused));
+  cells = slice_set all.cells cell (used_by all.values (length all.cells) caller is_write
+      (slice_index_or all.cells cell unused));
 }
 
 -- the same after an event
 abbrev pub kept_after : Kept → ℕ → Did → Kept
 kept_after all caller (Read cell value) = with_use all cell caller false
 kept_after all caller (Wrote cell value) = with_use all cell caller true
-kept_after all caller (Took lock) = record { values = slice_set all.values lock (caller + 1); cells = all.cells }
-kept_after all caller (Gave lock) = record { values = slice_set all.values lock 0; cells = all.cells }
+kept_after all caller (Took lock) =
+    record { values = slice_set all.values lock (caller + 1); cells = all.cells }
+kept_after all caller (Gave lock) =
+    record { values = slice_set all.values lock 0; cells = all.cells }
 kept_after all caller (Marked kind) = all
 
 -- whether the event's cell is among these plain cells or among these cells
@@ -96,11 +103,14 @@ pub record IsUse (cells : Cells) (seen : List Stamped) (cell : ℕ) (kept : Use)
   pub user_below : (user : ℕ) → kept.users ≡ One user → user < cells.callers
   pub unwritten : is_unwritten seen cell ≡ not kept.written
   pub unseen : is_used kept.users ≡ false → (lock : ℕ) → is_guarded_by seen cell lock ≡ true
-  pub guards : is_used kept.users ≡ true → kept.guards ≡ filter (is_guarded_by seen cell) (numbers_from cells.plain cells.locks)
+  pub guards : is_used kept.users ≡ true
+      → kept.guards ≡ filter (is_guarded_by seen cell) (numbers_from cells.plain cells.locks)
 
 -- what these events say of the locks and the plain cells
 pub record HaveSeen (cells : Cells) (seen : List Stamped) (all : Kept) : Type 0 where
   pub all_values : length all.values ≡ cells.plain + cells.locks
   pub all_cells : length all.cells ≡ cells.plain
-  pub values : (lock : ℕ) → is_lock cells lock ≡ true → slice_index all.values lock ≡ value_in (newest_first seen) lock
-  pub uses : (cell : ℕ) → cell < cells.plain → (d : Use) → IsUse cells seen cell (slice_index_or all.cells cell d)
+  pub values : (lock : ℕ) → is_lock cells lock ≡ true
+      → slice_index all.values lock ≡ value_in (newest_first seen) lock
+  pub uses : (cell : ℕ) → cell < cells.plain → (d : Use)
+      → IsUse cells seen cell (slice_index_or all.cells cell d)

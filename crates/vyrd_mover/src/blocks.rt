@@ -51,7 +51,8 @@ fn write_reducible(blocks: u64, out: &mut Vec<u8>) -> Result<(), AllocError>
 
 /// Appends the line about a block that isn't reducible.
 fn write_broken(open_line: u64, at_line: u64, out: &mut Vec<u8>) -> Result<(), AllocError>
-    ensures ok { OnOk result (out.new.items ≡ out.old.items ++ blocks_text (Broken open_line at_line)) }
+    ensures ok { OnOk result
+        (out.new.items ≡ out.old.items ++ blocks_text (Broken open_line at_line)) }
     ensures err { OnErr result (out.new.items ≡ out.old.items) }
 {
     let mut text = LineBuffer::new();

@@ -40,7 +40,8 @@ pub fn check_blocks(
 ) -> Result<Blocks, AllocError>
     requires { is_legal (cells_of header) history.now ≡ true }
     ensures blocks { IfOk result (λ blocks. blocks ≡ blocks_of (cells_of header) history.now) }
-    ensures gathered { (n : ℕ) → result ≡ Ok (Reducible n) → EachIsGathered (cells_of header) history.now }
+    ensures gathered { (n : ℕ) → result ≡ Ok (Reducible n)
+        → EachIsGathered (cells_of header) history.now }
 {
     let uses = Uses::of(alloc, header, history)?;
     let survey = Survey::of(alloc, header, history, &uses)?;

@@ -33,7 +33,8 @@ impl Model for Ledger {
 
     ghost view = { λ s. record { header = s.header; history = s.history.items } };
 
-    ghost invariant = { λ s. Remembers s.header s.values.items s.open_blocks.items s.history.items };
+    ghost invariant = { λ s. Remembers s.header s.values.items s.open_blocks.items
+        s.history.items };
 }
 
 impl Ledger {
@@ -81,7 +82,8 @@ impl Ledger {
     /// Whether one more event is legal, whose number is that of the events so far.
     fn may_come(&self, event: &Stamped) -> bool
         requires { event.now.number ≡ length self.now.history }
-        ensures { result ≡ is_legal_at (cells_of self.now.header) (next_place self.now.history event.now) }
+        ensures { result
+            ≡ is_legal_at (cells_of self.now.header) (next_place self.now.history event.now) }
     {
         event.caller < self.header.callers() && self.may_do(event.caller, event.did)
     }
@@ -89,7 +91,8 @@ impl Ledger {
     /// Whether the caller may do this after the events so far.
     fn may_do(&self, caller: u32, did: Did) -> bool
         requires { caller < self.now.header.callers }
-        ensures { result ≡ may_do (cells_of self.now.header) (newest_first self.now.history) caller did }
+        ensures { result
+            ≡ may_do (cells_of self.now.header) (newest_first self.now.history) caller did }
     {
         match did {
             Did::Read(cell, value) => self.is_plain(cell) && self.values[cell as usize] == value,

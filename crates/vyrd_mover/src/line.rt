@@ -4,7 +4,8 @@ ghost use Rattle.std.specs.Prelude.{◌≡◌, ◌++◌, codes};
 ghost use Rattle.vyrd_base.specs.Lines.{fields_of};
 ghost use Rattle.vyrd_base.specs.declared.subject.Subject.{Subject};
 ghost use Rattle.vyrd_mover.specs.HistoryLines.{history_header_in, event_in, mark_of, act_from};
-ghost use Rattle.vyrd_mover.specs.HistorySpelled.{IsFirstRead, AreBoundsRead, IsActRead, IsPairRead, IsStampedRead};
+ghost use Rattle.vyrd_mover.specs.HistorySpelled.{IsFirstRead, AreBoundsRead, IsActRead};
+ghost use Rattle.vyrd_mover.specs.HistorySpelled.{IsPairRead, IsStampedRead};
 
 use vyrd_base::{Did, Entry, Header, Kind, Stamped, Subject};
 use vyrd_text::{after, read_line, read_subject, read_u32, read_u32_and_space, read_u64};

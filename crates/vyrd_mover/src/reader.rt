@@ -3,7 +3,9 @@
 ghost use Rattle.std.specs.Prelude.{◌≡◌, ◌==◌, Ok, IfOk, IfErr, OnOk};
 ghost use Rattle.std.specs.List.{slice_split};
 ghost use Rattle.vyrd_mover.specs.HistoryText.{Recorded, recorded_of};
-ghost use Rattle.vyrd_mover.specs.HistoryReading.{line_read, first_read, unfinished_rule, unless_too_many, ended, lines_read, history_reading};
+ghost use Rattle.vyrd_mover.specs.HistoryReading.{line_read, first_read, unfinished_rule};
+ghost use Rattle.vyrd_mover.specs.HistoryReading.{unless_too_many, ended, lines_read};
+ghost use Rattle.vyrd_mover.specs.HistoryReading.{history_reading};
 ghost use Rattle.vyrd_mover.specs.HistoryLimits.{KeepsLimits};
 ghost use Rattle.vyrd_mover.specs.Refusals.{IsRefusal, IsRefusedAt};
 
@@ -62,8 +64,10 @@ fn read_first_line(alloc: Global, line: &[u8]) -> Result<Ledger, HistoryFault>
 
 /// Takes in the lines from line 2 on.
 fn read_lines(text: &[u8], ledger: &mut Ledger) -> Result<(), HistoryFault>
-    ensures ok { OnOk result (lines_read ledger.old 2 (slice_split (λ b. b == 10) text.now) ≡ Ok ledger.new) }
-    ensures err { IfErr result (λ fault. IsRefusal fault (lines_read ledger.old 2 (slice_split (λ b. b == 10) text.now))) }
+    ensures ok { OnOk result
+        (lines_read ledger.old 2 (slice_split (λ b. b == 10) text.now) ≡ Ok ledger.new) }
+    ensures err { IfErr result
+        (λ fault. IsRefusal fault (lines_read ledger.old 2 (slice_split (λ b. b == 10) text.now))) }
 {
     let mut rest = text;
     let mut number: u64 = 2;
@@ -89,8 +93,11 @@ fn read_lines(text: &[u8], ledger: &mut Ledger) -> Result<(), HistoryFault>
 
 /// Nothing may follow the line `end`. Line `number` comes after it.
 fn end(number: u64, rest: &[u8]) -> Result<(), HistoryFault>
-    ensures ok { (r : Recorded) → OnOk result (ended r number (slice_split (λ b. b == 10) rest.now) ≡ Ok r) }
-    ensures err { (r : Recorded) → IfErr result (λ fault. IsRefusal fault (ended r number (slice_split (λ b. b == 10) rest.now))) }
+    ensures ok { (r : Recorded)
+        → OnOk result (ended r number (slice_split (λ b. b == 10) rest.now) ≡ Ok r) }
+    ensures err { (r : Recorded)
+        → IfErr result
+        (λ fault. IsRefusal fault (ended r number (slice_split (λ b. b == 10) rest.now))) }
 {
     if rest.is_empty() {
         return Ok(());

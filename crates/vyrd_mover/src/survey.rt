@@ -7,7 +7,8 @@ ghost use Rattle.vyrd_base.specs.Histories.{Cells, cells_of, is_legal};
 ghost use Rattle.vyrd_mover.specs.RaceFree.{is_race_free};
 ghost use Rattle.vyrd_mover.specs.Blocks.{said_of};
 ghost use Rattle.vyrd_mover.specs.Usage.{HaveSeen, IsInRange};
-ghost use Rattle.vyrd_mover.specs.Ahead.{HasSurveyed, preceded_by, opened_before, with_ahead, with_event, ahead_at};
+ghost use Rattle.vyrd_mover.specs.Ahead.{HasSurveyed, preceded_by, opened_before, with_ahead};
+ghost use Rattle.vyrd_mover.specs.Ahead.{with_event, ahead_at};
 
 use crate::ahead::Ahead;
 use crate::blocks::Blocks;
@@ -37,7 +38,8 @@ impl Model for Survey {
 impl Survey {
     /// Nothing is ahead.
     pub fn new(alloc: Global, callers: u32) -> Result<Survey, AllocError>
-        ensures { IfOk result (λ s. s ≡ record { ahead = replicate callers None; blocks = 0; broken = None }) }
+        ensures { IfOk result
+            (λ s. s ≡ record { ahead = replicate callers None; blocks = 0; broken = None }) }
     {
         Ok(Survey {
             ahead: vec![in alloc; None; callers as usize]?,
@@ -55,7 +57,8 @@ impl Survey {
     ) -> Result<Survey, AllocError>
         requires legal { is_legal (cells_of header) history.now ≡ true }
         requires seen { HaveSeen (cells_of header) history.now uses.now }
-        ensures { IfOk result (λ s. HasSurveyed (is_race_free (cells_of header) history.now) history.now s) }
+        ensures { IfOk result
+            (λ s. HasSurveyed (is_race_free (cells_of header) history.now) history.now s) }
     {
         let mut survey = Survey::new(alloc, header.callers())?;
         for place in (0..history.len()).rev() {
@@ -79,11 +82,13 @@ impl Survey {
     /// One more event comes before the others. `uses` says which cells are race-free.
     pub fn precede(&mut self, uses: &Uses, event: &Stamped)
         requires caller { event.now.caller < length self.old.ahead }
-        requires in_range { IsInRange (length uses.now.cells) (length uses.now.values) event.now.did }
+        requires in_range { IsInRange (length uses.now.cells) (length uses.now.values)
+            event.now.did }
         requires number { event.now.number < 2 ^ 63 }
         requires few { self.old.blocks < 2 ^ 63 }
-        ensures { (cells : Cells) (seen : List Stamped) → HaveSeen cells seen uses.now → 0 < cells.callers →
-            self.new ≡ preceded_by (is_race_free cells seen) self.old event.now event.now.did }
+        ensures { (cells : Cells) (seen : List Stamped) → HaveSeen cells seen uses.now
+            → 0 < cells.callers
+            → self.new ≡ preceded_by (is_race_free cells seen) self.old event.now event.now.did }
     {
         match event.did {
             Did::Marked(Kind::BlockOpen) => self.open(event),

@@ -112,7 +112,8 @@ fn held_locks(
 ) -> Result<Vec<u32>, AllocError>
     requires locks { first_lock ≤ length values.now }
     requires few { length values.now < 2 ^ 31 }
-    ensures { IfOk result (λ locks. locks.items ≡ filter (has_value values.now held) (numbers_from first_lock (length values.now - first_lock))) }
+    ensures { IfOk result (λ locks. locks.items ≡ filter (has_value values.now held)
+        (numbers_from first_lock (length values.now - first_lock))) }
 {
     let mut locks = Vec::new(alloc);
     for lock in first_lock..values.len() as u32 {

@@ -1,6 +1,7 @@
 //! How the plain cells of a history are used, and who holds each lock.
 
-ghost use Rattle.std.specs.Prelude.{◌≡◌, ◌+◌, ◌^◌, ◌<◌, ◌≤◌, true, List, length, replicate, IfOk, OnOk};
+ghost use Rattle.std.specs.Prelude.{◌≡◌, ◌+◌, ◌^◌, ◌<◌, ◌≤◌, true, List, length, replicate, IfOk};
+ghost use Rattle.std.specs.Prelude.{OnOk};
 ghost use Rattle.vyrd_base.specs.declared.history.Stamped.{Stamped};
 ghost use Rattle.vyrd_base.specs.Histories.{Cells, cells_of, is_legal};
 ghost use Rattle.vyrd_mover.specs.RaceFree.{is_race_free};
@@ -57,7 +58,8 @@ impl Uses {
     /// used.
     pub fn follow(&mut self, alloc: Global, event: &Stamped) -> Result<(), AllocError>
         requires caller { event.now.caller < 2 ^ 31 }
-        requires in_range { IsInRange (length self.old.cells) (length self.old.values) event.now.did }
+        requires in_range { IsInRange (length self.old.cells) (length self.old.values)
+            event.now.did }
         requires locks { length self.old.cells ≤ length self.old.values }
         requires few { length self.old.values < 2 ^ 31 }
         ensures { OnOk result (self.new ≡ kept_after self.old event.now.caller event.now.did) }
@@ -86,8 +88,9 @@ impl Uses {
     /// Whether the plain cell is race-free by the events so far.
     pub fn is_race_free(&self, cell: u32) -> bool
         requires { cell < length self.now.cells }
-        ensures { (cells : Cells) (seen : List Stamped) → HaveSeen cells seen self.now → 0 < cells.callers →
-            result ≡ is_race_free cells seen cell }
+        ensures { (cells : Cells) (seen : List Stamped) → HaveSeen cells seen self.now
+            → 0 < cells.callers
+            → result ≡ is_race_free cells seen cell }
     {
         self.cells[cell as usize].is_race_free()
     }

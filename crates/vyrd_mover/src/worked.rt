@@ -5,7 +5,8 @@ ghost use Rattle.std.specs.Prelude.{◌≡◌, true};
 ghost use Rattle.vyrd_base.specs.Histories.{is_legal, cells_of};
 ghost use Rattle.vyrd_base.specs.Samples.{alone, two};
 ghost use Rattle.vyrd_mover.specs.Blocks.{blocks_of};
-ghost use Rattle.vyrd_mover.specs.Samples.{insert_alone, two_writers, taken_again, beside_another, blocks_across};
+ghost use Rattle.vyrd_mover.specs.Samples.{insert_alone, two_writers, taken_again, beside_another};
+ghost use Rattle.vyrd_mover.specs.Samples.{blocks_across};
 ghost use Rattle.vyrd_mover.specs.declared.blocks.Blocks.TheVariants.{Reducible, Broken};
 
 /// The histories are legal.

@@ -1,6 +1,7 @@
 //! The text of a history, written.
 
-ghost use Rattle.std.specs.Prelude.{◌≡◌, ◌≤◌, ◌++◌, ◌∷◌, [], true, length, take, flat_map, decimal, OnOk, OnErr};
+ghost use Rattle.std.specs.Prelude.{◌≡◌, ◌≤◌, ◌++◌, ◌∷◌, [], true, length, take, flat_map, decimal};
+ghost use Rattle.std.specs.Prelude.{OnOk, OnErr};
 ghost use Rattle.std.specs.List.{AllByRecursion};
 ghost use Rattle.vyrd_base.specs.Spelling.{ended_line};
 ghost use Rattle.vyrd_mover.specs.HistoryText.{history_text, history_header_line, event_line};
@@ -22,7 +23,8 @@ pub fn write_history(
     out: &mut Vec<u8>,
 ) -> Result<(), AllocError>
     requires { AllByRecursion (λ e. is_padded_did e.did ≡ true) history.now }
-    ensures ok { OnOk result (out.new.items ≡ out.old.items ++ history_text (record { header = header; history = history.now })) }
+    ensures ok { OnOk result (out.new.items
+        ≡ out.old.items ++ history_text (record { header = header; history = history.now })) }
     ensures err { OnErr result (out.new.items ≡ out.old.items) }
 {
     let start = out.len();
@@ -36,7 +38,8 @@ pub fn write_history(
 /// Appends the text of the history, or a beginning of it if memory runs out.
 fn append_history(header: Header, history: &[Stamped], out: &mut Vec<u8>) -> Result<(), AllocError>
     requires { AllByRecursion (λ e. is_padded_did e.did ≡ true) history.now }
-    ensures ok { OnOk result (out.new.items ≡ out.old.items ++ history_text (record { header = header; history = history.now })) }
+    ensures ok { OnOk result (out.new.items
+        ≡ out.old.items ++ history_text (record { header = header; history = history.now })) }
     ensures err { OnErr result (take (length out.old.items) out.new.items ≡ out.old.items) }
 {
     append_header(header, out)?;
@@ -46,7 +49,8 @@ fn append_history(header: Header, history: &[Stamped], out: &mut Vec<u8>) -> Res
 
 /// Appends the header's line. A refusal leaves `out` unchanged.
 fn append_header(header: Header, out: &mut Vec<u8>) -> Result<(), AllocError>
-    ensures ok { OnOk result (out.new.items ≡ out.old.items ++ ended_line (history_header_line header.subject header.size header.callers)) }
+    ensures ok { OnOk result (out.new.items ≡ out.old.items
+        ++ ended_line (history_header_line header.subject header.size header.callers)) }
     ensures err { OnErr result (out.new.items ≡ out.old.items) }
 {
     let mut line = LineBuffer::new();
@@ -63,7 +67,8 @@ fn append_header(header: Header, out: &mut Vec<u8>) -> Result<(), AllocError>
 /// Appends the events' lines, or a beginning of them if memory runs out.
 fn append_events(history: &[Stamped], out: &mut Vec<u8>) -> Result<(), AllocError>
     requires { AllByRecursion (λ e. is_padded_did e.did ≡ true) history.now }
-    ensures ok { OnOk result (out.new.items ≡ out.old.items ++ flat_map (λ e. ended_line (event_line e)) history.now) }
+    ensures ok { OnOk result
+        (out.new.items ≡ out.old.items ++ flat_map (λ e. ended_line (event_line e)) history.now) }
     ensures err { OnErr result (take (length out.old.items) out.new.items ≡ out.old.items) }
 {
     for event in history {
@@ -117,7 +122,8 @@ fn append_access(
 /// Appends the line of a take or a give. A refusal leaves `out` unchanged.
 fn append_lock(caller: u32, word: &[u8], lock: u32, out: &mut Vec<u8>) -> Result<(), AllocError>
     requires { length word.now ≤ 7 }
-    ensures ok { OnOk result (out.new.items ≡ out.old.items ++ (decimal caller ++ (word.now ++ (decimal lock ++ 10 ∷ [])))) }
+    ensures ok { OnOk result (out.new.items
+        ≡ out.old.items ++ (decimal caller ++ (word.now ++ (decimal lock ++ 10 ∷ [])))) }
     ensures err { OnErr result (out.new.items ≡ out.old.items) }
 {
     let mut line = LineBuffer::new();

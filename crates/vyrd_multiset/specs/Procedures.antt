@@ -1,27 +1,32 @@
 -- The procedures of the multiset, from after the mark of the call to the mark of the return.
-use Rattle.std.specs.Prelude.{ℕ, zero, suc, ◌+◌, ◌==◌, min, max, Option, Some, None, is_some, if◌then◌else◌}
+use Rattle.std.specs.Prelude.{ℕ, zero, suc, ◌+◌, ◌==◌, min, max, Option, Some, None, is_some}
+use Rattle.std.specs.Prelude.{if◌then◌else◌}
 use Rattle.vyrd_base.specs.declared.header.Header.{Header}
 use Rattle.vyrd_base.specs.declared.subject.Args.{Args}
 use Rattle.vyrd_base.specs.declared.subject.Method.{Method}
-use Rattle.vyrd_base.specs.declared.subject.Method.TheVariants.{MsInsert, MsInsertPair, MsDelete, MsLookup}
+use Rattle.vyrd_base.specs.declared.subject.Method.TheVariants.{MsInsert, MsInsertPair, MsDelete}
+use Rattle.vyrd_base.specs.declared.subject.Method.TheVariants.{MsLookup}
 use Rattle.vyrd_base.specs.declared.log.Kind.TheVariants.{Commit, BlockOpen, BlockCommit}
 use Rattle.vyrd_memory.specs.declared.act.Act.TheVariants.{Load, Store, Mark}
 use Rattle.vyrd_memory.specs.declared.op.Op.{Op}
 use Rattle.vyrd_memory.specs.declared.op.Variant.{Variant}
 use Rattle.vyrd_memory.specs.declared.op.Variant.TheVariants.{Correct, Broken}
 use Rattle.vyrd_memory.specs.Scripts.{Script, stop, step, perform, returns, gives_up}
-use Rattle.vyrd_multiset.specs.Cells.{bucket_of, first_slot, state_cell, value_cell, lock, unlock, lock_other, unlock_other}
+use Rattle.vyrd_multiset.specs.Cells.{bucket_of, first_slot, state_cell, value_cell, lock, unlock}
+use Rattle.vyrd_multiset.specs.Cells.{lock_other, unlock_other}
 
 -- store the value, and the state 1
 abbrev pub reserve : ℕ → ℕ → Script → Script
 reserve slot value later =
     perform (Store (value_cell slot) value) (perform (Store (state_cell slot) 1) later)
 
--- Look for a free slot from this one on, with this many left: load the states, and reserve the first slot with the state 0.
+-- Look for a free slot from this one on, with this many left: load the states, and reserve the
+-- first slot with the state 0.
 abbrev pub find_from : ℕ → ℕ → ℕ → (Option ℕ → Script) → Script
 find_from zero slot value found = found None
-find_from (suc left) slot value found = step (Load (state_cell slot)) (λ state.
-    if state == 0 then reserve slot value (found (Some slot)) else find_from left (slot + 1) value found)
+find_from (suc left) slot value found = step (Load (state_cell slot)) (λ state. if state == 0
+    then reserve slot value (found (Some slot))
+    else find_from left (slot + 1) value found)
 
 -- The correct variant locks the bucket while it looks for a slot, and the broken one doesn't.
 abbrev pub find_lock : Header → Variant → ℕ → Script → Script
@@ -36,7 +41,8 @@ find_unlock h Broken bucket later = later
 -- find a slot for a value in its bucket
 abbrev pub find : Header → Variant → ℕ → (Option ℕ → Script) → Script
 find h variant value found = find_lock h variant (bucket_of h value)
-    (find_from 4 (first_slot (bucket_of h value)) value (λ slot. find_unlock h variant (bucket_of h value) (found slot)))
+    (find_from 4 (first_slot (bucket_of h value)) value
+    (λ slot. find_unlock h variant (bucket_of h value) (found slot)))
 
 -- in a block that commits give the slot its state, unlock the bucket, and return 1
 abbrev pub commit_state : Header → ℕ → ℕ → ℕ → Script
@@ -78,7 +84,8 @@ validate_both h first second slot_x slot_y =
 
 -- do so under the locks of the two buckets
 abbrev pub commit_both : Header → ℕ → ℕ → ℕ → ℕ → Script
-commit_both h first second slot_x slot_y = lock h first (lock_other h first second (validate_both h first second slot_x slot_y))
+commit_both h first second slot_x slot_y =
+    lock h first (lock_other h first second (validate_both h first second slot_x slot_y))
 
 -- free the slot that was reserved for x, and give up
 abbrev pub undo : Header → ℕ → ℕ → Script
@@ -89,7 +96,8 @@ undo h x slot = lock h (bucket_of h x)
 abbrev pub second_found : Header → Variant → ℕ → ℕ → ℕ → Option ℕ → Script
 second_found h variant x y slot_x None = undo h x slot_x
 second_found h variant x y slot_x (Some slot_y) = commit_both h
-    (first_bucket variant (bucket_of h x) (bucket_of h y)) (second_bucket variant (bucket_of h x) (bucket_of h y)) slot_x slot_y
+    (first_bucket variant (bucket_of h x) (bucket_of h y))
+    (second_bucket variant (bucket_of h x) (bucket_of h y)) slot_x slot_y
 
 -- what an insert_pair does with the slot that it found for x
 abbrev pub first_found : Header → Variant → ℕ → ℕ → Option ℕ → Script
@@ -109,8 +117,8 @@ compare slot value same other =
 -- state is 2. The search ends at the first slot with the state 2 and the value.
 abbrev pub search_from : ℕ → ℕ → ℕ → (Option ℕ → Script) → Script
 search_from zero slot value ended = ended None
-search_from (suc left) slot value ended = step (Load (state_cell slot)) (λ state.
-    if state == 2 then compare slot value (ended (Some slot)) (search_from left (slot + 1) value ended)
+search_from (suc left) slot value ended = step (Load (state_cell slot)) (λ state. if state == 2
+    then compare slot value (ended (Some slot)) (search_from left (slot + 1) value ended)
     else search_from left (slot + 1) value ended)
 
 -- search for a value in its bucket, under the bucket's lock
@@ -126,7 +134,8 @@ deleted h x (Some slot) = commit_state h (bucket_of h x) slot 0
 abbrev pub delete : Header → ℕ → Script
 delete h x = search_in h x (deleted h x)
 
--- what a lookup does with the slot that its search ended at, if any: it returns whether there is one
+-- what a lookup does with the slot that its search ended at, if any: it returns whether there is
+-- one
 abbrev pub looked_up : Header → ℕ → Option ℕ → Script
 looked_up h x slot = unlock h (bucket_of h x) (returns (if is_some slot then 1 else 0))
 

@@ -6,7 +6,9 @@ use Rattle.vyrd_memory.specs.declared.act.Act.TheVariants.{Store, Mark}
 use Rattle.vyrd_memory.specs.declared.op.Variant.{Variant}
 use Rattle.vyrd_memory.specs.Scripts.{Script, stop, perform, returns, gives_up}
 use Rattle.vyrd_multiset.specs.declared.place.Place.{Place}
-use Rattle.vyrd_multiset.specs.declared.place.Place.TheVariants.{Find, Search, Insert, Change, Both, Undo, Absent, GiveUp, Unlock, Return, Over}
+use Rattle.vyrd_multiset.specs.declared.place.Place.TheVariants.{Find, Search, Insert, Change, Both}
+use Rattle.vyrd_multiset.specs.declared.place.Place.TheVariants.{Undo, Absent, GiveUp, Unlock}
+use Rattle.vyrd_multiset.specs.declared.place.Place.TheVariants.{Return, Over}
 use Rattle.vyrd_multiset.specs.declared.place.Want.{Want}
 use Rattle.vyrd_multiset.specs.declared.place.Want.TheVariants.{Only, First, Second}
 use Rattle.vyrd_multiset.specs.declared.place.Query.{Query}
@@ -49,10 +51,13 @@ ended_for h task Lookup slot = looked_up h task.x slot
 -- what is left of finding a slot for a value
 abbrev pub finding_rest : Header → Variant → ℕ → (Option ℕ → Script) → Finding → Script
 finding_rest h variant value found finding.Lock = lock h (bucket_of h value)
-    (find_from 4 (first_slot (bucket_of h value)) value (λ slot. find_unlock h variant (bucket_of h value) (found slot)))
+    (find_from 4 (first_slot (bucket_of h value)) value
+    (λ slot. find_unlock h variant (bucket_of h value) (found slot)))
 finding_rest h variant value found (finding.Load cursor) =
-    find_from (suc cursor.after) cursor.slot value (λ slot. find_unlock h variant (bucket_of h value) (found slot))
-finding_rest h variant value found (finding.StoreValue slot) = reserve slot value (find_unlock h variant (bucket_of h value) (found (Some slot)))
+    find_from (suc cursor.after) cursor.slot value
+    (λ slot. find_unlock h variant (bucket_of h value) (found slot))
+finding_rest h variant value found (finding.StoreValue slot) =
+    reserve slot value (find_unlock h variant (bucket_of h value) (found (Some slot)))
 finding_rest h variant value found (finding.StoreState slot) =
     perform (Store (state_cell slot) 1)
     (find_unlock h variant (bucket_of h value) (found (Some slot)))
@@ -61,8 +66,10 @@ finding_rest h variant value found (finding.Unlock slot) = unlock h (bucket_of h
 -- what is left of a search
 abbrev pub searching_rest : Header → ℕ → (Option ℕ → Script) → Searching → Script
 searching_rest h x ended searching.Lock = search_in h x ended
-searching_rest h x ended (searching.LoadState cursor) = search_from (suc cursor.after) cursor.slot x ended
-searching_rest h x ended (searching.LoadValue cursor) = compare cursor.slot x (ended (Some cursor.slot)) (search_from cursor.after (cursor.slot + 1) x ended)
+searching_rest h x ended (searching.LoadState cursor) =
+    search_from (suc cursor.after) cursor.slot x ended
+searching_rest h x ended (searching.LoadValue cursor) = compare cursor.slot x
+    (ended (Some cursor.slot)) (search_from cursor.after (cursor.slot + 1) x ended)
 
 -- what is left of changing a slot
 abbrev pub changing_rest : Header → ℕ → ℕ → ℕ → Changing → Script
@@ -70,12 +77,14 @@ changing_rest h bucket slot state changing.Open = commit_state h bucket slot sta
 changing_rest h bucket slot state changing.Store =
     perform (Store (state_cell slot) state)
     (perform (Mark BlockCommit) (unlock h bucket (returns 1)))
-changing_rest h bucket slot state changing.Close = perform (Mark BlockCommit) (unlock h bucket (returns 1))
+changing_rest h bucket slot state changing.Close =
+    perform (Mark BlockCommit) (unlock h bucket (returns 1))
 
 -- what is left of making two slots valid, under the locks of two buckets
 abbrev pub pairing_rest : Header → ℕ → ℕ → ℕ → ℕ → Pairing → Script
 pairing_rest h first second slot_x slot_y pairing.Lock = commit_both h first second slot_x slot_y
-pairing_rest h first second slot_x slot_y pairing.LockOther = lock h second (validate_both h first second slot_x slot_y)
+pairing_rest h first second slot_x slot_y pairing.LockOther =
+    lock h second (validate_both h first second slot_x slot_y)
 pairing_rest h first second slot_x slot_y pairing.Open = validate_both h first second slot_x slot_y
 pairing_rest h first second slot_x slot_y pairing.StoreFirst =
     perform (Store (state_cell slot_x) 2)
@@ -83,8 +92,10 @@ pairing_rest h first second slot_x slot_y pairing.StoreFirst =
     (perform (Mark BlockCommit) (unlock_both h first second)))
 pairing_rest h first second slot_x slot_y pairing.StoreSecond =
     perform (Store (state_cell slot_y) 2) (perform (Mark BlockCommit) (unlock_both h first second))
-pairing_rest h first second slot_x slot_y pairing.Close = perform (Mark BlockCommit) (unlock_both h first second)
-pairing_rest h first second slot_x slot_y pairing.UnlockOther = unlock h second (unlock h first (returns 1))
+pairing_rest h first second slot_x slot_y pairing.Close =
+    perform (Mark BlockCommit) (unlock_both h first second)
+pairing_rest h first second slot_x slot_y pairing.UnlockOther =
+    unlock h second (unlock h first (returns 1))
 pairing_rest h first second slot_x slot_y pairing.Unlock = unlock h first (returns 1)
 
 -- what is left of freeing a reserved slot
@@ -104,11 +115,13 @@ second_of h task = second_bucket task.variant (bucket_of h task.x) (bucket_of h 
 
 -- what is left at a place
 abbrev pub rest_at : Header → Task → Place → Script
-rest_at h task (Find want place) = finding_rest h task.variant (wanted task want) (found_for h task want) place
+rest_at h task (Find want place) =
+    finding_rest h task.variant (wanted task want) (found_for h task want) place
 rest_at h task (Search query place) = searching_rest h task.x (ended_for h task query) place
 rest_at h task (Insert slot) = inserted h task.x (Some slot)
 rest_at h task (Change slot state place) = changing_rest h (bucket_of h task.x) slot state place
-rest_at h task (Both slot_x slot_y place) = pairing_rest h (first_of h task) (second_of h task) slot_x slot_y place
+rest_at h task (Both slot_x slot_y place) =
+    pairing_rest h (first_of h task) (second_of h task) slot_x slot_y place
 rest_at h task (Undo slot place) = undoing_rest h task.x slot place
 rest_at h task Absent = perform (Mark Commit) (unlock h (bucket_of h task.x) (returns 0))
 rest_at h task GiveUp = gives_up

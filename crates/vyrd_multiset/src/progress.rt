@@ -10,7 +10,8 @@ use crate::task::Task;
 use vyrd_base::{Header, Method};
 use vyrd_memory::{Act, Op, Progress, Variant};
 
-/// How far an operation of the multiset has come: the values of its call, and a place in its procedure.
+/// How far an operation of the multiset has come: the values of its call, and a place in its
+/// procedure.
 ///
 /// It has the size of a few numbers. Each step looks at one of them and costs the same.
 #[derive(Clone, Copy)]

@@ -17,7 +17,8 @@ use crate::place::{Changing, Cursor, Finding, Pairing, Place, Query, Searching, 
 use vyrd_base::{Header, Kind};
 use vyrd_memory::{Act, Variant};
 
-/// What is played: the variant, and the values of the call. An operation of one value has 0 for the second.
+/// What is played: the variant, and the values of the call. An operation of one value has 0 for the
+/// second.
 #[derive(Clone, Copy)]
 pub(crate) struct Task {
     pub(crate) variant: Variant,
@@ -50,7 +51,8 @@ impl Task {
     pub(crate) fn after(self, header: &Header, place: Place, answer: u64) -> Place
         requires subject { header.now.subject ≡ Multiset }
         requires sound { IsSoundSomewhere header.now (rest_at header.now self place) }
-        ensures { rest_at header.now self result ≡ after_answer (rest_at header.now self place) answer }
+        ensures { rest_at header.now self result
+            ≡ after_answer (rest_at header.now self place) answer }
     {
         match place {
             Place::Find(want, place) => self.after_finding(header, want, place, answer),
@@ -81,7 +83,8 @@ impl Task {
 
     /// The place where finding a slot begins: the broken variant takes no lock.
     pub(crate) fn find(self, header: &Header, want: Want) -> Place
-        ensures { rest_at header.now self result ≡ find header.now self.variant (wanted self want) (found_for header.now self want) }
+        ensures { rest_at header.now self result
+            ≡ find header.now self.variant (wanted self want) (found_for header.now self want) }
     {
         match self.variant {
             Variant::Correct => Place::Find(want, Finding::Lock),
@@ -95,8 +98,10 @@ impl Task {
     /// What comes next of finding a slot.
     fn finding_wants(self, header: &Header, want: Want, place: Finding) -> Act
         requires subject { header.now.subject ≡ Multiset }
-        requires sound { IsSoundSomewhere header.now (finding_rest header.now self.variant (wanted self want) (found_for header.now self want) place) }
-        ensures { result ≡ next_act (finding_rest header.now self.variant (wanted self want) (found_for header.now self want) place) }
+        requires sound { IsSoundSomewhere header.now (finding_rest header.now self.variant
+            (wanted self want) (found_for header.now self want) place) }
+        ensures { result ≡ next_act (finding_rest header.now self.variant (wanted self want)
+            (found_for header.now self want) place) }
     {
         match place {
             Finding::Lock => Act::Take(lock_for(header, self.wanted(want))),
@@ -112,9 +117,10 @@ impl Task {
     /// The place after an answer to what came next of finding a slot.
     fn after_finding(self, header: &Header, want: Want, place: Finding, answer: u64) -> Place
         requires subject { header.now.subject ≡ Multiset }
-        requires sound { IsSoundSomewhere header.now (finding_rest header.now self.variant (wanted self want) (found_for header.now self want) place) }
-        ensures { rest_at header.now self result
-            ≡ after_answer (finding_rest header.now self.variant (wanted self want) (found_for header.now self want) place) answer }
+        requires sound { IsSoundSomewhere header.now (finding_rest header.now self.variant
+            (wanted self want) (found_for header.now self want) place) }
+        ensures { rest_at header.now self result ≡ after_answer (finding_rest header.now
+            self.variant (wanted self want) (found_for header.now self want) place) answer }
     {
         match place {
             Finding::Lock => Place::Find(
@@ -138,8 +144,8 @@ impl Task {
 
     /// The place after a slot was found, or none. The broken variant holds no lock.
     fn unlock_found(self, header: &Header, want: Want, slot: Option<u32>) -> Place
-        ensures { rest_at header.now self result
-            ≡ find_unlock header.now self.variant (bucket_of header.now (wanted self want)) (found_for header.now self want slot) }
+        ensures { rest_at header.now self result ≡ find_unlock header.now self.variant
+            (bucket_of header.now (wanted self want)) (found_for header.now self want slot) }
     {
         match self.variant {
             Variant::Correct => Place::Find(want, Finding::Unlock(slot)),
@@ -166,8 +172,10 @@ impl Task {
     /// What comes next of a search.
     fn searching_wants(self, header: &Header, query: Query, place: Searching) -> Act
         requires subject { header.now.subject ≡ Multiset }
-        requires sound { IsSoundSomewhere header.now (searching_rest header.now self.x (ended_for header.now self query) place) }
-        ensures { result ≡ next_act (searching_rest header.now self.x (ended_for header.now self query) place) }
+        requires sound { IsSoundSomewhere header.now
+            (searching_rest header.now self.x (ended_for header.now self query) place) }
+        ensures { result
+            ≡ next_act (searching_rest header.now self.x (ended_for header.now self query) place) }
     {
         match place {
             Searching::Lock => Act::Take(lock_for(header, self.x)),
@@ -179,8 +187,10 @@ impl Task {
     /// The place after an answer to what came next of a search.
     fn after_searching(self, header: &Header, query: Query, place: Searching, answer: u64) -> Place
         requires subject { header.now.subject ≡ Multiset }
-        requires sound { IsSoundSomewhere header.now (searching_rest header.now self.x (ended_for header.now self query) place) }
-        ensures { rest_at header.now self result ≡ after_answer (searching_rest header.now self.x (ended_for header.now self query) place) answer }
+        requires sound { IsSoundSomewhere header.now
+            (searching_rest header.now self.x (ended_for header.now self query) place) }
+        ensures { rest_at header.now self result ≡ after_answer
+            (searching_rest header.now self.x (ended_for header.now self query) place) answer }
     {
         match place {
             Searching::Lock => Place::Search(
@@ -202,7 +212,8 @@ impl Task {
     /// The place after a slot that doesn't have the value.
     fn search_on(self, header: &Header, query: Query, cursor: Cursor) -> Place
         requires { cursor.slot + 1 < 2 ^ 32 }
-        ensures { rest_at header.now self result ≡ search_from cursor.after (cursor.slot + 1) self.x (ended_for header.now self query) }
+        ensures { rest_at header.now self result
+            ≡ search_from cursor.after (cursor.slot + 1) self.x (ended_for header.now self query) }
     {
         if cursor.after == 0 {
             self.ended(header, query, None)
@@ -228,8 +239,10 @@ impl Task {
     /// What comes next of the block that changes one slot.
     fn changing_wants(self, header: &Header, slot: u32, state: u64, place: Changing) -> Act
         requires subject { header.now.subject ≡ Multiset }
-        requires sound { IsSoundSomewhere header.now (changing_rest header.now (bucket_of header.now self.x) slot state place) }
-        ensures { result ≡ next_act (changing_rest header.now (bucket_of header.now self.x) slot state place) }
+        requires sound { IsSoundSomewhere header.now
+            (changing_rest header.now (bucket_of header.now self.x) slot state place) }
+        ensures { result
+            ≡ next_act (changing_rest header.now (bucket_of header.now self.x) slot state place) }
     {
         match place {
             Changing::Open => Act::Mark(Kind::BlockOpen),
@@ -240,7 +253,8 @@ impl Task {
 
     /// The place after what came next of the block that changes one slot.
     fn after_changing(self, header: &Header, slot: u32, state: u64, place: Changing) -> Place
-        ensures { rest_at header.now self result ≡ after_answer (changing_rest header.now (bucket_of header.now self.x) slot state place) 0 }
+        ensures { rest_at header.now self result ≡ after_answer
+            (changing_rest header.now (bucket_of header.now self.x) slot state place) 0 }
     {
         match place {
             Changing::Open => Place::Change(slot, state, Changing::Store),
@@ -249,7 +263,8 @@ impl Task {
         }
     }
 
-    /// The bucket that is locked first for a pair: the lower one, and in the broken variant that of the first value.
+    /// The bucket that is locked first for a pair: the lower one, and in the broken variant that of
+    /// the first value.
     fn first_of(self, header: &Header) -> u32
         ensures bucket { result ≡ first_of header.now self }
         ensures small { result < 1024 }
@@ -276,8 +291,10 @@ impl Task {
     /// What comes next of making both slots of a pair valid.
     fn pairing_wants(self, header: &Header, slot_x: u32, slot_y: u32, place: Pairing) -> Act
         requires subject { header.now.subject ≡ Multiset }
-        requires sound { IsSoundSomewhere header.now (pairing_rest header.now (first_of header.now self) (second_of header.now self) slot_x slot_y place) }
-        ensures { result ≡ next_act (pairing_rest header.now (first_of header.now self) (second_of header.now self) slot_x slot_y place) }
+        requires sound { IsSoundSomewhere header.now (pairing_rest header.now
+            (first_of header.now self) (second_of header.now self) slot_x slot_y place) }
+        ensures { result ≡ next_act (pairing_rest header.now (first_of header.now self)
+            (second_of header.now self) slot_x slot_y place) }
     {
         match place {
             Pairing::Lock => Act::Take(lock_of(header, self.first_of(header))),
@@ -293,8 +310,8 @@ impl Task {
 
     /// The place after what came next of making both slots of a pair valid.
     fn after_pairing(self, header: &Header, slot_x: u32, slot_y: u32, place: Pairing) -> Place
-        ensures { rest_at header.now self result
-            ≡ after_answer (pairing_rest header.now (first_of header.now self) (second_of header.now self) slot_x slot_y place) 0 }
+        ensures { rest_at header.now self result ≡ after_answer (pairing_rest header.now
+            (first_of header.now self) (second_of header.now self) slot_x slot_y place) 0 }
     {
         let one_bucket = self.first_of(header) == self.second_of(header);
         let next = match place {
@@ -327,7 +344,8 @@ impl Task {
 
     /// The place after what came next of freeing a reserved slot.
     fn after_undoing(self, header: &Header, slot: u32, place: Undoing) -> Place
-        ensures { rest_at header.now self result ≡ after_answer (undoing_rest header.now self.x slot place) 0 }
+        ensures { rest_at header.now self result
+            ≡ after_answer (undoing_rest header.now self.x slot place) 0 }
     {
         match place {
             Undoing::Lock => Place::Undo(slot, Undoing::Store),

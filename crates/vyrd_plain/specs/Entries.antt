@@ -1,4 +1,5 @@
--- What both judges say of an entry: where it stands among the others, and whether its call may be made.
+-- What both judges say of an entry: where it stands among the others, and whether its call may be
+-- made.
 use Rattle.std.specs.Prelude.{Bool, ◌&&◌, List}
 use Rattle.vyrd_base.specs.declared.header.Header.{Header}
 use Rattle.vyrd_base.specs.declared.subject.Method.{Method}

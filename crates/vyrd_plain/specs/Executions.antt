@@ -1,5 +1,6 @@
 -- What the judge keeps of a caller's open execution.
-use Rattle.std.specs.Prelude.{◌≡◌, ◌<◌, ℕ, Bool, true, false, ◌&&◌, ◌||◌, ◌==◌, List, Option, Some, None, slice_get}
+use Rattle.std.specs.Prelude.{◌≡◌, ◌<◌, ℕ, Bool, true, false, ◌&&◌, ◌||◌, ◌==◌, List, Option, Some}
+use Rattle.std.specs.Prelude.{None, slice_get}
 use Rattle.std.specs.List.{list_any}
 use Rattle.vyrd_base.specs.declared.header.Header.{Header}
 use Rattle.vyrd_base.specs.declared.subject.Method.{Method}
@@ -28,9 +29,11 @@ abbrev pub seeing : Amounts → Option Execution → Option Execution
 seeing state None = None
 seeing state (Some x) = Some (record x { is_answered = x.is_answered || answers x state })
 
--- What is kept of the caller's execution, by the entries before a place, given the newest first, and those from it on:
--- what was called, its next reply, and whether some state since the call answers that reply.
-pub record IsExecution (h : Header) (states : List Amounts) (c : ℕ) (earlier later : List Entry) (x : Execution) : Type 0 where
+-- What is kept of the caller's execution, by the entries before a place, given the newest first,
+-- and those from it on: what was called, its next reply, and whether some state since the call
+-- answers that reply.
+pub record IsExecution (h : Header) (states : List Amounts) (c : ℕ) (earlier later : List Entry)
+    (x : Execution) : Type 0 where
   pub called : open_call c earlier ≡ Some (record { method = x.method; args = x.args })
   pub allowed : has_method h x.method x.args ≡ true
   pub reply : x.reply ≡ next_reply c later
@@ -44,9 +47,12 @@ IsOpen h states c earlier later (Some x) = IsExecution h states c earlier later 
 -- an execution that begins in a state
 abbrev pub begun : Method → Args → Option ℕ → Amounts → Execution
 begun method args reply state =
-    let x : Execution = record { method = method; args = args; reply = reply; is_answered = false } in
+    let x : Execution =
+    record { method = method; args = args; reply = reply; is_answered = false } in
     record x { is_answered = answers x state }
 
 -- every kept execution is of a method that the header's specification has
 abbrev pub AreAllowed : Header → List (Option Execution) → Type 0
-AreAllowed h executions = (c : ℕ) (x : Execution) → c < h.callers → slice_get executions c ≡ Some (Some x) → has_method h x.method x.args ≡ true
+AreAllowed h executions =
+    (c : ℕ) (x : Execution) → c < h.callers → slice_get executions c ≡ Some (Some x)
+    → has_method h x.method x.args ≡ true

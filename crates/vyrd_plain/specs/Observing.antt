@@ -15,4 +15,5 @@ observing_after observing c _ = observing
 
 -- the list says of each caller whether it is in an observer's execution
 abbrev pub AreObserving : Header → List Entry → List Bool → Type 0
-AreObserving h earlier observing = (c : ℕ) → c < h.callers → slice_get observing c ≡ Some (is_observing c earlier)
+AreObserving h earlier observing =
+    (c : ℕ) → c < h.callers → slice_get observing c ≡ Some (is_observing c earlier)

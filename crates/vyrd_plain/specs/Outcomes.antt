@@ -1,5 +1,6 @@
 -- What a commit and an entry lead to.
-use Rattle.std.specs.Prelude.{◌≡◌, ◌≤◌, ℕ, List, ◌∷◌, ◌&&◌, not, map, length, Option, Some, None, if◌then◌else◌}
+use Rattle.std.specs.Prelude.{◌≡◌, ◌≤◌, ℕ, List, ◌∷◌, ◌&&◌, not, map, length, Option, Some, None}
+use Rattle.std.specs.Prelude.{if◌then◌else◌}
 use Rattle.vyrd_base.specs.declared.header.Header.{Header}
 use Rattle.vyrd_base.specs.declared.log.Entry.{Entry}
 use Rattle.vyrd_base.specs.declared.log.StartWord.{StartWord}
@@ -17,8 +18,10 @@ use Rattle.vyrd_plain.specs.declared.outcome.Outcome.TheVariants.{Goes, Faults, 
 use Rattle.vyrd_plain.specs.Executions.{seeing}
 use Rattle.vyrd_plain.specs.Tracking.{Tracks}
 
--- the commit's execution has returned, its reply is allowed, and the state after it is what the words show
-pub record CommitGoes (shown : Amounts) (x : Execution) (before after : Amounts) (old new : List (Option Execution)) : Type 0 where
+-- the commit's execution has returned, its reply is allowed, and the state after it is what the
+-- words show
+pub record CommitGoes (shown : Amounts) (x : Execution) (before after : Amounts)
+    (old new : List (Option Execution)) : Type 0 where
   pub reply : ℕ
   pub returned : x.reply ≡ Some reply
   pub next : next_state x.method x.args reply before ≡ Some after
@@ -26,13 +29,15 @@ pub record CommitGoes (shown : Amounts) (x : Execution) (before after : Amounts)
   pub seen : new ≡ map (seeing after) old
 
 -- the commit's execution has returned, and this is wrong with it
-pub record CommitFaults (shown : Amounts) (x : Execution) (before : Amounts) (why : Why) : Type 0 where
+pub record CommitFaults (shown : Amounts) (x : Execution) (before : Amounts)
+    (why : Why) : Type 0 where
   pub reply : ℕ
   pub returned : x.reply ≡ Some reply
   pub fault : step_fault shown (record { method = x.method; args = x.args }) reply before ≡ Some why
 
 -- what a commit of the execution leads to, if the words show this
-abbrev pub CommitGives : Amounts → Execution → Amounts → Amounts → List (Option Execution) → List (Option Execution) → Outcome → Type 0
+abbrev pub CommitGives : Amounts → Execution → Amounts → Amounts → List (Option Execution)
+    → List (Option Execution) → Outcome → Type 0
 CommitGives shown x before after old new Goes = CommitGoes shown x before after old new
 CommitGives shown x before after old new (Faults why) = CommitFaults shown x before why
 CommitGives shown x before after old new Ends = x.reply ≡ None
@@ -40,13 +45,18 @@ CommitGives shown x before after old new Ends = x.reply ≡ None
 -- What the entry at a place leads to: it isn't a fault, and what is kept tracks the front up to the
 -- next place; or this is its fault; or no later state is known, so that nothing later is a fault
 -- either.
-abbrev pub PlaceGives : Header → List StartWord → List Amounts → Place Entry → Amounts → List (Option Execution) → Outcome → Type 0
+abbrev pub PlaceGives : Header → List StartWord → List Amounts → Place Entry → Amounts
+    → List (Option Execution) → Outcome → Type 0
 PlaceGives h starting states place state executions Goes =
-    (fault_at h starting states place ≡ None) × Tracks h states (place.here ∷ place.earlier) place.later state executions
-PlaceGives h starting states place state executions (Faults why) = fault_at h starting states place ≡ Some why
+    (fault_at h starting states place ≡ None)
+    × Tracks h states (place.here ∷ place.earlier) place.later state executions
+PlaceGives h starting states place state executions (Faults why) =
+    fault_at h starting states place ≡ Some why
 PlaceGives h starting states place state executions Ends =
-    (fault_at h starting states place ≡ None) × (length states ≤ commit_count (place.here ∷ place.earlier))
+    (fault_at h starting states place ≡ None)
+    × (length states ≤ commit_count (place.here ∷ place.earlier))
 
 -- what a return leads to: it is a fault if no state since the call answers an observer's reply
 abbrev pub return_outcome : Execution → ℕ → Outcome
-return_outcome x reply = if is_observer x.method && not x.is_answered then Faults (Observer reply) else Goes
+return_outcome x reply =
+    if is_observer x.method && not x.is_answered then Faults (Observer reply) else Goes

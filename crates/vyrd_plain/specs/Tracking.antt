@@ -7,8 +7,11 @@ use Rattle.vyrd_base.specs.Commits.{commit_count, commits_after, states_from}
 use Rattle.vyrd_plain.specs.declared.execution.Execution.{Execution}
 use Rattle.vyrd_plain.specs.Executions.{IsOpen}
 
--- The states go on from this one with the commits from the place on, and each caller's execution is kept.
-pub record Tracks (h : Header) (states : List Amounts) (earlier later : List Entry) (state : Amounts)
-    (executions : List (Option Execution)) : Type 0 where
+-- The states go on from this one with the commits from the place on, and each caller's execution is
+-- kept.
+pub record Tracks (h : Header) (states : List Amounts) (earlier later : List Entry)
+    (state : Amounts) (executions : List (Option Execution)) : Type 0 where
   pub going : drop (commit_count earlier) states ≡ states_from state (commits_after earlier later)
-  pub open_calls : (c : ℕ) → c < h.callers → (o : Option Execution) × (slice_get executions c ≡ Some o) × IsOpen h states c earlier later o
+  pub open_calls : (c : ℕ) → c < h.callers
+      → (o : Option Execution) × (slice_get executions c ≡ Some o)
+      × IsOpen h states c earlier later o

@@ -1,6 +1,7 @@
 //! The numbers of an accepted log.
 
-ghost use Rattle.std.specs.Prelude.{◌≡◌, ◌<◌, ◌+◌, ◌&&◌, Bool, length, IfOk, None, Some, slice_get, slice_index_or, vec_len};
+ghost use Rattle.std.specs.Prelude.{◌≡◌, ◌<◌, ◌+◌, ◌&&◌, Bool, length, IfOk, None, Some, slice_get};
+ghost use Rattle.std.specs.Prelude.{slice_index_or, vec_len};
 ghost use Rattle.vyrd_base.specs.declared.header.Header.{Header};
 ghost use Rattle.vyrd_base.specs.Front.{first_break};
 ghost use Rattle.vyrd_base.specs.Commits.{commit_count, is_commit};
@@ -11,8 +12,8 @@ ghost use Rattle.vyrd_plain.specs.Observing.{observing_after};
 use std::alloc::{AllocError, Global};
 use vyrd_base::{Entry, Header, Kind, Verdict};
 
-/// The answer that a log which keeps all rules is accepted, with its numbers of entries, commits and observers. It goes over
-/// the entries twice, and takes a flag for each caller.
+/// The answer that a log which keeps all rules is accepted, with its numbers of entries, commits
+/// and observers. It goes over the entries twice, and takes a flag for each caller.
 pub(crate) fn accepted(
     alloc: Global,
     header: Header,
@@ -59,11 +60,14 @@ fn observer_count(alloc: Global, header: Header, entries: &[Entry]) -> Result<u6
     Ok(count)
 }
 
-/// Whether an observer returns with this entry, with each caller that observes before it. They become those after it.
+/// Whether an observer returns with this entry, with each caller that observes before it. They
+/// become those after it.
 fn observer_returns(observing: &mut Vec<bool>, entry: Entry) -> bool
     requires { entry.caller < vec_len observing.old }
-    ensures returns { (b : Bool) → slice_get observing.old.items entry.caller ≡ Some b → result ≡ (is_return entry.kind && b) }
-    ensures after { observing.new.items ≡ observing_after observing.old.items entry.caller entry.kind }
+    ensures returns { (b : Bool) → slice_get observing.old.items entry.caller ≡ Some b
+        → result ≡ (is_return entry.kind && b) }
+    ensures after { observing.new.items
+        ≡ observing_after observing.old.items entry.caller entry.kind }
     ensures all { vec_len observing.new ≡ vec_len observing.old }
 {
     let caller = entry.caller as usize;

@@ -1,6 +1,8 @@
 //! The words at a place of a front, as the effects of the writes before it leave them.
 
-ghost use Rattle.std.specs.Prelude.{◌≡◌, ◌<◌, ◌≤◌, ◌+◌, ℕ, List, [], ◌++◌, length, take, drop, replicate, Option, Some, None, IfOk, IfSome, option_map, slice_get, vec_len};
+ghost use Rattle.std.specs.Prelude.{◌≡◌, ◌<◌, ◌≤◌, ◌+◌, ℕ, List, [], ◌++◌, length, take, drop};
+ghost use Rattle.std.specs.Prelude.{replicate, Option, Some, None, IfOk, IfSome, option_map};
+ghost use Rattle.std.specs.Prelude.{slice_get, vec_len};
 ghost use Rattle.vyrd_base.specs.declared.log.Entry.{Entry};
 ghost use Rattle.vyrd_base.specs.Places.{newest_first};
 ghost use Rattle.vyrd_base.specs.Front.{first_break};
@@ -43,7 +45,8 @@ impl Effects {
     pub fn new(alloc: Global, header: Header) -> Result<Effects, AllocError>
         ensures header { IfOk result (λ e. e.header ≡ header) }
         ensures words { IfOk result (λ e. e.words.items ≡ replicate (plain_words header) 0) }
-        ensures open_blocks { IfOk result (λ e. e.open_blocks.items ≡ replicate header.callers None) }
+        ensures open_blocks { IfOk result
+            (λ e. e.open_blocks.items ≡ replicate header.callers None) }
     {
         Ok(Effects {
             header,
@@ -52,9 +55,9 @@ impl Effects {
         })
     }
 
-    /// Goes over the entry at a place of a front that keeps all rules, where these are the words and
-    /// the blocks there. Then they are those at the next place. The writes of each block are looked up
-    /// once, from its open to its end.
+    /// Goes over the entry at a place of a front that keeps all rules, where these are the words
+    /// and the blocks there. Then they are those at the next place. The writes of each block are
+    /// looked up once, from its open to its end.
     pub fn step(&mut self, front: &[Entry], at: usize)
         requires within { at < length front.now }
         requires kept { first_break self.old.header front.now ≡ None }

@@ -58,7 +58,8 @@ impl Execution {
 
 /// An execution that sees the specification's state too.
 fn seeing<S: Spec>(execution: Option<Execution>, spec: &S) -> Option<Execution>
-    requires allowed { (x : Execution) → execution ≡ Some x → has_method (S.header_of spec.now) x.method x.args ≡ true }
+    requires allowed { (x : Execution) → execution ≡ Some x
+        → has_method (S.header_of spec.now) x.method x.args ≡ true }
     requires subject { (S.header_of spec.now).subject ≡ S.subject }
     ensures { result ≡ seeing (S.state spec.now) execution }
 {

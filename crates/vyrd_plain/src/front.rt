@@ -1,6 +1,8 @@
-//! The well-formed front of a log: its longest beginning in which each entry keeps the rules of shape.
+//! The well-formed front of a log: its longest beginning in which each entry keeps the rules of
+//! shape.
 
-ghost use Rattle.std.specs.Prelude.{◌≡◌, ◌<◌, ◌≤◌, false, length, take, Option, Some, None, IfOk, slice_get};
+ghost use Rattle.std.specs.Prelude.{◌≡◌, ◌<◌, ◌≤◌, false, length, take, Option, Some, None, IfOk};
+ghost use Rattle.std.specs.Prelude.{slice_get};
 ghost use Rattle.vyrd_base.specs.Places.{newest_first};
 ghost use Rattle.vyrd_base.specs.Front.{front, first_break};
 ghost use Rattle.vyrd_base.specs.Verdicts.{is_call_open};
@@ -16,7 +18,8 @@ pub(crate) struct Front {
     pub len: usize,
     /// The rule that the next entry breaks, if there is one.
     pub broken: Option<Rule>,
-    /// Whether some execution is open at the end of a log that keeps all rules. It says nothing of a log that breaks one.
+    /// Whether some execution is open at the end of a log that keeps all rules. It says nothing of
+    /// a log that breaks one.
     pub is_open: bool,
 }
 
@@ -30,7 +33,8 @@ pub(crate) fn front_of(
     ensures front { IfOk result (λ f. take f.len entries.now ≡ front header entries.now) }
     ensures broken { IfOk result (λ f. f.broken ≡ first_break header entries.now) }
     ensures kept { IfOk result (λ f. first_break header (take f.len entries.now) ≡ None) }
-    ensures at_end { IfOk result (λ f. f.broken ≡ None → f.is_open ≡ is_call_open header (newest_first entries.now)) }
+    ensures at_end { IfOk result
+        (λ f. f.broken ≡ None → f.is_open ≡ is_call_open header (newest_first entries.now)) }
 {
     let mut shape = Shape::new(alloc, header)?;
     for (i, entry) in entries.iter().enumerate() {

@@ -1,6 +1,8 @@
 //! The judge at a place of a front: one step for each entry.
 
-ghost use Rattle.std.specs.Prelude.{◌≡◌, ◌+◌, ◌<◌, ◌≤◌, ◌^◌, true, false, [], length, replicate, take, drop, Option, Some, None, Ok, IfOk, slice_get, slice_set, vec_len};
+ghost use Rattle.std.specs.Prelude.{◌≡◌, ◌+◌, ◌<◌, ◌≤◌, ◌^◌, true, false, [], length, replicate};
+ghost use Rattle.std.specs.Prelude.{take, drop, Option, Some, None, Ok, IfOk, slice_get, slice_set};
+ghost use Rattle.std.specs.Prelude.{vec_len};
 ghost use Rattle.vyrd_base.specs.declared.log.Entry.{Entry};
 ghost use Rattle.vyrd_base.specs.Subjects.{is_observer};
 ghost use Rattle.vyrd_base.specs.Places.{newest_first};
@@ -27,8 +29,8 @@ use vyrd_base::{Args, Entry, Header, Kind, Method, Why};
 use vyrd_spec::Spec;
 use vyrd_view::{first_difference, view_of};
 
-/// What is known at a place of a front: the state of the specification after the commits before it, the words, and each
-/// caller's execution.
+/// What is known at a place of a front: the state of the specification after the commits before it,
+/// the words, and each caller's execution.
 #[derive(Drop)]
 pub(crate) struct Scan<S: Spec> {
     pub alloc: Global,
@@ -50,8 +52,10 @@ impl<S: Spec> Scan<S> {
         ensures header { IfOk result (λ s. s.header ≡ header) }
         ensures state { IfOk result (λ s. S.state s.spec ≡ start) }
         ensures made { IfOk result (λ s. S.made s.spec ≡ 0) }
-        ensures words { IfOk result (λ s. s.effects.words.items ≡ replicate (plain_words header) 0) }
-        ensures open_blocks { IfOk result (λ s. s.effects.open_blocks.items ≡ replicate header.callers None) }
+        ensures words { IfOk result
+            (λ s. s.effects.words.items ≡ replicate (plain_words header) 0) }
+        ensures open_blocks { IfOk result
+            (λ s. s.effects.open_blocks.items ≡ replicate header.callers None) }
         ensures executions { IfOk result (λ s. s.executions.items ≡ replicate header.callers None) }
     {
         Ok(Scan {
@@ -79,7 +83,8 @@ impl<S: Spec> Scan<S> {
     fn begin(&mut self, caller: u32, method: Method, args: Args, reply: Option<u64>)
         requires caller { caller < self.old.header.callers }
         requires allowed { has_method self.old.header method args ≡ true }
-        ensures executions { self.new.executions.items ≡ slice_set self.old.executions.items caller (Some (begun method args reply (S.state self.old.spec))) }
+        ensures executions { self.new.executions.items ≡ slice_set self.old.executions.items caller
+            (Some (begun method args reply (S.state self.old.spec))) }
         ensures header { self.new.header ≡ self.old.header }
         ensures spec { self.new.spec ≡ self.old.spec }
         ensures effects { self.new.effects ≡ self.old.effects }
@@ -98,8 +103,11 @@ impl<S: Spec> Scan<S> {
     /// observer's reply.
     fn finish(&mut self, caller: u32, reply: u64) -> Outcome
         requires caller { caller < self.old.header.callers }
-        ensures outcome { (x : Execution) → slice_get self.old.executions.items caller ≡ Some (Some x) → result ≡ return_outcome x reply }
-        ensures executions { self.new.executions.items ≡ slice_set self.old.executions.items caller None }
+        ensures outcome { (x : Execution)
+            → slice_get self.old.executions.items caller ≡ Some (Some x)
+            → result ≡ return_outcome x reply }
+        ensures executions { self.new.executions.items
+            ≡ slice_set self.old.executions.items caller None }
         ensures header { self.new.header ≡ self.old.header }
         ensures spec { self.new.spec ≡ self.old.spec }
         ensures effects { self.new.effects ≡ self.old.effects }
@@ -121,10 +129,13 @@ impl<S: Spec> Scan<S> {
         requires caller { caller < self.old.header.callers }
         requires few { S.made self.old.spec < 2 ^ 62 }
         requires allowed { AreAllowed self.old.header self.old.executions.items }
-        requires mutates { (x : Execution) → slice_get self.old.executions.items caller ≡ Some (Some x) → is_observer x.method ≡ false }
+        requires mutates { (x : Execution)
+            → slice_get self.old.executions.items caller ≡ Some (Some x)
+            → is_observer x.method ≡ false }
         ensures gives { (x : Execution) → slice_get self.old.executions.items caller ≡ Some (Some x)
-            → IfOk result (CommitGives (view_of_words self.old.header self.old.effects.words.items) x (S.state self.old.spec) (S.state self.new.spec)
-            self.old.executions.items self.new.executions.items) }
+            → IfOk result (CommitGives (view_of_words self.old.header self.old.effects.words.items)
+            x (S.state self.old.spec) (S.state self.new.spec) self.old.executions.items
+            self.new.executions.items) }
         ensures header { self.new.header ≡ self.old.header }
         ensures made { S.made self.new.spec ≤ S.made self.old.spec + 1 }
         ensures effects { self.new.effects ≡ self.old.effects }
@@ -147,23 +158,30 @@ impl<S: Spec> Scan<S> {
         Ok(Outcome::Goes)
     }
 
-    /// Goes over the entry at a place of a front that keeps all rules, which it tracks up to that place. After `Goes` it tracks
-    /// the front up to the next one; after any other answer it is to be dropped.
+    /// Goes over the entry at a place of a front that keeps all rules, which it tracks up to that
+    /// place. After `Goes` it tracks the front up to the next one; after any other answer it is to
+    /// be dropped.
     pub fn step(&mut self, front: &[Entry], at: usize) -> Result<Outcome, AllocError>
         requires within { at < length front.now }
         requires kept { first_break self.old.header front.now ≡ None }
-        requires tracks { Tracks self.old.header (states_along self.old.header [] front.now) (newest_first (take at front.now)) (drop at front.now)
-            (S.state self.old.spec) self.old.executions.items }
-        requires words { HasEffects self.old.header self.old.effects.words.items self.old.effects.open_blocks.items (take at front.now) (drop at front.now) }
+        requires tracks { Tracks self.old.header (states_along self.old.header [] front.now)
+            (newest_first (take at front.now)) (drop at front.now) (S.state self.old.spec)
+            self.old.executions.items }
+        requires words { HasEffects self.old.header self.old.effects.words.items
+            self.old.effects.open_blocks.items (take at front.now) (drop at front.now) }
         requires few { S.made self.old.spec < 2 ^ 62 }
-        ensures gives { (e : Entry) → slice_get front.now at ≡ Some e → IfOk result (PlaceGives self.old.header [] (states_along self.old.header [] front.now)
-            (place_of e (newest_first (take at front.now)) (drop (at + 1) front.now)) (S.state self.new.spec) self.new.executions.items) }
-        ensures words { result ≡ Ok Goes → HasEffects self.old.header self.new.effects.words.items self.new.effects.open_blocks.items
-            (take (at + 1) front.now) (drop (at + 1) front.now) }
+        ensures gives { (e : Entry) → slice_get front.now at ≡ Some e
+            → IfOk result (PlaceGives self.old.header [] (states_along self.old.header [] front.now)
+            (place_of e (newest_first (take at front.now)) (drop (at + 1) front.now))
+            (S.state self.new.spec) self.new.executions.items) }
+        ensures words { result ≡ Ok Goes
+            → HasEffects self.old.header self.new.effects.words.items
+            self.new.effects.open_blocks.items (take (at + 1) front.now) (drop (at + 1) front.now) }
         ensures made { S.made self.new.spec ≤ S.made self.old.spec + 1 }
         ensures header { self.new.header ≡ self.old.header }
     {
-        // A commit's view is that of the words after all effects up to it, so the entry's own take place first.
+        // A commit's view is that of the words after all effects up to it, so the entry's own take
+        // place first.
         self.effects.step(front, at);
         let entry = entry_at(front, at);
         let caller = entry.caller;

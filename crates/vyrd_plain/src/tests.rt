@@ -55,13 +55,19 @@ fn accepted(entries: u64, commits: u64, observers: u64) -> Verdict {
 /// A multiset gets 5.
 fn insert() -> [Entry; 7] {
     let insert = Call(Method::MsInsert, Args { a: 5, b: 0, c: 0 });
-    logged![0 insert, 0 Write(1, 5), 0 Write(0, 1), 0 BlockOpen, 0 Write(0, 2), 0 BlockCommit, 0 Return(1)]
+    logged![
+        0 insert, 0 Write(1, 5), 0 Write(0, 1), 0 BlockOpen, 0 Write(0, 2), 0 BlockCommit,
+        0 Return(1)
+    ]
 }
 
 /// Chunk 0 of a cache becomes 1 and 2, and is dirty.
 fn write() -> [Entry; 7] {
     let write = Call(Method::CaWrite, Args { a: 0, b: 1, c: 2 });
-    logged![0 write, 0 BlockOpen, 0 Write(1, 1), 0 Write(2, 2), 0 Write(0, 2), 0 BlockCommit, 0 Return(1)]
+    logged![
+        0 write, 0 BlockOpen, 0 Write(1, 1), 0 Write(2, 2), 0 Write(0, 2), 0 BlockCommit,
+        0 Return(1)
+    ]
 }
 
 /// An empty tree has no key 5.

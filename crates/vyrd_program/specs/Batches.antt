@@ -1,4 +1,5 @@
--- What `batch` answers about an input: at which log it is refused, or a line for each log's verdict.
+-- What `batch` answers about an input: at which log it is refused, or a line for each log's
+-- verdict.
 use Rattle.std.specs.Prelude.{◌≡◌, ◌≤◌, ◌⊎◌, ℕ, List, length, Option, Result, Ok, Err, IfSome}
 use Rattle.vyrd_batch.specs.Batches.{batch_logs}
 use Rattle.vyrd_batch.specs.BatchAnswers.{verdicts_of, batch_text, batch_status, refused_line}
@@ -9,14 +10,16 @@ use Rattle.vyrd_program.specs.Inputs.{IsInputRead, IsTaken}
 use Rattle.vyrd_program.specs.Outputs.{Appends, AppendsFront}
 
 -- The first `count` bytes of an input were read, and its first logs judged. These bytes are left.
-pub record IsReading (before now : Option (List ℕ)) (judge : BatchJudge) (rest : List ℕ) (count : ℕ) : Type 0 where
+pub record IsReading (before now : Option (List ℕ)) (judge : BatchJudge) (rest : List ℕ)
+    (count : ℕ) : Type 0 where
   pub taken : List ℕ
   pub told : IsTaken before taken now
   pub judged : IsJudged taken judge rest
   pub many : length taken ≡ count
 
 -- An input was read as far as it is, and its first logs judged. These bytes are left.
-pub record IsBatchRead (before after : Option (List ℕ)) (judge : BatchJudge) (rest : List ℕ) : Type 0 where
+pub record IsBatchRead (before after : Option (List ℕ)) (judge : BatchJudge)
+    (rest : List ℕ) : Type 0 where
   pub taken : List ℕ
   pub read : IsInputRead longest_batch_input before after taken
   pub judged : IsJudged taken judge rest
@@ -24,7 +27,8 @@ pub record IsBatchRead (before after : Option (List ℕ)) (judge : BatchJudge) (
 -- the status and the text of the answer to what was read
 abbrev pub IsBatchAnswer : Result (List (List ℕ)) ℕ → ℕ → List ℕ → Type 0
 IsBatchAnswer (Err log) status text = (status ≡ 11) × (text ≡ refused_line log)
-IsBatchAnswer (Ok logs) status text = (status ≡ batch_status (verdicts_of logs)) × (text ≡ batch_text (verdicts_of logs))
+IsBatchAnswer (Ok logs) status text =
+    (status ≡ batch_status (verdicts_of logs)) × (text ≡ batch_text (verdicts_of logs))
 
 -- The status and the text of an answer to an input. If its bytes are told, what was read is what
 -- they say.

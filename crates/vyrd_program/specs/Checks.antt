@@ -1,5 +1,6 @@
 -- What `check` answers about an input, and what it takes of it.
-use Rattle.std.specs.Prelude.{◌≡◌, ◌⊎◌, ◌≤◌, ◌+◌, ℕ, Bool, true, List, ◌++◌, length, Option, Some, None, is_some, IfSome}
+use Rattle.std.specs.Prelude.{◌≡◌, ◌⊎◌, ◌≤◌, ◌+◌, ℕ, Bool, true, List, ◌++◌, length, Option, Some}
+use Rattle.std.specs.Prelude.{None, is_some, IfSome}
 use Rattle.vyrd_base.specs.declared.verdict.Verdict.{Verdict}
 use Rattle.vyrd_base.specs.Devices.{IsAtEnd}
 use Rattle.vyrd_base.specs.VerdictText.{verdict_text}
@@ -19,7 +20,8 @@ pub record IsJudged (max : ℕ) (input : Option (List ℕ)) (status : ℕ) (text
 pub record IsSettled (max : ℕ) (before after : Option (List ℕ)) : Type 0 where
   pub taken : List ℕ
   pub told : IsTaken before taken after
-  pub enough : IsAtEnd after ⊎ IfSome before (λ input. text_verdict_so_far max taken ≡ Some (text_verdict max input))
+  pub enough : IsAtEnd after
+      ⊎ IfSome before (λ input. text_verdict_so_far max taken ≡ Some (text_verdict max input))
 
 -- what was taken of an input has no verdict yet
 pub record IsUnsettled (max : ℕ) (before after : Option (List ℕ)) : Type 0 where
@@ -31,14 +33,17 @@ pub record IsUnsettled (max : ℕ) (before after : Option (List ℕ)) : Type 0 w
 abbrev pub has_verdict : ℕ → List ℕ → Bool
 has_verdict max bytes = is_some (text_verdict_so_far max bytes)
 
--- What was taken of an input is at most one read more than its shortest beginning that has a verdict.
+-- What was taken of an input is at most one read more than its shortest beginning that has a
+-- verdict.
 pub record IsReadNoFurther (max : ℕ) (before after : Option (List ℕ)) : Type 0 where
   pub taken : List ℕ
   pub told : IsTaken before taken after
-  pub no_more : (first more : List ℕ) → taken ≡ first ++ more → has_verdict max first ≡ true → length taken ≤ length first + longest_read
+  pub no_more : (first more : List ℕ) → taken ≡ first ++ more → has_verdict max first ≡ true
+      → length taken ≤ length first + longest_read
 
 -- the sink has taken the line of the whole input's verdict, whose status this is
-pub record IsAnswered (max : ℕ) (input : Option (List ℕ)) (status : ℕ) (before after : Option (List ℕ)) : Type 0 where
+pub record IsAnswered (max : ℕ) (input : Option (List ℕ)) (status : ℕ)
+    (before after : Option (List ℕ)) : Type 0 where
   pub text : List ℕ
   pub judged : IsJudged max input status text
   pub written : Appends before after text
@@ -52,4 +57,5 @@ pub record IsAnsweredInPart (max : ℕ) (input before after : Option (List ℕ))
 
 -- the sink has sure room for the line of the whole input's verdict
 abbrev pub HasRoomForAnswer : ℕ → Option (List ℕ) → ℕ → Type 0
-HasRoomForAnswer max input room = (status : ℕ) (text : List ℕ) → IsJudged max input status text → length text ≤ room
+HasRoomForAnswer max input room =
+    (status : ℕ) (text : List ℕ) → IsJudged max input status text → length text ≤ room

@@ -1,6 +1,7 @@
--- What words of each form are answered, and what is taken of the source for it. Words that are none of the forms get the usage
--- line.
-use Rattle.std.specs.Prelude.{◌≡◌, ◌≤◌, ◌⊎◌, ⊤, ℕ, Bool, true, false, List, length, Option, Some, None, is_some}
+-- What words of each form are answered, and what is taken of the source for it. Words that are none
+-- of the forms get the usage line.
+use Rattle.std.specs.Prelude.{◌≡◌, ◌≤◌, ◌⊎◌, ⊤, ℕ, Bool, true, false, List, length, Option, Some}
+use Rattle.std.specs.Prelude.{None, is_some}
 use Rattle.vyrd_check.specs.Checking.{most_lines}
 use Rattle.vyrd_work.specs.LongInputs.{longest_input}
 use Rattle.vyrd_mover.specs.LongHistories.{longest_history}
@@ -29,11 +30,14 @@ IsAnswerStatus (Some asked.Movers) status = IsMoversStatus status
 IsAnswerStatus (Some asked.Batch) status = IsBatchStatus status
 
 -- This status, this text and what is handed out are those of an answer to the input.
-abbrev pub IsAnswer : Option Form → Option (List ℕ) → ℕ → List ℕ → Option Run → Option Overrun → Type 0
+abbrev pub IsAnswer : Option Form → Option (List ℕ) → ℕ → List ℕ → Option Run → Option Overrun
+    → Type 0
 IsAnswer None input status text run spent = text ≡ usage_line
 IsAnswer (Some asked.Check) input status text run spent = IsJudged most_lines input status text
-IsAnswer (Some (asked.Step show)) input status text run spent = AnswersInput show input status text run
-IsAnswer (Some (asked.Run show)) input status text run spent = AnswersRun show input status text run spent
+IsAnswer (Some (asked.Step show)) input status text run spent =
+    AnswersInput show input status text run
+IsAnswer (Some (asked.Run show)) input status text run spent =
+    AnswersRun show input status text run spent
 IsAnswer (Some (asked.Gen n)) input status text run spent = IsGenAnswer n status text run
 IsAnswer (Some asked.Movers) input status text run spent = AnswersMovers input status text
 IsAnswer (Some asked.Batch) input status text run spent = AnswersBatch input status text
@@ -51,7 +55,8 @@ reads (Some asked.Batch) = true
 -- The statuses that a call may end with: an answer's, 4 where the source is read, 5, and 6 if more
 -- is done than to write the usage line.
 abbrev pub IsStatus : Option Form → ℕ → Type 0
-IsStatus form status = IsAnswerStatus form status ⊎ ((status ≡ 4) × (reads form ≡ true)) ⊎ (status ≡ 5) ⊎ ((status ≡ 6) × (is_some form ≡ true))
+IsStatus form status = IsAnswerStatus form status ⊎ ((status ≡ 4) × (reads form ≡ true))
+    ⊎ (status ≡ 5) ⊎ ((status ≡ 6) × (is_some form ≡ true))
 
 -- As much was taken of the source as an answer needs.
 abbrev pub IsEnough : Option Form → Option (List ℕ) → Option (List ℕ) → Type 0
@@ -74,15 +79,15 @@ IsNoFurther (Some asked.Movers) before after = IsFewTaken longest_history before
 IsNoFurther (Some asked.Batch) before after = IsFewTaken longest_batch_input before after
 
 -- the sink has taken the text of an answer with this status and with what is handed out
-pub record HasAnswered (form : Option Form) (input : Option (List ℕ)) (status : ℕ) (run : Option Run) (spent : Option Overrun)
-    (before after : Option (List ℕ)) : Type 0 where
+pub record HasAnswered (form : Option Form) (input : Option (List ℕ)) (status : ℕ)
+    (run : Option Run) (spent : Option Overrun) (before after : Option (List ℕ)) : Type 0 where
   pub text : List ℕ
   pub answer : IsAnswer form input status text run spent
   pub written : Appends before after text
 
 -- the sink has taken some of the first bytes of it
-pub record HasAnsweredInPart (form : Option Form) (input : Option (List ℕ)) (run : Option Run) (spent : Option Overrun)
-    (before after : Option (List ℕ)) : Type 0 where
+pub record HasAnsweredInPart (form : Option Form) (input : Option (List ℕ)) (run : Option Run)
+    (spent : Option Overrun) (before after : Option (List ℕ)) : Type 0 where
   pub status : ℕ
   pub text : List ℕ
   pub answer : IsAnswer form input status text run spent

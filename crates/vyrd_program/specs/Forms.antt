@@ -1,5 +1,6 @@
 -- The words that the program takes.
-use Rattle.std.specs.Prelude.{Bool, ◌&&◌, ℕ, nat_le, List, [], ◌∷◌, map, codes, decimal, Option, Some, None, if◌then◌else◌}
+use Rattle.std.specs.Prelude.{Bool, ◌&&◌, ℕ, nat_le, List, [], ◌∷◌, map, codes, decimal, Option}
+use Rattle.std.specs.Prelude.{Some, None, if◌then◌else◌}
 use Rattle.std.specs.Option.{option_and_then}
 use Rattle.std.specs.Str.{bytes_eq}
 use Rattle.std.specs.Borrow.{Bor}
@@ -19,7 +20,8 @@ one_word word = if bytes_eq word (codes "check") then Some Check
 
 -- whether a word is the one spelling of a number from 1 to 200,000
 abbrev pub is_count : List ℕ → Bool
-is_count word = bytes_eq (decimal (number_of word)) word && nat_le 1 (number_of word) && nat_le (number_of word) 200000
+is_count word = bytes_eq (decimal (number_of word)) word && nat_le 1 (number_of word)
+    && nat_le (number_of word) 200000
 
 -- what an option asks for: `--log` or `--history`
 abbrev pub shown_by : List ℕ → Option Show
@@ -34,7 +36,8 @@ shown_form word show = if bytes_eq word (codes "step") then Some (Step show)
 -- two words: `step` or `run` with an option, or `gen` with a number from 1 to 200,000
 abbrev pub two_words : List ℕ → List ℕ → Option Form
 two_words word other =
-    if bytes_eq word (codes "gen") then (if is_count other then Some (Gen (number_of other)) else None)
+    if bytes_eq word (codes "gen") then
+    (if is_count other then Some (Gen (number_of other)) else None)
     else option_and_then (shown_form word) (shown_by other)
 
 -- the form of the words, if they have one

@@ -1,4 +1,5 @@
--- What is handed out beside the status: a run that came to its end, or one that the limit of events ended.
+-- What is handed out beside the status: a run that came to its end, or one that the limit of events
+-- ended.
 use Rattle.std.specs.Prelude.{◌≡◌, ◌⊎◌, ℕ, Bool, true, false, Option, Some, None}
 use Rattle.vyrd_live.specs.declared.run.Run.{Run}
 use Rattle.vyrd_live.specs.declared.run.Overrun.{Overrun}
@@ -10,7 +11,8 @@ pub record HandsOutNothing (run : Option Run) (spent : Option Overrun) : Type 0 
   pub no_run : run ≡ None
   pub no_overrun : spent ≡ None
 
--- the statuses in which there is no run, whatever the form: the words have none, a read failed, or there was no memory
+-- the statuses in which there is no run, whatever the form: the words have none, a read failed, or
+-- there was no memory
 abbrev pub IsUnplayed : ℕ → Type 0
 IsUnplayed status = (status ≡ 3) ⊎ (status ≡ 4) ⊎ (status ≡ 6)
 
@@ -37,7 +39,8 @@ plays_live (Some asked.Batch) = false
 -- What a call with this form and this status hands out: nothing in those statuses, nothing if the
 -- form plays no workload, and a run that the limit of events ended only where the form plays it
 -- live.
-pub record HandsOut (form : Option Form) (status : ℕ) (run : Option Run) (spent : Option Overrun) : Type 0 where
+pub record HandsOut (form : Option Form) (status : ℕ) (run : Option Run)
+    (spent : Option Overrun) : Type 0 where
   pub unplayed : IsUnplayed status → HandsOutNothing run spent
   pub no_workload : plays form ≡ false → HandsOutNothing run spent
   pub no_limit : plays_live form ≡ false → spent ≡ None

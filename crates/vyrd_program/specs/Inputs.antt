@@ -1,5 +1,6 @@
 -- What was taken of an input. Bytes that a source doesn't tell are None.
-use Rattle.std.specs.Prelude.{◌≡◌, ◌⊎◌, ⊤, ℕ, ◌≤◌, List, ◌++◌, length, Option, option_map, Result, Ok, Err, IfSome}
+use Rattle.std.specs.Prelude.{◌≡◌, ◌⊎◌, ⊤, ℕ, ◌≤◌, List, ◌++◌, length, Option, option_map, Result}
+use Rattle.std.specs.Prelude.{Ok, Err, IfSome}
 use Rattle.vyrd_base.specs.declared.verdict.Verdict.{Verdict}
 use Rattle.vyrd_base.specs.Devices.{IsAtEnd}
 use Rattle.vyrd_base.specs.TextVerdicts.{text_verdict}
@@ -20,14 +21,17 @@ UnlessFailed (Err Failed) P = ⊤
 abbrev pub IsTaken : Option (List ℕ) → List ℕ → Option (List ℕ) → Type 0
 IsTaken before taken after = before ≡ option_map (λ left. taken ++ left) after
 
--- These bytes were read of an input: all that there were, which the source has said, or as many as are read at most.
+-- These bytes were read of an input: all that there were, which the source has said, or as many as
+-- are read at most.
 pub record IsInputRead (most : ℕ) (before after : Option (List ℕ)) (bytes : List ℕ) : Type 0 where
   pub told : IsTaken before bytes after
   pub enough : IsAtEnd after ⊎ (length bytes ≡ most)
   pub few : length bytes ≤ most
 
--- One read gave the next n bytes of an input, `most` at most, and they were appended to those that there were.
-pub record IsMoreRead (most : ℕ) (before after : Option (List ℕ)) (old new : List ℕ) (n : ℕ) : Type 0 where
+-- One read gave the next n bytes of an input, `most` at most, and they were appended to those that
+-- there were.
+pub record IsMoreRead (most : ℕ) (before after : Option (List ℕ)) (old new : List ℕ)
+    (n : ℕ) : Type 0 where
   pub piece : List ℕ
   pub told : IsTaken before piece after
   pub grown : new ≡ old ++ piece
@@ -37,7 +41,8 @@ pub record IsMoreRead (most : ℕ) (before after : Option (List ℕ)) (old new :
 -- The source has said its end, or as many bytes were taken of the input as are read at most, if
 -- they are told.
 abbrev pub IsInputTaken : ℕ → Option (List ℕ) → Option (List ℕ) → Type 0
-IsInputTaken most before after = IsAtEnd after ⊎ ((taken : List ℕ) × IsTaken before taken after × (length taken ≡ most))
+IsInputTaken most before after =
+    IsAtEnd after ⊎ ((taken : List ℕ) × IsTaken before taken after × (length taken ≡ most))
 
 -- At most as many bytes were taken of an input as are read at most, if they are told.
 abbrev pub IsFewTaken : ℕ → Option (List ℕ) → Option (List ℕ) → Type 0

@@ -1,4 +1,5 @@
--- What `movers` answers about an input: how the bytes are refused as a history, or what is said of the history's blocks.
+-- What `movers` answers about an input: how the bytes are refused as a history, or what is said of
+-- the history's blocks.
 use Rattle.std.specs.Prelude.{◌≡◌, ◌≤◌, ◌⊎◌, ℕ, List, Option, Result, Ok, Err, IfSome}
 use Rattle.vyrd_base.specs.Histories.{cells_of}
 use Rattle.vyrd_mover.specs.declared.blocks.Blocks.{Blocks}
@@ -20,8 +21,10 @@ said_of_blocks r = blocks_of (cells_of r.header) r.history
 
 -- the status and the text of the answer to what was read
 abbrev pub IsMoversAnswer : Result Recorded Refusal → ℕ → List ℕ → Type 0
-IsMoversAnswer (Err refusal) status text = (status ≡ 10) × (text ≡ history_refusal_text refusal.line refusal.rule)
-IsMoversAnswer (Ok r) status text = (status ≡ status_of_blocks (said_of_blocks r)) × (text ≡ blocks_text (said_of_blocks r))
+IsMoversAnswer (Err refusal) status text =
+    (status ≡ 10) × (text ≡ history_refusal_text refusal.line refusal.rule)
+IsMoversAnswer (Ok r) status text =
+    (status ≡ status_of_blocks (said_of_blocks r)) × (text ≡ blocks_text (said_of_blocks r))
 
 -- The status and the text of an answer to an input. If its bytes are told, what was read is what
 -- they say.

@@ -1,6 +1,7 @@
--- What `run` answers about an input: how the bytes are refused, that a caller's events are spent, or the verdict about the log
--- of a live run.
-use Rattle.std.specs.Prelude.{[], ◌≡◌, ◌<◌, ◌≤◌, ◌⊎◌, ℕ, true, List, ◌++◌, Option, Some, None, Result, Ok, Err, IfSome, codes, decimal}
+-- What `run` answers about an input: how the bytes are refused, that a caller's events are spent,
+-- or the verdict about the log of a live run.
+use Rattle.std.specs.Prelude.{[], ◌≡◌, ◌<◌, ◌≤◌, ◌⊎◌, ℕ, true, List, ◌++◌, Option, Some, None}
+use Rattle.std.specs.Prelude.{Result, Ok, Err, IfSome, codes, decimal}
 use Rattle.vyrd_base.specs.Places.{newest_first}
 use Rattle.vyrd_base.specs.Histories.{cells_of, is_legal, log_of}
 use Rattle.vyrd_base.specs.Spelling.{ended_line}
@@ -23,8 +24,9 @@ use Rattle.vyrd_program.specs.Steps.{run_text}
 abbrev pub most_events : ℕ
 most_events = 16777216
 
--- The history is legal, each caller's part plays the caller's script to its end, the words are the last values, and this is
--- the verdict about the history's log. Each operation began with room for its events.
+-- The history is legal, each caller's part plays the caller's script to its end, the words are the
+-- last values, and this is the verdict about the history's log. Each operation began with room for
+-- its events.
 pub record IsLiveRun (w : Workload) (run : Run) : Type 0 where
   pub legal : is_legal (cells_of w.header) run.history.items ≡ true
   pub parts : PlayToTheEnd (work_scripts w) run.history.items
@@ -36,23 +38,29 @@ pub record IsLiveRun (w : Workload) (run : Run) : Type 0 where
 abbrev pub spent_line : ℕ → List ℕ
 spent_line caller = ended_line (codes "events spent by caller " ++ decimal caller)
 
--- A run that came to its end, or one that the limit of events ended: it is lower than the sum of the bounds of that caller's
--- operations.
+-- A run that came to its end, or one that the limit of events ended: it is lower than the sum of
+-- the bounds of that caller's operations.
 abbrev pub IsPlayedAnswer : Show → Workload → ℕ → List ℕ → Option Run → Option Overrun → Type 0
-IsPlayedAnswer show w status text (Some run) None = (status ≡ status_of run.verdict) × (text ≡ run_text show w.header run) × IsLiveRun w run
-IsPlayedAnswer show w status text None (Some spent) = (status ≡ 9) × (text ≡ spent_line spent.caller)
-    × (is_legal (cells_of w.header) spent.history.items ≡ true) × IsOverrun w.header most_events (work_scripts w) spent.caller spent.history.items
+IsPlayedAnswer show w status text (Some run) None =
+    (status ≡ status_of run.verdict) × (text ≡ run_text show w.header run) × IsLiveRun w run
+IsPlayedAnswer show w status text None (Some spent) =
+    (status ≡ 9) × (text ≡ spent_line spent.caller)
+    × (is_legal (cells_of w.header) spent.history.items ≡ true)
+    × IsOverrun w.header most_events (work_scripts w) spent.caller spent.history.items
     × (most_events < bounds_of w.header (ops_of spent.caller w.ops))
 IsPlayedAnswer show w status text _ _ = ⊥
 
 -- the status, the text and the run of the answer to what was read
-abbrev pub IsRunAnswer : Show → Result Workload Refusal → ℕ → List ℕ → Option Run → Option Overrun → Type 0
-IsRunAnswer show (Err refusal) status text run spent = (status ≡ 7) × (text ≡ refusal_text refusal.line refusal.rule) × (run ≡ None) × (spent ≡ None)
+abbrev pub IsRunAnswer : Show → Result Workload Refusal → ℕ → List ℕ → Option Run → Option Overrun
+    → Type 0
+IsRunAnswer show (Err refusal) status text run spent =
+    (status ≡ 7) × (text ≡ refusal_text refusal.line refusal.rule) × (run ≡ None) × (spent ≡ None)
 IsRunAnswer show (Ok w) status text run spent = IsPlayedAnswer show w status text run spent
 
 -- The status, the text and the run of an answer to an input. If its bytes are told, what was read
 -- is what they say.
-pub record AnswersRun (show : Show) (input : Option (List ℕ)) (status : ℕ) (text : List ℕ) (run : Option Run) (spent : Option Overrun) : Type 0 where
+pub record AnswersRun (show : Show) (input : Option (List ℕ)) (status : ℕ) (text : List ℕ)
+    (run : Option Run) (spent : Option Overrun) : Type 0 where
   pub work : Result Workload Refusal
   pub read : IfSome input (λ bytes. work ≡ work_reading bytes)
   pub answer : IsRunAnswer show work status text run spent

@@ -1,13 +1,15 @@
 //! What `batch` answers.
 
-ghost use Rattle.std.specs.Prelude.{◌≡◌, ◌≤◌, ◌<◌, ◌^◌, ◌⊎◌, true, ℕ, List, [], length, Ok, Err, None, IfOk, OnOk};
+ghost use Rattle.std.specs.Prelude.{◌≡◌, ◌≤◌, ◌<◌, ◌^◌, ◌⊎◌, true, ℕ, List, [], length, Ok, Err};
+ghost use Rattle.std.specs.Prelude.{None, IfOk, OnOk};
 ghost use Rattle.vyrd_base.specs.Devices.{HasRisen};
 ghost use Rattle.vyrd_batch.specs.Batches.{batch_logs};
 ghost use Rattle.vyrd_batch.specs.BatchAnswers.{batch_status, batch_text, refused_line};
 ghost use Rattle.vyrd_batch.specs.LongBatches.{longest_batch_input};
 ghost use Rattle.vyrd_batch.specs.Rounds.{IsJudged};
 ghost use Rattle.vyrd_program.specs.Inputs.{IsInputTaken, IsFewTaken, UnlessFailed};
-ghost use Rattle.vyrd_program.specs.Batches.{AnswersBatch, IsBatchAnswer, IsBatchRead, IsBatchStatus};
+ghost use Rattle.vyrd_program.specs.Batches.{AnswersBatch, IsBatchAnswer, IsBatchRead};
+ghost use Rattle.vyrd_program.specs.Batches.{IsBatchStatus};
 ghost use Rattle.vyrd_program.specs.declared.read_log.ReadFault.TheVariants.{Failed};
 
 use crate::answer::{Answer, BATCH_REFUSED, MEMORY, READ_FAULT};
@@ -18,20 +20,23 @@ use std::thread::Threads;
 use vyrd_base::{Source, Verdict};
 use vyrd_batch::{BatchFault, BatchJudge, status_of, write_refusal, write_verdicts};
 
-/// How many bytes more are read before the logs that are whole by then are judged: 4 MiB. So threads have enough to do for the
-/// time that it takes to start them, and the bytes are few enough to stay near the processor.
+/// How many bytes more are read before the logs that are whole by then are judged: 4 MiB. So
+/// threads have enough to do for the time that it takes to start them, and the bytes are few enough
+/// to stay near the processor.
 const ROUND: usize = 4_194_304;
 
-/// The answer to a batch: a line for each log's verdict and one that counts them; or that it is refused; or nothing after a
-/// failed read or out of memory.
+/// The answer to a batch: a line for each log's verdict and one that counts them; or that it is
+/// refused; or nothing after a failed read or out of memory.
 ///
 /// Logs are judged while later ones are still to be read. So the memory is that of a round, of the
 /// longest log, and of the verdicts. Of an input that isn't a batch, all is kept from the log on at
 /// which it is refused.
 pub fn batch<R: Threads + Sync, S: Source>(rt: &R, alloc: Global, source: &mut S) -> Answer
     ensures statuses { IsBatchStatus result.status ⊎ (result.status ≡ 4) ⊎ (result.status ≡ 6) }
-    ensures answers { IsBatchStatus result.status → AnswersBatch (S.rest source.old) result.status result.text.items }
-    ensures consumed { IsBatchStatus result.status → IsInputTaken longest_batch_input (S.rest source.old) (S.rest source.new) }
+    ensures answers { IsBatchStatus result.status
+        → AnswersBatch (S.rest source.old) result.status result.text.items }
+    ensures consumed { IsBatchStatus result.status
+        → IsInputTaken longest_batch_input (S.rest source.old) (S.rest source.new) }
     ensures few { IsFewTaken longest_batch_input (S.rest source.old) (S.rest source.new) }
     ensures silent { result.status ≡ 4 ⊎ result.status ≡ 6 → result.text.items ≡ [] }
     ensures run { result.run ≡ None }
@@ -53,8 +58,8 @@ pub fn batch<R: Threads + Sync, S: Source>(rt: &R, alloc: Global, source: &mut S
     }
 }
 
-/// Reads to the source's end, or as many bytes as settle what a batch says, and judges meanwhile the logs that are whole. The
-/// answer is the bytes that are left.
+/// Reads to the source's end, or as many bytes as settle what a batch says, and judges meanwhile
+/// the logs that are whole. The answer is the bytes that are left.
 fn read_rounds<R: Threads + Sync, S: Source>(
     rt: &R,
     alloc: Global,
@@ -62,7 +67,8 @@ fn read_rounds<R: Threads + Sync, S: Source>(
     source: &mut S,
 ) -> Result<Vec<u8>, ReadFault>
     requires fresh { IsJudged [] judge.old [] }
-    ensures read { IfOk result (λ rest. IsBatchRead (S.rest source.old) (S.rest source.new) judge.new rest.items) }
+    ensures read { IfOk result
+        (λ rest. IsBatchRead (S.rest source.old) (S.rest source.new) judge.new rest.items) }
     ensures few { IsFewTaken longest_batch_input (S.rest source.old) (S.rest source.new) }
     ensures failed { result ≡ Err Failed → HasRisen (S.faults source.old) (S.faults source.new) }
     ensures stopped { result ≡ Err Failed → S.rest source.new ≡ S.left_off source.new }
@@ -84,14 +90,16 @@ fn read_rounds<R: Threads + Sync, S: Source>(
     Ok(bytes)
 }
 
-/// Judges the logs that are whole, if there are `next` bytes. The answer is how many bytes there have to be the next time.
+/// Judges the logs that are whole, if there are `next` bytes. The answer is how many bytes there
+/// have to be the next time.
 fn judge_round<R: Threads + Sync>(
     rt: &R,
     next: usize,
     judge: &mut BatchJudge,
     bytes: &mut Vec<u8>,
 ) -> Result<usize, AllocError>
-    ensures { (input : List ℕ) → IsJudged input judge.old bytes.old.items → OnOk result (IsJudged input judge.new bytes.new.items) }
+    ensures { (input : List ℕ) → IsJudged input judge.old bytes.old.items
+        → OnOk result (IsJudged input judge.new bytes.new.items) }
 {
     if bytes.len() < next {
         return Ok(next);

@@ -24,7 +24,8 @@ pub struct Case<'a> {
     pub answer: &'a [u8],
 }
 
-/// How a source gives its bytes, and how a sink takes them: the most in one call, and the numbers of the calls that fail.
+/// How a source gives its bytes, and how a sink takes them: the most in one call, and the numbers
+/// of the calls that fail.
 #[derive(Drop)]
 pub struct Devices<'a> {
     pub longest_read: usize,
@@ -42,7 +43,8 @@ pub const BYTE_BY_BYTE: Devices<'static> = Devices {
 };
 
 impl Case<'_> {
-    /// Asserts that a call over these devices ends with the case's status and has written its answer.
+    /// Asserts that a call over these devices ends with the case's status and has written its
+    /// answer.
     pub fn assert_over<R: Threads + Wait + Abort + Sync>(
         &self,
         rt: &R,

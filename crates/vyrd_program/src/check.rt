@@ -13,17 +13,20 @@ use std::alloc::{AllocError, Global};
 use vyrd_base::{Source, Verdict};
 use vyrd_text::write_verdict;
 
-/// The answer to a log of at most `max_lines` lines: the line of its verdict, or nothing after a failed read or out of memory. It
-/// takes no more of the source once the verdict stands.
+/// The answer to a log of at most `max_lines` lines: the line of its verdict, or nothing after a
+/// failed read or out of memory. It takes no more of the source once the verdict stands.
 pub fn check<S: Source>(alloc: Global, max_lines: u64, source: &mut S) -> Answer
     requires low { 1 ≤ max_lines }
     requires high { max_lines ≤ most_lines }
     ensures statuses { (result.status ≤ 2) ⊎ (result.status ≡ 4) ⊎ (result.status ≡ 6) }
-    ensures verdict { result.status ≤ 2 → IsJudged max_lines (S.rest source.old) result.status result.text.items }
-    ensures consumed { result.status ≤ 2 → IsSettled max_lines (S.rest source.old) (S.rest source.new) }
+    ensures verdict { result.status ≤ 2
+        → IsJudged max_lines (S.rest source.old) result.status result.text.items }
+    ensures consumed { result.status ≤ 2
+        → IsSettled max_lines (S.rest source.old) (S.rest source.new) }
     ensures accepted_at_end { result.status ≡ 0 → IsAtEnd (S.rest source.new) }
     ensures no_further { IsReadNoFurther max_lines (S.rest source.old) (S.rest source.new) }
-    ensures unsettled { result.status ≡ 4 → IsUnsettled max_lines (S.rest source.old) (S.rest source.new) }
+    ensures unsettled { result.status ≡ 4
+        → IsUnsettled max_lines (S.rest source.old) (S.rest source.new) }
     ensures silent { 2 < result.status → result.text.items ≡ [] }
     ensures run { result.run ≡ None }
     ensures spent { result.spent ≡ None }

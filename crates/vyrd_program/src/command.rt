@@ -3,7 +3,8 @@
 ghost use Rattle.std.specs.Prelude.{◌≡◌, ◌≢◌, ◌≤◌, ◌⊎◌, ℕ, true, false, [], Some, None, IfSome};
 ghost use Rattle.vyrd_base.specs.Devices.{HasRisen};
 ghost use Rattle.vyrd_program.specs.declared.form.Form.TheVariants.{Check, Gen};
-ghost use Rattle.vyrd_program.specs.Commands.{IsStatus, IsAnswerStatus, IsAnswer, reads, IsEnough, IsNoFurther};
+ghost use Rattle.vyrd_program.specs.Commands.{IsStatus, IsAnswerStatus, IsAnswer, reads, IsEnough};
+ghost use Rattle.vyrd_program.specs.Commands.{IsNoFurther};
 ghost use Rattle.vyrd_program.specs.HandedOut.{HandsOutNothing, plays, plays_live};
 ghost use Rattle.vyrd_program.specs.Steps.{NamesOnlyRaces};
 
@@ -19,7 +20,8 @@ use std::sync::Wait;
 use std::thread::Threads;
 use vyrd_base::{Gate, Source};
 
-/// The answer to words of any other form than `check`; or nothing after a failed read or out of memory.
+/// The answer to words of any other form than `check`; or nothing after a failed read or out of
+/// memory.
 pub(crate) fn carry_out<R: Threads + Wait + Sync, S: Source, G: Gate>(
     rt: &R,
     alloc: Global,
@@ -32,14 +34,17 @@ pub(crate) fn carry_out<R: Threads + Wait + Sync, S: Source, G: Gate>(
     requires few { (n : ℕ) → form ≡ Gen n → n ≤ 200000 }
     ensures statuses { IsStatus (Some form) result.status }
     ensures unwritten { result.status ≢ 5 }
-    ensures answer { IsAnswerStatus (Some form) result.status →
-        IsAnswer (Some form) (S.rest source.old) result.status result.text.items result.run result.spent }
-    ensures consumed { IsAnswerStatus (Some form) result.status → IsEnough (Some form) (S.rest source.old) (S.rest source.new) }
+    ensures answer { IsAnswerStatus (Some form) result.status
+        → IsAnswer (Some form) (S.rest source.old) result.status result.text.items result.run
+        result.spent }
+    ensures consumed { IsAnswerStatus (Some form) result.status
+        → IsEnough (Some form) (S.rest source.old) (S.rest source.new) }
     ensures no_further { IsNoFurther (Some form) (S.rest source.old) (S.rest source.new) }
     ensures untouched { reads (Some form) ≡ false → source.new ≡ source.old }
     ensures races { IfSome result.run NamesOnlyRaces }
     ensures silent { (result.status ≡ 4) ⊎ (result.status ≡ 6) → result.text.items ≡ [] }
-    ensures unplayed { (result.status ≡ 4) ⊎ (result.status ≡ 6) → HandsOutNothing result.run result.spent }
+    ensures unplayed { (result.status ≡ 4) ⊎ (result.status ≡ 6)
+        → HandsOutNothing result.run result.spent }
     ensures no_workload { plays (Some form) ≡ false → HandsOutNothing result.run result.spent }
     ensures no_limit { plays_live (Some form) ≡ false → result.spent ≡ None }
     ensures cause { result.status ≡ 4 → HasRisen (S.faults source.old) (S.faults source.new) }

@@ -15,7 +15,8 @@ pub fn deliver<K: Sink>(sink: &mut K, text: &[u8]) -> Result<(), Failed>
     ensures failures_alone { OnOk result (K.faults sink.new ≡ K.faults sink.old) }
     ensures counted { K.faults sink.old ≤ K.faults sink.new }
     ensures never { length text.now ≤ K.sure_room sink.old → IsOk result }
-    ensures uncounted { length text.now ≤ K.sure_room sink.old → K.faults sink.new ≡ K.faults sink.old }
+    ensures uncounted { length text.now ≤ K.sure_room sink.old
+        → K.faults sink.new ≡ K.faults sink.old }
 {
     let mut written = 0;
     while written < text.len() {

@@ -3,7 +3,8 @@
 ghost use Rattle.std.specs.Prelude.{◌≡◌, ◌≤◌, ℕ, List, decimal, if◌then◌else◌, Some, None};
 ghost use Rattle.vyrd_base.specs.Lines.{number_of};
 ghost use Rattle.vyrd_program.specs.declared.form.Form.TheVariants.{Gen};
-ghost use Rattle.vyrd_program.specs.Forms.{form_said, one_word, shown_by, shown_form, two_words, is_count};
+ghost use Rattle.vyrd_program.specs.Forms.{form_said, one_word, shown_by, shown_form, two_words};
+ghost use Rattle.vyrd_program.specs.Forms.{is_count};
 
 use crate::show::Show;
 use vyrd_text::read_u32;
@@ -16,10 +17,11 @@ const MOST_OPS: u32 = 200_000;
 pub enum Form {
     /// `check`: the verdict about a log.
     Check,
-    /// `step`: a workload is played by turns and judged. `--log` asks for the log before the verdict, `--history` for the
-    /// history in place of both.
+    /// `step`: a workload is played by turns and judged. `--log` asks for the log before the
+    /// verdict, `--history` for the history in place of both.
     Step { show: Show },
-    /// `run`: a workload is played by callers on threads of their own and judged. `--log` and `--history` ask for the same.
+    /// `run`: a workload is played by callers on threads of their own and judged. `--log` and
+    /// `--history` ask for the same.
     Run { show: Show },
     /// `gen N`: a workload of N operations is generated, played by turns and judged.
     Gen { count: u32 },
@@ -104,7 +106,8 @@ fn count_of(word: &str) -> Option<u32>
 
 /// The number, if it is from 1 to 200,000.
 fn in_range(number: u32) -> Option<u32>
-    ensures { (word : List ℕ) → word ≡ decimal number → result ≡ (if is_count word then Some (number_of word) else None) }
+    ensures { (word : List ℕ) → word ≡ decimal number
+        → result ≡ (if is_count word then Some (number_of word) else None) }
 {
     if number == 0 {
         return None;

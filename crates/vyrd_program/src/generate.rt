@@ -17,7 +17,8 @@ pub fn answer_generated(alloc: Global, count: u32) -> Answer
     requires some { 1 ≤ count }
     requires few { count ≤ 200000 }
     ensures statuses { IsGenStatus result.status ⊎ (result.status ≡ 6) }
-    ensures answer { IsGenStatus result.status → IsGenAnswer count result.status result.text.items result.run }
+    ensures answer { IsGenStatus result.status
+        → IsGenAnswer count result.status result.text.items result.run }
     ensures races { IfSome result.run NamesOnlyRaces }
     ensures silent { result.status ≡ 6 → (result.text.items ≡ []) × (result.run ≡ None) }
     ensures spent { result.spent ≡ None }
@@ -32,7 +33,8 @@ pub fn answer_generated(alloc: Global, count: u32) -> Answer
 fn try_answer(alloc: Global, count: u32) -> Result<Answer, AllocError>
     requires some { 1 ≤ count }
     requires few { count ≤ 200000 }
-    ensures answer { IfOk result (λ answer. IsGenAnswer count answer.status answer.text.items answer.run) }
+    ensures answer { IfOk result
+        (λ answer. IsGenAnswer count answer.status answer.text.items answer.run) }
     ensures races { IfOk result (λ answer. IfSome answer.run NamesOnlyRaces) }
     ensures spent { IfOk result (λ answer. answer.spent ≡ None) }
 {

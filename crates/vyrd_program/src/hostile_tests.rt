@@ -1,4 +1,5 @@
-//! Inputs that are meant to do harm, devices that fail at each call, and logs at their limit of lines.
+//! Inputs that are meant to do harm, devices that fail at each call, and logs at their limit of
+//! lines.
 
 ghost use Rattle.std.specs.Prelude.{◌<◌};
 

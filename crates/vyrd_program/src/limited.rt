@@ -4,7 +4,8 @@ ghost use Rattle.std.specs.Prelude.{◌≡◌, ◌≤◌, ◌⊎◌, true};
 ghost use Rattle.vyrd_base.specs.Devices.{HasRisen, IsAtEnd};
 ghost use Rattle.vyrd_check.specs.Checking.{most_lines};
 ghost use Rattle.vyrd_program.specs.HandedOut.{HandsOutNothing};
-ghost use Rattle.vyrd_program.specs.Checks.{IsAnswered, IsAnsweredInPart, IsSettled, IsUnsettled, IsReadNoFurther, HasRoomForAnswer};
+ghost use Rattle.vyrd_program.specs.Checks.{IsAnswered, IsAnsweredInPart, IsSettled, IsUnsettled};
+ghost use Rattle.vyrd_program.specs.Checks.{IsReadNoFurther, HasRoomForAnswer};
 
 use crate::check::check;
 use crate::program::{Ended, give};
@@ -25,21 +26,28 @@ pub fn check_limited<S: Source, K: Sink>(
 ) -> Ended
     requires low { 1 ≤ max_lines }
     requires high { max_lines ≤ most_lines }
-    ensures statuses { (result.status ≤ 2) ⊎ (result.status ≡ 4) ⊎ (result.status ≡ 5) ⊎ (result.status ≡ 6) }
+    ensures statuses { (result.status ≤ 2) ⊎ (result.status ≡ 4) ⊎ (result.status ≡ 5)
+        ⊎ (result.status ≡ 6) }
 
-    // 0, 1 and 2: it has written the line of the verdict of all that the source held, and the status is that verdict's.
-    ensures verdict { result.status ≤ 2 → IsAnswered max_lines (S.rest source.old) result.status (K.taken sink.old) (K.taken sink.new) }
+    // 0, 1 and 2: it has written the line of the verdict of all that the source held, and the
+    // status is that verdict's.
+    ensures verdict { result.status ≤ 2
+        → IsAnswered max_lines (S.rest source.old) result.status (K.taken sink.old)
+        (K.taken sink.new) }
 
     // What it takes of the source. It accepts at the source's end alone, and a read that fails
     // after a verdict is never made.
-    ensures consumed { result.status ≤ 2 → IsSettled max_lines (S.rest source.old) (S.rest source.new) }
+    ensures consumed { result.status ≤ 2
+        → IsSettled max_lines (S.rest source.old) (S.rest source.new) }
     ensures accepted_at_end { result.status ≡ 0 → IsAtEnd (S.rest source.new) }
     ensures no_further { IsReadNoFurther max_lines (S.rest source.old) (S.rest source.new) }
-    ensures unsettled { result.status ≡ 4 → IsUnsettled max_lines (S.rest source.old) (S.rest source.new) }
+    ensures unsettled { result.status ≡ 4
+        → IsUnsettled max_lines (S.rest source.old) (S.rest source.new) }
 
     // 4, exactly when a read failed: nothing was written.
     ensures read_fault { result.status ≡ 4 → HasRisen (S.faults source.old) (S.faults source.new) }
-    ensures read_failures_alone { (S.faults source.new ≡ S.faults source.old) ⊎ (result.status ≡ 4) }
+    ensures read_failures_alone { (S.faults source.new ≡ S.faults source.old)
+        ⊎ (result.status ≡ 4) }
     ensures read_fault_stops { result.status ≡ 4 → S.rest source.new ≡ S.left_off source.new }
     ensures read_fault_silent { result.status ≡ 4 → K.taken sink.new ≡ K.taken sink.old }
 
@@ -47,7 +55,8 @@ pub fn check_limited<S: Source, K: Sink>(
     ensures write_fault { result.status ≡ 5 → HasRisen (K.faults sink.old) (K.faults sink.new) }
     ensures write_failures_alone { (K.faults sink.new ≡ K.faults sink.old) ⊎ (result.status ≡ 5) }
     ensures write_fault_stops { result.status ≡ 5 → K.taken sink.new ≡ K.left_off sink.new }
-    ensures answered_in_part { result.status ≡ 5 → IsAnsweredInPart max_lines (S.rest source.old) (K.taken sink.old) (K.taken sink.new) }
+    ensures answered_in_part { result.status ≡ 5
+        → IsAnsweredInPart max_lines (S.rest source.old) (K.taken sink.old) (K.taken sink.new) }
 
     // 6: there was no memory, and nothing was written.
     ensures memory { result.status ≡ 6 → K.taken sink.new ≡ K.taken sink.old }
@@ -58,7 +67,8 @@ pub fn check_limited<S: Source, K: Sink>(
     ensures source_counted { S.faults source.old ≤ S.faults source.new }
     ensures sink_counted { K.faults sink.old ≤ K.faults sink.new }
     ensures source_sure { S.is_sure source.old ≡ true → S.faults source.new ≡ S.faults source.old }
-    ensures sink_sure { HasRoomForAnswer max_lines (S.rest source.old) (K.sure_room sink.old) → K.faults sink.new ≡ K.faults sink.old }
+    ensures sink_sure { HasRoomForAnswer max_lines (S.rest source.old) (K.sure_room sink.old)
+        → K.faults sink.new ≡ K.faults sink.old }
 {
     let answer = check(alloc, max_lines, source);
     give(sink, answer)

@@ -1,8 +1,9 @@
-//! `vyrd`: reads the log of a run of a concurrent data structure, and says whether the run refines its sequential
-//! specification.
+//! `vyrd`: reads the log of a run of a concurrent data structure, and says whether the run refines
+//! its sequential specification.
 //!
-//! The top call is `vyrd` in `program`. It is generic over what it reads from and writes to, and its contract says what it
-//! answers: the verdict of all bytes that the source held, or why there is none. `main` makes the real source and sink.
+//! The top call is `vyrd` in `program`. It is generic over what it reads from and writes to, and
+//! its contract says what it answers: the verdict of all bytes that the source held, or why there
+//! is none. `main` makes the real source and sink.
 #![tactic(auto)]
 
 mod answer;
@@ -62,7 +63,8 @@ fn main(rt: HostRuntime) -> ExitCode {
 
 /// The words as text.
 fn as_text(alloc: Global, owned: &[String]) -> Result<Vec<&str>, AllocError>
-    ensures { IfOk result (λ words. map (λ word. word.now) words.items ≡ map (λ text. string_bytes text) owned.now) }
+    ensures { IfOk result
+        (λ words. map (λ word. word.now) words.items ≡ map (λ text. string_bytes text) owned.now) }
 {
     let mut words = Vec::new(alloc);
     for word in owned {

@@ -8,7 +8,8 @@ ghost use Rattle.vyrd_mover.specs.HistoryReading.{history_reading};
 ghost use Rattle.vyrd_mover.specs.LongHistories.{longest_history};
 ghost use Rattle.vyrd_mover.specs.Refusals.{history_refusal_text};
 ghost use Rattle.vyrd_program.specs.Inputs.{IsInputTaken, IsFewTaken};
-ghost use Rattle.vyrd_program.specs.Moved.{AnswersMovers, IsMoversAnswer, IsMoversStatus, status_of_blocks};
+ghost use Rattle.vyrd_program.specs.Moved.{AnswersMovers, IsMoversAnswer, IsMoversStatus};
+ghost use Rattle.vyrd_program.specs.Moved.{status_of_blocks};
 
 use crate::answer::{Answer, HISTORY_REFUSED, MEMORY, READ_FAULT};
 use crate::read_input::read_input;
@@ -20,15 +21,18 @@ use vyrd_mover::{
     write_history_refusal,
 };
 
-/// How many bytes of a history are read at most: 256 MiB, and one byte that shows that there are more.
+/// How many bytes of a history are read at most: 256 MiB, and one byte that shows that there are
+/// more.
 const LONGEST_HISTORY: usize = 268_435_457;
 
 /// The answer to a history: whether its blocks are reducible, or the first that isn't; or that it
 /// is refused; or nothing after a failed read or if there is no memory.
 pub fn movers<S: Source>(alloc: Global, source: &mut S) -> Answer
     ensures statuses { IsMoversStatus result.status ⊎ (result.status ≡ 4) ⊎ (result.status ≡ 6) }
-    ensures answers { IsMoversStatus result.status → AnswersMovers (S.rest source.old) result.status result.text.items }
-    ensures consumed { IsMoversStatus result.status → IsInputTaken longest_history (S.rest source.old) (S.rest source.new) }
+    ensures answers { IsMoversStatus result.status
+        → AnswersMovers (S.rest source.old) result.status result.text.items }
+    ensures consumed { IsMoversStatus result.status
+        → IsInputTaken longest_history (S.rest source.old) (S.rest source.new) }
     ensures few { IsFewTaken longest_history (S.rest source.old) (S.rest source.new) }
     ensures silent { result.status ≡ 4 ⊎ result.status ≡ 6 → result.text.items ≡ [] }
     ensures run { result.run ≡ None }
@@ -51,7 +55,8 @@ pub fn movers<S: Source>(alloc: Global, source: &mut S) -> Answer
 
 /// The answer to the bytes of a history.
 fn answer_to(alloc: Global, bytes: &[u8]) -> Result<Answer, AllocError>
-    ensures answer { IfOk result (λ answer. IsMoversAnswer (history_reading bytes.now) answer.status answer.text.items) }
+    ensures answer { IfOk result
+        (λ answer. IsMoversAnswer (history_reading bytes.now) answer.status answer.text.items) }
     ensures run { IfOk result (λ answer. answer.run ≡ None) }
     ensures spent { IfOk result (λ answer. answer.spent ≡ None) }
 {
@@ -65,7 +70,8 @@ fn answer_to(alloc: Global, bytes: &[u8]) -> Result<Answer, AllocError>
 /// What is said of the blocks of a history.
 fn tell(alloc: Global, past: &Past) -> Result<Answer, AllocError>
     requires { is_legal (cells_of past.now.header) past.now.history.items ≡ true }
-    ensures answer { IfOk result (λ answer. IsMoversAnswer (Ok (recorded_of past.now)) answer.status answer.text.items) }
+    ensures answer { IfOk result
+        (λ answer. IsMoversAnswer (Ok (recorded_of past.now)) answer.status answer.text.items) }
     ensures run { IfOk result (λ answer. answer.run ≡ None) }
     ensures spent { IfOk result (λ answer. answer.spent ≡ None) }
 {

@@ -134,7 +134,8 @@ fn twenty_live_runs(rt: HostRuntime) -> Result<(), Fail> {
     Ok(())
 }
 
-/// A workload of three callers who share a few keys, on a multiset, a cache, a tree or string buffers.
+/// A workload of three callers who share a few keys, on a multiset, a cache, a tree or string
+/// buffers.
 fn mixed_work(alloc: Global, size: u32) -> Result<Vec<u8>, AllocError> {
     let (subject, methods): (&[u8], [&[u8]; 4]) = match size % 4 {
         0 => (

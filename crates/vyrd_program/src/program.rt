@@ -1,13 +1,16 @@
 //! The top call.
 
-ghost use Rattle.std.specs.Prelude.{◌≡◌, ◌≢◌, ◌≤◌, ◌⊎◌, true, false, ℕ, [], Some, None, IfSome, length};
+ghost use Rattle.std.specs.Prelude.{◌≡◌, ◌≢◌, ◌≤◌, ◌⊎◌, true, false, ℕ, [], Some, None, IfSome};
+ghost use Rattle.std.specs.Prelude.{length};
 ghost use Rattle.vyrd_base.specs.Devices.{HasRisen, IsAtEnd};
 ghost use Rattle.vyrd_check.specs.Checking.{most_lines};
 ghost use Rattle.vyrd_program.specs.declared.show.Show.{Show};
 ghost use Rattle.vyrd_program.specs.declared.form.Form.TheVariants.{Check, Step, Run, Gen};
 ghost use Rattle.vyrd_program.specs.Forms.{form_said};
 ghost use Rattle.vyrd_program.specs.Outputs.{Appends, AppendsFront, usage_line};
-ghost use Rattle.vyrd_program.specs.Commands.{IsStatus, IsAnswerStatus, HasAnswered, HasAnsweredInPart, HasRoom, reads, IsEnough, IsNoFurther};
+ghost use Rattle.vyrd_program.specs.Commands.{IsStatus, IsAnswerStatus, HasAnswered};
+ghost use Rattle.vyrd_program.specs.Commands.{HasAnsweredInPart, HasRoom, reads, IsEnough};
+ghost use Rattle.vyrd_program.specs.Commands.{IsNoFurther};
 ghost use Rattle.vyrd_program.specs.HandedOut.{HandsOut};
 ghost use Rattle.vyrd_program.specs.Checks.{IsUnsettled};
 ghost use Rattle.vyrd_program.specs.Steps.{IsStepStatus, NamesOnlyRaces};
@@ -71,28 +74,37 @@ pub fn vyrd<R: Threads + Wait + Sync, S: Source, K: Sink, G: Gate>(
     sink: &mut K,
     gate: &G,
 ) -> Ended
-    // Which statuses come under which form, and what is written in those of an answer: the text of the answer to all that the source
-    // held, which has the status and what is handed out.
+    // Which statuses come under which form, and what is written in those of an answer: the text of
+    // the answer to all that the source held, which has the status and what is handed out.
     ensures statuses { IsStatus (form_said words.now) result.status }
-    ensures answered { IsAnswerStatus (form_said words.now) result.status →
-        HasAnswered (form_said words.now) (S.rest source.old) result.status result.run result.spent (K.taken sink.old) (K.taken sink.new) }
+    ensures answered { IsAnswerStatus (form_said words.now) result.status
+        → HasAnswered (form_said words.now) (S.rest source.old) result.status result.run
+        result.spent (K.taken sink.old) (K.taken sink.new) }
 
     // What is taken of the source: as much as an answer needs, and no more. A log is accepted at
     // the source's end alone, and a read that fails after its verdict is never made.
-    ensures consumed { IsAnswerStatus (form_said words.now) result.status → IsEnough (form_said words.now) (S.rest source.old) (S.rest source.new) }
+    ensures consumed { IsAnswerStatus (form_said words.now) result.status
+        → IsEnough (form_said words.now) (S.rest source.old) (S.rest source.new) }
     ensures no_further { IsNoFurther (form_said words.now) (S.rest source.old) (S.rest source.new) }
     ensures untouched { reads (form_said words.now) ≡ false → source.new ≡ source.old }
-    ensures accepted_at_end { form_said words.now ≡ Some Check → result.status ≡ 0 → IsAtEnd (S.rest source.new) }
-    ensures unsettled { form_said words.now ≡ Some Check → result.status ≡ 4 → IsUnsettled most_lines (S.rest source.old) (S.rest source.new) }
+    ensures accepted_at_end { form_said words.now ≡ Some Check → result.status ≡ 0
+        → IsAtEnd (S.rest source.new) }
+    ensures unsettled { form_said words.now ≡ Some Check → result.status ≡ 4
+        → IsUnsettled most_lines (S.rest source.old) (S.rest source.new) }
 
-    // A correct structure is accepted, in whatever order its callers' events come. Only a tree may have more events than there is
-    // room for.
-    ensures every_step { (show : Show) → form_said words.now ≡ Some (Step show) → SaysCorrect (S.rest source.old) →
-        IsStepStatus result.status → result.status ≡ 0 }
-    ensures every_run { (show : Show) → form_said words.now ≡ Some (Run show) → SaysCorrect (S.rest source.old) →
-        IsRunStatus result.status → (result.status ≡ 0) ⊎ (result.status ≡ 9) }
-    ensures run_has_room { (show : Show) → form_said words.now ≡ Some (Run show) → SaysFewEvents (S.rest source.old) → result.status ≢ 9 }
-    ensures every_gen { (n : ℕ) → form_said words.now ≡ Some (Gen n) → IsGenStatus result.status → result.status ≡ 0 }
+    // A correct structure is accepted, in whatever order its callers' events come. Only a tree may
+    // have more events than there is room for.
+    ensures every_step { (show : Show) → form_said words.now ≡ Some (Step show)
+        → SaysCorrect (S.rest source.old) → IsStepStatus result.status
+        → result.status ≡ 0 }
+    ensures every_run { (show : Show) → form_said words.now ≡ Some (Run show)
+        → SaysCorrect (S.rest source.old) → IsRunStatus result.status
+        → (result.status ≡ 0) ⊎ (result.status ≡ 9) }
+    ensures run_has_room { (show : Show) → form_said words.now ≡ Some (Run show)
+        → SaysFewEvents (S.rest source.old)
+        → result.status ≢ 9 }
+    ensures every_gen { (n : ℕ) → form_said words.now ≡ Some (Gen n) → IsGenStatus result.status
+        → result.status ≡ 0 }
 
     // Whatever was played: if the verdict names a rule, it is that of raced blocks.
     ensures only_races { IfSome result.run NamesOnlyRaces }
@@ -102,7 +114,8 @@ pub fn vyrd<R: Threads + Wait + Sync, S: Source, K: Sink, G: Gate>(
 
     // 4, exactly when a read failed: nothing was written.
     ensures read_fault { result.status ≡ 4 → HasRisen (S.faults source.old) (S.faults source.new) }
-    ensures read_failures_alone { (S.faults source.new ≡ S.faults source.old) ⊎ (result.status ≡ 4) }
+    ensures read_failures_alone { (S.faults source.new ≡ S.faults source.old)
+        ⊎ (result.status ≡ 4) }
     ensures read_fault_stops { result.status ≡ 4 → S.rest source.new ≡ S.left_off source.new }
     ensures read_fault_silent { result.status ≡ 4 → K.taken sink.new ≡ K.taken sink.old }
 
@@ -110,24 +123,28 @@ pub fn vyrd<R: Threads + Wait + Sync, S: Source, K: Sink, G: Gate>(
     ensures write_fault { result.status ≡ 5 → HasRisen (K.faults sink.old) (K.faults sink.new) }
     ensures write_failures_alone { (K.faults sink.new ≡ K.faults sink.old) ⊎ (result.status ≡ 5) }
     ensures write_fault_stops { result.status ≡ 5 → K.taken sink.new ≡ K.left_off sink.new }
-    ensures answered_in_part { result.status ≡ 5 →
-        HasAnsweredInPart (form_said words.now) (S.rest source.old) result.run result.spent (K.taken sink.old) (K.taken sink.new) }
+    ensures answered_in_part { result.status ≡ 5
+        → HasAnsweredInPart (form_said words.now) (S.rest source.old) result.run result.spent
+        (K.taken sink.old) (K.taken sink.new) }
 
     // 6: there was no memory, and nothing was written.
     ensures memory { result.status ≡ 6 → K.taken sink.new ≡ K.taken sink.old }
 
-    // There is no run without a workload that was played, and none that the limit of events ended but a live one.
+    // There is no run without a workload that was played, and none that the limit of events ended
+    // but a live one.
     ensures handed_out { HandsOut (form_said words.now) result.status result.run result.spent }
 
     // If no count of faults has risen, neither a read nor a write has failed.
-    ensures complete { ¬ (HasRisen (S.faults source.old) (S.faults source.new)) → ¬ (HasRisen (K.faults sink.old) (K.faults sink.new)) →
-        (result.status ≢ 4) × (result.status ≢ 5) }
+    ensures complete { ¬ (HasRisen (S.faults source.old) (S.faults source.new))
+        → ¬ (HasRisen (K.faults sink.old) (K.faults sink.new))
+        → (result.status ≢ 4) × (result.status ≢ 5) }
 
     // No count falls, and over sure devices none rises.
     ensures source_counted { S.faults source.old ≤ S.faults source.new }
     ensures sink_counted { K.faults sink.old ≤ K.faults sink.new }
     ensures source_sure { S.is_sure source.old ≡ true → S.faults source.new ≡ S.faults source.old }
-    ensures sink_sure { HasRoom (form_said words.now) (S.rest source.old) (K.sure_room sink.old) → K.faults sink.new ≡ K.faults sink.old }
+    ensures sink_sure { HasRoom (form_said words.now) (S.rest source.old) (K.sure_room sink.old)
+        → K.faults sink.new ≡ K.faults sink.old }
 {
     match form_of(words) {
         Some(Form::Check) => check_limited(alloc, MAX_LINES, source, sink),
@@ -141,17 +158,23 @@ pub fn vyrd<R: Threads + Wait + Sync, S: Source, K: Sink, G: Gate>(
 
 /// Writes an answer. A failed write takes the place of its status.
 pub(crate) fn give<K: Sink>(sink: &mut K, answer: Answer) -> Ended
-    ensures given { result.status ≢ 5 → (result.status ≡ answer.status) × Appends (K.taken sink.old) (K.taken sink.new) answer.text.items }
-    ensures in_part { result.status ≡ 5 → answer.status ≢ 5 → AppendsFront (K.taken sink.old) (K.taken sink.new) answer.text.items }
+    ensures given { result.status ≢ 5
+        → (result.status ≡ answer.status)
+        × Appends (K.taken sink.old) (K.taken sink.new) answer.text.items }
+    ensures in_part { result.status ≡ 5 → answer.status ≢ 5
+        → AppendsFront (K.taken sink.old) (K.taken sink.new) answer.text.items }
     ensures run { result.run ≡ answer.run }
     ensures spent { result.spent ≡ answer.spent }
     ensures silent { answer.text.items ≡ [] → result.status ≡ answer.status }
     ensures statuses { (result.status ≡ 5) ⊎ (result.status ≡ answer.status) }
-    ensures cause { result.status ≡ 5 → answer.status ≢ 5 → HasRisen (K.faults sink.old) (K.faults sink.new) }
-    ensures stopped { result.status ≡ 5 → answer.status ≢ 5 → K.taken sink.new ≡ K.left_off sink.new }
+    ensures cause { result.status ≡ 5 → answer.status ≢ 5
+        → HasRisen (K.faults sink.old) (K.faults sink.new) }
+    ensures stopped { result.status ≡ 5 → answer.status ≢ 5
+        → K.taken sink.new ≡ K.left_off sink.new }
     ensures failures_alone { (K.faults sink.new ≡ K.faults sink.old) ⊎ (result.status ≡ 5) }
     ensures counted { K.faults sink.old ≤ K.faults sink.new }
-    ensures sure { length answer.text.items ≤ K.sure_room sink.old → K.faults sink.new ≡ K.faults sink.old }
+    ensures sure { length answer.text.items ≤ K.sure_room sink.old
+        → K.faults sink.new ≡ K.faults sink.old }
 {
     let status = match deliver(sink, &answer.text) {
         Ok(()) => answer.status,
@@ -170,12 +193,14 @@ fn give_usage<K: Sink>(sink: &mut K) -> Ended
     ensures run { result.run ≡ None }
     ensures spent { result.spent ≡ None }
     ensures given { result.status ≡ 3 → Appends (K.taken sink.old) (K.taken sink.new) usage_line }
-    ensures in_part { result.status ≡ 5 → AppendsFront (K.taken sink.old) (K.taken sink.new) usage_line }
+    ensures in_part { result.status ≡ 5
+        → AppendsFront (K.taken sink.old) (K.taken sink.new) usage_line }
     ensures cause { result.status ≡ 5 → HasRisen (K.faults sink.old) (K.faults sink.new) }
     ensures stopped { result.status ≡ 5 → K.taken sink.new ≡ K.left_off sink.new }
     ensures failures_alone { (K.faults sink.new ≡ K.faults sink.old) ⊎ (result.status ≡ 5) }
     ensures counted { K.faults sink.old ≤ K.faults sink.new }
-    ensures sure { length usage_line ≤ K.sure_room sink.old → K.faults sink.new ≡ K.faults sink.old }
+    ensures sure { length usage_line ≤ K.sure_room sink.old
+        → K.faults sink.new ≡ K.faults sink.old }
 {
     let status = match deliver(sink, USAGE_LINE) {
         Ok(()) => USAGE,

@@ -1,29 +1,35 @@
 //! Reading an input, whole or read by read.
 
-ghost use Rattle.std.specs.Prelude.{◌≡◌, ◌+◌, ◌≤◌, ◌<◌, true, take, drop, vec_len, IfOk, OnOk, OnErr, Ok, Err};
+ghost use Rattle.std.specs.Prelude.{◌≡◌, ◌+◌, ◌≤◌, ◌<◌, true, take, drop, vec_len, IfOk, OnOk};
+ghost use Rattle.std.specs.Prelude.{OnErr, Ok, Err};
 ghost use Rattle.vyrd_base.specs.Devices.{HasRisen, Gives, IsAtEnd};
-ghost use Rattle.vyrd_program.specs.Inputs.{IsInputRead, IsMoreRead, IsFewTaken, longest_read, UnlessFailed};
+ghost use Rattle.vyrd_program.specs.Inputs.{IsInputRead, IsMoreRead, IsFewTaken, longest_read};
+ghost use Rattle.vyrd_program.specs.Inputs.{UnlessFailed};
 ghost use Rattle.vyrd_program.specs.declared.read_log.ReadFault.TheVariants.{Failed};
 
 use crate::read_log::{LONGEST_READ, ReadFault};
 use std::alloc::{AllocError, Global};
 use vyrd_base::Source;
 
-/// How many bytes of a workload are read at most: 32 MiB, and one byte that shows that there are more.
+/// How many bytes of a workload are read at most: 32 MiB, and one byte that shows that there are
+/// more.
 pub(crate) const LONGEST_WORK: usize = 33_554_433;
 
-/// How many bytes of a batch are read at most: 64 MiB, the last line of 4 bytes, and one byte that shows that there are more.
+/// How many bytes of a batch are read at most: 64 MiB, the last line of 4 bytes, and one byte that
+/// shows that there are more.
 pub(crate) const LONGEST_BATCH: usize = 67_108_869;
 
 /// Reads to the source's end, or at most `most` bytes.
 ///
-/// Each read takes at most 65,536 bytes, straight into the vector. The time and the memory grow with the bytes.
+/// Each read takes at most 65,536 bytes, straight into the vector. The time and the memory grow
+/// with the bytes.
 pub fn read_input<S: Source>(
     alloc: Global,
     most: usize,
     source: &mut S,
 ) -> Result<Vec<u8>, ReadFault>
-    ensures read { IfOk result (λ bytes. IsInputRead most (S.rest source.old) (S.rest source.new) bytes.items) }
+    ensures read { IfOk result
+        (λ bytes. IsInputRead most (S.rest source.old) (S.rest source.new) bytes.items) }
     ensures few { IsFewTaken most (S.rest source.old) (S.rest source.new) }
     ensures failed { result ≡ Err Failed → HasRisen (S.faults source.old) (S.faults source.new) }
     ensures stopped { result ≡ Err Failed → S.rest source.new ≡ S.left_off source.new }
@@ -45,7 +51,8 @@ pub fn read_input<S: Source>(
     Ok(bytes)
 }
 
-/// Reads once, at most `most` bytes, and appends what came. The answer says how much that is; it is 0 at the source's end.
+/// Reads once, at most `most` bytes, and appends what came. The answer says how much that is; it is
+/// 0 at the source's end.
 ///
 /// The read takes at most 65,536 bytes. After an error nothing is known of `bytes`.
 pub fn read_more<S: Source>(
@@ -54,7 +61,8 @@ pub fn read_more<S: Source>(
     source: &mut S,
 ) -> Result<usize, ReadFault>
     requires { 0 < most }
-    ensures more { IfOk result (IsMoreRead most (S.rest source.old) (S.rest source.new) bytes.old.items bytes.new.items) }
+    ensures more { IfOk result
+        (IsMoreRead most (S.rest source.old) (S.rest source.new) bytes.old.items bytes.new.items) }
     ensures at_end { result ≡ Ok 0 → IsAtEnd (S.rest source.new) }
     ensures kept { OnErr result (S.rest source.new ≡ S.rest source.old) }
     ensures failed { result ≡ Err Failed → HasRisen (S.faults source.old) (S.faults source.new) }
@@ -97,7 +105,8 @@ fn read_behind<S: Source>(
 ) -> Result<usize, ReadFault>
     requires room { count < vec_len bytes.old }
     requires short { vec_len bytes.old ≤ count + longest_read }
-    ensures given { IfOk result (λ n. Gives (S.rest source.old) n (drop count bytes.new.items) (S.rest source.new)) }
+    ensures given { IfOk result
+        (λ n. Gives (S.rest source.old) n (drop count bytes.new.items) (S.rest source.new)) }
     ensures at_end { result ≡ Ok 0 → IsAtEnd (S.rest source.new) }
     ensures kept { OnErr result (S.rest source.new ≡ S.rest source.old) }
     ensures front { take count bytes.new.items ≡ take count bytes.old.items }

@@ -1,6 +1,7 @@
 //! Reading a log from a source.
 
-ghost use Rattle.std.specs.Prelude.{◌≡◌, ◌≤◌, ◌<◌, ◌+◌, ℕ, true, List, [], length, vec_len, Option, IfOk, IfSome, IfNone, Err};
+ghost use Rattle.std.specs.Prelude.{◌≡◌, ◌≤◌, ◌<◌, ◌+◌, ℕ, true, List, [], length, vec_len, Option};
+ghost use Rattle.std.specs.Prelude.{IfOk, IfSome, IfNone, Err};
 ghost use Rattle.vyrd_base.specs.Devices.{HasRisen};
 ghost use Rattle.vyrd_check.specs.Checking.{HasChecked, most_lines};
 ghost use Rattle.vyrd_program.specs.Inputs.{longest_read, UnlessFailed};
@@ -34,7 +35,8 @@ impl From<AllocError> for ReadFault {
 
 /// Reads a log of at most `max_lines` lines: until its verdict stands, or to the source's end.
 ///
-/// Each read takes at most 65,536 bytes. The bytes of a read are forgotten at the next, so the memory is that of a [`Checker`].
+/// Each read takes at most 65,536 bytes. The bytes of a read are forgotten at the next, so the
+/// memory is that of a [`Checker`].
 pub fn read_verdict<S: Source>(
     alloc: Global,
     max_lines: u64,
@@ -44,7 +46,8 @@ pub fn read_verdict<S: Source>(
     requires high { max_lines ≤ most_lines }
     ensures reached { IfOk result (IsReached max_lines (S.rest source.old) (S.rest source.new)) }
     ensures no_further { IsReadNoFurther max_lines (S.rest source.old) (S.rest source.new) }
-    ensures unsettled { result ≡ Err Failed → IsUnsettled max_lines (S.rest source.old) (S.rest source.new) }
+    ensures unsettled { result ≡ Err Failed
+        → IsUnsettled max_lines (S.rest source.old) (S.rest source.new) }
     ensures failed { result ≡ Err Failed → HasRisen (S.faults source.old) (S.faults source.new) }
     ensures stopped { result ≡ Err Failed → S.rest source.new ≡ S.left_off source.new }
     ensures failures_alone { UnlessFailed result (S.faults source.new ≡ S.faults source.old) }
@@ -66,9 +69,12 @@ fn read_on<S: Source>(
     requires low { 1 ≤ checker.old.kept.reader.max_lines }
     requires high { checker.old.kept.reader.max_lines ≤ most_lines }
     requires fresh { HasChecked checker.old [] }
-    ensures reached { IfOk result (IsReached checker.old.kept.reader.max_lines (S.rest source.old) (S.rest source.new)) }
-    ensures no_further { IsReadNoFurther checker.old.kept.reader.max_lines (S.rest source.old) (S.rest source.new) }
-    ensures unsettled { result ≡ Err Failed → IsUnsettled checker.old.kept.reader.max_lines (S.rest source.old) (S.rest source.new) }
+    ensures reached { IfOk result
+        (IsReached checker.old.kept.reader.max_lines (S.rest source.old) (S.rest source.new)) }
+    ensures no_further { IsReadNoFurther checker.old.kept.reader.max_lines (S.rest source.old)
+        (S.rest source.new) }
+    ensures unsettled { result ≡ Err Failed
+        → IsUnsettled checker.old.kept.reader.max_lines (S.rest source.old) (S.rest source.new) }
     ensures failed { result ≡ Err Failed → HasRisen (S.faults source.old) (S.faults source.new) }
     ensures stopped { result ≡ Err Failed → S.rest source.new ≡ S.left_off source.new }
     ensures failures_alone { UnlessFailed result (S.faults source.new ≡ S.faults source.old) }
@@ -99,12 +105,16 @@ fn read_piece<S: Source>(
 ) -> Result<Option<Verdict>, ReadFault>
     requires room { 0 < length buffer.old }
     requires short { length buffer.old ≤ longest_read }
-    ensures goes_on { (max : ℕ) (before : Option (List ℕ)) (rounds : ℕ) → 1 ≤ max → IsChecking max before (S.rest source.old) checker.old rounds →
-        IfOk result (λ verdict. IfNone verdict (IsChecking max before (S.rest source.new) checker.new (rounds + 1))) }
-    ensures reached { (max : ℕ) (before : Option (List ℕ)) (rounds : ℕ) → 1 ≤ max → IsChecking max before (S.rest source.old) checker.old rounds →
-        IfOk result (λ verdict. IfSome verdict (IsReached max before (S.rest source.new))) }
-    ensures no_further { (max : ℕ) (before : Option (List ℕ)) (rounds : ℕ) → 1 ≤ max → IsChecking max before (S.rest source.old) checker.old rounds →
-        IsReadNoFurther max before (S.rest source.new) }
+    ensures goes_on { (max : ℕ) (before : Option (List ℕ)) (rounds : ℕ) → 1 ≤ max
+        → IsChecking max before (S.rest source.old) checker.old rounds
+        → IfOk result (λ verdict. IfNone verdict
+        (IsChecking max before (S.rest source.new) checker.new (rounds + 1))) }
+    ensures reached { (max : ℕ) (before : Option (List ℕ)) (rounds : ℕ) → 1 ≤ max
+        → IsChecking max before (S.rest source.old) checker.old rounds
+        → IfOk result (λ verdict. IfSome verdict (IsReached max before (S.rest source.new))) }
+    ensures no_further { (max : ℕ) (before : Option (List ℕ)) (rounds : ℕ) → 1 ≤ max
+        → IsChecking max before (S.rest source.old) checker.old rounds
+        → IsReadNoFurther max before (S.rest source.new) }
     ensures kept { result ≡ Err Failed → S.rest source.new ≡ S.rest source.old }
     ensures failed { result ≡ Err Failed → HasRisen (S.faults source.old) (S.faults source.new) }
     ensures stopped { result ≡ Err Failed → S.rest source.new ≡ S.left_off source.new }

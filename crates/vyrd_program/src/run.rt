@@ -36,11 +36,15 @@ pub fn run<R: Threads + Wait + Sync, S: Source, G: Gate>(
     gate: &G,
 ) -> Answer
     ensures statuses { IsRunStatus result.status ⊎ (result.status ≡ 4) ⊎ (result.status ≡ 6) }
-    ensures answers { IsRunStatus result.status → AnswersRun show (S.rest source.old) result.status result.text.items result.run result.spent }
+    ensures answers { IsRunStatus result.status
+        → AnswersRun show (S.rest source.old) result.status result.text.items result.run
+        result.spent }
     ensures races { IfSome result.run NamesOnlyRaces }
-    ensures consumed { IsRunStatus result.status → IsInputTaken longest_input (S.rest source.old) (S.rest source.new) }
+    ensures consumed { IsRunStatus result.status
+        → IsInputTaken longest_input (S.rest source.old) (S.rest source.new) }
     ensures few { IsFewTaken longest_input (S.rest source.old) (S.rest source.new) }
-    ensures silent { result.status ≡ 4 ⊎ result.status ≡ 6 → (result.text.items ≡ []) × (result.run ≡ None) × (result.spent ≡ None) }
+    ensures silent { result.status ≡ 4 ⊎ result.status ≡ 6
+        → (result.text.items ≡ []) × (result.run ≡ None) × (result.spent ≡ None) }
     ensures cause { result.status ≡ 4 → HasRisen (S.faults source.old) (S.faults source.new) }
     ensures stopped { result.status ≡ 4 → S.rest source.new ≡ S.left_off source.new }
     ensures failures_alone { (S.faults source.new ≡ S.faults source.old) ⊎ (result.status ≡ 4) }
@@ -65,7 +69,8 @@ fn answer_to<R: Threads + Wait + Sync, G: Gate>(
     bytes: &[u8],
     gate: &G,
 ) -> Result<Answer, AllocError>
-    ensures answer { IfOk result (λ answer. IsRunAnswer show (work_reading bytes.now) answer.status answer.text.items answer.run answer.spent) }
+    ensures answer { IfOk result (λ answer. IsRunAnswer show (work_reading bytes.now) answer.status
+        answer.text.items answer.run answer.spent) }
     ensures races { IfOk result (λ answer. IfSome answer.run NamesOnlyRaces) }
 {
     match read_work(alloc, bytes) {
@@ -84,7 +89,8 @@ fn play<R: Threads + Wait + Sync, G: Gate>(
     gate: &G,
 ) -> Result<Answer, AllocError>
     requires { KeepsLimits (workload_of work.now) }
-    ensures answer { IfOk result (λ answer. IsPlayedAnswer show (workload_of work.now) answer.status answer.text.items answer.run answer.spent) }
+    ensures answer { IfOk result (λ answer. IsPlayedAnswer show (workload_of work.now) answer.status
+        answer.text.items answer.run answer.spent) }
     ensures races { IfOk result (λ answer. IfSome answer.run NamesOnlyRaces) }
 {
     match run_live(rt, alloc, work, MOST_EVENTS, gate) {

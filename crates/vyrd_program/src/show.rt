@@ -1,6 +1,7 @@
 //! What is written about a run.
 
-/// What the answer to a workload shows of a run that came to its end. Its status is that of the verdict in each case.
+/// What the answer to a workload shows of a run that came to its end. Its status is that of the
+/// verdict in each case.
 #[derive(Clone, Copy, Debug, PartialEq, Eq)]
 pub enum Show {
     /// The verdict's line.

@@ -12,7 +12,8 @@ use vyrd_spec::{Spec, TreeSpec};
 /// The most bytes that a sink takes here. No answer is as long.
 const ROOM: usize = 128;
 
-/// The workload that inserts the keys 1 to 40 into a tree of 18 nodes, each with itself as its value.
+/// The workload that inserts the keys 1 to 40 into a tree of 18 nodes, each with itself as its
+/// value.
 fn forty_inserts(alloc: Global) -> Result<String, AllocError> {
     let mut work = String::new(alloc);
     work.push_str("work tree 18 1 correct\n")?;
@@ -23,7 +24,8 @@ fn forty_inserts(alloc: Global) -> Result<String, AllocError> {
     Ok(work)
 }
 
-/// A log that begins with the words and looks up the keys 1 to 40, each of which has itself as its value.
+/// A log that begins with the words and looks up the keys 1 to 40, each of which has itself as its
+/// value.
 fn forty_lookups(alloc: Global, words: &[u64]) -> Result<String, AllocError> {
     let mut log = String::new(alloc);
     log.push_str("vyrd 2 tree 18 1\n")?;
@@ -47,7 +49,8 @@ fn plain_words_of(
     words: &[u64],
 ) -> Result<Option<Vec<u64>>, AllocError>
     ensures count { IfOk result (λ o. IfSome o (λ plain. length plain.items ≡ plain_words header)) }
-    ensures low { IfOk result (λ o. IfSome o (λ plain. (w : ℕ) → slice_index plain.items w < 2 ^ 63)) }
+    ensures low { IfOk result
+        (λ o. IfSome o (λ plain. (w : ℕ) → slice_index plain.items w < 2 ^ 63)) }
 {
     let mut plain = vec![in alloc; 0; header.plain_words() as usize]?;
     for i in 0..plain.len() {

@@ -5,7 +5,8 @@ ghost use Rattle.vyrd_base.specs.Devices.{HasRisen};
 ghost use Rattle.vyrd_work.specs.WorkReading.{work_reading};
 ghost use Rattle.vyrd_work.specs.LongInputs.{longest_input};
 ghost use Rattle.vyrd_program.specs.Inputs.{IsInputTaken, IsFewTaken};
-ghost use Rattle.vyrd_program.specs.Steps.{AnswersInput, IsStepAnswer, IsStepStatus, NamesOnlyRaces};
+ghost use Rattle.vyrd_program.specs.Steps.{AnswersInput, IsStepAnswer, IsStepStatus};
+ghost use Rattle.vyrd_program.specs.Steps.{NamesOnlyRaces};
 
 use crate::answer::{Answer, MEMORY, READ_FAULT};
 use crate::read_input::{LONGEST_WORK, read_input};
@@ -22,11 +23,14 @@ use vyrd_work::{AnyMachine, WorkFault, read_work};
 /// no memory.
 pub fn step<S: Source>(alloc: Global, show: Show, source: &mut S) -> Answer
     ensures statuses { IsStepStatus result.status ⊎ (result.status ≡ 4) ⊎ (result.status ≡ 6) }
-    ensures answers { IsStepStatus result.status → AnswersInput show (S.rest source.old) result.status result.text.items result.run }
+    ensures answers { IsStepStatus result.status
+        → AnswersInput show (S.rest source.old) result.status result.text.items result.run }
     ensures races { IfSome result.run NamesOnlyRaces }
-    ensures consumed { IsStepStatus result.status → IsInputTaken longest_input (S.rest source.old) (S.rest source.new) }
+    ensures consumed { IsStepStatus result.status
+        → IsInputTaken longest_input (S.rest source.old) (S.rest source.new) }
     ensures few { IsFewTaken longest_input (S.rest source.old) (S.rest source.new) }
-    ensures silent { result.status ≡ 4 ⊎ result.status ≡ 6 → (result.text.items ≡ []) × (result.run ≡ None) }
+    ensures silent { result.status ≡ 4 ⊎ result.status ≡ 6
+        → (result.text.items ≡ []) × (result.run ≡ None) }
     ensures spent { result.spent ≡ None }
     ensures cause { result.status ≡ 4 → HasRisen (S.faults source.old) (S.faults source.new) }
     ensures stopped { result.status ≡ 4 → S.rest source.new ≡ S.left_off source.new }
@@ -46,7 +50,8 @@ pub fn step<S: Source>(alloc: Global, show: Show, source: &mut S) -> Answer
 
 /// The answer to the bytes of a workload.
 fn answer_to(alloc: Global, show: Show, bytes: &[u8]) -> Result<Answer, AllocError>
-    ensures answer { IfOk result (λ answer. IsStepAnswer show (work_reading bytes.now) answer.status answer.text.items answer.run) }
+    ensures answer { IfOk result (λ answer. IsStepAnswer show (work_reading bytes.now) answer.status
+        answer.text.items answer.run) }
     ensures races { IfOk result (λ answer. IfSome answer.run NamesOnlyRaces) }
     ensures spent { IfOk result (λ answer. answer.spent ≡ None) }
 {

@@ -23,7 +23,8 @@ use vyrd_work::{WorkRule, write_refusal};
 
 /// What is to be shown of a run, with the status of its verdict.
 pub fn tell(alloc: Global, show: Show, header: Header, run: Run) -> Result<Answer, AllocError>
-    requires { AllByRecursion (λ e. is_writable header.subject e ≡ true) (log_of run.history.items) }
+    requires { AllByRecursion (λ e. is_writable header.subject e ≡ true)
+        (log_of run.history.items) }
     ensures status { IfOk result (λ answer. answer.status ≡ status_of run.verdict) }
     ensures text { IfOk result (λ answer. answer.text.items ≡ run_text show header run) }
     ensures run { IfOk result (λ answer. answer.run ≡ Some run) }
@@ -35,7 +36,8 @@ pub fn tell(alloc: Global, show: Show, header: Header, run: Run) -> Result<Answe
 
 /// What is to be shown of a run.
 fn shown(alloc: Global, show: Show, header: Header, run: &Run) -> Result<Vec<u8>, AllocError>
-    requires { AllByRecursion (λ e. is_writable header.subject e ≡ true) (log_of run.now.history.items) }
+    requires { AllByRecursion (λ e. is_writable header.subject e ≡ true)
+        (log_of run.now.history.items) }
     ensures { IfOk result (λ text. text.items ≡ run_text show header run.now) }
 {
     let mut text = Vec::new(alloc);
@@ -109,7 +111,8 @@ pub fn overrun(alloc: Global, spent: Overrun) -> Result<Answer, AllocError>
 /// How many operations were generated, how many events their run has, and the verdict about it.
 pub fn generated(alloc: Global, count: u32, run: Run) -> Result<Answer, AllocError>
     ensures status { IfOk result (λ answer. answer.status ≡ status_of run.verdict) }
-    ensures text { IfOk result (λ answer. answer.text.items ≡ generated_line count (length run.history.items) ++ verdict_text run.verdict) }
+    ensures text { IfOk result (λ answer. answer.text.items
+        ≡ generated_line count (length run.history.items) ++ verdict_text run.verdict) }
     ensures run { IfOk result (λ answer. answer.run ≡ Some run) }
     ensures spent { IfOk result (λ answer. answer.spent ≡ None) }
 {

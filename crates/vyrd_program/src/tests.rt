@@ -1,4 +1,5 @@
-//! What the top call answers to logs, to words that are none of the forms, and over devices that fail.
+//! What the top call answers to logs, to words that are none of the forms, and over devices that
+//! fail.
 
 use crate::case::{BYTE_BY_BYTE, Case, Devices};
 use std::test::*;

@@ -34,7 +34,12 @@ abbrev pub knowledge : Pass Stamped Known → Known
 knowledge pass = view pass
 
 abbrev pub sender_of : TableId → Known → SenderView
-sender_of queue k = record { queue = queue; senders = (sent_in k).senders; caller = (sent_in k).caller; sent = (sent_in k).items }
+sender_of queue k = record {
+  queue = queue;
+  senders = (sent_in k).senders;
+  caller = (sent_in k).caller;
+  sent = (sent_in k).items;
+}
 
 abbrev pub receiver_of : TableId → Known → ReceiverView
 receiver_of queue k = record {
@@ -46,29 +51,37 @@ receiver_of queue k = record {
 
 -- the sender that has sent one event more
 abbrev pub with_pushed : SenderView → Stamped → SenderView
-with_pushed s item = record { queue = s.queue; senders = s.senders; caller = s.caller; sent = s.sent ++ item ∷ [] }
+with_pushed s item =
+    record { queue = s.queue; senders = s.senders; caller = s.caller; sent = s.sent ++ item ∷ [] }
 
 -- the receiver that has had one event more
 abbrev pub with_popped : ReceiverView → Stamped → ReceiverView
-with_popped r item = record { queue = r.queue; senders = r.senders; had = r.had ++ item ∷ []; settled = r.settled }
+with_popped r item =
+    record { queue = r.queue; senders = r.senders; had = r.had ++ item ∷ []; settled = r.settled }
 
 abbrev pub lane_sent : SenderView → Lane
 lane_sent s = record { caller = s.caller; items = s.sent }
 
 -- the receiver that has taken in a sender
 abbrev pub with_taken_in : ReceiverView → SenderView → ReceiverView
-with_taken_in r s = record { queue = r.queue; senders = r.senders; had = r.had; settled = r.settled ++ lane_sent s ∷ [] }
+with_taken_in r s = record {
+  queue = r.queue;
+  senders = r.senders;
+  had = r.had;
+  settled = r.settled ++ lane_sent s ∷ [];
+}
 
--- At a step of the call the queue held as many events as it can. Those of the sender's caller are the last that it sent, and
--- all are of callers that have a sender.
+-- At a step of the call the queue held as many events as it can. Those of the sender's caller are
+-- the last that it sent, and all are of callers that have a sender.
 pub record WasFull (relay : RelayView) (s : SenderView) : Type 0 where
   pub queued : List Stamped
   pub full : length queued ≡ relay.capacity
   pub own : EndsWith s.sent (part s.caller queued)
   pub senders : All (λ (e : Stamped). e.caller < s.senders) queued
 
--- At a step of the call the queue held no event. What was had of a sender that was taken in, and then what was queued of it, is
--- what it sent, and all that was had is of callers that have a sender.
+-- At a step of the call the queue held no event. What was had of a sender that was taken in, and
+-- then what was queued of it, is what it sent, and all that was had is of callers that have a
+-- sender.
 pub record WasEmpty (r : ReceiverView) : Type 0 where
   pub queued : List Stamped
   pub empty : length queued ≡ 0
@@ -79,7 +92,9 @@ pub record WasEmpty (r : ReceiverView) : Type 0 where
 abbrev pub HasAll : List Stamped → Lane → Type 0
 HasAll had lane = part lane.caller had ≡ lane.items
 
--- the senders of a relay in the order of their callers, from this one on, of which none has sent anything
+-- the senders of a relay in the order of their callers, from this one on, of which none has sent
+-- anything
 abbrev pub AreNew : TableId → ℕ → ℕ → List SenderView → Type 0
 AreNew queue senders first ends = (i : ℕ) (d : SenderView) → i < length ends
-    → slice_index_or ends i d ≡ record { queue = queue; senders = senders; caller = first + i; sent = [] }
+    → slice_index_or ends i d
+    ≡ record { queue = queue; senders = senders; caller = first + i; sent = [] }

@@ -24,14 +24,20 @@ new_received senders made = record { senders = senders; made = made; had = []; s
 
 -- a receiver that has had one event more
 abbrev pub with_had : Received → Stamped → Received
-with_had r item = record { senders = r.senders; made = r.made; had = r.had ++ item ∷ []; settled = r.settled }
+with_had r item =
+    record { senders = r.senders; made = r.made; had = r.had ++ item ∷ []; settled = r.settled }
 
 abbrev pub lane_of : Sent → Lane
 lane_of s = record { caller = s.caller; items = s.items }
 
 -- a receiver that has taken in a sender
 abbrev pub with_settled : Received → Sent → Received
-with_settled r s = record { senders = r.senders; made = r.made; had = r.had; settled = r.settled ++ lane_of s ∷ [] }
+with_settled r s = record {
+  senders = r.senders;
+  made = r.made;
+  had = r.had;
+  settled = r.settled ++ lane_of s ∷ [];
+}
 
 -- What a pass knows as a receiver, and as a sender. A pass that is neither knows nothing.
 abbrev pub received_in : Known → Received
@@ -57,7 +63,8 @@ pub record ReceiverLearns (r : Received) (queued : List Stamped) : Type 0 where
   pub settled : All (IsHadAndQueued r.had queued) r.settled
   pub senders : All (λ (e : Stamped). e.caller < r.senders) r.had
 
--- what a sender learns of the queued events: those of its own are the last that it sent, and all are of the relay's senders
+-- what a sender learns of the queued events: those of its own are the last that it sent, and all
+-- are of the relay's senders
 pub record SenderLearns (s : Sent) (queued : List Stamped) : Type 0 where
   pub own : EndsWith s.items (part s.caller queued)
   pub senders : All (λ (e : Stamped). e.caller < s.senders) queued
@@ -71,14 +78,16 @@ Learned Spent queued = ⊤
 abbrev pub Pushed : Known → Stamped → Known → Type 0
 Pushed before item after = after ≡ Sends (with_sent (sent_in before) item)
 
--- A pop: the receiver has had this event too, it is of one of the senders, and what was had of each sender that was taken in is
--- still a beginning of what that one sent.
+-- A pop: the receiver has had this event too, it is of one of the senders, and what was had of each
+-- sender that was taken in is still a beginning of what that one sent.
 pub record Popped (before : Known) (item : Stamped) (after : Known) : Type 0 where
   pub had : after ≡ Receives (with_had (received_in before) item)
   pub senders : item.caller < (received_in before).senders
-  pub beginnings : All (HasBeginning ((received_in before).had ++ item ∷ [])) (received_in before).settled
+  pub beginnings : All (HasBeginning ((received_in before).had ++ item ∷ []))
+      (received_in before).settled
 
--- The receiver's pass when it has made one sender more, and the pass of that sender. `senders` is how many there will be.
+-- The receiver's pass when it has made one sender more, and the pass of that sender. `senders` is
+-- how many there will be.
 abbrev pub dealer : ℕ → Known → Known
 dealer senders v =
     let r : Received = received_in v in

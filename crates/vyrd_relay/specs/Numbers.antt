@@ -1,12 +1,14 @@
 -- Events that are held by their numbers.
-use Rattle.std.specs.Prelude.{◌≡◌, ℕ, ◌-◌, ◌<◌, ◌^◌, List, Bool, ◌||◌, nat_lt, Option, Some, None, is_some, slice_index_or, if◌then◌else◌}
+use Rattle.std.specs.Prelude.{◌≡◌, ℕ, ◌-◌, ◌<◌, ◌^◌, List, Bool, ◌||◌, nat_lt, Option, Some, None}
+use Rattle.std.specs.Prelude.{is_some, slice_index_or, if◌then◌else◌}
 use Rattle.std.specs.Ordering.{nat_cmp}
 use Rattle.std.specs.Map.{lookup}
 use Rattle.std.specs.BTreeMap.{is_at}
 use Rattle.vyrd_base.specs.declared.history.Stamped.{Stamped}
 
--- The number of the event that is handed out next, and the events that are held: `near` has a place for each number from `next`
--- on, as far as it goes, and `far` has those whose numbers were further off when they came.
+-- The number of the event that is handed out next, and the events that are held: `near` has a place
+-- for each number from `next` on, as far as it goes, and `far` has those whose numbers were further
+-- off when they came.
 pub record Kept : Type 0 where
   pub next : ℕ
   pub near : List (Option Stamped)
@@ -21,7 +23,8 @@ or_else (Some item) second = Some item
 abbrev pub held : Kept → ℕ → Option Stamped
 held kept number =
     if nat_lt number kept.next then None
-    else or_else (slice_index_or kept.near (number - kept.next) None) (lookup (is_at (nat_cmp number)) kept.far)
+    else or_else (slice_index_or kept.near (number - kept.next) None)
+    (lookup (is_at (nat_cmp number)) kept.far)
 
 -- the event with this number is held or was handed out
 abbrev pub has : Kept → ℕ → Bool
@@ -29,4 +32,5 @@ has kept number = nat_lt number kept.next || is_some (held kept number)
 
 -- Each event is held with its own number, which is below 2^62.
 abbrev pub AreNumbered : Kept → Type 0
-AreNumbered kept = (n : ℕ) (item : Stamped) → held kept n ≡ Some item → (item.number ≡ n) × (n < 2 ^ 62)
+AreNumbered kept =
+    (n : ℕ) (item : Stamped) → held kept n ≡ Some item → (item.number ≡ n) × (n < 2 ^ 62)

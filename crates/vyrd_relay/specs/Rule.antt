@@ -1,4 +1,5 @@
--- The rule of the relay: what the receiver has had of a sender, and then what is queued of it, is what it sent.
+-- The rule of the relay: what the receiver has had of a sender, and then what is queued of it, is
+-- what it sent.
 use Rattle.std.specs.Prelude.{◌≡◌, ℕ, ◌<◌, ◌≤◌, ⊤, List, [], ◌++◌, Option, Some, None}
 use Rattle.std.specs.List.{All}
 use mathlib.Core.Option.{some}
@@ -11,8 +12,8 @@ use Rattle.vyrd_relay.specs.declared.known.Received.{Received}
 use Rattle.vyrd_relay.specs.declared.known.Sent.{Sent}
 use Rattle.vyrd_base.specs.Parts.{part}
 
--- What exists in the proofs alone: how many senders there are, the receiver's pass, for each caller the pass that sends for it
--- and what it sent, and all that was had.
+-- What exists in the proofs alone: how many senders there are, the receiver's pass, for each caller
+-- the pass that sends for it and what it sent, and all that was had.
 pub record Ghost : Type 0 where
   pub senders : ℕ
   pub reader : ℕ
@@ -26,8 +27,9 @@ pub record IsSettled (g : Ghost) (made : ℕ) (lane : Lane) : Type 0 where
   pub whole : g.sent lane.caller ≡ lane.items
   pub old : lane.caller < made
 
--- What the receiver's pass knows: what was had, that callers without a sender so far have sent nothing, and the lanes of those
--- that it has taken in. The number of senders is fixed when the first is made.
+-- What the receiver's pass knows: what was had, that callers without a sender so far have sent
+-- nothing, and the lanes of those that it has taken in. The number of senders is fixed when the
+-- first is made.
 pub record ReceiverKnows (g : Ghost) (pass : ℕ) (r : Received) : Type 0 where
   pub reader : g.reader ≡ pass
   pub had : g.had ≡ r.had

@@ -21,5 +21,6 @@ impl Model for Receiver {
 
     ghost view = { λ r. receiver_of r.pass.table_id (knowledge r.pass) };
 
-    ghost invariant = { λ r. (knowledge r.pass ≡ Receives (received_in (knowledge r.pass))) × (0 < (received_in (knowledge r.pass)).made) × (r.pass.me.1 ≡ []) };
+    ghost invariant = { λ r. (knowledge r.pass ≡ Receives (received_in (knowledge r.pass)))
+        × (0 < (received_in (knowledge r.pass)).made) × (r.pass.me.1 ≡ []) };
 }

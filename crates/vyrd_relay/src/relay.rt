@@ -1,11 +1,13 @@
 //! The queue between the senders and the receiver.
 
-ghost use Rattle.std.specs.Prelude.{◌≡◌, ◌+◌, ◌<◌, ◌≤◌, ◌^◌, [], length, IfOk, OnOk, OnErr, IfSome, IfNone, vec_len, vec_capacity};
+ghost use Rattle.std.specs.Prelude.{◌≡◌, ◌+◌, ◌<◌, ◌≤◌, ◌^◌, [], length, IfOk, OnOk, OnErr, IfSome};
+ghost use Rattle.std.specs.Prelude.{IfNone, vec_len, vec_capacity};
 ghost use Rattle.std.specs.List.{All};
 ghost use Rattle.crossbeam_queue.specs.Passes.{view, IsSamePass, IsPassOf};
 ghost use Rattle.vyrd_relay.specs.declared.known.Known.TheVariants.{Receives};
 ghost use Rattle.vyrd_relay.specs.Knowledge.{new_received, HasBeginning};
-ghost use Rattle.vyrd_relay.specs.Ends.{AreNew, with_pushed, with_popped, with_taken_in, WasFull, WasEmpty, HasAll};
+ghost use Rattle.vyrd_relay.specs.Ends.{AreNew, with_pushed, with_popped, with_taken_in, WasFull};
+ghost use Rattle.vyrd_relay.specs.Ends.{WasEmpty, HasAll};
 
 use crate::known::Known;
 use crate::plays::{Deals, Number, Pops, Pushes, TakesIn};
@@ -34,10 +36,11 @@ impl fmt::Display for Full {
 
 impl Error for Full {}
 
-/// A bounded queue of events, from the senders of all callers to one receiver. Threads share it by reference.
+/// A bounded queue of events, from the senders of all callers to one receiver. Threads share it by
+/// reference.
 ///
-/// What the receiver has had of a sender, and then what is queued of it, is what it sent, in its order, at every moment. Of
-/// events of different senders nothing is said.
+/// What the receiver has had of a sender, and then what is queued of it, is what it sent, in its
+/// order, at every moment. Of events of different senders nothing is said.
 #[derive(Drop)]
 pub struct Relay {
     queue: Queue,
@@ -52,8 +55,8 @@ impl Model for Relay {
 }
 
 impl Relay {
-    /// A relay for at most `capacity` events at a time, with a sender for each caller from 0 on, in their order, and its
-    /// receiver. All of its memory is taken here.
+    /// A relay for at most `capacity` events at a time, with a sender for each caller from 0 on, in
+    /// their order, and its receiver. All of its memory is taken here.
     pub fn new(
         alloc: Global,
         capacity: u64,
@@ -64,7 +67,8 @@ impl Relay {
         ensures relay { IfOk result (λ new. new.0.capacity ≡ capacity) }
         ensures count { IfOk result (λ new. vec_len new.1 ≡ senders) }
         ensures senders { IfOk result (λ new. AreNew new.0.queue senders 0 new.1.items) }
-        ensures receiver { IfOk result (λ new. new.2 ≡ record { queue = new.0.queue; senders = senders; had = []; settled = [] }) }
+        ensures receiver { IfOk result (λ new. new.2
+            ≡ record { queue = new.0.queue; senders = senders; had = []; settled = [] }) }
     {
         let mut ends = Vec::with_capacity(alloc, senders as usize)?;
         let (queue, mut pass) = Queue::ruled(alloc, capacity as usize)?;
@@ -72,8 +76,8 @@ impl Relay {
         Ok((Relay { queue }, ends, Receiver { pass }))
     }
 
-    /// Sends an event of the sender's caller. It is one push of the queue. It may wait for another thread that is in the middle
-    /// of a push or a pop, but never for room, and it takes no memory.
+    /// Sends an event of the sender's caller. It is one push of the queue. It may wait for another
+    /// thread that is in the middle of a push or a pop, but never for room, and it takes no memory.
     ///
     /// `Full` comes only if the queue held its capacity at a step of this call. Nothing was sent
     /// then.
@@ -94,15 +98,16 @@ impl Relay {
         }
     }
 
-    /// The next event, the oldest in the queue. It is one pop of the queue. It may wait as `push_next` may, but never for an
-    /// event to come, and it takes no memory.
+    /// The next event, the oldest in the queue. It is one pop of the queue. It may wait as
+    /// `push_next` may, but never for an event to come, and it takes no memory.
     ///
     /// `None` comes only if the queue was empty at a step of this call.
     pub fn pop<R: Wait>(&self, rt: &R, receiver: &mut Receiver) -> Option<Stamped>
         requires receiver { receiver.old.queue ≡ self.now.queue }
         ensures item { IfSome result (λ item. receiver.new ≡ with_popped receiver.old item) }
         ensures sender { IfSome result (λ item. item.caller < receiver.old.senders) }
-        ensures beginnings { IfSome result (λ _. All (HasBeginning receiver.new.had) receiver.new.settled) }
+        ensures beginnings { IfSome result
+            (λ _. All (HasBeginning receiver.new.had) receiver.new.settled) }
         ensures none { IfNone result (receiver.new ≡ receiver.old) }
         ensures cause { IfNone result (WasEmpty receiver.old) }
         ensures all { IfNone result (All (HasAll receiver.old.had) receiver.old.settled) }
@@ -110,8 +115,9 @@ impl Relay {
         self.queue.pop_as::<Pops, R>(rt, &mut receiver.pass)
     }
 
-    /// Takes in a sender that has ended, and answers how many events it sent. What was had of it is a beginning of what it sent,
-    /// and stays so: `pop` says it of each sender that was taken in. A `pop` that finds nothing then says that all was had.
+    /// Takes in a sender that has ended, and answers how many events it sent. What was had of it is
+    /// a beginning of what it sent, and stays so: `pop` says it of each sender that was taken in. A
+    /// `pop` that finds nothing then says that all was had.
     pub fn settle<R: Wait>(&self, rt: &R, receiver: &mut Receiver, sender: Sender) -> u64
         requires receiver { receiver.old.queue ≡ self.now.queue }
         requires sender { sender.queue ≡ self.now.queue }
@@ -139,8 +145,10 @@ fn deal_all<J: Number>(
     requires first { view pass.old ≡ Receives (new_received 0 0) }
     requires senders { (J.senders ≡ senders) × (1 ≤ senders) }
     requires ends { (ends.old.items ≡ []) × (senders ≤ vec_capacity ends.old) }
-    ensures same { IsSamePass pass.old pass.new × (view pass.new ≡ Receives (new_received senders senders)) }
-    ensures ends { (vec_len ends.new ≡ senders) × AreNew queue.now.table.shared.table_id senders 0 ends.new.items }
+    ensures same { IsSamePass pass.old pass.new
+        × (view pass.new ≡ Receives (new_received senders senders)) }
+    ensures ends { (vec_len ends.new ≡ senders)
+        × AreNew queue.now.table.shared.table_id senders 0 ends.new.items }
 {
     for _ in 0..senders {
         let theirs = queue.another::<Deals<J>>(pass);

@@ -1,6 +1,8 @@
 //! Events put in order by their numbers.
 
-ghost use Rattle.std.specs.Prelude.{◌≡◌, ℕ, ◌+◌, ◌<◌, ◌≤◌, ◌^◌, ◌==◌, true, false, None, Some, IfOk, OnOk, OnErr, IfSome, IfNone, OnSome, slice_index_or, if◌then◌else◌};
+ghost use Rattle.std.specs.Prelude.{◌≡◌, ℕ, ◌+◌, ◌<◌, ◌≤◌, ◌^◌, ◌==◌, true, false, None, Some};
+ghost use Rattle.std.specs.Prelude.{IfOk, OnOk, OnErr, IfSome, IfNone, OnSome, slice_index_or};
+ghost use Rattle.std.specs.Prelude.{if◌then◌else◌};
 ghost use Rattle.std.specs.VecDeque.{deque_len};
 ghost use Rattle.vyrd_relay.specs.Numbers.{held, has};
 
@@ -15,9 +17,10 @@ const NEAR: u64 = 65536;
 
 /// Holds events that come in any order, and hands them out by their numbers: 0, 1, 2 and so on.
 ///
-/// An event that comes fewer than 65,536 numbers early takes constant time on average, and memory for the numbers up to its
-/// own. One that comes earlier takes time in the logarithm of the number of such events, and memory for itself alone. So no gap
-/// between the numbers, however wide, takes memory of its own.
+/// An event that comes fewer than 65,536 numbers early takes constant time on average, and memory
+/// for the numbers up to its own. One that comes earlier takes time in the logarithm of the number
+/// of such events, and memory for itself alone. So no gap between the numbers, however wide, takes
+/// memory of its own.
 #[derive(Drop)]
 pub struct Reorder {
     next: u64,
@@ -33,7 +36,9 @@ impl Model for Reorder {
 
     ghost view = { λ r. record { next = r.next; near = r.near.items; far = r.far.entries } };
 
-    ghost invariant = { λ r. AreNumbered (record { next = r.next; near = r.near.items; far = r.far.entries }) × (r.next ≤ 2 ^ 62) };
+    ghost invariant = { λ r.
+        AreNumbered (record { next = r.next; near = r.near.items; far = r.far.entries })
+        × (r.next ≤ 2 ^ 62) };
 }
 
 impl Reorder {
@@ -54,7 +59,8 @@ impl Reorder {
     pub fn put(&mut self, item: Stamped) -> Result<(), AllocError>
         requires range { item.number < 2 ^ 62 }
         requires new { has self.old item.number ≡ false }
-        ensures held { OnOk result ((n : ℕ) → held self.new n ≡ (if n == item.number then Some item else held self.old n)) }
+        ensures held { OnOk result ((n : ℕ)
+            → held self.new n ≡ (if n == item.number then Some item else held self.old n)) }
         ensures next { self.new.next ≡ self.old.next }
         ensures refused { OnErr result (self.new ≡ self.old) }
     {
@@ -74,14 +80,15 @@ impl Reorder {
         self.next
     }
 
-    /// Whether it is this number's turn. If so, the event counts as handed out, as if it had been put and taken again. Its number
-    /// isn't held and wasn't handed out. It takes no memory.
+    /// Whether it is this number's turn. If so, the event counts as handed out, as if it had been
+    /// put and taken again. Its number isn't held and wasn't handed out. It takes no memory.
     pub fn take_turn(&mut self, number: u64) -> bool
         requires range { number < 2 ^ 62 }
         requires new { has self.old number ≡ false }
         ensures turn { result ≡ (number == self.old.next) }
         ensures next { result ≡ true → self.new.next ≡ self.old.next + 1 }
-        ensures rest { result ≡ true → (n : ℕ) → self.old.next < n → held self.new n ≡ held self.old n }
+        ensures rest { result ≡ true → (n : ℕ) → self.old.next < n
+            → held self.new n ≡ held self.old n }
         ensures waits { result ≡ false → self.new ≡ self.old }
     {
         if number != self.next {
@@ -103,9 +110,11 @@ impl Reorder {
     /// no memory.
     pub fn next_in_order(&mut self) -> Option<Stamped>
         ensures item { result ≡ held self.old self.old.next }
-        ensures number { IfSome result (λ item. (item.number ≡ self.old.next) × (item.number < 2 ^ 62)) }
+        ensures number { IfSome result
+            (λ item. (item.number ≡ self.old.next) × (item.number < 2 ^ 62)) }
         ensures next { OnSome result (self.new.next ≡ self.old.next + 1) }
-        ensures rest { OnSome result ((n : ℕ) → self.old.next < n → held self.new n ≡ held self.old n) }
+        ensures rest { OnSome result
+            ((n : ℕ) → self.old.next < n → held self.new n ≡ held self.old n) }
         ensures had { (n : ℕ) → has self.new n ≡ has self.old n }
         ensures none { IfNone result (self.new ≡ self.old) }
     {
@@ -135,7 +144,9 @@ fn set_place(
     item: Stamped,
 ) -> Result<(), AllocError>
     requires { place < 65536 }
-    ensures set { OnOk result ((i : ℕ) → slice_index_or near.new.items i None ≡ (if i == place then Some item else slice_index_or near.old.items i None)) }
+    ensures set { OnOk result ((i : ℕ)
+        → slice_index_or near.new.items i None
+        ≡ (if i == place then Some item else slice_index_or near.old.items i None)) }
     ensures refused { OnErr result (near.new.items ≡ near.old.items) }
 {
     make_places(near, place + 1)?;
@@ -146,7 +157,8 @@ fn set_place(
 /// Makes at least that many places. New ones are empty. If there is no memory, all is as before.
 fn make_places(near: &mut VecDeque<Option<Stamped>>, len: usize) -> Result<(), AllocError>
     requires { len ≤ 65536 }
-    ensures same { OnOk result ((i : ℕ) → slice_index_or near.new.items i None ≡ slice_index_or near.old.items i None) }
+    ensures same { OnOk result
+        ((i : ℕ) → slice_index_or near.new.items i None ≡ slice_index_or near.old.items i None) }
     ensures enough { OnOk result (len ≤ deque_len near.new) }
     ensures refused { OnErr result (near.new.items ≡ near.old.items) }
 {

@@ -4,7 +4,8 @@ use crate::known::Known;
 use crossbeam_queue::protocol::Protocol;
 use vyrd_base::Stamped;
 
-/// What the receiver has had of a sender, and then what is queued of it, is what it sent, in its order.
+/// What the receiver has had of a sender, and then what is queued of it, is what it sent, in its
+/// order.
 pub struct InOrder;
 
 impl Protocol<Stamped, Known> for InOrder {

@@ -5,8 +5,9 @@ use crossbeam_queue::Pass;
 use std::marker::Model;
 use vyrd_base::Stamped;
 
-/// The right to send the events of one caller, in the order in which they are pushed. It is made with its relay, in
-/// [`Relay::new`](crate::Relay::new), and [`Relay::settle`](crate::Relay::settle) takes it in.
+/// The right to send the events of one caller, in the order in which they are pushed. It is made
+/// with its relay, in [`Relay::new`](crate::Relay::new), and
+/// [`Relay::settle`](crate::Relay::settle) takes it in.
 #[derive(Drop)]
 pub struct Sender {
     // How many events were sent.
@@ -24,5 +25,6 @@ impl Model for Sender {
 
     ghost view = { λ s. sender_of s.pass.table_id (knowledge s.pass) };
 
-    ghost invariant = { λ s. (knowledge s.pass ≡ Sends (sent_in (knowledge s.pass))) × (length (sent_in (knowledge s.pass)).items ≡ s.count) × (s.pass.me.1 ≡ []) };
+    ghost invariant = { λ s. (knowledge s.pass ≡ Sends (sent_in (knowledge s.pass)))
+        × (length (sent_in (knowledge s.pass)).items ≡ s.count) × (s.pass.me.1 ≡ []) };
 }

@@ -1,4 +1,5 @@
-//! Each public call once with ample memory, with the answers at a full and an empty queue, and two threads.
+//! Each public call once with ample memory, with the answers at a full and an empty queue, and two
+//! threads.
 
 ghost use Rattle.std.specs.Prelude.{◌≡◌, ◌+◌, ◌<◌, ◌≤◌, ◌^◌, [], length, IfOk};
 
@@ -25,7 +26,8 @@ fn event(number: u64) -> Stamped
 /// A relay with one sender.
 fn one(alloc: Global, capacity: u64) -> Result<(Relay, Sender, Receiver), AllocError>
     requires { (1 ≤ capacity) × (capacity ≤ 65536) }
-    ensures sender { IfOk result (λ r. r.1 ≡ record { queue = r.0.queue; senders = 1; caller = 0; sent = [] }) }
+    ensures sender { IfOk result
+        (λ r. r.1 ≡ record { queue = r.0.queue; senders = 1; caller = 0; sent = [] }) }
     ensures receiver { IfOk result (λ r. r.2.queue ≡ r.0.queue) }
 {
     let (relay, mut senders, receiver) = Relay::new(alloc, capacity, 1)?;

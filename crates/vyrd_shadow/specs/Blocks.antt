@@ -1,5 +1,7 @@
 -- The writes that an open block keeps back: pairs of a word and a value, each word once.
-use Rattle.std.specs.Prelude.{◌≡◌, ℕ, ◌+◌, ◌^◌, ◌<◌, ◌≤◌, ◌==◌, List, [], ◌∷◌, ◌++◌, length, Option, None, unwrap_or, slice_index, slice_index_or, slice_set, if◌then◌else◌}
+use Rattle.std.specs.Prelude.{◌≡◌, ℕ, ◌+◌, ◌^◌, ◌<◌, ◌≤◌, ◌==◌, List, [], ◌∷◌, ◌++◌, length, Option}
+use Rattle.std.specs.Prelude.{None, unwrap_or, slice_index, slice_index_or, slice_set}
+use Rattle.std.specs.Prelude.{if◌then◌else◌}
 use Rattle.std.specs.List.{list_any, sum_by, All}
 use Rattle.vyrd_base.specs.declared.header.Header.{Header}
 use Rattle.vyrd_base.specs.Layout.{plain_words}
@@ -9,11 +11,13 @@ abbrev pub with_writes : List ℕ → List (ℕ × ℕ) → List ℕ
 with_writes words [] = words
 with_writes words ((word, value) ∷ writes) = with_writes (slice_set words word value) writes
 
--- the words of some writes, with one more: a word that is there keeps its place, and a new one goes last
+-- the words of some writes, with one more: a word that is there keeps its place, and a new one goes
+-- last
 abbrev pub with_word : List ℕ → ℕ → List ℕ
 with_word words word = if list_any (λ other. word == other) words then words else words ++ word ∷ []
 
--- the words that these writes, given the newest first, have written, in the order of their first writes
+-- the words that these writes, given the newest first, have written, in the order of their first
+-- writes
 abbrev pub first_written : List (ℕ × ℕ) → List ℕ
 first_written [] = []
 first_written ((word, value) ∷ earlier) = with_word (first_written earlier) word
@@ -29,7 +33,8 @@ kept_count blocks = sum_by (λ block. length (unwrap_or block [])) blocks
 
 -- Words, blocks and changed words are the header's, there is room for the words of all blocks after
 -- the changed ones, and `count` says how many they are.
-pub record IsSound (h : Header) (words : List ℕ) (blocks : List (Option (List (ℕ × ℕ)))) (changed : List ℕ) (count capacity : ℕ) : Type 0 where
+pub record IsSound (h : Header) (words : List ℕ) (blocks : List (Option (List (ℕ × ℕ))))
+    (changed : List ℕ) (count capacity : ℕ) : Type 0 where
   pub all_words : length words ≡ plain_words h
   pub all_blocks : length blocks ≡ h.callers
   pub values : (w : ℕ) → slice_index words w < 2 ^ 63

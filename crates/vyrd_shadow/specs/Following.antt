@@ -1,5 +1,6 @@
 -- What a shadow keeps, and the entries that it stands for.
-use Rattle.std.specs.Prelude.{◌≡◌, ℕ, ◌<◌, Bool, true, List, [], map, Option, None, is_some, unwrap_or, slice_index_or}
+use Rattle.std.specs.Prelude.{◌≡◌, ℕ, ◌<◌, Bool, true, List, [], map, Option, None, is_some}
+use Rattle.std.specs.Prelude.{unwrap_or, slice_index_or}
 use Rattle.vyrd_base.specs.declared.header.Header.{Header}
 use Rattle.vyrd_base.specs.declared.log.Entry.{Entry}
 use Rattle.vyrd_base.specs.declared.log.StartWord.{StartWord}
@@ -34,10 +35,13 @@ words_of writes = map (λ write. write.0) writes
 -- entry keeps the rules. The words are those after all of them. A caller's block is open exactly
 -- when its last open has no close after it, and what an open block keeps has its words, in the
 -- order of their first writes, each with its last value.
-pub record HasFollowed (kept : Kept) (starting : List StartWord) (earlier : List Entry) : Type 0 where
+pub record HasFollowed (kept : Kept) (starting : List StartWord)
+    (earlier : List Entry) : Type 0 where
   pub rules : WellFormed kept.header earlier
   pub words : kept.words ≡ words_after kept.header starting earlier
   pub blocks : (c : ℕ) → c < kept.header.callers → is_open kept c ≡ has_block c earlier
-  pub order : (c : ℕ) → c < kept.header.callers → has_block c earlier ≡ true → words_of (kept_writes kept c) ≡ first_written (block_writes c earlier)
+  pub order : (c : ℕ) → c < kept.header.callers → has_block c earlier ≡ true
+      → words_of (kept_writes kept c) ≡ first_written (block_writes c earlier)
   pub values : (c w : ℕ) → c < kept.header.callers → has_block c earlier ≡ true
-      → first_answer (given_to w) (kept_writes kept c) ≡ first_answer (given_to w) (block_writes c earlier)
+      → first_answer (given_to w) (kept_writes kept c)
+      ≡ first_answer (given_to w) (block_writes c earlier)

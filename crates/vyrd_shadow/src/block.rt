@@ -1,6 +1,8 @@
 //! What a caller's block keeps back.
 
-ghost use Rattle.std.specs.Prelude.{◌≡◌, ℕ, ◌+◌, ◌≤◌, true, List, [], ◌++◌, length, None, Some, IfOk, OnOk, OnErr, is_some, unwrap_or, nat_eq, vec_len, vec_capacity, if◌then◌else◌};
+ghost use Rattle.std.specs.Prelude.{◌≡◌, ℕ, ◌+◌, ◌≤◌, true, List, [], ◌++◌, length, None, Some};
+ghost use Rattle.std.specs.Prelude.{IfOk, OnOk, OnErr, is_some, unwrap_or, nat_eq, vec_len};
+ghost use Rattle.std.specs.Prelude.{vec_capacity, if◌then◌else◌};
 ghost use Rattle.std.specs.Map.{keys_of};
 ghost use Rattle.indexmap.specs.IndexMap.{insert_entry};
 ghost use Rattle.vyrd_shadow.specs.Blocks.{with_writes, AreInRange};
@@ -9,8 +11,8 @@ use crate::writes::Writes;
 use std::alloc::{AllocError, Global};
 use std::marker::Model;
 
-/// A caller's block: nothing while it is closed, and while it is open the writes in it, each word once in the order of the first
-/// writes, with its last value.
+/// A caller's block: nothing while it is closed, and while it is open the writes in it, each word
+/// once in the order of the first writes, with its last value.
 #[derive(Drop)]
 pub(crate) struct Block {
     is_open: bool,
@@ -64,9 +66,11 @@ impl Block {
     #[inline(always)]
     pub fn keep(&mut self, word: u32, value: u64) -> Result<bool, AllocError>
         requires { is_some self.old ≡ true }
-        ensures ok { OnOk result (self.new ≡ Some (insert_entry nat_eq (unwrap_or self.old []) word value)) }
+        ensures ok { OnOk result
+            (self.new ≡ Some (insert_entry nat_eq (unwrap_or self.old []) word value)) }
         ensures err { OnErr result (self.new ≡ self.old) }
-        ensures more { IfOk result (λ more. length (unwrap_or self.new []) ≡ length (unwrap_or self.old []) + (if more then 1 else 0)) }
+        ensures more { IfOk result (λ more. length (unwrap_or self.new [])
+            ≡ length (unwrap_or self.old []) + (if more then 1 else 0)) }
     {
         self.writes.insert(word, value)
     }
@@ -76,7 +80,8 @@ impl Block {
     pub fn end(&mut self, words: &mut [u64], changed: &mut Vec<u32>)
         requires opened { is_some self.old ≡ true }
         requires in_range { AreInRange (length words.old) (unwrap_or self.old []) }
-        requires room { vec_len changed.old + length (unwrap_or self.old []) ≤ vec_capacity changed.old }
+        requires room { vec_len changed.old + length (unwrap_or self.old [])
+            ≤ vec_capacity changed.old }
         ensures closed { self.new ≡ None }
         ensures words { words.new ≡ with_writes words.old (unwrap_or self.old []) }
         ensures changed { changed.new.items ≡ changed.old.items ++ keys_of (unwrap_or self.old []) }

@@ -13,13 +13,20 @@ ghost use Rattle.vyrd_shadow.specs.Following.{Kept, HasFollowed};
 /// if it keeps the rules. The lone commit may stand inside its caller's block.
 #[tactic(auto, using(crate::proofs::QuietLaws::quiet_laws))]
 pub fn other_entries_leave_a_shadow()
-    ensures calls { (kept : Kept) (starting : List StartWord) (earlier : List Entry) (caller : ℕ) (method : Method) (args : Args) →
-        HasFollowed kept starting earlier → broken_rule kept.header earlier (record { caller = caller; kind = Call method args }) ≡ None →
-        HasFollowed kept starting (record { caller = caller; kind = Call method args } ∷ earlier) }
-    ensures returns { (kept : Kept) (starting : List StartWord) (earlier : List Entry) (caller reply : ℕ) →
-        HasFollowed kept starting earlier → broken_rule kept.header earlier (record { caller = caller; kind = Return reply }) ≡ None →
-        HasFollowed kept starting (record { caller = caller; kind = Return reply } ∷ earlier) }
-    ensures commits { (kept : Kept) (starting : List StartWord) (earlier : List Entry) (caller : ℕ) →
-        HasFollowed kept starting earlier → broken_rule kept.header earlier (record { caller = caller; kind = Commit }) ≡ None →
-        HasFollowed kept starting (record { caller = caller; kind = Commit } ∷ earlier) }
+    ensures calls { (kept : Kept) (starting : List StartWord) (earlier : List Entry) (caller : ℕ)
+        (method : Method) (args : Args)
+        → HasFollowed kept starting earlier
+        → broken_rule kept.header earlier (record { caller = caller; kind = Call method args })
+        ≡ None
+        → HasFollowed kept starting
+        (record { caller = caller; kind = Call method args } ∷ earlier) }
+    ensures returns { (kept : Kept) (starting : List StartWord) (earlier : List Entry)
+        (caller reply : ℕ)
+        → HasFollowed kept starting earlier
+        → broken_rule kept.header earlier (record { caller = caller; kind = Return reply }) ≡ None
+        → HasFollowed kept starting (record { caller = caller; kind = Return reply } ∷ earlier) }
+    ensures commits { (kept : Kept) (starting : List StartWord) (earlier : List Entry) (caller : ℕ)
+        → HasFollowed kept starting earlier
+        → broken_rule kept.header earlier (record { caller = caller; kind = Commit }) ≡ None
+        → HasFollowed kept starting (record { caller = caller; kind = Commit } ∷ earlier) }
 {}

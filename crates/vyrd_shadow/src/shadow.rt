@@ -1,9 +1,12 @@
 //! The words, and what open blocks keep back.
 
-ghost use Rattle.std.specs.Prelude.{◌≡◌, ℕ, ◌<◌, ◌^◌, true, false, List, [], ◌∷◌, ◌++◌, length, replicate, Some, None, IfOk, OnOk, OnErr, nat_eq, slice_index, slice_set, if◌then◌else◌};
+ghost use Rattle.std.specs.Prelude.{◌≡◌, ℕ, ◌<◌, ◌^◌, true, false, List, [], ◌∷◌, ◌++◌, length};
+ghost use Rattle.std.specs.Prelude.{replicate, Some, None, IfOk, OnOk, OnErr, nat_eq, slice_index};
+ghost use Rattle.std.specs.Prelude.{slice_set, if◌then◌else◌};
 ghost use Rattle.std.specs.List.{All};
 ghost use Rattle.indexmap.specs.IndexMap.{insert_entry};
-ghost use Rattle.vyrd_base.specs.declared.log.Kind.TheVariants.{Write, BlockOpen, BlockClose, BlockCommit};
+ghost use Rattle.vyrd_base.specs.declared.log.Kind.TheVariants.{Write, BlockOpen, BlockClose};
+ghost use Rattle.vyrd_base.specs.declared.log.Kind.TheVariants.{BlockCommit};
 ghost use Rattle.vyrd_base.specs.declared.log.Entry.{Entry};
 ghost use Rattle.vyrd_base.specs.declared.log.StartWord.{StartWord};
 ghost use Rattle.vyrd_base.specs.Layout.{plain_words};
@@ -16,7 +19,8 @@ use std::alloc::{AllocError, Global};
 use std::marker::Model;
 use vyrd_base::Header;
 
-/// The plain words of a log after its writes so far, what open blocks keep back, and which words have changed.
+/// The plain words of a log after its writes so far, what open blocks keep back, and which words
+/// have changed.
 #[derive(Drop)]
 pub struct Shadow {
     header: Header,
@@ -35,13 +39,20 @@ impl Model for Shadow {
 
     ghost Value = { Kept };
 
-    ghost view = { λ s. record { header = s.header; words = s.words.items; blocks = s.blocks.items; changed = s.changed.items } };
+    ghost view = { λ s. record {
+      header = s.header;
+      words = s.words.items;
+      blocks = s.blocks.items;
+      changed = s.changed.items;
+    } };
 
-    ghost invariant = { λ s. IsSound s.header s.words.items s.blocks.items s.changed.items s.count (vec_capacity s.changed) };
+    ghost invariant = { λ s. IsSound s.header s.words.items s.blocks.items s.changed.items s.count
+        (vec_capacity s.changed) };
 }
 
 impl Shadow {
-    /// All words are 0, no block is open, and no word has changed. It takes memory in proportion to the words and the callers.
+    /// All words are 0, no block is open, and no word has changed. It takes memory in proportion to
+    /// the words and the callers.
     pub fn new(alloc: Global, header: Header) -> Result<Shadow, AllocError>
         ensures followed { IfOk result (λ s. HasFollowed s [] []) }
         ensures header { IfOk result (λ s. s.header ≡ header) }
@@ -52,12 +63,13 @@ impl Shadow {
         Shadow::of_words(alloc, header, words)
     }
 
-    /// The words are these, as a log's starting words give them, no block is open, and no word has changed. It takes memory in
-    /// proportion to the words and the callers.
+    /// The words are these, as a log's starting words give them, no block is open, and no word has
+    /// changed. It takes memory in proportion to the words and the callers.
     pub fn start_from(alloc: Global, header: Header, words: &[u64]) -> Result<Shadow, AllocError>
         requires all { length words.now ≡ plain_words header }
         requires values { (w : ℕ) → slice_index words.now w < 2 ^ 63 }
-        ensures followed { (starting : List StartWord) → words.now ≡ words_at_start header starting → IfOk result (λ s. HasFollowed s starting []) }
+        ensures followed { (starting : List StartWord) → words.now ≡ words_at_start header starting
+            → IfOk result (λ s. HasFollowed s starting []) }
         ensures words { IfOk result (λ s. s.words ≡ words.now) }
         ensures header { IfOk result (λ s. s.header ≡ header) }
         ensures closed { IfOk result (λ s. (c : ℕ) → is_open s c ≡ false) }
@@ -70,7 +82,12 @@ impl Shadow {
     fn of_words(alloc: Global, header: Header, words: Vec<u64>) -> Result<Shadow, AllocError>
         requires all { length words.items ≡ plain_words header }
         requires values { (w : ℕ) → slice_index words.items w < 2 ^ 63 }
-        ensures { IfOk result (λ s. s ≡ record { header = header; words = words.items; blocks = replicate header.callers None; changed = [] }) }
+        ensures { IfOk result (λ s. s ≡ record {
+          header = header;
+          words = words.items;
+          blocks = replicate header.callers None;
+          changed = [];
+        }) }
     {
         Ok(Shadow {
             header,
@@ -90,11 +107,17 @@ impl Shadow {
         requires caller { caller < self.old.header.callers }
         requires word { word < plain_words self.old.header }
         requires value { value < 2 ^ 63 }
-        ensures followed { (starting : List StartWord) (earlier : List Entry) → HasFollowed self.old starting earlier →
-            broken_rule self.old.header earlier (record { caller = caller; kind = Write word value }) ≡ None →
-            OnOk result (HasFollowed self.new starting (record { caller = caller; kind = Write word value } ∷ earlier)) }
+        ensures followed { (starting : List StartWord) (earlier : List Entry)
+            → HasFollowed self.old starting earlier
+            → broken_rule self.old.header earlier
+            (record { caller = caller; kind = Write word value })
+            ≡ None
+            → OnOk result (HasFollowed self.new starting
+            (record { caller = caller; kind = Write word value } ∷ earlier)) }
         ensures blocks { (c : ℕ) → is_open self.new c ≡ is_open self.old c }
-        ensures changed { OnOk result (self.new.changed ≡ (if is_open self.old caller then self.old.changed else self.old.changed ++ word ∷ [])) }
+        ensures changed { OnOk result (self.new.changed ≡ (if is_open self.old caller
+            then self.old.changed
+            else self.old.changed ++ word ∷ [])) }
         ensures refused { OnErr result (self.new ≡ self.old) }
         ensures header { self.new.header ≡ self.old.header }
     {
@@ -110,9 +133,12 @@ impl Shadow {
     pub fn open_block(&mut self, caller: u32)
         requires caller { caller < self.old.header.callers }
         requires closed { is_open self.old caller ≡ false }
-        ensures followed { (starting : List StartWord) (earlier : List Entry) → HasFollowed self.old starting earlier →
-            broken_rule self.old.header earlier (record { caller = caller; kind = BlockOpen }) ≡ None →
-            HasFollowed self.new starting (record { caller = caller; kind = BlockOpen } ∷ earlier) }
+        ensures followed { (starting : List StartWord) (earlier : List Entry)
+            → HasFollowed self.old starting earlier
+            → broken_rule self.old.header earlier (record { caller = caller; kind = BlockOpen })
+            ≡ None
+            → HasFollowed self.new starting
+            (record { caller = caller; kind = BlockOpen } ∷ earlier) }
         ensures opened { is_open self.new caller ≡ true }
         ensures changed { self.new.changed ≡ self.old.changed }
         ensures header { self.new.header ≡ self.old.header }
@@ -127,13 +153,20 @@ impl Shadow {
     pub fn close_block(&mut self, caller: u32)
         requires caller { caller < self.old.header.callers }
         requires opened { is_open self.old caller ≡ true }
-        ensures closed { (starting : List StartWord) (earlier : List Entry) → HasFollowed self.old starting earlier →
-            broken_rule self.old.header earlier (record { caller = caller; kind = BlockClose }) ≡ None →
-            HasFollowed self.new starting (record { caller = caller; kind = BlockClose } ∷ earlier) }
-        ensures committed { (starting : List StartWord) (earlier : List Entry) → HasFollowed self.old starting earlier →
-            broken_rule self.old.header earlier (record { caller = caller; kind = BlockCommit }) ≡ None →
-            HasFollowed self.new starting (record { caller = caller; kind = BlockCommit } ∷ earlier) }
-        ensures changed { self.new.changed ≡ self.old.changed ++ words_of (kept_writes self.old caller) }
+        ensures closed { (starting : List StartWord) (earlier : List Entry)
+            → HasFollowed self.old starting earlier
+            → broken_rule self.old.header earlier (record { caller = caller; kind = BlockClose })
+            ≡ None
+            → HasFollowed self.new starting
+            (record { caller = caller; kind = BlockClose } ∷ earlier) }
+        ensures committed { (starting : List StartWord) (earlier : List Entry)
+            → HasFollowed self.old starting earlier
+            → broken_rule self.old.header earlier (record { caller = caller; kind = BlockCommit })
+            ≡ None
+            → HasFollowed self.new starting
+            (record { caller = caller; kind = BlockCommit } ∷ earlier) }
+        ensures changed { self.new.changed
+            ≡ self.old.changed ++ words_of (kept_writes self.old caller) }
         ensures header { self.new.header ≡ self.old.header }
     {
         let block = &mut self.blocks[caller as usize];
@@ -151,8 +184,9 @@ impl Shadow {
         &self.words
     }
 
-    /// The words that effects have touched since the last `clear_changed`, in the order of the effects: a write outside a block
-    /// adds its word, and a block's end the words written in it, once each in the order of their first writes.
+    /// The words that effects have touched since the last `clear_changed`, in the order of the
+    /// effects: a write outside a block adds its word, and a block's end the words written in it,
+    /// once each in the order of their first writes.
     #[inline(always)]
     pub fn changed(&self) -> &[u32]
         ensures changed { result.now ≡ self.now.changed }
@@ -165,7 +199,9 @@ impl Shadow {
     #[inline(always)]
     pub fn clear_changed(&mut self)
         ensures changed { self.new ≡ record self.old { changed = [] } }
-        ensures followed { (starting : List StartWord) (earlier : List Entry) → HasFollowed self.old starting earlier → HasFollowed self.new starting earlier }
+        ensures followed { (starting : List StartWord) (earlier : List Entry)
+            → HasFollowed self.old starting earlier
+            → HasFollowed self.new starting earlier }
     {
         self.changed.clear();
     }
@@ -175,7 +211,10 @@ impl Shadow {
     fn write_through(&mut self, word: u32, value: u64) -> Result<(), AllocError>
         requires word { word < plain_words self.old.header }
         requires value { value < 2 ^ 63 }
-        ensures ok { OnOk result (self.new ≡ record self.old { words = slice_set self.old.words word value; changed = self.old.changed ++ word ∷ [] }) }
+        ensures ok { OnOk result (self.new ≡ record self.old {
+          words = slice_set self.old.words word value;
+          changed = self.old.changed ++ word ∷ [];
+        }) }
         ensures refused { OnErr result (self.new ≡ self.old) }
     {
         self.changed.reserve(self.count + 1)?;
@@ -191,7 +230,10 @@ impl Shadow {
         requires opened { is_open self.old caller ≡ true }
         requires word { word < plain_words self.old.header }
         requires value { value < 2 ^ 63 }
-        ensures ok { OnOk result (self.new ≡ record self.old { blocks = slice_set self.old.blocks caller (Some (insert_entry nat_eq (kept_writes self.old caller) word value)) }) }
+        ensures ok { OnOk result (self.new ≡ record self.old {
+          blocks = slice_set self.old.blocks caller
+              (Some (insert_entry nat_eq (kept_writes self.old caller) word value));
+        }) }
         ensures refused { OnErr result (self.new ≡ self.old) }
     {
         self.changed.reserve(self.count + 1)?;

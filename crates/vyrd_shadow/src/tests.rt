@@ -39,7 +39,8 @@ fn starts_from_words_and_needs_no_commit(rt: HostRuntime) -> Result<(), Fail> {
     let mut shadow = Shadow::start_from(rt.alloc(), header, start.as_slice())?;
     assert_eq!(rt; shadow.words(), start.as_slice());
     assert_eq!(rt; shadow.changed(), [].as_slice());
-    // The log is: call, open, write 0 0, commit, write 1 9, close. The call and the commit aren't told.
+    // The log is: call, open, write 0 0, commit, write 1 9, close. The call and the commit aren't
+    // told.
     shadow.open_block(0);
     shadow.write(0, 0, 0)?;
     shadow.write(0, 1, 9)?;

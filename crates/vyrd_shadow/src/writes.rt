@@ -1,6 +1,7 @@
 //! The writes that a block keeps back.
 
-ghost use Rattle.std.specs.Prelude.{◌≡◌, ◌+◌, ◌≤◌, ◌==◌, ◌++◌, [], length, IfOk, OnOk, OnErr, nat_eq, vec_len, vec_capacity, if◌then◌else◌};
+ghost use Rattle.std.specs.Prelude.{◌≡◌, ◌+◌, ◌≤◌, ◌==◌, ◌++◌, [], length, IfOk, OnOk, OnErr};
+ghost use Rattle.std.specs.Prelude.{nat_eq, vec_len, vec_capacity, if◌then◌else◌};
 ghost use Rattle.std.specs.List.{position};
 ghost use Rattle.std.specs.Map.{keys_of};
 ghost use Rattle.indexmap.specs.IndexMap.{insert_entry};
@@ -10,7 +11,8 @@ use indexmap::IndexMap;
 use std::alloc::{AllocError, Global};
 use std::marker::Model;
 
-/// How many words are looked for one by one. Most blocks have no more, and for so few a table takes longer.
+/// How many words are looked for one by one. Most blocks have no more, and for so few a table takes
+/// longer.
 const FEW: usize = 8;
 
 /// Writes, each word once in the order of the first writes, with its last value.
@@ -55,7 +57,8 @@ impl Writes {
     pub fn insert(&mut self, word: u32, value: u64) -> Result<bool, AllocError>
         ensures ok { OnOk result (self.new ≡ insert_entry nat_eq self.old word value) }
         ensures err { OnErr result (self.new ≡ self.old) }
-        ensures more { IfOk result (λ more. length self.new ≡ length self.old + (if more then 1 else 0)) }
+        ensures more { IfOk result
+            (λ more. length self.new ≡ length self.old + (if more then 1 else 0)) }
     {
         if let Some(place) = place_of(&self.few, word) {
             self.few[place] = (word, value);
@@ -105,9 +108,11 @@ impl Writes {
 /// Takes in a write after the first ones, and says whether its word is new.
 #[inline(never)]
 fn insert_more(writes: &mut IndexMap<u32, u64>, word: u32, value: u64) -> Result<bool, AllocError>
-    ensures ok { OnOk result (writes.new.entries ≡ insert_entry nat_eq writes.old.entries word value) }
+    ensures ok { OnOk result
+        (writes.new.entries ≡ insert_entry nat_eq writes.old.entries word value) }
     ensures err { OnErr result (writes.new.entries ≡ writes.old.entries) }
-    ensures more { IfOk result (λ more. length writes.new.entries ≡ length writes.old.entries + (if more then 1 else 0)) }
+    ensures more { IfOk result
+        (λ more. length writes.new.entries ≡ length writes.old.entries + (if more then 1 else 0)) }
 {
     let before = writes.insert(word, value)?;
     Ok(before.is_none())

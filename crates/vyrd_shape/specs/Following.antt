@@ -1,5 +1,6 @@
 -- What the rules of shape need to know of the entries so far.
-use Rattle.std.specs.Prelude.{◌≡◌, ℕ, ◌+◌, ◌<◌, ◌≤◌, ◌==◌, false, List, length, Some, slice_index, slice_get}
+use Rattle.std.specs.Prelude.{◌≡◌, ℕ, ◌+◌, ◌<◌, ◌≤◌, ◌==◌, false, List, length, Some, slice_index}
+use Rattle.std.specs.Prelude.{slice_get}
 use Rattle.vyrd_base.specs.declared.header.Header.{Header}
 use Rattle.vyrd_base.specs.declared.log.Entry.{Entry}
 use Rattle.vyrd_base.specs.Layout.{plain_words}
@@ -10,8 +11,9 @@ use Rattle.vyrd_shape.specs.Phases.{phase_of}
 use Rattle.vyrd_shape.specs.Stamps.{CommitStamps, AreOrdered}
 use Rattle.vyrd_shape.specs.Holding.{Holding, IsWordBelow}
 
--- the header, the phase of each caller, the holder of each plain word (a caller's number plus 1, or 0
--- for nobody), the stamps of the callers' lone commits, and from version 2 on one of each plain word
+-- the header, the phase of each caller, the holder of each plain word (a caller's number plus 1, or
+-- 0 for nobody), the stamps of the callers' lone commits, and from version 2 on one of each plain
+-- word
 pub record Kept : Type 0 where
   pub header : Header
   pub phases : List Phase
@@ -24,7 +26,8 @@ pub record Kept : Type 0 where
 -- it, which is one caller at most. Stamps stand in the order of the log.
 pub record HasFollowed (kept : Kept) (earlier : List Entry) : Type 0 where
   pub rules : WellFormed kept.header earlier
-  pub phases : (c : ℕ) → c < kept.header.callers → slice_get kept.phases c ≡ Some (phase_of c earlier)
+  pub phases : (c : ℕ) → c < kept.header.callers
+      → slice_get kept.phases c ≡ Some (phase_of c earlier)
   pub holders : (c w : ℕ) → c < kept.header.callers → w < plain_words kept.header
       → holds_word c w earlier ≡ (slice_index kept.holders w == c + 1)
   pub callers : (w : ℕ) → slice_index kept.holders w ≤ kept.header.callers
@@ -32,8 +35,8 @@ pub record HasFollowed (kept : Kept) (earlier : List Entry) : Type 0 where
 
 -- there is a phase and a commit's stamp for each caller, a holder for each plain word, and from
 -- version 2 on a stamp
-pub record IsComplete (h : Header) (phases : List Phase) (holding : Holding) (commits : CommitStamps)
-    (stamps : List ℕ) : Type 0 where
+pub record IsComplete (h : Header) (phases : List Phase) (holding : Holding)
+    (commits : CommitStamps) (stamps : List ℕ) : Type 0 where
   pub enough_phases : length phases ≡ h.callers
   pub enough_callers : holding.callers ≡ h.callers
   pub enough_commits : length commits.by_caller ≡ h.callers

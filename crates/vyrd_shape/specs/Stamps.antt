@@ -1,5 +1,6 @@
 -- Which came first: a lone commit inside a block, or the last effect on a word.
-use Rattle.std.specs.Prelude.{◌≡◌, ℕ, ◌+◌, ◌<◌, ◌≤◌, max, Bool, true, false, not, nat_lt, ◌&&◌, ◌==◌, List, [], ◌∷◌, length, slice_index, slice_set, if◌then◌else◌}
+use Rattle.std.specs.Prelude.{◌≡◌, ℕ, ◌+◌, ◌<◌, ◌≤◌, max, Bool, true, false, not, nat_lt, ◌&&◌}
+use Rattle.std.specs.Prelude.{◌==◌, List, [], ◌∷◌, length, slice_index, slice_set, if◌then◌else◌}
 use Rattle.std.specs.List.{list_any, count_by}
 use Rattle.vyrd_base.specs.declared.header.Header.{Header}
 use Rattle.vyrd_base.specs.declared.log.Kind.{Kind}
@@ -94,7 +95,8 @@ takes_effect holders in_block c BlockClose w = slice_index holders w == c + 1
 takes_effect holders in_block c BlockCommit w = slice_index holders w == c + 1
 takes_effect holders in_block c _ w = false
 
--- the stamp of the writes that take effect then: that of the lone commit inside the block, or the next
+-- the stamp of the writes that take effect then: that of the lone commit inside the block, or the
+-- next
 abbrev pub effect_stamp : CommitStamps → Bool → ℕ → ℕ
 effect_stamp commits inner c = if inner then slice_index commits.by_caller c else commits.next
 

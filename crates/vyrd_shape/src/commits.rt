@@ -7,8 +7,8 @@ use crate::stamps::{Stamps, renumber};
 use std::alloc::{AllocError, Global};
 use std::marker::Model;
 
-/// For each caller the stamp of its last lone commit inside a block. A stamp is greater than all that
-/// were given before it. Only their order counts.
+/// For each caller the stamp of its last lone commit inside a block. A stamp is greater than all
+/// that were given before it. Only their order counts.
 #[derive(Drop)]
 pub(crate) struct Commits {
     /// By caller.
@@ -27,7 +27,8 @@ impl Model for Commits {
 
     ghost view = { λ s. record { by_caller = s.by_caller.items; next = s.next } };
 
-    ghost invariant = { λ s. AreGiven s.by_caller.items s.next × (length s.before.items ≡ length s.by_caller.items) };
+    ghost invariant = { λ s. AreGiven s.by_caller.items s.next
+        × (length s.before.items ≡ length s.by_caller.items) };
 }
 
 impl Commits {
@@ -73,7 +74,8 @@ impl Commits {
         self.next += 1;
     }
 
-    /// Gives each stamp the number of commits before it, so that the order of commits, and of a commit and a write, stays.
+    /// Gives each stamp the number of commits before it, so that the order of commits, and of a
+    /// commit and a write, stays.
     fn renumber(&mut self, stamps: &mut Stamps)
         ensures commits { AreRanked self.old.by_caller self.old.by_caller self.new.by_caller }
         ensures next { self.new.next ≡ length self.old.by_caller + 1 }

@@ -1,7 +1,9 @@
 //! Which caller's open block has written each word.
 
-ghost use Rattle.std.specs.Prelude.{◌≡◌, ◌+◌, ◌<◌, ◌==◌, map, length, slice_index, slice_set, replicate, IfOk, if◌then◌else◌};
-ghost use Rattle.vyrd_shape.specs.Holding.{released, holders_after, is_held_by_another, IsLinked, IsWordBelow};
+ghost use Rattle.std.specs.Prelude.{◌≡◌, ◌+◌, ◌<◌, ◌==◌, map, length, slice_index, slice_set};
+ghost use Rattle.std.specs.Prelude.{replicate, IfOk, if◌then◌else◌};
+ghost use Rattle.vyrd_shape.specs.Holding.{released, holders_after, is_held_by_another, IsLinked};
+ghost use Rattle.vyrd_shape.specs.Holding.{IsWordBelow};
 ghost use Rattle.vyrd_shape.specs.Stamps.{takes_effect, AreRaised};
 
 use crate::stamps::Stamps;
@@ -9,7 +11,8 @@ use std::alloc::{AllocError, Global};
 use std::marker::Model;
 use vyrd_base::{Entry, Kind};
 
-/// The holder of each word, with the words of one holder linked, so that letting go of them looks at no others.
+/// The holder of each word, with the words of one holder linked, so that letting go of them looks
+/// at no others.
 #[derive(Drop)]
 pub(crate) struct Holders {
     /// By word: the holder's number plus 1, and 0 if there is none.
@@ -54,14 +57,16 @@ impl Holders {
         holder != 0 && holder - 1 != caller
     }
 
-    /// Follows an entry of a caller that has an open block or hasn't. A write in a block holds its word, and a block's end lets
-    /// go of the caller's words. The words on which writes take effect get at least this stamp.
+    /// Follows an entry of a caller that has an open block or hasn't. A write in a block holds its
+    /// word, and a block's end lets go of the caller's words. The words on which writes take effect
+    /// get at least this stamp.
     #[inline(always)]
     pub fn follow(&mut self, in_block: bool, entry: &Entry, stamp: u64, stamps: &mut Stamps)
         requires caller { entry.now.caller < self.old.callers }
         requires word { IsWordBelow (length self.old.by_word) entry.now.kind }
         ensures callers { self.new.callers ≡ self.old.callers }
-        ensures by_word { self.new.by_word ≡ holders_after self.old.by_word in_block entry.now.caller entry.now.kind }
+        ensures by_word { self.new.by_word
+            ≡ holders_after self.old.by_word in_block entry.now.caller entry.now.kind }
         ensures stamps { AreRaised
             (takes_effect self.old.by_word in_block entry.now.caller entry.now.kind) stamp
             stamps.old stamps.new }
@@ -85,7 +90,9 @@ impl Holders {
         requires caller { caller < self.old.callers }
         requires word { word < length self.old.by_word }
         ensures callers { self.new.callers ≡ self.old.callers }
-        ensures by_word { self.new.by_word ≡ (if slice_index self.old.by_word word == 0 then slice_set self.old.by_word word (caller + 1) else self.old.by_word) }
+        ensures by_word { self.new.by_word ≡ (if slice_index self.old.by_word word == 0
+            then slice_set self.old.by_word word (caller + 1)
+            else self.old.by_word) }
     {
         let place = word as usize;
         if self.by_word[place] == 0 {

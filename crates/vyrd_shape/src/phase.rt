@@ -88,7 +88,8 @@ impl Phase {
     /// The first rule that a call breaks.
     #[inline(always)]
     pub fn call_rule(self, header: Header, method: Method, args: Args) -> Option<Rule>
-        ensures { (c : ℕ) (earlier : List Entry) → self ≡ phase_of c earlier → result ≡ first_broken (checks_of header earlier c (Kind.Call method args)) }
+        ensures { (c : ℕ) (earlier : List Entry) → self ≡ phase_of c earlier
+            → result ≡ first_broken (checks_of header earlier c (Kind.Call method args)) }
     {
         if method.subject() != header.subject() {
             Some(Rule::MethodOther)
@@ -104,7 +105,8 @@ impl Phase {
     /// The first rule that a return breaks.
     #[inline(always)]
     pub fn return_rule(self) -> Option<Rule>
-        ensures { (h : Header) (c reply : ℕ) (earlier : List Entry) → self ≡ phase_of c earlier → result ≡ first_broken (checks_of h earlier c (Kind.Return reply)) }
+        ensures { (h : Header) (c reply : ℕ) (earlier : List Entry) → self ≡ phase_of c earlier
+            → result ≡ first_broken (checks_of h earlier c (Kind.Return reply)) }
     {
         match self.open_method {
             None => Some(Rule::NoCall),
@@ -152,7 +154,8 @@ impl Phase {
     /// The first rule that the opening of a block breaks.
     #[inline(always)]
     pub fn open_rule(self) -> Option<Rule>
-        ensures { (h : Header) (c : ℕ) (earlier : List Entry) → self ≡ phase_of c earlier → result ≡ first_broken (checks_of h earlier c Kind.BlockOpen) }
+        ensures { (h : Header) (c : ℕ) (earlier : List Entry) → self ≡ phase_of c earlier
+            → result ≡ first_broken (checks_of h earlier c Kind.BlockOpen) }
     {
         if self.open_method.is_none() {
             Some(Rule::NoCall)
@@ -166,7 +169,8 @@ impl Phase {
     /// The first rule that the end of a block without a commit breaks.
     #[inline(always)]
     pub fn close_rule(self) -> Option<Rule>
-        ensures { (h : Header) (c : ℕ) (earlier : List Entry) → self ≡ phase_of c earlier → result ≡ first_broken (checks_of h earlier c Kind.BlockClose) }
+        ensures { (h : Header) (c : ℕ) (earlier : List Entry) → self ≡ phase_of c earlier
+            → result ≡ first_broken (checks_of h earlier c Kind.BlockClose) }
     {
         if self.open_method.is_none() {
             Some(Rule::NoCall)
@@ -180,7 +184,8 @@ impl Phase {
     /// The first rule that the end of a block with a commit breaks.
     #[inline(always)]
     pub fn block_commit_rule(self) -> Option<Rule>
-        ensures { (h : Header) (c : ℕ) (earlier : List Entry) → self ≡ phase_of c earlier → result ≡ first_broken (checks_of h earlier c Kind.BlockCommit) }
+        ensures { (h : Header) (c : ℕ) (earlier : List Entry) → self ≡ phase_of c earlier
+            → result ≡ first_broken (checks_of h earlier c Kind.BlockCommit) }
     {
         match self.open_method {
             None => Some(Rule::NoCall),

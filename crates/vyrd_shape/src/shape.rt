@@ -1,6 +1,7 @@
 //! The rules of shape, one entry at a time.
 
-ghost use Rattle.std.specs.Prelude.{◌≡◌, ◌<◌, true, false, List, [], ◌∷◌, Some, None, is_some, IfOk, IfErr, IfNone, OnOk, OnErr, MatchResult};
+ghost use Rattle.std.specs.Prelude.{◌≡◌, ◌<◌, true, false, List, [], ◌∷◌, Some, None, is_some};
+ghost use Rattle.std.specs.Prelude.{IfOk, IfErr, IfNone, OnOk, OnErr, MatchResult};
 ghost use Rattle.std.specs.List.{list_any};
 ghost use Rattle.vyrd_base.specs.declared.log.Entry.{Entry};
 ghost use Rattle.vyrd_base.specs.Layout.{plain_words};
@@ -37,8 +38,9 @@ impl fmt::Display for ShapeFault {
 
 impl Error for ShapeFault {}
 
-/// What the rules of shape need to know of the entries so far: for each caller what it is in the middle of, for each word
-/// which caller's open block has written it, and what came first, a lone commit inside a block or the last effect on a word.
+/// What the rules of shape need to know of the entries so far: for each caller what it is in the
+/// middle of, for each word which caller's open block has written it, and what came first, a lone
+/// commit inside a block or the last effect on a word.
 #[derive(Drop)]
 pub struct Shape {
     header: Header,
@@ -67,7 +69,8 @@ impl Model for Shape {
 }
 
 impl Shape {
-    /// A shape that has followed no entry. All of its memory is taken here, in proportion to the words and the callers.
+    /// A shape that has followed no entry. All of its memory is taken here, in proportion to the
+    /// words and the callers.
     pub fn new(alloc: Global, header: Header) -> Result<Shape, AllocError>
         ensures followed { IfOk result (λ s. HasFollowed s []) }
         ensures header { IfOk result (λ s. s.header ≡ header) }
@@ -82,12 +85,16 @@ impl Shape {
         })
     }
 
-    /// Follows one more entry, or says which rule it breaks first, and then the entry isn't followed. A block's end takes time
-    /// linear in the number of words that the block has written, and any other entry takes constant time. No memory is taken.
+    /// Follows one more entry, or says which rule it breaks first, and then the entry isn't
+    /// followed. A block's end takes time linear in the number of words that the block has written,
+    /// and any other entry takes constant time. No memory is taken.
     #[inline(always)]
     pub fn step(&mut self, entry: &Entry) -> Result<(), ShapeFault>
-        ensures ok { (earlier : List Entry) → HasFollowed self.old earlier → OnOk result ((broken_rule self.old.header earlier entry.now ≡ None) × HasFollowed self.new (entry.now ∷ earlier)) }
-        ensures fault { (earlier : List Entry) → HasFollowed self.old earlier → IfErr result (λ f. broken_rule self.old.header earlier entry.now ≡ Some f.rule) }
+        ensures ok { (earlier : List Entry) → HasFollowed self.old earlier
+            → OnOk result ((broken_rule self.old.header earlier entry.now ≡ None)
+            × HasFollowed self.new (entry.now ∷ earlier)) }
+        ensures fault { (earlier : List Entry) → HasFollowed self.old earlier
+            → IfErr result (λ f. broken_rule self.old.header earlier entry.now ≡ Some f.rule) }
         ensures refused { OnErr result (self.new ≡ self.old) }
         ensures header { self.new.header ≡ self.old.header }
     {
@@ -100,11 +107,12 @@ impl Shape {
         }
     }
 
-    /// Whether the log may end here: no execution is open. Otherwise the fault is `CallOpen`. It takes time linear in the number
-    /// of callers.
+    /// Whether the log may end here: no execution is open. Otherwise the fault is `CallOpen`. It
+    /// takes time linear in the number of callers.
     pub fn end(&self) -> Result<(), ShapeFault>
-        ensures { (earlier : List Entry) → HasFollowed self.now earlier →
-            MatchResult result (λ _. is_call_open self.now.header earlier ≡ false) (λ f. (is_call_open self.now.header earlier ≡ true) × (f.rule ≡ Rule.CallOpen)) }
+        ensures { (earlier : List Entry) → HasFollowed self.now earlier
+            → MatchResult result (λ _. is_call_open self.now.header earlier ≡ false)
+            (λ f. (is_call_open self.now.header earlier ≡ true) × (f.rule ≡ Rule.CallOpen)) }
     {
         if is_any_open(&self.phases) {
             Err(ShapeFault {
@@ -118,7 +126,8 @@ impl Shape {
     /// The first rule that the entry breaks.
     #[inline(always)]
     fn broken_by(&self, entry: &Entry) -> Option<Rule>
-        ensures rule { (earlier : List Entry) → HasFollowed self.now earlier → result ≡ broken_rule self.now.header earlier entry.now }
+        ensures rule { (earlier : List Entry) → HasFollowed self.now earlier
+            → result ≡ broken_rule self.now.header earlier entry.now }
         ensures in_range { IfNone result (IsInRange self.now.header entry.now) }
     {
         if entry.caller >= self.header.callers() {
@@ -132,8 +141,10 @@ impl Shape {
     #[inline(always)]
     fn broken_in(&self, phase: Phase, entry: &Entry) -> Option<Rule>
         requires { entry.now.caller < self.now.header.callers }
-        ensures rule { (earlier : List Entry) → HasFollowed self.now earlier → phase ≡ phase_of entry.now.caller earlier →
-            result ≡ first_broken (checks_of self.now.header earlier entry.now.caller entry.now.kind) }
+        ensures rule { (earlier : List Entry) → HasFollowed self.now earlier
+            → phase ≡ phase_of entry.now.caller earlier
+            → result
+            ≡ first_broken (checks_of self.now.header earlier entry.now.caller entry.now.kind) }
         ensures word { IfNone result (IsWordBelow (plain_words self.now.header) entry.now.kind) }
     {
         match entry.kind {
@@ -151,8 +162,10 @@ impl Shape {
     #[inline(always)]
     fn broken_by_write(&self, phase: Phase, caller: u32, word: u32, value: u64) -> Option<Rule>
         requires { caller < self.now.header.callers }
-        ensures rule { (earlier : List Entry) → HasFollowed self.now earlier → phase ≡ phase_of caller earlier →
-            result ≡ first_broken (checks_of self.now.header earlier caller (Kind.Write word value)) }
+        ensures rule { (earlier : List Entry) → HasFollowed self.now earlier
+            → phase ≡ phase_of caller earlier
+            → result
+            ≡ first_broken (checks_of self.now.header earlier caller (Kind.Write word value)) }
         ensures word { IfNone result (word < plain_words self.now.header) }
     {
         let rule = phase.write_rule(self.header, word, value);
@@ -190,7 +203,9 @@ impl Shape {
     #[inline(always)]
     fn follow(&mut self, entry: &Entry)
         requires in_range { IsInRange self.old.header entry.now }
-        ensures followed { (earlier : List Entry) → HasFollowed self.old earlier → broken_rule self.old.header earlier entry.now ≡ None → HasFollowed self.new (entry.now ∷ earlier) }
+        ensures followed { (earlier : List Entry) → HasFollowed self.old earlier
+            → broken_rule self.old.header earlier entry.now ≡ None
+            → HasFollowed self.new (entry.now ∷ earlier) }
         ensures header { self.new.header ≡ self.old.header }
     {
         let place = entry.caller as usize;

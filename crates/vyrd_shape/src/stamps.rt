@@ -1,6 +1,7 @@
 //! When a write last took effect on each word.
 
-ghost use Rattle.std.specs.Prelude.{◌≡◌, ℕ, ◌≤◌, max, length, replicate, slice_index, slice_set, nat_lt, IfOk};
+ghost use Rattle.std.specs.Prelude.{◌≡◌, ℕ, ◌≤◌, max, length, replicate, slice_index, slice_set};
+ghost use Rattle.std.specs.Prelude.{nat_lt, IfOk};
 ghost use Rattle.vyrd_shape.specs.Stamps.{rank, AreRanked};
 
 use std::alloc::{AllocError, Global};

@@ -10,4 +10,5 @@ shown_pair c = if c.state == 0 then stored_pair c else cached_pair c
 
 -- the pair of each chunk, if the words stand for a state
 abbrev pub sound_pairs : ℕ → List ℕ → Option (List ℕ)
-sound_pairs size words = sound_row (λ h. is_sound_chunk (chunk_at words h)) (λ h. shown_pair (chunk_at words h)) size
+sound_pairs size words =
+    sound_row (λ h. is_sound_chunk (chunk_at words h)) (λ h. shown_pair (chunk_at words h)) size

@@ -17,7 +17,8 @@ is_next_key words n j = j == 0 || nat_lt (key_at words n (j - 1)) (key_at words 
 
 -- whether a key may stand in the node: it is at least the low, and below the bound, if there is one
 abbrev pub is_in_range : ℕ → List ℕ → ℕ → ℕ → Bool
-is_in_range last words n key = nat_le (low_of last words n) key && (bound_of words n == 0 || nat_lt key (bound_of words n))
+is_in_range last words n key =
+    nat_le (low_of last words n) key && (bound_of words n == 0 || nat_lt key (bound_of words n))
 
 -- whether the key at a place is both
 abbrev pub is_sound_key : ℕ → List ℕ → ℕ → ℕ → Bool
@@ -29,4 +30,5 @@ is_first_of last words level n = level_of words n == level && is_first last word
 
 -- whether a node is sound, and its level isn't above this one
 abbrev pub is_sound_below : ℕ → List ℕ → ℕ → ℕ → Bool
-is_sound_below last words highest n = nat_le (level_of words n) highest && is_sound_node last words n
+is_sound_below last words highest n =
+    nat_le (level_of words n) highest && is_sound_node last words n

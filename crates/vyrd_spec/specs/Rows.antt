@@ -13,8 +13,10 @@ row_amounts row = collected (map (λ k. (k, slice_index row k)) (numbers_below (
 -- These are amounts.
 pub row_formed : (row : List ℕ) → IsAmounts (row_amounts row)
 unfolding row_amounts
-row_formed row = IsAmounts-collected (map (λ k. (k, slice_index row k)) (numbers_below (length row)))
+row_formed row =
+    IsAmounts-collected (map (λ k. (k, slice_index row k)) (numbers_below (length row)))
 
 -- the values of the numbers below n, if all of these pass
 abbrev pub sound_row : (ℕ → Bool) → (ℕ → ℕ) → ℕ → Option (List ℕ)
-sound_row passes value n = then_some (list_all passes (numbers_below n)) (map value (numbers_below n))
+sound_row passes value n =
+    then_some (list_all passes (numbers_below n)) (map value (numbers_below n))

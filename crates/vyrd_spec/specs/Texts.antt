@@ -14,13 +14,16 @@ text_of_buffer buffer = text_of buffer.character buffer.count
 
 -- the text of each buffer, if the words stand for a state
 abbrev pub sound_texts : ℕ → List ℕ → Option (List ℕ)
-sound_texts size words = sound_row (λ b. is_buffer (buffer_at words b)) (λ b. text_of_buffer (buffer_at words b)) size
+sound_texts size words =
+    sound_row (λ b. is_buffer (buffer_at words b)) (λ b. text_of_buffer (buffer_at words b)) size
 
 -- The text of the call's buffer once the call has done its work, and none if the buffer has no room
 -- for that.
 abbrev pub next_text : Method → Args → Amounts → Option ℕ
-next_text BuAppend args state = then_some (has_room (amount_of state args.a) (args.b + 1)) (joined (amount_of state args.a) (args.b + 1))
+next_text BuAppend args state = then_some (has_room (amount_of state args.a) (args.b + 1))
+    (joined (amount_of state args.a) (args.b + 1))
 next_text BuAppendFrom args state =
-    then_some (has_room (amount_of state args.a) (amount_of state args.b)) (joined (amount_of state args.a) (amount_of state args.b))
+    then_some (has_room (amount_of state args.a) (amount_of state args.b))
+    (joined (amount_of state args.a) (amount_of state args.b))
 next_text BuCut args state = Some (cut_to args.b (amount_of state args.a))
 next_text _ args state = None

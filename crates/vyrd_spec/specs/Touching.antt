@@ -2,7 +2,9 @@
 use Rattle.std.specs.Prelude.{◌≡◌, ◌≢◌, ℕ, Bool, false, ◌||◌, ◌==◌, nat_lt, Option, Some, None}
 use Rattle.std.specs.Bool.{then_some}
 use Rattle.vyrd_base.specs.declared.subject.Method.{Method}
-use Rattle.vyrd_base.specs.declared.subject.Method.TheVariants.{MsInsert, MsInsertPair, MsDelete, CaWrite, TrInsert, TrDelete, BuAppend, BuAppendFrom, BuCut}
+use Rattle.vyrd_base.specs.declared.subject.Method.TheVariants.{MsInsert, MsInsertPair, MsDelete}
+use Rattle.vyrd_base.specs.declared.subject.Method.TheVariants.{CaWrite, TrInsert, TrDelete}
+use Rattle.vyrd_base.specs.declared.subject.Method.TheVariants.{BuAppend, BuAppendFrom, BuCut}
 use Rattle.vyrd_base.specs.declared.subject.Args.{Args}
 use Rattle.vyrd_base.specs.Amounts.{Amounts, IsAmounts, amount_of, with_amount}
 use Rattle.vyrd_base.specs.Specification.{next_state}

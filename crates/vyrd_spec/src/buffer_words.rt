@@ -14,7 +14,8 @@ pub(crate) fn texts_of(
     words: &[u64],
 ) -> Result<Option<Vec<u64>>, AllocError>
     requires count { length words.now ≡ 8 * size }
-    ensures { IfOk result (λ found. MatchOption found (sound_texts size words.now ≡ None) (λ texts. sound_texts size words.now ≡ Some texts.items)) }
+    ensures { IfOk result (λ found. MatchOption found (sound_texts size words.now ≡ None)
+        (λ texts. sound_texts size words.now ≡ Some texts.items)) }
 {
     let mut texts = Vec::with_capacity(alloc, size)?;
     for buffer in 0..size {

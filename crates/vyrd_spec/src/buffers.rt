@@ -101,8 +101,11 @@ fn next(texts: &mut Vec<u64>, method: Method, args: Args, reply: u64) -> bool
     requires mutator { is_observer method ≡ false }
     requires buffer { args.a < length texts.old.items }
     requires small { AreTexts (row_amounts texts.old.items) }
-    ensures allowed { result ≡ true → next_state method args reply (row_amounts texts.old.items) ≡ Some (row_amounts texts.new.items) }
-    ensures refused { result ≡ false → next_state method args reply (row_amounts texts.old.items) ≡ None }
+    ensures allowed { result ≡ true
+        → next_state method args reply (row_amounts texts.old.items)
+        ≡ Some (row_amounts texts.new.items) }
+    ensures refused { result ≡ false
+        → next_state method args reply (row_amounts texts.old.items) ≡ None }
     ensures count { length texts.new.items ≡ length texts.old.items }
     ensures unchanged { result ≡ false → texts.new ≡ texts.old }
 

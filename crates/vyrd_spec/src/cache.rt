@@ -14,8 +14,9 @@ use crate::touched::{Touched, touched_by};
 use std::alloc::{AllocError, Global};
 use vyrd_base::{Args, Header, Method, View};
 
-/// The specification of the cache. The amount of a chunk is hi * 2^32 + lo of the pair that was written last.
-/// The pairs stand in a list by chunk, so that a step costs constant time and no memory.
+/// The specification of the cache. The amount of a chunk is hi * 2^32 + lo of the pair that was
+/// written last. The pairs stand in a list by chunk, so that a step costs constant time and no
+/// memory.
 #[derive(Drop)]
 pub struct CacheSpec {
     header: Header,
@@ -23,7 +24,8 @@ pub struct CacheSpec {
     pairs: Vec<u64>,
     ghost few: { made ≤ 2 ^ 62 },
     ghost count: { length pairs.items ≡ header.size },
-    ghost small: { AllAmounts (λ chunk pair. (chunk < 2 ^ 32) × (pair < 2 ^ 64)) (row_amounts pairs.items) },
+    ghost small: { AllAmounts (λ chunk pair. (chunk < 2 ^ 32) × (pair < 2 ^ 64))
+        (row_amounts pairs.items) },
 }
 
 impl Spec for CacheSpec {
@@ -87,13 +89,17 @@ impl Spec for CacheSpec {
     }
 }
 
-/// Changes the pairs by a mutator's call with its reply, and says whether the reply is allowed, which 1 alone is.
+/// Changes the pairs by a mutator's call with its reply, and says whether the reply is allowed,
+/// which 1 alone is.
 fn next(pairs: &mut Vec<u64>, method: Method, args: Args, reply: u64) -> bool
     requires subject { subject_of method ≡ Cache }
     requires mutator { is_observer method ≡ false }
     requires chunk { args.a < length pairs.old.items }
-    ensures allowed { result ≡ true → next_state method args reply (row_amounts pairs.old.items) ≡ Some (row_amounts pairs.new.items) }
-    ensures refused { result ≡ false → next_state method args reply (row_amounts pairs.old.items) ≡ None }
+    ensures allowed { result ≡ true
+        → next_state method args reply (row_amounts pairs.old.items)
+        ≡ Some (row_amounts pairs.new.items) }
+    ensures refused { result ≡ false
+        → next_state method args reply (row_amounts pairs.old.items) ≡ None }
     ensures count { length pairs.new.items ≡ length pairs.old.items }
     ensures unchanged { result ≡ false → pairs.new ≡ pairs.old }
 

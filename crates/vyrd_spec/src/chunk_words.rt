@@ -1,7 +1,8 @@
 //! The chunks of a cache's words: the pairs that they show, if they stand for a state. A chunk has
 //! five words: its state, and the low and the high half of the cached and of the stored pair.
 
-ghost use Rattle.std.specs.Prelude.{◌≡◌, ◌*◌, ◌+◌, ◌<◌, ◌^◌, ◌&&◌, nat_lt, length, IfOk, MatchOption};
+ghost use Rattle.std.specs.Prelude.{◌≡◌, ◌*◌, ◌+◌, ◌<◌, ◌^◌, ◌&&◌, nat_lt, length, IfOk};
+ghost use Rattle.std.specs.Prelude.{MatchOption};
 ghost use Rattle.std.specs.Bool.{then_some};
 ghost use Rattle.vyrd_base.specs.Represented.{is_sound_chunk};
 ghost use Rattle.vyrd_base.specs.Views.{chunk_at, pair_amount};
@@ -28,7 +29,8 @@ pub(crate) fn pairs_of(
     words: &[u64],
 ) -> Result<Option<Vec<u64>>, AllocError>
     requires count { length words.now ≡ 5 * size }
-    ensures { IfOk result (λ found. MatchOption found (sound_pairs size words.now ≡ None) (λ pairs. sound_pairs size words.now ≡ Some pairs.items)) }
+    ensures { IfOk result (λ found. MatchOption found (sound_pairs size words.now ≡ None)
+        (λ pairs. sound_pairs size words.now ≡ Some pairs.items)) }
 {
     let mut pairs = Vec::with_capacity(alloc, size)?;
     for chunk in 0..size {
@@ -44,7 +46,8 @@ pub(crate) fn pairs_of(
 /// range, or it is clean and its pairs differ.
 fn pair_at(words: &[u64], chunk: usize) -> Option<u64>
     requires { 5 * chunk + 4 < length words.now }
-    ensures { result ≡ then_some (is_sound_chunk (chunk_at words.now chunk)) (shown_pair (chunk_at words.now chunk)) }
+    ensures { result ≡ then_some (is_sound_chunk (chunk_at words.now chunk))
+        (shown_pair (chunk_at words.now chunk)) }
 {
     let first = 5 * chunk;
     let cached = pair_of_halves(words[first + 1], words[first + 2])?;

@@ -20,7 +20,8 @@ pub(crate) fn values(alloc: Global, size: usize, words: &[u64]) -> Result<Amount
     requires few { size ≤ 1024 }
     requires tree { is_tree size words.now ≡ true }
     ensures values { IfOk result (λ values. values ≡ collected (parts_of Tree size words.now)) }
-    ensures small { IfOk result (λ values. AllAmounts (λ key amount. (key < 2 ^ 32) × (2 ^ 32 ≤ amount) × (amount < 2 ^ 64)) values) }
+    ensures small { IfOk result (λ values.
+        AllAmounts (λ key amount. (key < 2 ^ 32) × (2 ^ 32 ≤ amount) × (amount < 2 ^ 64)) values) }
 {
     let mut values = AmountTable::new(alloc, 4 * size)?;
     let mut leaf = 0;

@@ -1,4 +1,5 @@
-//! The four specifications: what a call with its reply may do to a state, and what an observer answers in it.
+//! The four specifications: what a call with its reply may do to a state, and what an observer
+//! answers in it.
 //!
 //! The central type is the trait `Spec`. A step answers `true` exactly when the table of next
 //! states allows the reply, and the state is then the table's; after `false`, and when memory runs

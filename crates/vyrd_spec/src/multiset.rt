@@ -1,6 +1,7 @@
 //! The specification of the multiset: how many there are of each value.
 
-ghost use Rattle.std.specs.Prelude.{◌≡◌, ◌≢◌, ◌+◌, ◌*◌, ◌<◌, ◌≤◌, ◌^◌, ◌-◌, ℕ, true, false, not, OnOk, OnErr, Some, None, Ok};
+ghost use Rattle.std.specs.Prelude.{◌≡◌, ◌≢◌, ◌+◌, ◌*◌, ◌<◌, ◌≤◌, ◌^◌, ◌-◌, ℕ, true, false, not};
+ghost use Rattle.std.specs.Prelude.{OnOk, OnErr, Some, None, Ok};
 ghost use Rattle.std.specs.Bool.{then_some};
 ghost use Rattle.vyrd_base.specs.declared.subject.Subject.TheVariants.{Multiset};
 ghost use Rattle.vyrd_base.specs.Amounts.{amount_of, with_amount, plus_amount, IsAmounts};
@@ -24,7 +25,8 @@ pub struct MultisetSpec {
     amounts: AmountTable,
     ghost few: { made ≤ 2 ^ 62 },
     ghost formed: { IsAmounts amounts } by { IsAmounts-prop amounts },
-    ghost small: { AllAmounts (λ value count. (value < 2 ^ 63) × (count ≤ most_after made)) amounts },
+    ghost small: { AllAmounts (λ value count. (value < 2 ^ 63) × (count ≤ most_after made))
+        amounts },
 }
 
 impl Spec for MultisetSpec {
@@ -89,7 +91,8 @@ impl Spec for MultisetSpec {
     }
 }
 
-/// Changes the multiplicities by a mutator's call with its reply, and says whether the reply is allowed.
+/// Changes the multiplicities by a mutator's call with its reply, and says whether the reply is
+/// allowed.
 fn next(
     counts: &mut AmountTable,
     method: Method,
@@ -118,8 +121,11 @@ fn next(
 /// An insert: reply 1 adds the value, and reply 0 changes nothing.
 fn insert(counts: &mut AmountTable, value: u64, reply: u64) -> Result<bool, AllocError>
     requires few { amount_of counts.old value + 1 < 2 ^ 64 }
-    ensures allowed { result ≡ Ok true → by_reply reply (Some counts.old) (Some (plus_amount counts.old value 1)) None ≡ Some counts.new }
-    ensures refused { result ≡ Ok false → by_reply reply (Some counts.old) (Some (plus_amount counts.old value 1)) None ≡ None }
+    ensures allowed { result ≡ Ok true
+        → by_reply reply (Some counts.old) (Some (plus_amount counts.old value 1)) None
+        ≡ Some counts.new }
+    ensures refused { result ≡ Ok false
+        → by_reply reply (Some counts.old) (Some (plus_amount counts.old value 1)) None ≡ None }
     ensures unchanged { result ≢ Ok true → counts.new ≡ counts.old }
 {
     match reply {
@@ -140,10 +146,14 @@ fn insert_pair(
     reply: u64,
 ) -> Result<bool, AllocError>
     requires few { (value : ℕ) → amount_of counts.old value + 2 < 2 ^ 64 }
-    ensures allowed { result ≡ Ok true →
-        by_reply reply (Some counts.old) (Some (plus_amount (plus_amount counts.old first 1) second 1)) None ≡ Some counts.new }
-    ensures refused { result ≡ Ok false →
-        by_reply reply (Some counts.old) (Some (plus_amount (plus_amount counts.old first 1) second 1)) None ≡ None }
+    ensures allowed { result ≡ Ok true
+        → by_reply reply (Some counts.old)
+        (Some (plus_amount (plus_amount counts.old first 1) second 1)) None
+        ≡ Some counts.new }
+    ensures refused { result ≡ Ok false
+        → by_reply reply (Some counts.old)
+        (Some (plus_amount (plus_amount counts.old first 1) second 1)) None
+        ≡ None }
     ensures unchanged { result ≢ Ok true → counts.new ≡ counts.old }
 {
     match reply {
@@ -174,12 +184,16 @@ fn add_both(counts: &mut AmountTable, first: u64, second: u64) -> Result<(), All
 
 /// A delete: reply 1 takes one of a value that is there, and reply 0 says that it isn't there.
 fn delete(counts: &mut AmountTable, value: u64, reply: u64) -> bool
-    ensures allowed { result ≡ true → by_reply reply
-        (then_some (not (is_present counts.old value)) counts.old)
-        (then_some (is_present counts.old value) (with_amount counts.old value (amount_of counts.old value - 1))) None ≡ Some counts.new }
-    ensures refused { result ≡ false → by_reply reply
-        (then_some (not (is_present counts.old value)) counts.old)
-        (then_some (is_present counts.old value) (with_amount counts.old value (amount_of counts.old value - 1))) None ≡ None }
+    ensures allowed { result ≡ true
+        → by_reply reply (then_some (not (is_present counts.old value)) counts.old)
+        (then_some (is_present counts.old value)
+        (with_amount counts.old value (amount_of counts.old value - 1))) None
+        ≡ Some counts.new }
+    ensures refused { result ≡ false
+        → by_reply reply (then_some (not (is_present counts.old value)) counts.old)
+        (then_some (is_present counts.old value)
+        (with_amount counts.old value (amount_of counts.old value - 1))) None
+        ≡ None }
     ensures unchanged { result ≡ false → counts.new ≡ counts.old }
 {
     let present = counts.amount(value) != 0;

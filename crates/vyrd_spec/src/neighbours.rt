@@ -1,6 +1,7 @@
 //! The left neighbours of a tree's nodes.
 
-ghost use Rattle.std.specs.Prelude.{◌≡◌, ◌+◌, ◌*◌, ◌<◌, ◌≤◌, true, false, not, map, length, replicate, IfOk, MatchOption, None};
+ghost use Rattle.std.specs.Prelude.{◌≡◌, ◌+◌, ◌*◌, ◌<◌, ◌≤◌, true, false, not, map, length};
+ghost use Rattle.std.specs.Prelude.{replicate, IfOk, MatchOption, None};
 ghost use Rattle.vyrd_base.specs.Trees.{nodes, left_of};
 ghost use Rattle.vyrd_spec.specs.Neighbours.{have_one_left, has_left, with_left};
 
@@ -16,7 +17,8 @@ pub(crate) fn left_neighbours(
     requires few { last < 1024 }
     requires room { 12 * last + 12 ≤ length words.now }
     ensures { IfOk result (λ found. MatchOption found (have_one_left last words.now ≡ false)
-        (λ lefts. (have_one_left last words.now ≡ true) × (lefts.items ≡ map (left_of last words.now) (nodes last)))) }
+        (λ lefts. (have_one_left last words.now ≡ true)
+        × (lefts.items ≡ map (left_of last words.now) (nodes last)))) }
 {
     let mut lefts = no_lefts(alloc, last + 1)?;
     for node in 0..last + 1 {

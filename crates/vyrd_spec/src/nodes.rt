@@ -1,9 +1,13 @@
 //! The nodes in use of a tree's words, each judged by itself and its neighbours.
 
-ghost use Rattle.std.specs.Prelude.{◌≡◌, ◌+◌, ◌*◌, ◌<◌, ◌≤◌, ◌==◌, ◌&&◌, true, false, min, map, length, IfOk, IfSome, MatchOption};
+ghost use Rattle.std.specs.Prelude.{◌≡◌, ◌+◌, ◌*◌, ◌<◌, ◌≤◌, ◌==◌, ◌&&◌, true, false, min, map};
+ghost use Rattle.std.specs.Prelude.{length, IfOk, IfSome, MatchOption};
 ghost use Rattle.std.specs.List.{list_all};
-ghost use Rattle.vyrd_base.specs.TreeView.{node_word, level_of, count_of, bound_of, right_of, entries_of};
-ghost use Rattle.vyrd_base.specs.Trees.{nodes, left_of, is_first, low_of, is_linked, is_bounded, has_sound_keys, is_leaf_entry, is_child_entry, has_sound_entries, is_only_first, is_sound_node};
+ghost use Rattle.vyrd_base.specs.TreeView.{node_word, level_of, count_of, bound_of, right_of};
+ghost use Rattle.vyrd_base.specs.TreeView.{entries_of};
+ghost use Rattle.vyrd_base.specs.Trees.{nodes, left_of, is_first, low_of, is_linked, is_bounded};
+ghost use Rattle.vyrd_base.specs.Trees.{has_sound_keys, is_leaf_entry, is_child_entry};
+ghost use Rattle.vyrd_base.specs.Trees.{has_sound_entries, is_only_first, is_sound_node};
 ghost use Rattle.vyrd_spec.specs.Neighbours.{have_one_left};
 ghost use Rattle.vyrd_spec.specs.NodeKeys.{is_sound_key, is_first_of, is_sound_below};
 
@@ -37,7 +41,8 @@ pub(crate) const MOST_ENTRIES: u64 = 4;
 /// What the keys and the values of a leaf are below.
 pub(crate) const NUMBER_END: u64 = 1 << 32;
 
-/// The nodes in use, from 0 to `last`, and the left neighbour of each: the node whose right link leads to it.
+/// The nodes in use, from 0 to `last`, and the left neighbour of each: the node whose right link
+/// leads to it.
 #[derive(Drop)]
 pub(crate) struct Nodes<'w> {
     words: &'w [u64],
@@ -59,7 +64,8 @@ impl<'w> Nodes<'w> {
         requires few { last < 1024 }
         requires room { 12 * last + 12 ≤ length words.now }
         ensures { IfOk result (λ found. MatchOption found (have_one_left last words.now ≡ false)
-            (λ made. (have_one_left last words.now ≡ true) × (made.words.now ≡ words.now) × (made.last ≡ last))) }
+            (λ made. (have_one_left last words.now ≡ true) × (made.words.now ≡ words.now)
+            × (made.last ≡ last))) }
     {
         match left_neighbours(alloc, words, last)? {
             Some(lefts) => Ok(Some(Nodes { words, last, lefts })),
@@ -132,8 +138,8 @@ impl<'w> Nodes<'w> {
         }
     }
 
-    /// Whether the right link, if there is one, leads to a node in use of the same level. That at most one link leads to a node
-    /// is known of all nodes.
+    /// Whether the right link, if there is one, leads to a node in use of the same level. That at
+    /// most one link leads to a node is known of all nodes.
     fn is_linked(&self, node: usize) -> bool
         requires { node ≤ self.now.last }
         ensures { result ≡ is_linked self.now.last self.now.words.now node }
@@ -154,7 +160,8 @@ impl<'w> Nodes<'w> {
         }
     }
 
-    /// Whether there is room for the entries, and their keys rise from the low on and stay below the bound.
+    /// Whether there is room for the entries, and their keys rise from the low on and stay below
+    /// the bound.
     fn has_sound_keys(&self, node: usize) -> bool
         requires { node ≤ self.now.last }
         ensures { result ≡ has_sound_keys self.now.last self.now.words.now node }
@@ -170,7 +177,8 @@ impl<'w> Nodes<'w> {
         true
     }
 
-    /// Whether the key at this place is above the one before it, at least the low, and below the bound.
+    /// Whether the key at this place is above the one before it, at least the low, and below the
+    /// bound.
     fn is_sound_key(&self, node: usize, place: usize) -> bool
         requires node { node ≤ self.now.last }
         requires place { place < 4 }
@@ -183,7 +191,8 @@ impl<'w> Nodes<'w> {
             && (bound == 0 || key < bound)
     }
 
-    /// Whether a leaf's numbers have 32 bits, or an inner node has two children or more, of which the first begins at its low.
+    /// Whether a leaf's numbers have 32 bits, or an inner node has two children or more, of which
+    /// the first begins at its low.
     fn has_sound_entries(&self, node: usize) -> bool
         requires { node ≤ self.now.last }
         ensures { result ≡ has_sound_entries self.now.last self.now.words.now node }
@@ -218,7 +227,8 @@ impl<'w> Nodes<'w> {
     fn has_children(&self, node: usize, level: u64) -> bool
         requires node { node ≤ self.now.last }
         requires inner { 0 < level }
-        ensures { result ≡ list_all (is_child_entry self.now.last self.now.words.now level) (entries_of self.now.words.now node) }
+        ensures { result ≡ list_all (is_child_entry self.now.last self.now.words.now level)
+            (entries_of self.now.words.now node) }
     {
         for place in 0..self.entries(node) {
             if !self.is_child(
@@ -265,7 +275,8 @@ impl<'w> Nodes<'w> {
         self.level(node) == level && self.is_first(node)
     }
 
-    /// Whether the node keeps all five rules: links, bounds, keys, entries, and one chain at its level.
+    /// Whether the node keeps all five rules: links, bounds, keys, entries, and one chain at its
+    /// level.
     fn is_sound(&self, node: usize) -> bool
         requires { node ≤ self.now.last }
         ensures { result ≡ is_sound_node self.now.last self.now.words.now node }
@@ -287,7 +298,8 @@ impl<'w> Nodes<'w> {
 
     /// Whether all nodes are sound, and no level is above the highest.
     fn are_sound_below(&self, highest: u64) -> bool
-        ensures { result ≡ list_all (is_sound_below self.now.last self.now.words.now highest) (nodes self.now.last) }
+        ensures { result ≡ list_all (is_sound_below self.now.last self.now.words.now highest)
+            (nodes self.now.last) }
     {
         for node in 0..self.last + 1 {
             if !self.is_sound_below(highest, node) {
@@ -297,12 +309,14 @@ impl<'w> Nodes<'w> {
         true
     }
 
-    /// Whether these are the nodes of a tree with this root: node 0 begins the chain of the leaves and the root that of the
-    /// highest level, and each node is sound.
+    /// Whether these are the nodes of a tree with this root: node 0 begins the chain of the leaves
+    /// and the root that of the highest level, and each node is sound.
     pub(crate) fn are_tree(&self, root: usize) -> bool
         requires { root ≤ self.now.last }
-        ensures { result ≡ (level_of self.now.words.now 0 == 0 && is_first self.now.last self.now.words.now root
-            && list_all (is_sound_below self.now.last self.now.words.now (level_of self.now.words.now root)) (nodes self.now.last)) }
+        ensures { result
+            ≡ (level_of self.now.words.now 0 == 0 && is_first self.now.last self.now.words.now root
+            && list_all (is_sound_below self.now.last self.now.words.now
+            (level_of self.now.words.now root)) (nodes self.now.last)) }
     {
         self.level(0) == 0 && self.is_first(root) && self.are_sound_below(self.level(root))
     }

@@ -24,7 +24,8 @@ pub(crate) fn amount_at(row: &[u64], key: u64) -> u64
 /// The key has this amount now.
 pub(crate) fn set_amount(row: &mut Vec<u64>, key: usize, amount: u64)
     requires { key < length row.old.items }
-    ensures amounts { row_amounts row.new.items ≡ with_amount (row_amounts row.old.items) key amount }
+    ensures amounts { row_amounts row.new.items
+        ≡ with_amount (row_amounts row.old.items) key amount }
     ensures count { length row.new.items ≡ length row.old.items }
 {
     row[key] = amount;

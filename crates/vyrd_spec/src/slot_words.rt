@@ -1,7 +1,8 @@
-//! The slots of a multiset's words: whether they stand for a state, and what is in them. A bucket has four slots, and a slot
-//! two words: its state and its value.
+//! The slots of a multiset's words: whether they stand for a state, and what is in them. A bucket
+//! has four slots, and a slot two words: its state and its value.
 
-ghost use Rattle.std.specs.Prelude.{◌≡◌, ◌*◌, ◌+◌, ◌<◌, ◌≤◌, ◌^◌, ◌==◌, [], ◌∷◌, length, if◌then◌else◌, IfOk, OnOk};
+ghost use Rattle.std.specs.Prelude.{◌≡◌, ◌*◌, ◌+◌, ◌<◌, ◌≤◌, ◌^◌, ◌==◌, [], ◌∷◌, length};
+ghost use Rattle.std.specs.Prelude.{if◌then◌else◌, IfOk, OnOk};
 ghost use Rattle.vyrd_base.specs.declared.subject.Subject.TheVariants.{Multiset};
 ghost use Rattle.vyrd_base.specs.Added.{added};
 ghost use Rattle.vyrd_base.specs.Amounts.{amount_of, collected};
@@ -56,7 +57,8 @@ pub(crate) fn counts(alloc: Global, size: usize, words: &[u64]) -> Result<Amount
 /// One more of the value of a valid slot.
 fn add_slot(counts: &mut AmountTable, state: u64, value: u64) -> Result<(), AllocError>
     requires { amount_of counts.old value + 1 < 2 ^ 64 }
-    ensures { OnOk result (counts.new ≡ added counts.old (if state == 2 then (value, 1) ∷ [] else [])) }
+    ensures { OnOk result
+        (counts.new ≡ added counts.old (if state == 2 then (value, 1) ∷ [] else [])) }
 {
     if state == VALID {
         counts.add(value, 1)?;

@@ -1,6 +1,7 @@
 //! What every specification offers.
 
-ghost use Rattle.std.specs.Prelude.{◌≡◌, ◌≢◌, ◌+◌, ◌++◌, ◌<◌, ◌^◌, ℕ, true, false, length, replicate, All, IfOk, IfSome, Some, None, Ok, []};
+ghost use Rattle.std.specs.Prelude.{◌≡◌, ◌≢◌, ◌+◌, ◌++◌, ◌<◌, ◌^◌, ℕ, true, false, length};
+ghost use Rattle.std.specs.Prelude.{replicate, All, IfOk, IfSome, Some, None, Ok, []};
 ghost use Rattle.std.specs.Option.{option_map};
 ghost use Rattle.vyrd_base.specs.declared.header.Header.{Header};
 ghost use Rattle.vyrd_base.specs.declared.subject.Subject.{Subject};
@@ -16,9 +17,11 @@ use crate::touched::Touched;
 use std::alloc::{AllocError, Global};
 use vyrd_base::{Args, Header, Method, View};
 
-/// The specification of one subject: a state that steps with each mutator, in the order of the commits.
+/// The specification of one subject: a state that steps with each mutator, in the order of the
+/// commits.
 ///
-/// Arguments are those that a well-formed call has: what the method doesn't take is 0, and a chunk's number is below the size.
+/// Arguments are those that a well-formed call has: what the method doesn't take is 0, and a
+/// chunk's number is below the size.
 pub trait Spec: Sized + Drop {
     // The subject whose specification the type is.
     ghost subject: { Subject };
@@ -32,7 +35,8 @@ pub trait Spec: Sized + Drop {
     // How many steps were allowed since the start.
     ghost made: { Self → ℕ };
 
-    /// The empty state. The header names the subject of the type. It takes memory in proportion to the header's words.
+    /// The empty state. The header names the subject of the type. It takes memory in proportion to
+    /// the header's words.
     fn start(alloc: Global, header: Header) -> Result<Self, AllocError>
         requires subject { header.subject ≡ subject }
         ensures state { IfOk result (λ s. state s ≡ []) }
@@ -62,7 +66,8 @@ pub trait Spec: Sized + Drop {
         requires args { are_args (header_of self.old).size method args ≡ true }
         requires mutator { is_observer method ≡ false }
         requires few { made self.old < 2 ^ 62 }
-        ensures allowed { result ≡ Ok true → next_state method args reply (state self.old) ≡ Some (state self.new) }
+        ensures allowed { result ≡ Ok true
+            → next_state method args reply (state self.old) ≡ Some (state self.new) }
         ensures refused { result ≡ Ok false → next_state method args reply (state self.old) ≡ None }
         ensures unchanged { result ≢ Ok true → state self.new ≡ state self.old }
         ensures header { header_of self.new ≡ header_of self.old }
@@ -80,15 +85,15 @@ pub trait Spec: Sized + Drop {
     fn amount(&self, key: u64) -> u64
         ensures { result ≡ amount_of (state self.now) key };
 
-    /// The keys whose amount a step with this call can change, and no others: the laws `other_keys_keep_their_amount` and
-    /// `touched_keys_can_change` say so.
+    /// The keys whose amount a step with this call can change, and no others: the laws
+    /// `other_keys_keep_their_amount` and `touched_keys_can_change` say so.
     fn touched(&self, method: Method, args: Args) -> Touched
         requires subject { subject_of method ≡ subject }
         requires args { are_args (header_of self.now).size method args ≡ true }
         ensures { result ≡ touched_by method args };
 
-    /// The keys whose amount isn't 0, with their amounts. The cost is in proportion to the header's words, and the logarithm of
-    /// the number of keys for each of these.
+    /// The keys whose amount isn't 0, with their amounts. The cost is in proportion to the header's
+    /// words, and the logarithm of the number of keys for each of these.
     fn view(&self, alloc: Global) -> Result<View, AllocError>
         ensures { IfOk result (λ v. v ≡ state self.now) };
 
@@ -96,5 +101,6 @@ pub trait Spec: Sized + Drop {
     ghost is_formed: { (s : Self) → IsAmounts (state s) };
 
     // A key that is there is below 2^63, and its amount is below 2^64.
-    ghost is_small: { (s : Self) → AllAmounts (λ key amount. (key < 2 ^ 63) × (amount < 2 ^ 64)) (state s) };
+    ghost is_small: { (s : Self)
+        → AllAmounts (λ key amount. (key < 2 ^ 63) × (amount < 2 ^ 64)) (state s) };
 }

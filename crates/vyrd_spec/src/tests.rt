@@ -1,4 +1,5 @@
-//! Each call of each specification once, with replies that the table allows and some that it doesn't, and words to start from.
+//! Each call of each specification once, with replies that the table allows and some that it
+//! doesn't, and words to start from.
 
 ghost use Rattle.std.specs.Prelude.{◌≡◌, ◌<◌, ◌^◌, true, false, All, IfOk, []};
 ghost use Rattle.vyrd_base.specs.declared.subject.Subject.TheVariants.{Buffers};
@@ -157,8 +158,8 @@ fn whole_chunks_are_a_start(rt: HostRuntime) -> Result<(), Fail> {
     Ok(())
 }
 
-/// Two buffers: one with the text AB, which is 66 + 67 * 256 = 17218 as a number, and one with the character 0 six times, which
-/// is 1 + 256 + .. + 256^5 = 1103823438081.
+/// Two buffers: one with the text AB, which is 66 + 67 * 256 = 17218 as a number, and one with the
+/// character 0 six times, which is 1 + 256 + .. + 256^5 = 1103823438081.
 const TWO_BUFFERS: [u64; 16] = [2, 65, 66, 255, 300, 0, 0, 0, 6, 0, 0, 0, 0, 0, 0, 9];
 
 /// What a call with its reply leaves of these two buffers, if the reply is allowed.
@@ -235,7 +236,8 @@ fn characters_below_the_count_are_a_start(rt: HostRuntime) -> Result<(), Fail> {
     Ok(())
 }
 
-/// A tree with room for four nodes: two leaves with the keys 1 to 5, each with itself as its value, below a root.
+/// A tree with room for four nodes: two leaves with the keys 1 to 5, each with itself as its value,
+/// below a root.
 const TWO_LEAVES: [u64; 50] = [
     0, 3, 4, 1, 1, 2, 3, 9, 1, 2, 3, 9, // leaf 0
     0, 2, 0, 0, 4, 5, 0, 0, 4, 5, 0, 0, // leaf 1

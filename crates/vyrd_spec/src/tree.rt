@@ -27,7 +27,8 @@ pub struct TreeSpec {
     amounts: AmountTable,
     ghost few: { made ≤ 2 ^ 62 },
     ghost formed: { IsAmounts amounts } by { IsAmounts-prop amounts },
-    ghost small: { AllAmounts (λ key amount. (key < 2 ^ 32) × (2 ^ 32 ≤ amount) × (amount < 2 ^ 64)) amounts },
+    ghost small: { AllAmounts (λ key amount. (key < 2 ^ 32) × (2 ^ 32 ≤ amount) × (amount < 2 ^ 64))
+        amounts },
 }
 
 impl Spec for TreeSpec {
@@ -117,16 +118,20 @@ fn next(
     }
 }
 
-/// An insert: reply 1 is for a key that was absent, reply 2 for one that was present, and both set its value. Reply 0 changes
-/// nothing.
+/// An insert: reply 1 is for a key that was absent, reply 2 for one that was present, and both set
+/// its value. Reply 0 changes nothing.
 fn insert(values: &mut AmountTable, key: u64, value: u64, reply: u64) -> Result<bool, AllocError>
     requires small { value < 2 ^ 32 }
-    ensures allowed { result ≡ Ok true → by_reply reply (Some values.old)
+    ensures allowed { result ≡ Ok true
+        → by_reply reply (Some values.old)
         (then_some (not (is_present values.old key)) (with_amount values.old key (2 ^ 32 + value)))
-        (then_some (is_present values.old key) (with_amount values.old key (2 ^ 32 + value))) ≡ Some values.new }
-    ensures refused { result ≡ Ok false → by_reply reply (Some values.old)
+        (then_some (is_present values.old key) (with_amount values.old key (2 ^ 32 + value)))
+        ≡ Some values.new }
+    ensures refused { result ≡ Ok false
+        → by_reply reply (Some values.old)
         (then_some (not (is_present values.old key)) (with_amount values.old key (2 ^ 32 + value)))
-        (then_some (is_present values.old key) (with_amount values.old key (2 ^ 32 + value))) ≡ None }
+        (then_some (is_present values.old key) (with_amount values.old key (2 ^ 32 + value)))
+        ≡ None }
     ensures unchanged { result ≢ Ok true → values.new ≡ values.old }
 {
     let present = values.amount(key) != 0;
@@ -146,9 +151,10 @@ fn insert(values: &mut AmountTable, key: u64, value: u64, reply: u64) -> Result<
 
 /// A delete: reply 1 takes out a key that is there, and reply 0 says that it isn't there.
 fn delete(values: &mut AmountTable, key: u64, reply: u64) -> bool
-    ensures allowed { result ≡ true → by_reply reply
-        (then_some (not (is_present values.old key)) values.old)
-        (then_some (is_present values.old key) (with_amount values.old key 0)) None ≡ Some values.new }
+    ensures allowed { result ≡ true
+        → by_reply reply (then_some (not (is_present values.old key)) values.old)
+        (then_some (is_present values.old key) (with_amount values.old key 0)) None
+        ≡ Some values.new }
     ensures refused { result ≡ false → by_reply reply
         (then_some (not (is_present values.old key)) values.old)
         (then_some (is_present values.old key) (with_amount values.old key 0)) None ≡ None }

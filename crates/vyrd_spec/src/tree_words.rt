@@ -6,8 +6,8 @@ ghost use Rattle.vyrd_base.specs.Trees.{is_tree};
 use crate::nodes::{NODE_WORDS, Nodes};
 use std::alloc::{AllocError, Global};
 
-/// Whether the words are those of a tree. It takes memory for each node in use, and time in proportion to the square of their
-/// number.
+/// Whether the words are those of a tree. It takes memory for each node in use, and time in
+/// proportion to the square of their number.
 pub(crate) fn is_tree(alloc: Global, size: usize, words: &[u64]) -> Result<bool, AllocError>
     requires count { length words.now ≡ 12 * size + 2 }
     requires few { size ≤ 1024 }

@@ -1,6 +1,7 @@
 -- How many starting words further bytes can bring a reader. A starting line begins with the letter
 -- s, and no entry does, so as many as lines begin with it.
-use Rattle.std.specs.Prelude.{ℕ, ◌+◌, ◌==◌, Bool, false, List, [], ◌∷◌, ◌++◌, Option, Some, None, if◌then◌else◌}
+use Rattle.std.specs.Prelude.{ℕ, ◌+◌, ◌==◌, Bool, false, List, [], ◌∷◌, ◌++◌, Option, Some, None}
+use Rattle.std.specs.Prelude.{if◌then◌else◌}
 use Rattle.std.specs.List.{slice_split}
 use Rattle.vyrd_base.specs.declared.header.Header.{Header}
 use Rattle.vyrd_base.specs.Reading.{TextFault}
@@ -15,7 +16,8 @@ begins_start (b ∷ line) = b == 115
 abbrev pub front_starts : List (List ℕ) → ℕ
 front_starts [] = 0
 front_starts (rest ∷ []) = 0
-front_starts (line ∷ next ∷ lines) = if begins_start line then 1 + front_starts (next ∷ lines) else 0
+front_starts (line ∷ next ∷ lines) =
+    if begins_start line then 1 + front_starts (next ∷ lines) else 0
 
 -- the lines after the first
 abbrev pub after_first : List (List ℕ) → List (List ℕ)
@@ -30,4 +32,5 @@ starts_in_lines None (Some h) starting lines = if starting then front_starts lin
 
 -- how many starting words may come in further bytes
 abbrev pub starts_ahead : LineState → List ℕ → ℕ
-starts_ahead r more = starts_in_lines r.fault r.header r.starting (slice_split (λ b. b == 10) (r.unfinished ++ more))
+starts_ahead r more =
+    starts_in_lines r.fault r.header r.starting (slice_split (λ b. b == 10) (r.unfinished ++ more))

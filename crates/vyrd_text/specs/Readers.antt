@@ -1,10 +1,12 @@
 -- What a reader of a log keeps, and what it has been fed.
-use Rattle.std.specs.Prelude.{◌≡◌, ℕ, ◌==◌, Bool, true, false, List, [], ◌∷◌, ◌++◌, Option, Some, None, if◌then◌else◌}
+use Rattle.std.specs.Prelude.{◌≡◌, ℕ, ◌==◌, Bool, true, false, List, [], ◌∷◌, ◌++◌, Option, Some}
+use Rattle.std.specs.Prelude.{None, if◌then◌else◌}
 use Rattle.std.specs.List.{slice_split}
 use Rattle.vyrd_base.specs.declared.header.Header.{Header}
 use Rattle.vyrd_base.specs.declared.log.Entry.{Entry}
 use Rattle.vyrd_base.specs.declared.log.StartWord.{StartWord}
-use Rattle.vyrd_base.specs.Reading.{Reading, TextFault, Input, stopped, ended, after_end_rule, lines_read, starts_read, header_before, text_read, reading}
+use Rattle.vyrd_base.specs.Reading.{Reading, TextFault, Input, stopped, ended, after_end_rule}
+use Rattle.vyrd_base.specs.Reading.{lines_read, starts_read, header_before, text_read, reading}
 
 -- What a reader keeps of the lines: how many there may be, the number of the line that is being
 -- read, the header if its line was read, whether starting words may come, the last of them, whether
@@ -78,15 +80,18 @@ after_end input n (line ∷ lines) = ended n (after_end_rule input n line lines)
 
 -- The lines from line n on, after a header if its line was read, and after `end` if that was read.
 -- Starting words may come after the last one, or not.
-abbrev pub lines_on : Input → ℕ → Option Header → Bool → Option StartWord → Bool → List (List ℕ) → Reading
+abbrev pub lines_on : Input → ℕ → Option Header → Bool → Option StartWord → Bool → List (List ℕ)
+    → Reading
 lines_on input n None starting last is_ended lines = text_read input lines
 lines_on input n (Some h) starting last true lines = header_before h (after_end input n lines)
 lines_on input n (Some h) starting last false lines =
-    header_before h (if starting then starts_read input h last n lines else lines_read input h.subject n lines)
+    header_before h
+    (if starting then starts_read input h last n lines else lines_read input h.subject n lines)
 
 -- what is known, with a fault or none, and nothing further
 abbrev pub known : LineState → Option TextFault → Reading
-known r fault = record { header = r.header; starting = []; entries = []; ended = r.ended; fault = fault }
+known r fault =
+    record { header = r.header; starting = []; entries = []; ended = r.ended; fault = fault }
 
 -- once a fault stands, nothing more is read
 abbrev pub unless_faulty : LineState → Input → List (List ℕ) → Option TextFault → Reading
@@ -95,7 +100,8 @@ unless_faulty r input lines (Some fault) = known r (Some fault)
 
 -- what is made of further bytes: the unfinished line goes on with them
 abbrev pub goes_on : LineState → Bool → List ℕ → Reading
-goes_on r is_whole more = unless_faulty r (input_to r is_whole) (slice_split (λ b. b == 10) (r.unfinished ++ more)) r.fault
+goes_on r is_whole more = unless_faulty r (input_to r is_whole)
+    (slice_split (λ b. b == 10) (r.unfinished ++ more)) r.fault
 
 -- whatever comes next, the reading of all bytes is these starting words and entries and then what
 -- is made of what comes
@@ -110,4 +116,5 @@ pub record HasRead (reader : ReaderState) (bytes : List ℕ) : Type 0 where
   pub start : reader.start ≡ (reading (so_far reader) bytes).starting
   pub ended : reader.ended ≡ (reading (so_far reader) bytes).ended
   pub fault : reader.fault ≡ (reading (so_far reader) bytes).fault
-  pub follows : Follows (lines_of reader) (reading (so_far reader) bytes).starting (reading (so_far reader) bytes).entries bytes
+  pub follows : Follows (lines_of reader) (reading (so_far reader) bytes).starting
+      (reading (so_far reader) bytes).entries bytes

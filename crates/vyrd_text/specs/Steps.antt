@@ -1,5 +1,6 @@
 -- How a reader takes bytes in, for the contracts of its parts.
-use Rattle.std.specs.Prelude.{◌≡◌, ℕ, ◌+◌, ◌≤◌, ◌==◌, length, not, Bool, true, false, List, [], ◌∷◌, ◌++◌, Option, None}
+use Rattle.std.specs.Prelude.{◌≡◌, ℕ, ◌+◌, ◌≤◌, ◌==◌, length, not, Bool, true, false, List, [], ◌∷◌}
+use Rattle.std.specs.Prelude.{◌++◌, Option, None}
 use Rattle.std.specs.List.{list_all}
 use Rattle.vyrd_base.specs.declared.log.Entry.{Entry}
 use Rattle.vyrd_base.specs.declared.log.StartWord.{StartWord}
@@ -30,20 +31,24 @@ with_line r line = record r { unfinished = line }
 
 -- One reader took in the bytes, found the starting words and entries in them, and became the other.
 -- What may still come is fewer starting words by those that were found.
-pub record IsTaken (old : LineState) (bytes : List ℕ) (starts : List StartWord) (found : List Entry) (new : LineState) : Type 0 where
+pub record IsTaken (old : LineState) (bytes : List ℕ) (starts : List StartWord) (found : List Entry)
+    (new : LineState) : Type 0 where
   pub max_lines : new.max_lines ≡ old.max_lines
   pub follows : (ss : List StartWord) (es : List Entry) (before : List ℕ) → Follows old ss es before
       → Follows new (ss ++ starts) (es ++ found) (before ++ bytes)
   pub noticed : IsNoticed old → IsNoticed new
-  pub room : (after : List ℕ) → length starts + starts_ahead new after ≤ starts_ahead old (bytes ++ after)
+  pub room : (after : List ℕ)
+      → length starts + starts_ahead new after ≤ starts_ahead old (bytes ++ after)
 
 -- The same for the line feed that ends the reader's line: afterwards every fault is reported.
-pub record IsLineTaken (old : LineState) (starts : List StartWord) (found : List Entry) (new : LineState) : Type 0 where
+pub record IsLineTaken (old : LineState) (starts : List StartWord) (found : List Entry)
+    (new : LineState) : Type 0 where
   pub max_lines : new.max_lines ≡ old.max_lines
   pub follows : (ss : List StartWord) (es : List Entry) (before : List ℕ) → Follows old ss es before
       → Follows new (ss ++ starts) (es ++ found) (before ++ 10 ∷ [])
   pub noticed : IsNoticed new
-  pub room : (after : List ℕ) → length starts + starts_ahead new after ≤ starts_ahead old (10 ∷ after)
+  pub room : (after : List ℕ)
+      → length starts + starts_ahead new after ≤ starts_ahead old (10 ∷ after)
 
 -- whether no byte is a line feed
 abbrev pub is_one_line : List ℕ → Bool
@@ -67,7 +72,8 @@ IsRuleOfRest r more rule = (bytes : List ℕ) → length bytes ≡ more → is_o
 
 -- Starting words and entries were added to lists: those that one reader found in the bytes as it
 -- became the other.
-pub record IsFed (old : LineState) (bytes : List ℕ) (start start_new : List StartWord) (before after : List Entry) (new : LineState) : Type 0 where
+pub record IsFed (old : LineState) (bytes : List ℕ) (start start_new : List StartWord)
+    (before after : List Entry) (new : LineState) : Type 0 where
   pub starts : List StartWord
   pub start_grown : start_new ≡ start ++ starts
   pub found : List Entry
@@ -76,7 +82,8 @@ pub record IsFed (old : LineState) (bytes : List ℕ) (start start_new : List St
 
 -- The same for entries alone, from the bytes at the front of a piece, and what is left of the
 -- piece.
-pub record IsFedFront (old : LineState) (piece : List ℕ) (before after : List Entry) (new : LineState) (rest : List ℕ) : Type 0 where
+pub record IsFedFront (old : LineState) (piece : List ℕ) (before after : List Entry)
+    (new : LineState) (rest : List ℕ) : Type 0 where
   pub read : List ℕ
   pub parted : piece ≡ read ++ rest
   pub found : List Entry

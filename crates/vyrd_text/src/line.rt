@@ -1,6 +1,7 @@
 //! One line: the entry that it spells.
 
-ghost use Rattle.std.specs.Prelude.{◌≡◌, ◌≤◌, ◌↔◌, ℕ, List, true, ◌∷◌, ◌++◌, codes, MatchOption, IsTrue};
+ghost use Rattle.std.specs.Prelude.{◌≡◌, ◌≤◌, ◌↔◌, ℕ, List, true, ◌∷◌, ◌++◌, codes, MatchOption};
+ghost use Rattle.std.specs.Prelude.{IsTrue};
 ghost use Rattle.vyrd_base.specs.declared.subject.Method.{Method};
 ghost use Rattle.vyrd_base.specs.declared.subject.Subject.{Subject};
 ghost use Rattle.vyrd_base.specs.Lines.{entry_in};
@@ -89,8 +90,10 @@ pub fn read_call(subject: Subject, text: &[u8]) -> Option<(Method, Args)>
 /// The method of the subject whose name stands before a space, and what stands after that space.
 fn read_method(subject: Subject, text: &[u8]) -> Option<(Method, &[u8])>
     ensures { MatchOption result
-        ((method : Method) (rest : List ℕ) → same_subject (subject_of method) subject ≡ true → text.now ≡ method_name method ++ 32 ∷ rest → ⊥)
-        (λ r. (same_subject (subject_of r.0) subject ≡ true) × (text.now ≡ method_name r.0 ++ 32 ∷ r.1.now)) }
+        ((method : Method) (rest : List ℕ) → same_subject (subject_of method) subject ≡ true
+        → text.now ≡ method_name method ++ 32 ∷ rest → ⊥)
+        (λ r. (same_subject (subject_of r.0) subject ≡ true)
+        × (text.now ≡ method_name r.0 ++ 32 ∷ r.1.now)) }
 {
     match subject {
         Subject::Multiset => read_multiset_method(text),
@@ -103,8 +106,11 @@ fn read_method(subject: Subject, text: &[u8]) -> Option<(Method, &[u8])>
 /// The method of a multiset before a space, and what stands after that space.
 fn read_multiset_method(text: &[u8]) -> Option<(Method, &[u8])>
     ensures { MatchOption result
-        ((method : Method) (rest : List ℕ) → same_subject (subject_of method) Subject.Multiset ≡ true → text.now ≡ method_name method ++ 32 ∷ rest → ⊥)
-        (λ r. (same_subject (subject_of r.0) Subject.Multiset ≡ true) × (text.now ≡ method_name r.0 ++ 32 ∷ r.1.now)) }
+        ((method : Method) (rest : List ℕ)
+        → same_subject (subject_of method) Subject.Multiset ≡ true
+        → text.now ≡ method_name method ++ 32 ∷ rest → ⊥)
+        (λ r. (same_subject (subject_of r.0) Subject.Multiset ≡ true)
+        × (text.now ≡ method_name r.0 ++ 32 ∷ r.1.now)) }
 {
     if let Some(rest) = after(text, b"insert ") {
         return Some((Method::MsInsert, rest));
@@ -124,8 +130,10 @@ fn read_multiset_method(text: &[u8]) -> Option<(Method, &[u8])>
 /// The method of a cache before a space, and what stands after that space.
 fn read_cache_method(text: &[u8]) -> Option<(Method, &[u8])>
     ensures { MatchOption result
-        ((method : Method) (rest : List ℕ) → same_subject (subject_of method) Subject.Cache ≡ true → text.now ≡ method_name method ++ 32 ∷ rest → ⊥)
-        (λ r. (same_subject (subject_of r.0) Subject.Cache ≡ true) × (text.now ≡ method_name r.0 ++ 32 ∷ r.1.now)) }
+        ((method : Method) (rest : List ℕ) → same_subject (subject_of method) Subject.Cache ≡ true
+        → text.now ≡ method_name method ++ 32 ∷ rest → ⊥)
+        (λ r. (same_subject (subject_of r.0) Subject.Cache ≡ true)
+        × (text.now ≡ method_name r.0 ++ 32 ∷ r.1.now)) }
 {
     if let Some(rest) = after(text, b"read ") {
         return Some((Method::CaRead, rest));
@@ -145,8 +153,10 @@ fn read_cache_method(text: &[u8]) -> Option<(Method, &[u8])>
 /// The method of a tree before a space, and what stands after that space.
 fn read_tree_method(text: &[u8]) -> Option<(Method, &[u8])>
     ensures { MatchOption result
-        ((method : Method) (rest : List ℕ) → same_subject (subject_of method) Subject.Tree ≡ true → text.now ≡ method_name method ++ 32 ∷ rest → ⊥)
-        (λ r. (same_subject (subject_of r.0) Subject.Tree ≡ true) × (text.now ≡ method_name r.0 ++ 32 ∷ r.1.now)) }
+        ((method : Method) (rest : List ℕ) → same_subject (subject_of method) Subject.Tree ≡ true
+        → text.now ≡ method_name method ++ 32 ∷ rest → ⊥)
+        (λ r. (same_subject (subject_of r.0) Subject.Tree ≡ true)
+        × (text.now ≡ method_name r.0 ++ 32 ∷ r.1.now)) }
 {
     if let Some(rest) = after(text, b"insert ") {
         return Some((Method::TrInsert, rest));
@@ -163,8 +173,10 @@ fn read_tree_method(text: &[u8]) -> Option<(Method, &[u8])>
 /// The method of string buffers before a space, and what stands after that space.
 fn read_buffers_method(text: &[u8]) -> Option<(Method, &[u8])>
     ensures { MatchOption result
-        ((method : Method) (rest : List ℕ) → same_subject (subject_of method) Subject.Buffers ≡ true → text.now ≡ method_name method ++ 32 ∷ rest → ⊥)
-        (λ r. (same_subject (subject_of r.0) Subject.Buffers ≡ true) × (text.now ≡ method_name r.0 ++ 32 ∷ r.1.now)) }
+        ((method : Method) (rest : List ℕ) → same_subject (subject_of method) Subject.Buffers ≡ true
+        → text.now ≡ method_name method ++ 32 ∷ rest → ⊥)
+        (λ r. (same_subject (subject_of r.0) Subject.Buffers ≡ true)
+        × (text.now ≡ method_name r.0 ++ 32 ∷ r.1.now)) }
 {
     if let Some(rest) = after(text, b"append ") {
         return Some((Method::BuAppend, rest));
@@ -225,7 +237,8 @@ fn read_three(text: &[u8]) -> Option<Args>
 
 /// What stands after the word, if the text begins with it.
 pub fn after<'a>(text: &'a [u8], word: &[u8]) -> Option<&'a [u8]>
-    ensures { MatchOption result ((rest : List ℕ) → text.now ≡ word.now ++ rest → ⊥) (λ rest. text.now ≡ word.now ++ rest.now) }
+    ensures { MatchOption result ((rest : List ℕ) → text.now ≡ word.now ++ rest → ⊥)
+        (λ rest. text.now ≡ word.now ++ rest.now) }
 {
     if text.len() < word.len() {
         return None;

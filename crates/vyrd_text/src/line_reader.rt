@@ -1,12 +1,16 @@
 //! What reads the lines of a log's text, one after the other, and the lines that lie whole in a
 //! piece where they lie.
 
-ghost use Rattle.std.specs.Prelude.{◌≡◌, ◌+◌, ◌<◌, ◌≤◌, ◌==◌, [], ◌∷◌, ◌++◌, Some, None, false, true, length, count_by, vec_len, vec_capacity, OnOk, IfNone, IsSome, is_some, if◌then◌else◌};
+ghost use Rattle.std.specs.Prelude.{◌≡◌, ◌+◌, ◌<◌, ◌≤◌, ◌==◌, [], ◌∷◌, ◌++◌, Some, None, false};
+ghost use Rattle.std.specs.Prelude.{true, length, count_by, vec_len, vec_capacity, OnOk, IfNone};
+ghost use Rattle.std.specs.Prelude.{IsSome, is_some, if◌then◌else◌};
 ghost use Rattle.vyrd_base.specs.declared.log.Entry.{Entry};
 ghost use Rattle.vyrd_base.specs.Lines.{start_in};
 ghost use Rattle.vyrd_text.specs.Readers.{fresh, goes_on};
 ghost use Rattle.vyrd_text.specs.Ahead.{starts_ahead};
-ghost use Rattle.vyrd_text.specs.Steps.{IsNoticed, IsFed, IsFedFront, IsTaken, IsLineTaken, with_line, is_one_line, IsRuleOfRest, starts_of, entries_of};
+ghost use Rattle.vyrd_text.specs.Steps.{IsNoticed, IsFed, IsFedFront, IsTaken, IsLineTaken};
+ghost use Rattle.vyrd_text.specs.Steps.{with_line, is_one_line, IsRuleOfRest, starts_of};
+ghost use Rattle.vyrd_text.specs.Steps.{entries_of};
 ghost use Rattle.vyrd_text.specs.Answered.{IsAnswer};
 
 use crate::fault::{LineFault, TextFault};
@@ -161,9 +165,12 @@ impl LineReader {
         start: &mut Vec<StartWord>,
         out: &mut Vec<Entry>,
     )
-        requires starts { vec_len start.old + starts_ahead self.old piece.now ≤ vec_capacity start.old }
-        requires entries { vec_len out.old + count_by (λ b. b == 10) piece.now ≤ vec_capacity out.old }
-        ensures { IsFed self.old piece.now start.old.items start.new.items out.old.items out.new.items self.new }
+        requires starts { vec_len start.old + starts_ahead self.old piece.now
+            ≤ vec_capacity start.old }
+        requires entries { vec_len out.old + count_by (λ b. b == 10) piece.now
+            ≤ vec_capacity out.old }
+        ensures { IsFed self.old piece.now start.old.items start.new.items out.old.items
+            out.new.items self.new }
     {
         let mut rest = piece;
         while let Some((line, after)) = split_line(rest) {
@@ -197,7 +204,8 @@ impl LineReader {
     /// Takes in the bytes before a line feed and that line feed, and answers what the line brings.
     fn take_line(&mut self, line: &[u8]) -> Found
         requires { is_one_line line.now ≡ true }
-        ensures { IsTaken self.old (line.now ++ 10 ∷ []) (starts_of result) (entries_of result) self.new }
+        ensures { IsTaken self.old (line.now ++ 10 ∷ []) (starts_of result) (entries_of result)
+            self.new }
     {
         if self.unfinished.is_empty() {
             return self.end_line(line);
@@ -210,7 +218,8 @@ impl LineReader {
     /// Takes in the line feed after a whole line, and answers what the line brings.
     fn end_line(&mut self, line: &[u8]) -> Found
         requires { is_one_line line.now ≡ true }
-        ensures { IsLineTaken (with_line self.old line.now) (starts_of result) (entries_of result) self.new }
+        ensures { IsLineTaken (with_line self.old line.now) (starts_of result) (entries_of result)
+            self.new }
     {
         if self.fault.is_some() {
             return Found::Nothing;
@@ -251,7 +260,8 @@ impl LineReader {
         requires line { is_one_line line.now ≡ true }
         requires fine { self.old.fault ≡ None }
         requires later { self.old.header ≡ Some header }
-        ensures { IsLineTaken (with_line self.old line.now) (starts_of result) (entries_of result) self.new }
+        ensures { IsLineTaken (with_line self.old line.now) (starts_of result) (entries_of result)
+            self.new }
     {
         if self.line > self.max_lines {
             self.break_rule(Rule::TooManyLines);
@@ -288,7 +298,8 @@ impl LineReader {
         requires going { self.old.ended ≡ false }
         requires starting { self.old.starting ≡ true }
         requires word { start_in line.now ≡ Some word }
-        ensures { IsLineTaken (with_line self.old line.now) (starts_of result) (entries_of result) self.new }
+        ensures { IsLineTaken (with_line self.old line.now) (starts_of result) (entries_of result)
+            self.new }
     {
         match rule_of_start(header, self.last, word) {
             Some(rule) => {
@@ -313,7 +324,8 @@ impl LineReader {
         requires within { self.old.line ≤ self.old.max_lines }
         requires going { self.old.ended ≡ false }
         requires no_start { (if self.old.starting then start_in line.now else None) ≡ None }
-        ensures { IsLineTaken (with_line self.old line.now) (starts_of result) (entries_of result) self.new }
+        ensures { IsLineTaken (with_line self.old line.now) (starts_of result) (entries_of result)
+            self.new }
     {
         if is_word(line, b"end") {
             self.starting = false;
@@ -380,7 +392,8 @@ impl LineReader {
 
     /// Reads nothing more, since the line that is being read breaks the rule.
     fn break_rule(&mut self, rule: Rule)
-        ensures { self.new ≡ record self.old { fault = Some (record { line = self.old.line; rule = rule }) } }
+        ensures { self.new
+            ≡ record self.old { fault = Some (record { line = self.old.line; rule = rule }) } }
     {
         self.fault = Some(LineFault {
             line: self.line,

@@ -7,7 +7,8 @@ use memchr::memchr;
 
 /// The bytes before the first line feed, and those after it. `None` if there is no line feed.
 pub fn split_line(text: &[u8]) -> Option<(&[u8], &[u8])>
-    ensures { MatchOption result (is_one_line text.now ≡ true) (λ r. (is_one_line r.0.now ≡ true) × (text.now ≡ r.0.now ++ 10 ∷ r.1.now)) }
+    ensures { MatchOption result (is_one_line text.now ≡ true)
+        (λ r. (is_one_line r.0.now ≡ true) × (text.now ≡ r.0.now ++ 10 ∷ r.1.now)) }
 {
     let at = memchr(b'\n', text)?;
     Some((&text[..at], &text[at + 1..]))
@@ -31,7 +32,8 @@ pub fn count_line_feeds(text: &[u8]) -> usize
     count + usize::from(count_few(rest))
 }
 
-/// The same for a few bytes. The sum has no branch and no more bits than a byte, so that the compiler makes vectors of it.
+/// The same for a few bytes. The sum has no branch and no more bits than a byte, so that the
+/// compiler makes vectors of it.
 #[inline(always)]
 fn count_few(text: &[u8]) -> u8
     requires { length text.now ≤ 128 }

@@ -1,7 +1,8 @@
 //! Numbers in their one spelling: digits without sign and without leading zeros.
 
 ghost use Rattle.std.specs.Prelude.{◌≡◌, ◌<◌, ℕ, List, ◌∷◌, ◌++◌, ◌^◌, decimal, MatchOption};
-ghost use Rattle.vyrd_text.specs.Fields.{IsDigitField, HasNoDigitField, IsNumberField, HasNoNumberField};
+ghost use Rattle.vyrd_text.specs.Fields.{IsDigitField, HasNoDigitField, IsNumberField};
+ghost use Rattle.vyrd_text.specs.Fields.{HasNoNumberField};
 
 /// The value of the digits before the first space, and how many they are. `None` if a byte before
 /// it isn't a digit, or if the value is 2^64 or more.
@@ -41,7 +42,8 @@ fn number_field(text: &[u8]) -> Option<(u64, usize)>
 
 /// The number that the whole text spells.
 pub fn read_u64(text: &[u8]) -> Option<u64>
-    ensures { MatchOption result ((n : ℕ) → n < 2 ^ 64 → text.now ≡ decimal n → ⊥) (λ n. text.now ≡ decimal n) }
+    ensures { MatchOption result ((n : ℕ) → n < 2 ^ 64 → text.now ≡ decimal n → ⊥)
+        (λ n. text.now ≡ decimal n) }
 {
     let (number, end) = number_field(text)?;
     if end != text.len() {
@@ -52,7 +54,8 @@ pub fn read_u64(text: &[u8]) -> Option<u64>
 
 /// The number below 2^32 that the whole text spells.
 pub fn read_u32(text: &[u8]) -> Option<u32>
-    ensures { MatchOption result ((n : ℕ) → n < 2 ^ 32 → text.now ≡ decimal n → ⊥) (λ n. text.now ≡ decimal n) }
+    ensures { MatchOption result ((n : ℕ) → n < 2 ^ 32 → text.now ≡ decimal n → ⊥)
+        (λ n. text.now ≡ decimal n) }
 {
     let number = read_u64(text)?;
     if number > u64::from(u32::MAX) {

@@ -1,13 +1,16 @@
-//! Entries that lie whole at the front of a text, each with its line feed: read where they lie, in one scan.
+//! Entries that lie whole at the front of a text, each with its line feed: read where they lie, in
+//! one scan.
 //!
 //! What isn't such an entry is left where it is, for the reader of lines, which knows the rules. So
 //! nothing here says why a text is refused: every `None` means only that these bytes were not read.
 
-ghost use Rattle.std.specs.Prelude.{◌≡◌, ◌+◌, ◌<◌, ◌≤◌, ◌==◌, ◌∷◌, ◌++◌, true, decimal, count_by, vec_len, vec_capacity, IfSome};
+ghost use Rattle.std.specs.Prelude.{◌≡◌, ◌+◌, ◌<◌, ◌≤◌, ◌==◌, ◌∷◌, ◌++◌, true, decimal, count_by};
+ghost use Rattle.std.specs.Prelude.{vec_len, vec_capacity, IfSome};
 ghost use Rattle.vyrd_base.specs.declared.subject.Subject.{Subject};
 ghost use Rattle.vyrd_base.specs.Subjects.{subject_of, same_subject};
 ghost use Rattle.vyrd_base.specs.Spelling.{method_name};
-ghost use Rattle.vyrd_text.specs.Quick.{IsFrontNumber, IsEntryAtFront, IsKindAtFront, AreArgsAtFront, AreEntriesAtFront};
+ghost use Rattle.vyrd_text.specs.Quick.{IsFrontNumber, IsEntryAtFront, IsKindAtFront};
+ghost use Rattle.vyrd_text.specs.Quick.{AreArgsAtFront, AreEntriesAtFront};
 
 use core::dec2flt::read_digits;
 use vyrd_base::{Args, Entry, Kind, Method, Subject};
@@ -18,7 +21,8 @@ const FEW_DIGITS: usize = 19;
 /// A value below this one can take a further digit and stays below 2^64.
 const ROOM_FOR_A_DIGIT: u64 = 1_000_000_000_000_000_000;
 
-/// The number at the front, and how many digits it has: eight digits at a time, without a branch on their count.
+/// The number at the front, and how many digits it has: eight digits at a time, without a branch on
+/// their count.
 #[inline(always)]
 fn front_number(text: &[u8]) -> Option<(u64, usize)>
     ensures { IfSome result (λ r. IsFrontNumber text.now r.0 r.1) }
@@ -90,7 +94,8 @@ fn digit_before(text: &[u8], byte: u8) -> Option<(u64, &[u8])>
     Some((u64::from(*digit - b'0'), rest))
 }
 
-/// The caller's number before a space, and what stands after that space. There are at most 64 callers.
+/// The caller's number before a space, and what stands after that space. There are at most 64
+/// callers.
 #[inline(always)]
 fn caller_before_space(text: &[u8]) -> Option<(u32, &[u8])>
     ensures { IfSome result (λ r. text.now ≡ decimal r.0 ++ 32 ∷ r.1.now) }
@@ -151,7 +156,8 @@ fn read_kind(subject: Subject, text: &[u8]) -> Option<(Kind, &[u8])>
 /// A write, with its word and its value.
 #[inline(always)]
 fn read_write(text: &[u8]) -> Option<(Kind, &[u8])>
-    ensures { (subject : Subject) → IfSome result (λ r. IsKindAtFront subject text.now r.0 r.1.now) }
+    ensures { (subject : Subject)
+        → IfSome result (λ r. IsKindAtFront subject text.now r.0 r.1.now) }
 {
     let [b'w', b'r', b'i', b't', b'e', b' ', rest @ ..] = text else {
         return None;
@@ -164,7 +170,8 @@ fn read_write(text: &[u8]) -> Option<(Kind, &[u8])>
 /// A return, with its reply.
 #[inline(always)]
 fn read_return(text: &[u8]) -> Option<(Kind, &[u8])>
-    ensures { (subject : Subject) → IfSome result (λ r. IsKindAtFront subject text.now r.0 r.1.now) }
+    ensures { (subject : Subject)
+        → IfSome result (λ r. IsKindAtFront subject text.now r.0 r.1.now) }
 {
     let [b'r', b'e', b't', b'u', b'r', b'n', b' ', rest @ ..] = text else {
         return None;
@@ -189,7 +196,8 @@ fn read_called(subject: Subject, text: &[u8]) -> Option<(Kind, &[u8])>
 /// The beginning of a block.
 #[inline(always)]
 fn read_open(text: &[u8]) -> Option<(Kind, &[u8])>
-    ensures { (subject : Subject) → IfSome result (λ r. IsKindAtFront subject text.now r.0 r.1.now) }
+    ensures { (subject : Subject)
+        → IfSome result (λ r. IsKindAtFront subject text.now r.0 r.1.now) }
 {
     let [b'o', b'p', b'e', b'n', b'\n', rest @ ..] = text else {
         return None;
@@ -200,7 +208,8 @@ fn read_open(text: &[u8]) -> Option<(Kind, &[u8])>
 /// A lone commit.
 #[inline(always)]
 fn read_commit(text: &[u8]) -> Option<(Kind, &[u8])>
-    ensures { (subject : Subject) → IfSome result (λ r. IsKindAtFront subject text.now r.0 r.1.now) }
+    ensures { (subject : Subject)
+        → IfSome result (λ r. IsKindAtFront subject text.now r.0 r.1.now) }
 {
     let [b'c', b'o', b'm', b'm', b'i', b't', b'\n', rest @ ..] = text else {
         return None;
@@ -211,7 +220,8 @@ fn read_commit(text: &[u8]) -> Option<(Kind, &[u8])>
 /// The end of a block.
 #[inline(always)]
 fn read_close(text: &[u8]) -> Option<(Kind, &[u8])>
-    ensures { (subject : Subject) → IfSome result (λ r. IsKindAtFront subject text.now r.0 r.1.now) }
+    ensures { (subject : Subject)
+        → IfSome result (λ r. IsKindAtFront subject text.now r.0 r.1.now) }
 {
     if let [b'c', b'l', b'o', b's', b'e', b'\n', rest @ ..] = text {
         return Some((Kind::BlockClose, rest));
@@ -241,7 +251,8 @@ fn read_close(text: &[u8]) -> Option<(Kind, &[u8])>
 /// The method of the subject whose name stands before a space, and what stands after that space.
 #[inline(always)]
 fn read_method(subject: Subject, text: &[u8]) -> Option<(Method, &[u8])>
-    ensures { IfSome result (λ r. (same_subject (subject_of r.0) subject ≡ true) × (text.now ≡ method_name r.0 ++ 32 ∷ r.1.now)) }
+    ensures { IfSome result (λ r. (same_subject (subject_of r.0) subject ≡ true)
+        × (text.now ≡ method_name r.0 ++ 32 ∷ r.1.now)) }
 {
     match subject {
         Subject::Multiset => read_multiset_method(text),
@@ -254,7 +265,8 @@ fn read_method(subject: Subject, text: &[u8]) -> Option<(Method, &[u8])>
 /// The method of a multiset before a space, and what stands after that space.
 #[inline(always)]
 fn read_multiset_method(text: &[u8]) -> Option<(Method, &[u8])>
-    ensures { IfSome result (λ r. (same_subject (subject_of r.0) Subject.Multiset ≡ true) × (text.now ≡ method_name r.0 ++ 32 ∷ r.1.now)) }
+    ensures { IfSome result (λ r. (same_subject (subject_of r.0) Subject.Multiset ≡ true)
+        × (text.now ≡ method_name r.0 ++ 32 ∷ r.1.now)) }
 {
     match text {
         [b'i', b'n', b's', b'e', b'r', b't', b' ', rest @ ..] => Some((Method::MsInsert, rest)),
@@ -282,7 +294,8 @@ fn read_multiset_method(text: &[u8]) -> Option<(Method, &[u8])>
 /// The method of a cache before a space, and what stands after that space.
 #[inline(always)]
 fn read_cache_method(text: &[u8]) -> Option<(Method, &[u8])>
-    ensures { IfSome result (λ r. (same_subject (subject_of r.0) Subject.Cache ≡ true) × (text.now ≡ method_name r.0 ++ 32 ∷ r.1.now)) }
+    ensures { IfSome result (λ r. (same_subject (subject_of r.0) Subject.Cache ≡ true)
+        × (text.now ≡ method_name r.0 ++ 32 ∷ r.1.now)) }
 {
     match text {
         [b'r', b'e', b'a', b'd', b' ', rest @ ..] => Some((Method::CaRead, rest)),
@@ -296,7 +309,8 @@ fn read_cache_method(text: &[u8]) -> Option<(Method, &[u8])>
 /// The method of a tree before a space, and what stands after that space.
 #[inline(always)]
 fn read_tree_method(text: &[u8]) -> Option<(Method, &[u8])>
-    ensures { IfSome result (λ r. (same_subject (subject_of r.0) Subject.Tree ≡ true) × (text.now ≡ method_name r.0 ++ 32 ∷ r.1.now)) }
+    ensures { IfSome result (λ r. (same_subject (subject_of r.0) Subject.Tree ≡ true)
+        × (text.now ≡ method_name r.0 ++ 32 ∷ r.1.now)) }
 {
     match text {
         [b'i', b'n', b's', b'e', b'r', b't', b' ', rest @ ..] => Some((Method::TrInsert, rest)),
@@ -309,7 +323,8 @@ fn read_tree_method(text: &[u8]) -> Option<(Method, &[u8])>
 /// The method of string buffers before a space, and what stands after that space.
 #[inline(always)]
 fn read_buffers_method(text: &[u8]) -> Option<(Method, &[u8])>
-    ensures { IfSome result (λ r. (same_subject (subject_of r.0) Subject.Buffers ≡ true) × (text.now ≡ method_name r.0 ++ 32 ∷ r.1.now)) }
+    ensures { IfSome result (λ r. (same_subject (subject_of r.0) Subject.Buffers ≡ true)
+        × (text.now ≡ method_name r.0 ++ 32 ∷ r.1.now)) }
 {
     match text {
         [b'a', b'p', b'p', b'e', b'n', b'd', b' ', rest @ ..] => Some((Method::BuAppend, rest)),
@@ -378,8 +393,9 @@ fn read_three(text: &[u8]) -> Option<(Args, &[u8])>
     Some((Args { a, b, c }, rest))
 }
 
-/// The entries of the subject at the front of the text, each with its line feed, at most `most` of them, appended to `out`.
-/// The answer is what stands after them, and how many there are. There is room for an entry at each line feed.
+/// The entries of the subject at the front of the text, each with its line feed, at most `most` of
+/// them, appended to `out`. The answer is what stands after them, and how many there are. There is
+/// room for an entry at each line feed.
 pub fn take_entries<'a>(
     subject: Subject,
     most: u64,
@@ -387,7 +403,8 @@ pub fn take_entries<'a>(
     out: &mut Vec<Entry>,
 ) -> (&'a [u8], u64)
     requires { vec_len out.old + count_by (λ b. b == 10) text.now ≤ vec_capacity out.old }
-    ensures read { AreEntriesAtFront subject text.now out.old.items out.new.items result.0.now result.1 }
+    ensures read { AreEntriesAtFront subject text.now out.old.items out.new.items result.0.now
+        result.1 }
     ensures few { result.1 ≤ most }
     ensures room { vec_len out.new + count_by (λ b. b == 10) result.0.now ≤ vec_capacity out.new }
 {

@@ -55,16 +55,21 @@ impl LogReader {
     /// the entries.
     pub fn feed(&mut self, piece: &[u8], out: &mut Vec<Entry>) -> Result<(), TextFault>
         ensures limit { self.new.max_lines ≡ self.old.max_lines }
-        ensures read { (bytes : List ℕ) → HasRead self.old bytes → UnlessMemory result (HasRead self.new (bytes ++ piece.now)) }
+        ensures read { (bytes : List ℕ) → HasRead self.old bytes
+            → UnlessMemory result (HasRead self.new (bytes ++ piece.now)) }
         ensures start { (bytes : List ℕ) → HasRead self.old bytes → UnlessMemory result
             (self.new.start ≡ (reading (so_far self.old) (bytes ++ piece.now)).starting) }
-        ensures entries { (bytes : List ℕ) → HasRead self.old bytes → UnlessMemory result
-            (IsGrownBy out.old.items (reading (so_far self.old) bytes).entries out.new.items (reading (so_far self.old) (bytes ++ piece.now)).entries) }
+        ensures entries { (bytes : List ℕ) → HasRead self.old bytes
+            → UnlessMemory result (IsGrownBy out.old.items (reading (so_far self.old) bytes).entries
+            out.new.items (reading (so_far self.old) (bytes ++ piece.now)).entries) }
         ensures answer { (bytes : List ℕ) → HasRead self.old bytes → UnlessMemory result
             (IsAnswer result (reading (so_far self.old) (bytes ++ piece.now)).fault) }
-        ensures stopped { IsSome self.old.fault → (self.new ≡ self.old) × (out.new.items ≡ out.old.items) × IsAnswer result self.old.fault }
+        ensures stopped { IsSome self.old.fault
+            → (self.new ≡ self.old) × (out.new.items ≡ out.old.items)
+            × IsAnswer result self.old.fault }
         ensures memory_leaves_reader { result ≡ Err TextFault.Memory → self.new ≡ self.old }
-        ensures memory_leaves_entries { result ≡ Err TextFault.Memory → out.new.items ≡ out.old.items }
+        ensures memory_leaves_entries { result ≡ Err TextFault.Memory
+            → out.new.items ≡ out.old.items }
     {
         if self.lines.is_at_fault() {
             return self.lines.answer();
@@ -85,8 +90,10 @@ impl LogReader {
     /// `Ok` if the bytes so far are a whole log's text, and otherwise the first fault of text, also
     /// `NoLineFeed` for an unfinished last line and `NoEnd`.
     pub fn finish(&self) -> Result<(), TextFault>
-        ensures answer { (bytes : List ℕ) → HasRead self.now bytes → IsAnswer result (reading (whole self.now) bytes).fault }
-        ensures ended { (bytes : List ℕ) → HasRead self.now bytes → OnOk result ((reading (whole self.now) bytes).ended ≡ true) }
+        ensures answer { (bytes : List ℕ) → HasRead self.now bytes
+            → IsAnswer result (reading (whole self.now) bytes).fault }
+        ensures ended { (bytes : List ℕ) → HasRead self.now bytes
+            → OnOk result ((reading (whole self.now) bytes).ended ≡ true) }
     {
         self.lines.finish()
     }
@@ -94,7 +101,8 @@ impl LogReader {
     /// The log's header, once its line was read whole and broke no rule of text.
     pub fn header(&self) -> Option<Header>
         ensures kept { result ≡ self.now.header }
-        ensures read { (bytes : List ℕ) → HasRead self.now bytes → result ≡ (reading (so_far self.now) bytes).header }
+        ensures read { (bytes : List ℕ) → HasRead self.now bytes
+            → result ≡ (reading (so_far self.now) bytes).header }
     {
         self.lines.header()
     }
@@ -103,7 +111,8 @@ impl LogReader {
     /// entry or `end` was read. It takes no memory.
     pub fn start(&self) -> &[StartWord]
         ensures kept { result.now ≡ self.now.start }
-        ensures read { (bytes : List ℕ) → HasRead self.now bytes → result.now ≡ (reading (so_far self.now) bytes).starting }
+        ensures read { (bytes : List ℕ) → HasRead self.now bytes
+            → result.now ≡ (reading (so_far self.now) bytes).starting }
     {
         &self.start
     }
@@ -111,7 +120,8 @@ impl LogReader {
     /// Whether the line `end` was read.
     pub fn ended(&self) -> bool
         ensures kept { result ≡ self.now.ended }
-        ensures read { (bytes : List ℕ) → HasRead self.now bytes → result ≡ (reading (so_far self.now) bytes).ended }
+        ensures read { (bytes : List ℕ) → HasRead self.now bytes
+            → result ≡ (reading (so_far self.now) bytes).ended }
     {
         self.lines.ended()
     }

@@ -1,9 +1,11 @@
 //! The text of a log, written.
 
-ghost use Rattle.std.specs.Prelude.{◌≡◌, ◌+◌, ◌≤◌, [], ◌++◌, true, length, take, flat_map, OnOk, OnErr};
+ghost use Rattle.std.specs.Prelude.{◌≡◌, ◌+◌, ◌≤◌, [], ◌++◌, true, length, take, flat_map, OnOk};
+ghost use Rattle.std.specs.Prelude.{OnErr};
 ghost use Rattle.std.specs.List.{AllByRecursion};
 ghost use Rattle.vyrd_base.specs.Starts.{may_start};
-ghost use Rattle.vyrd_base.specs.Spelling.{log_text, start_line, entry_line, ended_line, header_line, method_name, subject_name};
+ghost use Rattle.vyrd_base.specs.Spelling.{log_text, start_line, entry_line, ended_line};
+ghost use Rattle.vyrd_base.specs.Spelling.{header_line, method_name, subject_name};
 ghost use Rattle.vyrd_text.specs.Spelled.{args_text, call_text, kind_text};
 ghost use Rattle.vyrd_text.specs.Written.{is_padded, is_writable};
 
@@ -26,8 +28,8 @@ pub fn write_line(entry: &Entry, out: &mut Vec<u8>) -> Result<(), AllocError>
 
 /// Appends the text of a log without starting words. A refusal leaves `out` unchanged.
 ///
-/// Each method is of the header's subject, and arguments that it doesn't have are 0. The time and the memory grow with the
-/// number of entries.
+/// Each method is of the header's subject, and arguments that it doesn't have are 0. The time and
+/// the memory grow with the number of entries.
 pub fn write_log(header: Header, entries: &[Entry], out: &mut Vec<u8>) -> Result<(), AllocError>
     requires { AllByRecursion (λ e. is_writable header.subject e ≡ true) entries.now }
     ensures ok { OnOk result (out.new.items ≡ out.old.items ++ log_text header [] entries.now) }
@@ -50,7 +52,8 @@ pub fn write_started(
 ) -> Result<(), AllocError>
     requires start { may_start header start.now ≡ true }
     requires entries { AllByRecursion (λ e. is_writable header.subject e ≡ true) entries.now }
-    ensures ok { OnOk result (out.new.items ≡ out.old.items ++ log_text header start.now entries.now) }
+    ensures ok { OnOk result
+        (out.new.items ≡ out.old.items ++ log_text header start.now entries.now) }
     ensures err { OnErr result (out.new.items ≡ out.old.items) }
 {
     let len = out.len();
@@ -68,7 +71,8 @@ fn append_log(
     entries: &[Entry],
     out: &mut Vec<u8>,
 ) -> Result<(), AllocError>
-    ensures ok { OnOk result (out.new.items ≡ out.old.items ++ log_text header start.now entries.now) }
+    ensures ok { OnOk result
+        (out.new.items ≡ out.old.items ++ log_text header start.now entries.now) }
     ensures err { OnErr result (take (length out.old.items) out.new.items ≡ out.old.items) }
 {
     append_header(header, out)?;
@@ -79,7 +83,8 @@ fn append_log(
 
 /// Appends the header's line. A refusal leaves `out` unchanged.
 fn append_header(header: Header, out: &mut Vec<u8>) -> Result<(), AllocError>
-    ensures ok { OnOk result (out.new.items ≡ out.old.items ++ ended_line (header_line header.version header.subject header.size header.callers)) }
+    ensures ok { OnOk result (out.new.items ≡ out.old.items
+        ++ ended_line (header_line header.version header.subject header.size header.callers)) }
     ensures err { OnErr result (out.new.items ≡ out.old.items) }
 {
     let mut line = LineBuffer::new();
@@ -97,7 +102,8 @@ fn append_header(header: Header, out: &mut Vec<u8>) -> Result<(), AllocError>
 
 /// Appends the starting words' lines, or some of them if memory runs out.
 fn append_start(start: &[StartWord], out: &mut Vec<u8>) -> Result<(), AllocError>
-    ensures ok { OnOk result (out.new.items ≡ out.old.items ++ flat_map (λ s. ended_line (start_line s)) start.now) }
+    ensures ok { OnOk result
+        (out.new.items ≡ out.old.items ++ flat_map (λ s. ended_line (start_line s)) start.now) }
     ensures err { OnErr result (take (length out.old.items) out.new.items ≡ out.old.items) }
 {
     let mut line = LineBuffer::new();
@@ -124,7 +130,8 @@ fn push_start(start: StartWord, line: &mut LineBuffer)
 
 /// Appends the entries' lines, or some of them if memory runs out.
 fn append_entries(entries: &[Entry], out: &mut Vec<u8>) -> Result<(), AllocError>
-    ensures ok { OnOk result (out.new.items ≡ out.old.items ++ flat_map (λ e. ended_line (entry_line e)) entries.now) }
+    ensures ok { OnOk result
+        (out.new.items ≡ out.old.items ++ flat_map (λ e. ended_line (entry_line e)) entries.now) }
     ensures err { OnErr result (take (length out.old.items) out.new.items ≡ out.old.items) }
 {
     let mut line = LineBuffer::new();
@@ -176,7 +183,8 @@ fn push_kind(kind: Kind, line: &mut LineBuffer)
     }
 }
 
-/// Puts the method's name and the arguments that it has at the end of the line, each argument after a space.
+/// Puts the method's name and the arguments that it has at the end of the line, each argument after
+/// a space.
 pub fn push_call(method: Method, args: Args, line: &mut LineBuffer)
     requires { length line.old ≤ 30 }
     ensures text { line.new ≡ line.old ++ call_text method args }

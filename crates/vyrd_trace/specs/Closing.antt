@@ -1,5 +1,6 @@
 -- Lanes that are put together.
-use Rattle.std.specs.Prelude.{◌≡◌, ℕ, ◌+◌, ◌*◌, ◌<◌, List, [], map, length, slice_get, slice_index, slice_index_or, Some}
+use Rattle.std.specs.Prelude.{◌≡◌, ℕ, ◌+◌, ◌*◌, ◌<◌, List, [], map, length, slice_get, slice_index}
+use Rattle.std.specs.Prelude.{slice_index_or, Some}
 use Rattle.vyrd_base.specs.declared.history.Stamped.{Stamped}
 use Rattle.vyrd_trace.specs.declared.plan.Plan.{Plan}
 use Rattle.vyrd_trace.specs.declared.record.Lane.{Lane}
@@ -18,9 +19,11 @@ own_lanes hands = map own_lane_of hands
 
 -- the event at place i has the number i, and the lane at place c is the part of caller c
 pub record IsMerge (history : List Stamped) (lanes : List (List Stamped)) : Type 0 where
-  pub placed : (i : ℕ) (e : Stamped) → slice_get history i ≡ Some e → (e.number ≡ i) × (e.caller < length lanes)
+  pub placed : (i : ℕ) (e : Stamped) → slice_get history i ≡ Some e
+      → (e.number ≡ i) × (e.caller < length lanes)
   pub parts : (c : ℕ) → c < length lanes → part c history ≡ slice_index_or lanes c []
 
 -- each cell's word is twice its value
 abbrev pub AreTwice : Plan → List Stamped → List ℕ → Type 0
-AreTwice plan history words = (k : ℕ) → k < plan.plain + plan.locks → slice_index words (k + 1) ≡ 2 * last_value history k
+AreTwice plan history words =
+    (k : ℕ) → k < plan.plain + plan.locks → slice_index words (k + 1) ≡ 2 * last_value history k

@@ -1,5 +1,6 @@
 -- What contracts see of the traced memory and of a hand.
-use Rattle.std.specs.Prelude.{◌≡◌, ◌≢◌, ◌⊎◌, ℕ, ◌+◌, ◌-◌, ◌%◌, ◌<◌, ◌≤◌, List, [], ◌∷◌, ◌++◌, length, slice_index_or}
+use Rattle.std.specs.Prelude.{◌≡◌, ◌≢◌, ◌⊎◌, ℕ, ◌+◌, ◌-◌, ◌%◌, ◌<◌, ◌≤◌, List, [], ◌∷◌, ◌++◌}
+use Rattle.std.specs.Prelude.{length, slice_index_or}
 use Rattle.atomic_table.specs.Seated.{TableId}
 use Rattle.vyrd_base.specs.declared.history.Did.{Did}
 use Rattle.vyrd_base.specs.declared.history.Stamped.{Stamped}
@@ -22,7 +23,8 @@ pub record TracedView : Type 0 where
 abbrev pub sharing : TableId → Plan → TracedView
 sharing table plan = record { table = table; plan = plan }
 
--- a hand: whose it is, the events so far, how many more it has room for, and what it found at its last looks
+-- a hand: whose it is, the events so far, how many more it has room for, and what it found at its
+-- last looks
 pub record HandView : Type 0 where
   pub table : TableId
   pub caller : ℕ
@@ -33,7 +35,8 @@ pub record HandView : Type 0 where
 
 -- the table has one word for the next number and one for each cell, and keeps the limits
 abbrev pub IsSized : Plan → TableId → Type 0
-IsSized p t = (t.words ≡ 1 + (p.plain + p.locks)) × (p.plain + p.locks ≤ most_cells) × (1 ≤ p.callers) × (p.callers ≤ 64)
+IsSized p t = (t.words ≡ 1 + (p.plain + p.locks)) × (p.plain + p.locks ≤ most_cells)
+    × (1 ≤ p.callers) × (p.callers ≤ 64)
     × (p.limit ≤ most_events) × (t.slots ≡ 0)
 
 -- a hand of this memory
@@ -46,11 +49,25 @@ Holds hand lock = HoldsBy hand.lane hand.caller lock
 
 -- the hand as it was, except for the room
 abbrev pub with_spare : HandView → ℕ → HandView
-with_spare hand spare = record { table = hand.table; caller = hand.caller; limit = hand.limit; spare = spare; lane = hand.lane; look = hand.look }
+with_spare hand spare = record {
+  table = hand.table;
+  caller = hand.caller;
+  limit = hand.limit;
+  spare = spare;
+  lane = hand.lane;
+  look = hand.look;
+}
 
 -- the hand as it was, except for what it found
 abbrev pub with_look : HandView → Look → HandView
-with_look hand look = record { table = hand.table; caller = hand.caller; limit = hand.limit; spare = hand.spare; lane = hand.lane; look = look }
+with_look hand look = record {
+  table = hand.table;
+  caller = hand.caller;
+  limit = hand.limit;
+  spare = hand.spare;
+  lane = hand.lane;
+  look = look;
+}
 
 -- the hand with exactly this one event more, for which it used one of its spare room
 abbrev pub with_one_more : HandView → ℕ → Did → Look → HandView
@@ -63,10 +80,11 @@ with_one_more hand number did look = record {
   look = look;
 }
 
--- The word was found at the cell since `before`: it is the last word found, and both it and the first word found there
--- were found at later looks than those that were made before.
+-- The word was found at the cell since `before`: it is the last word found, and both it and the
+-- first word found there were found at later looks than those that were made before.
 abbrev pub WasFound : ℕ → ℕ → Look → Look → Type 0
-WasFound cell word before after = (after.cell ≡ cell) × (after.last ≡ word) × (before.looks < after.first_at) × (before.looks < after.last_at)
+WasFound cell word before after = (after.cell ≡ cell) × (after.last ≡ word)
+    × (before.looks < after.first_at) × (before.looks < after.last_at)
 
 -- another hand had claimed the cell, or changed it since the first look of this call
 abbrev pub WasTaken : ℕ → Look → Type 0
@@ -74,13 +92,16 @@ WasTaken word look = (word % 2 ≡ 1) ⊎ (word ≢ look.first)
 
 -- a new hand of this caller
 abbrev pub IsNew : TracedView → ℕ → HandView → Type 0
-IsNew traced caller hand = IsOf traced hand × (hand.caller ≡ caller) × (hand.spare ≡ 0) × (hand.lane ≡ [])
+IsNew traced caller hand =
+    IsOf traced hand × (hand.caller ≡ caller) × (hand.spare ≡ 0) × (hand.lane ≡ [])
 
 -- new hands in the order of their callers, from this one on
 abbrev pub AreNew : TracedView → ℕ → List HandView → Type 0
-AreNew traced first hands = (i : ℕ) (d : HandView) → i < length hands → IsNew traced (first + i) (slice_index_or hands i d)
+AreNew traced first hands =
+    (i : ℕ) (d : HandView) → i < length hands → IsNew traced (first + i) (slice_index_or hands i d)
 
 -- all hands of the memory, in the order of their callers
 abbrev pub AreAll : TracedView → List HandView → Type 0
-AreAll traced hands = (length hands ≡ traced.plan.callers) × ((i : ℕ) (d : HandView) → i < length hands
+AreAll traced hands = (length hands ≡ traced.plan.callers)
+    × ((i : ℕ) (d : HandView) → i < length hands
     → IsOf traced (slice_index_or hands i d) × ((slice_index_or hands i d).caller ≡ i))

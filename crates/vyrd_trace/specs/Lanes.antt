@@ -19,7 +19,8 @@ AreBelow number lane = All (λ (e : Stamped). e.number < number) lane
 abbrev pub last_value : List Stamped → ℕ → ℕ
 last_value history cell = value_in (newest_first history) cell
 
--- the value that a lock gets from these events of a caller is the caller's number plus 1: it holds the lock by them
+-- the value that a lock gets from these events of a caller is the caller's number plus 1: it holds
+-- the lock by them
 abbrev pub HoldsBy : List Stamped → ℕ → ℕ → Type 0
 HoldsBy lane caller lock = last_value lane lock ≡ caller + 1
 

@@ -28,12 +28,27 @@ look_first look cell word = record {
 abbrev pub look_again : Look → ℕ → ℕ → Look
 look_again look cell word =
     if cell == look.cell
-    then (record { looks = look.looks + 1; cell = cell; first = look.first; first_at = look.first_at; last = word; last_at = look.looks + 1 })
+    then (record {
+      looks = look.looks + 1;
+      cell = cell;
+      first = look.first;
+      first_at = look.first_at;
+      last = word;
+      last_at = look.looks + 1;
+    })
     else look_first look cell word
 
 -- a record with no event, and the number of the caller that it makes a record for next
 abbrev pub record_of : ℕ → ℕ → Record
-record_of caller next = record { live = true; caller = caller; next = next; lane = []; gathered = []; stage = Rest; look = no_look }
+record_of caller next = record {
+  live = true;
+  caller = caller;
+  next = next;
+  lane = [];
+  gathered = [];
+  stage = Rest;
+  look = no_look;
+}
 
 -- the record that a table begins with
 abbrev pub first_record : Record
@@ -41,7 +56,15 @@ first_record = record_of 0 1
 
 -- a record that has made one for the next caller
 abbrev pub dealer : Record → Record
-dealer v = record { live = v.live; caller = v.caller; next = v.next + 1; lane = v.lane; gathered = v.gathered; stage = v.stage; look = v.look }
+dealer v = record {
+  live = v.live;
+  caller = v.caller;
+  next = v.next + 1;
+  lane = v.lane;
+  gathered = v.gathered;
+  stage = v.stage;
+  look = v.look;
+}
 
 -- the one that it made
 abbrev pub dealt : Record → Record
@@ -64,11 +87,27 @@ gathering v w = record {
 
 -- a record whose lanes another one has
 abbrev pub spent : Record
-spent = record { live = false; caller = 0; next = 0; lane = []; gathered = []; stage = Rest; look = no_look }
+spent = record {
+  live = false;
+  caller = 0;
+  next = 0;
+  lane = [];
+  gathered = [];
+  stage = Rest;
+  look = no_look;
+}
 
 -- the record with another action in hand and other looks
 abbrev pub acting : Record → Stage → Look → Record
-acting v stage look = record { live = v.live; caller = v.caller; next = v.next; lane = v.lane; gathered = v.gathered; stage = stage; look = look }
+acting v stage look = record {
+  live = v.live;
+  caller = v.caller;
+  next = v.next;
+  lane = v.lane;
+  gathered = v.gathered;
+  stage = stage;
+  look = look;
+}
 
 -- the value of the claimed cell before the action
 abbrev pub before_of : Stage → ℕ

@@ -30,7 +30,11 @@ looked step m r m' = m' ≡ (acting m.0 m.0.stage (look_first m.0.look (step.wor
 module _ (next : Look → ℕ → ℕ → Look) where
   abbrev pub tried : Step (Unit {0}) → Sitting → ℕ → Sitting → Type 0
   tried step m r m' =
-      (r ≡ step.first → m' ≡ (acting m.0 (Claimed (step.word - 1) (step.first / 2)) (next m.0.look (step.word - 1) r), m.1))
+      (r ≡ step.first
+      → m' ≡ (
+        acting m.0 (Claimed (step.word - 1) (step.first / 2)) (next m.0.look (step.word - 1) r),
+        m.1,
+      ))
       × (r ≢ step.first → m' ≡ (acting m.0 m.0.stage (next m.0.look (step.word - 1) r), m.1))
 
 abbrev pub tried_again : Step (Unit {0}) → Sitting → ℕ → Sitting → Type 0
@@ -47,12 +51,15 @@ drew did step m r m' = (m' ≡ (with_event m.0 r did, m.1)) × AreBelow r m.0.la
 abbrev pub published : Step (Unit {0}) → Sitting → ℕ → Sitting → Type 0
 published step m r m' = m' ≡ (acting m.0 Rest m.0.look, m.1)
 
--- what a draw asks: the cell is claimed with the value read, or claimed, or for a give the lock is held
+-- what a draw asks: the cell is claimed with the value read, or claimed, or for a give the lock is
+-- held
 abbrev pub MayDraw : Plan → Record → Did → Type 0
 MayDraw p v (Read cell value) = (cell < p.plain) × (v.stage ≡ Claimed cell value)
-MayDraw p v (Wrote cell value) = (cell < p.plain) × (value < 2 ^ 63) × (v.stage ≡ Claimed cell (before_of v.stage))
+MayDraw p v (Wrote cell value) =
+    (cell < p.plain) × (value < 2 ^ 63) × (v.stage ≡ Claimed cell (before_of v.stage))
 MayDraw p v (Took cell) = (p.plain ≤ cell) × (cell < p.plain + p.locks) × (v.stage ≡ Claimed cell 0)
-MayDraw p v (Gave cell) = (p.plain ≤ cell) × (cell < p.plain + p.locks) × (v.stage ≡ Rest) × HoldsBy v.lane v.caller cell
+MayDraw p v (Gave cell) =
+    (p.plain ≤ cell) × (cell < p.plain + p.locks) × (v.stage ≡ Rest) × HoldsBy v.lane v.caller cell
 MayDraw p v (Marked kind) = is_write kind ≡ false
 
 -- what a publish asks: the number is drawn, and the word is twice the new value

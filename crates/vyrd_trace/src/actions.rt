@@ -1,5 +1,5 @@
-//! The five actions. None takes memory, and none waits. Each that isn't busy adds one event to the hand's lane and uses one
-//! of its spare room.
+//! The five actions. None takes memory, and none waits. Each that isn't busy adds one event to the
+//! hand's lane and uses one of its spare room.
 
 ghost use Rattle.std.specs.Prelude.{◌≡◌, ◌≢◌, ◌+◌, ◌<◌, ◌≤◌, ◌^◌, false, IfOk, IfErr};
 ghost use Rattle.vyrd_base.specs.declared.history.Did.TheVariants.{Read, Wrote, Took, Gave, Marked};
@@ -14,7 +14,8 @@ use std::fmt;
 use std::marker::Brand;
 use vyrd_base::{Did, Kind};
 
-/// The cell wasn't free. `found` is its word: twice its value, plus 1 while another hand has claimed it.
+/// The cell wasn't free. `found` is its word: twice its value, plus 1 while another hand has
+/// claimed it.
 #[derive(Clone, Copy, Debug, PartialEq, Eq)]
 pub struct Busy {
     pub found: u64,
@@ -44,11 +45,13 @@ impl Traced {
         requires hand { IsOf self.now hand.old }
         requires spare { 0 < hand.old.spare }
         requires cell { cell < self.now.plan.plain }
-        ensures event { IfOk result (λ seen. hand.new ≡ with_one_more hand.old seen.number (Read cell seen.value) hand.new.look) }
+        ensures event { IfOk result (λ seen. hand.new
+            ≡ with_one_more hand.old seen.number (Read cell seen.value) hand.new.look) }
         ensures rises { IfOk result (λ seen. AreBelow seen.number hand.old.lane) }
         ensures value { IfOk result (λ seen. seen.value < 2 ^ 63) }
         ensures refused { IfErr result (λ _. hand.new ≡ with_look hand.old hand.new.look) }
-        ensures found { IfErr result (λ busy. WasFound cell busy.found hand.old.look hand.new.look) }
+        ensures found { IfErr result
+            (λ busy. WasFound cell busy.found hand.old.look hand.new.look) }
         ensures cause { IfErr result (λ busy. WasTaken busy.found hand.new.look) }
     {
         let found = self.board.claim_seen(&mut hand.seat, cell)?;
@@ -61,16 +64,19 @@ impl Traced {
         Ok(Seen { number, value })
     }
 
-    /// Writes a value below 2^63 to a plain cell, in four atomic steps. Answers the event's number. `Busy` is as for `load`.
+    /// Writes a value below 2^63 to a plain cell, in four atomic steps. Answers the event's number.
+    /// `Busy` is as for `load`.
     pub fn store(&self, hand: &mut Hand, cell: u32, value: u64) -> Result<u64, Busy>
         requires hand { IsOf self.now hand.old }
         requires spare { 0 < hand.old.spare }
         requires cell { cell < self.now.plan.plain }
         requires value { value < 2 ^ 63 }
-        ensures event { IfOk result (λ number. hand.new ≡ with_one_more hand.old number (Wrote cell value) hand.new.look) }
+        ensures event { IfOk result
+            (λ number. hand.new ≡ with_one_more hand.old number (Wrote cell value) hand.new.look) }
         ensures rises { IfOk result (λ number. AreBelow number hand.old.lane) }
         ensures refused { IfErr result (λ _. hand.new ≡ with_look hand.old hand.new.look) }
-        ensures found { IfErr result (λ busy. WasFound cell busy.found hand.old.look hand.new.look) }
+        ensures found { IfErr result
+            (λ busy. WasFound cell busy.found hand.old.look hand.new.look) }
         ensures cause { IfErr result (λ busy. WasTaken busy.found hand.new.look) }
     {
         self.board.claim_seen(&mut hand.seat, cell)?;
@@ -89,11 +95,14 @@ impl Traced {
     pub fn take(&self, hand: &mut Hand, cell: u32) -> Result<u64, Busy>
         requires hand { IsOf self.now hand.old }
         requires spare { 0 < hand.old.spare }
-        requires cell { (self.now.plan.plain ≤ cell) × (cell < self.now.plan.plain + self.now.plan.locks) }
-        ensures event { IfOk result (λ number. hand.new ≡ with_one_more hand.old number (Took cell) hand.new.look) }
+        requires cell { (self.now.plan.plain ≤ cell)
+            × (cell < self.now.plan.plain + self.now.plan.locks) }
+        ensures event { IfOk result
+            (λ number. hand.new ≡ with_one_more hand.old number (Took cell) hand.new.look) }
         ensures rises { IfOk result (λ number. AreBelow number hand.old.lane) }
         ensures refused { IfErr result (λ _. hand.new ≡ with_look hand.old hand.new.look) }
-        ensures found { IfErr result (λ busy. WasFound cell busy.found hand.old.look hand.new.look) }
+        ensures found { IfErr result
+            (λ busy. WasFound cell busy.found hand.old.look hand.new.look) }
         ensures cause { IfErr result (λ busy. busy.found ≢ 0) }
     {
         let found = self.board.claim_lock(&mut hand.seat, cell);
@@ -109,11 +118,13 @@ impl Traced {
         Ok(number)
     }
 
-    /// Gives back a lock that this hand holds, in two atomic steps. Answers the event's number, and is never refused.
+    /// Gives back a lock that this hand holds, in two atomic steps. Answers the event's number, and
+    /// is never refused.
     pub fn give(&self, hand: &mut Hand, cell: u32) -> u64
         requires hand { IsOf self.now hand.old }
         requires spare { 0 < hand.old.spare }
-        requires cell { (self.now.plan.plain ≤ cell) × (cell < self.now.plan.plain + self.now.plan.locks) }
+        requires cell { (self.now.plan.plain ≤ cell)
+            × (cell < self.now.plan.plain + self.now.plan.locks) }
         requires held { Holds hand.old cell }
         ensures event { hand.new ≡ with_one_more hand.old result (Gave cell) hand.old.look }
         ensures rises { AreBelow result hand.old.lane }
@@ -126,8 +137,8 @@ impl Traced {
         number
     }
 
-    /// Marks a call, a return, a commit, or where a block begins or ends, in one atomic step. Answers the event's number,
-    /// touches no cell, and is never refused.
+    /// Marks a call, a return, a commit, or where a block begins or ends, in one atomic step.
+    /// Answers the event's number, touches no cell, and is never refused.
     pub fn mark(&self, hand: &mut Hand, kind: Kind) -> u64
         requires hand { IsOf self.now hand.old }
         requires spare { 0 < hand.old.spare }

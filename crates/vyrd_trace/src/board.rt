@@ -15,8 +15,8 @@ use atomic_table::{Seat, Table};
 use std::alloc::Global;
 use vyrd_base::Stamped;
 
-/// Word 0 of the table counts the events, and word `i + 1` is that of cell `i`: twice its value, plus 1 while a hand has
-/// claimed it.
+/// Word 0 of the table counts the events, and word `i + 1` is that of cell `i`: twice its value,
+/// plus 1 while a hand has claimed it.
 #[derive(Drop)]
 pub struct Board {
     pub(crate) alloc: Global,
@@ -25,7 +25,8 @@ pub struct Board {
 }
 
 impl Board {
-    /// Makes the hands of the callers from 1 on, each with a record that the one of caller 0 makes for it.
+    /// Makes the hands of the callers from 1 on, each with a record that the one of caller 0 makes
+    /// for it.
     pub(crate) fn deal_all(
         &self,
         callers: u32,
@@ -34,11 +35,15 @@ impl Board {
         hands: &mut Vec<Hand>,
     )
         requires table { seat.old.table_id ≡ self.now.table.shared.table_id }
-        requires plan { (callers ≡ self.now.table.shared.key.callers) × (limit ≡ self.now.table.shared.key.limit) × (1 ≤ callers) }
+        requires plan { (callers ≡ self.now.table.shared.key.callers)
+            × (limit ≡ self.now.table.shared.key.limit) × (1 ≤ callers) }
         requires first { seat.old.me ≡ (first_record, []) }
         requires hands { (hands.old.items ≡ []) × (callers ≤ vec_capacity hands.old) }
         ensures same { IsSame seat.old seat.new × (seat.new.me ≡ (record_of 0 callers, [])) }
-        ensures hands { (vec_len hands.new + 1 ≡ callers) × (vec_capacity hands.new ≡ vec_capacity hands.old) × AreNew (sharing self.now.table.shared.table_id self.now.table.shared.key) 1 hands.new.items }
+        ensures hands { (vec_len hands.new + 1 ≡ callers)
+            × (vec_capacity hands.new ≡ vec_capacity hands.old)
+            × AreNew (sharing self.now.table.shared.table_id self.now.table.shared.key) 1
+            hands.new.items }
     {
         for caller in 1..callers {
             let dealt = self.deal(seat);
@@ -52,10 +57,13 @@ impl Board {
         mut hands: Vec<Hand>,
         lanes: &mut Vec<Vec<Stamped>>,
     ) -> Seat<(), Record>
-        requires hands { AreAll (sharing self.now.table.shared.table_id self.now.table.shared.key) hands.items }
+        requires hands { AreAll (sharing self.now.table.shared.table_id self.now.table.shared.key)
+            hands.items }
         requires room { (lanes.old.items ≡ []) × (vec_len hands ≤ vec_capacity lanes.old) }
         ensures lanes { map (λ v. v.items) lanes.new.items ≡ lanes_of hands.items }
-        ensures seat { (result.table_id ≡ self.now.table.shared.table_id) × (result.me.0.live ≡ true) × (result.me.0.stage ≡ Rest) × (own_lane result.me.0 ∷ result.me.0.gathered ≡ own_lanes hands.items) }
+        ensures seat { (result.table_id ≡ self.now.table.shared.table_id)
+            × (result.me.0.live ≡ true) × (result.me.0.stage ≡ Rest)
+            × (own_lane result.me.0 ∷ result.me.0.gathered ≡ own_lanes hands.items) }
     {
         let (lane, mut seat) = hands.remove(0).into_parts();
         lanes.push_reserved(lane);

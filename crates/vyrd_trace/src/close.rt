@@ -1,6 +1,7 @@
 //! A traced memory that is closed.
 
-ghost use Rattle.std.specs.Prelude.{◌≡◌, ℕ, ◌+◌, ◌/◌, ◌<◌, ◌≤◌, length, true, [], slice_index, IfOk, IfErr, vec_len, vec_capacity};
+ghost use Rattle.std.specs.Prelude.{◌≡◌, ℕ, ◌+◌, ◌/◌, ◌<◌, ◌≤◌, length, true, [], slice_index};
+ghost use Rattle.std.specs.Prelude.{IfOk, IfErr, vec_len, vec_capacity};
 ghost use Rattle.std.specs.List.{All, sum_by};
 ghost use Rattle.std.specs.Slots.{slots_items, slots_len, IsFull};
 ghost use Rattle.vyrd_base.specs.Histories.{is_legal};
@@ -15,8 +16,8 @@ use crate::traced::Traced;
 use std::alloc::{AllocError, Global};
 use vyrd_base::{Did, Kind, Stamped};
 
-/// What a traced memory leaves: the history of all events, in the order of their numbers, and the last values, those of
-/// the plain cells and then those of the locks.
+/// What a traced memory leaves: the history of all events, in the order of their numbers, and the
+/// last values, those of the plain cells and then those of the locks.
 #[derive(Drop)]
 pub struct Closed {
     pub history: Vec<Stamped>,
@@ -77,7 +78,8 @@ fn count_all(hands: &[Hand]) -> usize
 fn halve_words(closed: &atomic_table::Closed<(), Global>, cells: usize, words: &mut Vec<u64>)
     requires closed { IsFull closed.now.words × (slots_len closed.now.words ≡ 1 + cells) }
     requires room { (words.old.items ≡ []) × (cells ≤ vec_capacity words.old) }
-    ensures { (vec_len words.new ≡ cells) × ((k : ℕ) → k < cells → slice_index words.new.items k ≡ slice_index (slots_items closed.now.words) (k + 1) / 2) }
+    ensures { (vec_len words.new ≡ cells) × ((k : ℕ) → k < cells
+        → slice_index words.new.items k ≡ slice_index (slots_items closed.now.words) (k + 1) / 2) }
 {
     for k in 0..cells {
         words.push_reserved(closed.word(k + 1) / 2);
@@ -85,16 +87,21 @@ fn halve_words(closed: &atomic_table::Closed<(), Global>, cells: usize, words: &
 }
 
 impl Traced {
-    /// Ends the sharing, and puts the lanes together. `hands` are all hands of this memory, in the order of their callers.
+    /// Ends the sharing, and puts the lanes together. `hands` are all hands of this memory, in the
+    /// order of their callers.
     ///
     /// It takes its memory first, for the whole history, and is `Unclosed` only if there was none.
     /// The time is linear in the events and the cells.
     pub fn close(self, hands: Vec<Hand>) -> Result<Closed, Unclosed>
         requires { AreAll self hands.items }
-        ensures legal { IfOk result (λ closed. is_legal (cells_in self.plan) closed.history.items ≡ true) }
-        ensures parts { IfOk result (λ closed. All (λ hand. part hand.caller closed.history.items ≡ hand.lane) hands.items) }
-        ensures words { IfOk result (λ closed. closed.words.items ≡ last_values self.plan closed.history.items) }
-        ensures unclosed { IfErr result (λ left. (left.traced ≡ self) × (left.hands.items ≡ hands.items)) }
+        ensures legal { IfOk result
+            (λ closed. is_legal (cells_in self.plan) closed.history.items ≡ true) }
+        ensures parts { IfOk result (λ closed.
+            All (λ hand. part hand.caller closed.history.items ≡ hand.lane) hands.items) }
+        ensures words { IfOk result
+            (λ closed. closed.words.items ≡ last_values self.plan closed.history.items) }
+        ensures unclosed { IfErr result
+            (λ left. (left.traced ≡ self) × (left.hands.items ≡ hands.items)) }
     {
         let total = count_all(hands.as_slice());
         let cells = self.board.table.word_count() - 1;

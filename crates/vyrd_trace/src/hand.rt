@@ -1,6 +1,7 @@
 //! A hand: one caller's lane, with the seat that its events are drawn with.
 
-ghost use Rattle.std.specs.Prelude.{◌≡◌, ◌+◌, ◌<◌, ◌≤◌, max, length, true, [], ◌∷◌, ◌++◌, IfOk, IfErr, Err, vec_len, vec_capacity};
+ghost use Rattle.std.specs.Prelude.{◌≡◌, ◌+◌, ◌<◌, ◌≤◌, max, length, true, [], ◌∷◌, ◌++◌, IfOk};
+ghost use Rattle.std.specs.Prelude.{IfErr, Err, vec_len, vec_capacity};
 ghost use Rattle.vyrd_trace.specs.declared.hand.Reserve.TheVariants.{Memory, Spent};
 ghost use Rattle.vyrd_trace.specs.declared.record.Stage.TheVariants.{Rest};
 ghost use Rattle.vyrd_trace.specs.Lanes.{stamp};
@@ -34,7 +35,8 @@ impl fmt::Display for Reserve {
 
 impl Error for Reserve {}
 
-/// One caller's events so far, and the right to make more. Between calls it has no action in hand and claims no cell.
+/// One caller's events so far, and the right to make more. Between calls it has no action in hand
+/// and claims no cell.
 #[derive(Drop)]
 pub struct Hand {
     pub(crate) caller: u32,
@@ -51,9 +53,19 @@ impl Model for Hand {
 
     ghost Value = { HandView };
 
-    ghost view = { λ h. record { table = h.seat.table_id; caller = h.caller; limit = h.limit; spare = h.spare; lane = h.lane.items; look = h.seat.me.0.look } };
+    ghost view = { λ h. record {
+      table = h.seat.table_id;
+      caller = h.caller;
+      limit = h.limit;
+      spare = h.spare;
+      lane = h.lane.items;
+      look = h.seat.me.0.look;
+    } };
 
-    ghost invariant = { λ h. (h.seat.me.0.caller ≡ h.caller) × (h.seat.me.0.lane ≡ h.lane.items) × (h.seat.me.0.live ≡ true) × (h.seat.me.0.stage ≡ Rest) × (h.seat.me.0.gathered ≡ []) × (h.seat.me.1 ≡ []) × (vec_len h.lane + h.spare ≤ vec_capacity h.lane) × (vec_len h.lane + h.spare ≤ h.limit) };
+    ghost invariant = { λ h. (h.seat.me.0.caller ≡ h.caller) × (h.seat.me.0.lane ≡ h.lane.items)
+        × (h.seat.me.0.live ≡ true) × (h.seat.me.0.stage ≡ Rest) × (h.seat.me.0.gathered ≡ [])
+        × (h.seat.me.1 ≡ []) × (vec_len h.lane + h.spare ≤ vec_capacity h.lane)
+        × (vec_len h.lane + h.spare ≤ h.limit) };
 }
 
 impl Hand {
@@ -77,7 +89,8 @@ impl Hand {
     /// if there was none. A refusal changes nothing.
     pub fn reserve(&mut self, n: u64) -> Result<(), Reserve>
         ensures ready { IfOk result (λ _. self.new ≡ with_spare self.old (max self.old.spare n)) }
-        ensures spent { (self.old.limit < length self.old.lane + n → result ≡ Err Spent) × (result ≡ Err Spent → self.old.limit < length self.old.lane + n) }
+        ensures spent { (self.old.limit < length self.old.lane + n → result ≡ Err Spent)
+            × (result ≡ Err Spent → self.old.limit < length self.old.lane + n) }
         ensures refused { IfErr result (λ _. self.new ≡ self.old) }
         ensures enough { result ≡ Err Memory → self.old.spare < n }
     {
@@ -98,7 +111,9 @@ impl Hand {
     pub(crate) fn into_parts(self) -> (Vec<Stamped>, Seat<(), Record>)
         ensures lane { result.0.items ≡ self.lane }
         ensures seat { (result.1.table_id ≡ self.table) × (result.1.me.1 ≡ []) }
-        ensures record { (result.1.me.0.caller ≡ self.caller) × (result.1.me.0.lane ≡ self.lane) × (result.1.me.0.gathered ≡ []) × (result.1.me.0.live ≡ true) × (result.1.me.0.stage ≡ Rest) }
+        ensures record { (result.1.me.0.caller ≡ self.caller) × (result.1.me.0.lane ≡ self.lane)
+            × (result.1.me.0.gathered ≡ []) × (result.1.me.0.live ≡ true)
+            × (result.1.me.0.stage ≡ Rest) }
     {
         let Hand { lane, seat, .. } = self;
         (lane, seat)
@@ -106,8 +121,10 @@ impl Hand {
 
     /// A hand with an empty lane.
     pub(crate) fn fresh(alloc: Global, caller: u32, limit: u64, seat: Seat<(), Record>) -> Hand
-        requires { (seat.me.0.caller ≡ caller) × (seat.me.0.lane ≡ []) × (seat.me.0.live ≡ true) × (seat.me.0.stage ≡ Rest) × (seat.me.0.gathered ≡ []) × (seat.me.1 ≡ []) }
-        ensures { (result.table ≡ seat.table_id) × (result.caller ≡ caller) × (result.limit ≡ limit) × (result.spare ≡ 0) × (result.lane ≡ []) }
+        requires { (seat.me.0.caller ≡ caller) × (seat.me.0.lane ≡ []) × (seat.me.0.live ≡ true)
+            × (seat.me.0.stage ≡ Rest) × (seat.me.0.gathered ≡ []) × (seat.me.1 ≡ []) }
+        ensures { (result.table ≡ seat.table_id) × (result.caller ≡ caller) × (result.limit ≡ limit)
+            × (result.spare ≡ 0) × (result.lane ≡ []) }
     {
         Hand {
             caller,

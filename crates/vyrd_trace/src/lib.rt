@@ -1,9 +1,11 @@
-//! Shared memory whose every event is traced: cells that threads load and store, and locks that they take and give.
+//! Shared memory whose every event is traced: cells that threads load and store, and locks that
+//! they take and give.
 //!
-//! The central type is [`Traced`]. Each thread acts on it through a [`Hand`] of its own, and an action that isn't refused
-//! as busy adds exactly one event, with a number, to the hand's lane. In every schedule [`Traced::close`] puts the lanes
-//! together into one legal history: each load read what the last store before it wrote, each lock was free when it was
-//! taken, and each hand's lane is its caller's part of it. No action takes memory or waits.
+//! The central type is [`Traced`]. Each thread acts on it through a [`Hand`] of its own, and an
+//! action that isn't refused as busy adds exactly one event, with a number, to the hand's lane. In
+//! every schedule [`Traced::close`] puts the lanes together into one legal history: each load read
+//! what the last store before it wrote, each lock was free when it was taken, and each hand's lane
+//! is its caller's part of it. No action takes memory or waits.
 #![tactic(auto)]
 
 mod actions;

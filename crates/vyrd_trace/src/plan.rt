@@ -1,6 +1,7 @@
 //! The sizes of a traced memory.
 
-/// How much a traced memory has of everything. Plain cells are numbered from 0, and the locks after them.
+/// How much a traced memory has of everything. Plain cells are numbered from 0, and the locks after
+/// them.
 #[derive(Clone, Copy)]
 pub struct Plan {
     pub plain: u32,

@@ -7,7 +7,8 @@ use crate::record::Record;
 use atomic_table::{Join, Play, Split};
 use std::marker::{Brand, PhantomData};
 
-/// What the next event does. A play has no arguments, so the caller of a draw picks this for the proof.
+/// What the next event does. A play has no arguments, so the caller of a draw picks this for the
+/// proof.
 pub trait Intent {
     ghost did: { Did };
 }

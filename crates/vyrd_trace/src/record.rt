@@ -22,7 +22,8 @@ pub struct Lane {
     pub events: LinkedList<Stamped>,
 }
 
-/// What a seat knows: its caller, its own lane, the lanes that it gathered, the action in hand and the looks.
+/// What a seat knows: its caller, its own lane, the lanes that it gathered, the action in hand and
+/// the looks.
 pub struct Record {
     /// Whether no other record has gathered this one.
     pub live: bool,

@@ -5,7 +5,8 @@ ghost use Rattle.std.specs.Prelude.{◌≡◌, ◌≢◌, ◌+◌, ◌/◌, ◌%
 ghost use Rattle.vyrd_trace.specs.declared.look.Look.{Look};
 ghost use Rattle.vyrd_trace.specs.declared.record.Stage.TheVariants.{Rest, Claimed};
 ghost use Rattle.vyrd_trace.specs.Lanes.{AreBelow};
-ghost use Rattle.vyrd_trace.specs.Records.{dealer, dealt, gathering, with_event, acting, look_first, look_again};
+ghost use Rattle.vyrd_trace.specs.Records.{dealer, dealt, gathering, with_event, acting};
+ghost use Rattle.vyrd_trace.specs.Records.{look_first, look_again};
 ghost use Rattle.vyrd_trace.specs.Steps.{MayDraw, IsSame, Ends};
 ghost use Rattle.vyrd_trace.specs.Hands.{WasFound, WasTaken};
 
@@ -17,7 +18,8 @@ use atomic_table::Seat;
 use vyrd_base::Did;
 
 impl Board {
-    /// Draws the number of one event. `did` says to the contract which event it is, and J says it to the step.
+    /// Draws the number of one event. `did` says to the contract which event it is, and J says it
+    /// to the step.
     pub(crate) fn draw<J: Intent>(&self, seat: &mut Seat<(), Record>, did: Did) -> u64
         requires table { seat.old.table_id ≡ self.now.table.shared.table_id }
         requires live { seat.old.me.0.live ≡ true }
@@ -38,7 +40,10 @@ impl Board {
         requires live { seat.old.me.0.live ≡ true }
         requires cell { cell < self.now.table.shared.key.plain + self.now.table.shared.key.locks }
         ensures same { IsSame seat.old seat.new }
-        ensures told { seat.new.me ≡ (acting seat.old.me.0 seat.old.me.0.stage (look_first seat.old.me.0.look cell result), seat.old.me.1) }
+        ensures told { seat.new.me ≡ (
+          acting seat.old.me.0 seat.old.me.0.stage (look_first seat.old.me.0.look cell result),
+          seat.old.me.1,
+        ) }
     {
         self.table.shared.load::<Looks>(seat, cell as usize + 1)
     }
@@ -52,8 +57,17 @@ impl Board {
         requires rest { seat.old.me.0.stage ≡ Rest }
         requires even { old % 2 ≡ 0 }
         ensures same { IsSame seat.old seat.new }
-        ensures won { result ≡ old → seat.new.me ≡ (acting seat.old.me.0 (Claimed cell (old / 2)) (look_again seat.old.me.0.look cell result), seat.old.me.1) }
-        ensures lost { result ≢ old → seat.new.me ≡ (acting seat.old.me.0 seat.old.me.0.stage (look_again seat.old.me.0.look cell result), seat.old.me.1) }
+        ensures won { result ≡ old
+            → seat.new.me ≡ (
+              acting seat.old.me.0 (Claimed cell (old / 2))
+                  (look_again seat.old.me.0.look cell result),
+              seat.old.me.1,
+            ) }
+        ensures lost { result ≢ old
+            → seat.new.me ≡ (
+              acting seat.old.me.0 seat.old.me.0.stage (look_again seat.old.me.0.look cell result),
+              seat.old.me.1,
+            ) }
     {
         self.table
             .shared
@@ -67,8 +81,16 @@ impl Board {
         requires cell { cell < self.now.table.shared.key.plain + self.now.table.shared.key.locks }
         requires rest { seat.old.me.0.stage ≡ Rest }
         ensures same { IsSame seat.old seat.new }
-        ensures won { result ≡ 0 → seat.new.me ≡ (acting seat.old.me.0 (Claimed cell 0) (look_first seat.old.me.0.look cell result), seat.old.me.1) }
-        ensures lost { result ≢ 0 → seat.new.me ≡ (acting seat.old.me.0 seat.old.me.0.stage (look_first seat.old.me.0.look cell result), seat.old.me.1) }
+        ensures won { result ≡ 0
+            → seat.new.me ≡ (
+              acting seat.old.me.0 (Claimed cell 0) (look_first seat.old.me.0.look cell result),
+              seat.old.me.1,
+            ) }
+        ensures lost { result ≢ 0
+            → seat.new.me ≡ (
+              acting seat.old.me.0 seat.old.me.0.stage (look_first seat.old.me.0.look cell result),
+              seat.old.me.1,
+            ) }
     {
         self.table
             .shared
@@ -89,7 +111,8 @@ impl Board {
             .store::<Publishes>(seat, cell as usize + 1, word);
     }
 
-    /// Looks at a plain cell, and claims it if it is free then and its word hasn't changed since. Returns the word found.
+    /// Looks at a plain cell, and claims it if it is free then and its word hasn't changed since.
+    /// Returns the word found.
     pub(crate) fn claim_seen(&self, seat: &mut Seat<(), Record>, cell: u32) -> Result<u64, Busy>
         requires table { seat.old.table_id ≡ self.now.table.shared.table_id }
         requires live { seat.old.me.0.live ≡ true }
@@ -97,8 +120,11 @@ impl Board {
         requires rest { seat.old.me.0.stage ≡ Rest }
         ensures same { IsSame seat.old seat.new }
         ensures told { MatchResult result
-            (λ w. (w % 2 ≡ 0) × ((l : Look) × (seat.new.me ≡ (acting seat.old.me.0 (Claimed cell (w / 2)) l, seat.old.me.1))))
-            (λ b. (l : Look) × (seat.new.me ≡ (acting seat.old.me.0 seat.old.me.0.stage l, seat.old.me.1)) × WasFound cell b.found seat.old.me.0.look l × WasTaken b.found l) }
+            (λ w. (w % 2 ≡ 0) × ((l : Look)
+            × (seat.new.me ≡ (acting seat.old.me.0 (Claimed cell (w / 2)) l, seat.old.me.1))))
+            (λ b. (l : Look)
+            × (seat.new.me ≡ (acting seat.old.me.0 seat.old.me.0.stage l, seat.old.me.1))
+            × WasFound cell b.found seat.old.me.0.look l × WasTaken b.found l) }
     {
         let seen = self.look(seat, cell);
         if seen % 2 == 1 {
@@ -120,14 +146,16 @@ impl Board {
         requires room { seat.old.me.0.next < self.now.table.shared.key.callers }
         ensures same { IsSame seat.old seat.new }
         ensures told { seat.new.me ≡ (dealer seat.old.me.0, seat.old.me.1) }
-        ensures new { (result.table_id ≡ seat.old.table_id) × (result.me ≡ (dealt seat.old.me.0, [])) }
+        ensures new { (result.table_id ≡ seat.old.table_id)
+            × (result.me ≡ (dealt seat.old.me.0, [])) }
     {
         self.table.shared.split_seat::<Deals>(seat)
     }
 
     /// The second record's lanes go to the first.
     pub(crate) fn gather(&self, seat: &mut Seat<(), Record>, other: Seat<(), Record>)
-        requires table { (seat.old.table_id ≡ self.now.table.shared.table_id) × (other.table_id ≡ self.now.table.shared.table_id) }
+        requires table { (seat.old.table_id ≡ self.now.table.shared.table_id)
+            × (other.table_id ≡ self.now.table.shared.table_id) }
         requires live { (seat.old.me.0.live ≡ true) × (other.me.0.live ≡ true) }
         requires rest { (other.me.0.stage ≡ Rest) × (other.me.1 ≡ []) }
         ensures same { IsSame seat.old seat.new }

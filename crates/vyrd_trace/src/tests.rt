@@ -21,7 +21,8 @@ fn two(
     limit: u64,
 ) -> Result<(Traced, Hand, Hand), AllocError>
     requires { (plain + locks ≤ most_cells) × (limit ≤ most_events) }
-    ensures plan { IfOk result (λ r. r.0.plan ≡ record { plain = plain; locks = locks; callers = 2; limit = limit }) }
+    ensures plan { IfOk result
+        (λ r. r.0.plan ≡ record { plain = plain; locks = locks; callers = 2; limit = limit }) }
     ensures first { IfOk result (λ r. IsOf r.0 r.1 × (r.1.caller ≡ 0) × (r.1.lane ≡ [])) }
     ensures second { IfOk result (λ r. IsOf r.0 r.2 × (r.2.caller ≡ 1) × (r.2.lane ≡ [])) }
 {
@@ -40,7 +41,8 @@ fn close_two(alloc: Global, traced: Traced, first: Hand, second: Hand) -> Option
     requires plan { traced.plan.callers ≡ 2 }
     requires first { IsOf traced first × (first.caller ≡ 0) }
     requires second { IsOf traced second × (second.caller ≡ 1) }
-    ensures { IfSome result (λ c. (part 0 c.history.items ≡ first.lane) × (part 1 c.history.items ≡ second.lane)) }
+    ensures { IfSome result
+        (λ c. (part 0 c.history.items ≡ first.lane) × (part 1 c.history.items ≡ second.lane)) }
 {
     let Ok(mut hands) = Vec::with_capacity(alloc, 2) else {
         return None;

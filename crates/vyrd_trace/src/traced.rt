@@ -10,8 +10,8 @@ use atomic_table::Table;
 use std::alloc::{AllocError, Global};
 use std::marker::Model;
 
-/// Cells and locks that hands act on, each in a thread of its own, through a `&`. Every cell begins with 0, and every
-/// lock free.
+/// Cells and locks that hands act on, each in a thread of its own, through a `&`. Every cell begins
+/// with 0, and every lock free.
 #[derive(Drop)]
 pub struct Traced {
     pub(crate) board: Board,
@@ -26,8 +26,9 @@ impl Model for Traced {
 }
 
 impl Traced {
-    /// A memory of `plain` cells, numbered from 0, and `locks` locks, numbered after them, with a hand for each caller, in
-    /// the order of the callers. A hand's lane may have at most `limit` events.
+    /// A memory of `plain` cells, numbered from 0, and `locks` locks, numbered after them, with a
+    /// hand for each caller, in the order of the callers. A hand's lane may have at most `limit`
+    /// events.
     ///
     /// It takes memory for the cells and the hands, and none for events: `Hand::reserve` does that.
     pub fn new(
@@ -40,7 +41,8 @@ impl Traced {
         requires callers { (1 ≤ callers) × (callers ≤ 64) }
         requires cells { plain + locks ≤ most_cells }
         requires limit { limit ≤ most_events }
-        ensures plan { IfOk result (λ new. new.0.plan ≡ record { plain = plain; locks = locks; callers = callers; limit = limit }) }
+        ensures plan { IfOk result (λ new. new.0.plan
+            ≡ record { plain = plain; locks = locks; callers = callers; limit = limit }) }
         ensures count { IfOk result (λ new. vec_len new.1 ≡ callers) }
         ensures hands { IfOk result (λ new. AreNew new.0 0 new.1.items) }
     {

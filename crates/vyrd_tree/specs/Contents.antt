@@ -65,13 +65,16 @@ BeginsAt from [] = ⊥
 BeginsAt from (entry ∷ entries) = entry.0 ≡ from
 
 -- an inner node has at least two entries, the first at its low, and each leads to a child
-pub record AreInner (last : ℕ) (level low : ℕ → ℕ) (above from : ℕ) (entries : List (ℕ × ℕ)) : Type 0 where
+pub record AreInner (last : ℕ) (level low : ℕ → ℕ) (above from : ℕ)
+    (entries : List (ℕ × ℕ)) : Type 0 where
   pub two : 2 ≤ length entries
   pub first : BeginsAt from entries
   pub child : AllByRecursion (IsChild last level low above) entries
 
--- The entries of a node, from its level, its low and its bound: keys rise from the low on and stay below the bound.
-pub record AreEntries (last : ℕ) (level low : ℕ → ℕ) (above from bound : ℕ) (entries : List (ℕ × ℕ)) : Type 0 where
+-- The entries of a node, from its level, its low and its bound: keys rise from the low on and stay
+-- below the bound.
+pub record AreEntries (last : ℕ) (level low : ℕ → ℕ) (above from bound : ℕ)
+    (entries : List (ℕ × ℕ)) : Type 0 where
   pub rise : Rising entries
   pub in_range : AllByRecursion (InRange from bound) entries
   pub leaf : above ≡ 0 → AllByRecursion IsLeafEntry entries
@@ -100,9 +103,11 @@ abbrev pub entries_at : Memory → ℕ → List (ℕ × ℕ)
 entries_at m n = entries_from m n 0 (count_at m n)
 
 abbrev pub AreEntriesAt : ℕ → Memory → (ℕ → ℕ) → ℕ → Type 0
-AreEntriesAt last m low n = AreEntries last (level_at m) low (level_at m n) (low n) (bound_at m n) (entries_at m n)
+AreEntriesAt last m low n =
+    AreEntries last (level_at m) low (level_at m n) (low n) (bound_at m n) (entries_at m n)
 
--- The memory holds a tree of which these are the nodes' lows. A low of 0 is that of a chain's first node.
+-- The memory holds a tree of which these are the nodes' lows. A low of 0 is that of a chain's first
+-- node.
 pub record IsTree (size : ℕ) (m : Memory) (low : ℕ → ℕ) : Type 0 where
   pub last_low : last_in size m < size
   pub root_in_use : root_in size m ≤ last_in size m
@@ -112,7 +117,8 @@ pub record IsTree (size : ℕ) (m : Memory) (low : ℕ → ℕ) : Type 0 where
   pub ends : (n : ℕ) → n ≤ last_in size m → right_at m n ≡ 0 → bound_at m n ≡ 0
   pub link : (n : ℕ) → n ≤ last_in size m → right_at m n ≢ 0 → LeadsOn (last_in size m) m low n
   pub left : (n : ℕ) → n ≤ last_in size m → low n ≢ 0 → HasLeft (last_in size m) m n
-  pub one_first : (a b : ℕ) → a ≤ last_in size m → b ≤ last_in size m → level_at m a ≡ level_at m b → low a ≡ 0 → low b ≡ 0 → a ≡ b
+  pub one_first : (a b : ℕ) → a ≤ last_in size m → b ≤ last_in size m → level_at m a ≡ level_at m b
+      → low a ≡ 0 → low b ≡ 0 → a ≡ b
   pub few : (n : ℕ) → n ≤ last_in size m → count_at m n ≤ 4
   pub entries : (n : ℕ) → n ≤ last_in size m → AreEntriesAt (last_in size m) m low n
 

@@ -2,7 +2,8 @@
 pub mod Walk
 pub mod Split
 pub mod Ascent
-use Rattle.std.specs.Prelude.{ℕ, ◌+◌, ◌==◌, nat_lt, List, length, position, remove, slice_index, map, Option, Some, None, if◌then◌else◌}
+use Rattle.std.specs.Prelude.{ℕ, ◌+◌, ◌==◌, nat_lt, List, length, position, remove, slice_index}
+use Rattle.std.specs.Prelude.{map, Option, Some, None, if◌then◌else◌}
 use Rattle.vyrd_base.specs.declared.header.Header.{Header}
 use Rattle.vyrd_base.specs.declared.log.Kind.TheVariants.{Commit, BlockOpen, BlockCommit}
 use Rattle.vyrd_base.specs.declared.subject.Args.{Args}
@@ -24,7 +25,8 @@ changes_nothing h node = perform (Mark Commit) (unlock_node h node (returns 0))
 
 -- the walk of an operation: from the root to the leaf of its key
 abbrev pub walk_down : Header → Variant → ℕ → Script → (Arrived → Script) → Script
-walk_down h variant key lost arrived = step (Load (root_cell h)) (λ root. walk_from h variant key 0 h.size root lost arrived)
+walk_down h variant key lost arrived =
+    step (Load (root_cell h)) (λ root. walk_from h variant key 0 h.size root lost arrived)
 
 -- the place of the first entry with this key
 abbrev pub place_of : ℕ → List (ℕ × ℕ) → Option ℕ
@@ -45,32 +47,37 @@ look_in h at place = unlock_node h at.node (returns (reply_of at.entries place))
 
 -- lookup k
 abbrev pub lookup : Header → Variant → ℕ → Script
-lookup h variant key = walk_down h variant key (returns 0) (λ at. look_in h at (place_of key at.entries))
+lookup h variant key =
+    walk_down h variant key (returns 0) (λ at. look_in h at (place_of key at.entries))
 
 -- what a delete does in the leaf of its key: the entries from the place on move up by one
 abbrev pub delete_in : Header → Arrived → Option ℕ → Script
 delete_in h at None = changes_nothing h at.node
-delete_in h at (Some place) = rewrite h at.node place (remove at.entries place) BlockCommit (returns 1)
+delete_in h at (Some place) =
+    rewrite h at.node place (remove at.entries place) BlockCommit (returns 1)
 
 -- delete k
 abbrev pub delete : Header → Variant → ℕ → Script
-delete h variant key = walk_down h variant key gives_up (λ at. delete_in h at (place_of key at.entries))
+delete h variant key =
+    walk_down h variant key gives_up (λ at. delete_in h at (place_of key at.entries))
 
 -- a new value for a key that is there, in a block; then unlock the leaf and return 2
 abbrev pub replace_value : Header → ℕ → ℕ → ℕ → Script
 replace_value h node place value =
-    perform (Mark BlockOpen) (perform (Store (value_cell node place) value) (perform (Mark BlockCommit) (unlock_node h node (returns 2))))
+    perform (Mark BlockOpen) (perform (Store (value_cell node place) value)
+    (perform (Mark BlockCommit) (unlock_node h node (returns 2))))
 
 -- the ascent after a leaf was split: up to 16 rounds for the new leaf, and then it returns 1
 abbrev pub ascend_from_leaf : Header → Variant → ℕ → ℕ → Script
 ascend_from_leaf h variant key leaf = ascend h variant 16 0 key leaf (returns 1)
 
--- An entry for a key that isn't there. The leaf may be split, and then comes what is given for the first key of the new leaf and
--- its number.
+-- An entry for a key that isn't there. The leaf may be split, and then comes what is given for the
+-- first key of the new leaf and its number.
 abbrev pub insert_new_then : Header → ℕ → ℕ → (ℕ → ℕ → Script) → Arrived → Script
 insert_new_then h key value split at =
     if nat_lt (length at.entries) 4 then add_entry h at key value BlockCommit (returns 1)
-    else with_unused h (changes_nothing h at.node) (λ new. split_entry h at key value new BlockCommit (split (split_key at key value) new))
+    else with_unused h (changes_nothing h at.node)
+    (λ new. split_entry h at key value new BlockCommit (split (split_key at key value) new))
 
 -- the same, and after a split the ascent
 abbrev pub insert_new : Header → Variant → ℕ → ℕ → Arrived → Script
@@ -83,12 +90,14 @@ insert_in_then h key value split at (Some place) = replace_value h at.node place
 
 -- the same, and after a split the ascent
 abbrev pub insert_in : Header → Variant → ℕ → ℕ → Arrived → Option ℕ → Script
-insert_in h variant key value at place = insert_in_then h key value (ascend_from_leaf h variant) at place
+insert_in h variant key value at place =
+    insert_in_then h key value (ascend_from_leaf h variant) at place
 
 -- insert k v, and after a split what is given
 abbrev pub insert_then : Header → Variant → ℕ → ℕ → (ℕ → ℕ → Script) → Script
 insert_then h variant key value split =
-    walk_down h variant key gives_up (λ at. insert_in_then h key value split at (place_of key at.entries))
+    walk_down h variant key gives_up
+    (λ at. insert_in_then h key value split at (place_of key at.entries))
 
 -- insert k v
 abbrev pub insert_entry : Header → Variant → ℕ → ℕ → Script

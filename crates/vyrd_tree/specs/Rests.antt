@@ -60,14 +60,17 @@ climbing_rest h task a climbing.LoadRoot = step (Load (root_cell h)) (λ root.
     if nat_lt root h.size
     then step (Load (level_cell root)) (λ top. above_root h task a root top)
     else unlock_root h (returns 1))
-climbing_rest h task a (climbing.LoadLevel root) = step (Load (level_cell root.number)) (λ top. above_root h task a root.number top)
+climbing_rest h task a (climbing.LoadLevel root) =
+    step (Load (level_cell root.number)) (λ top. above_root h task a root.number top)
 
 -- what is left at a place
 abbrev pub rest_at : Header → Task → Place → Script
-rest_at h task place.LoadRoot = step (Load (root_cell h)) (λ root. walk_on h task errand.Operation h.size root)
+rest_at h task place.LoadRoot =
+    step (Load (root_cell h)) (λ root. walk_on h task errand.Operation h.size root)
 rest_at h task (place.Visit v visiting) = visiting_rest h task v visiting
 rest_at h task (place.Unused need getting) = getting_rest h task need getting
-rest_at h task (place.Open storing ending) = perform (Mark BlockOpen) (storing_rest h storing (ending_rest h task ending))
+rest_at h task (place.Open storing ending) =
+    perform (Mark BlockOpen) (storing_rest h storing (ending_rest h task ending))
 rest_at h task (place.Store storing ending) = storing_rest h storing (ending_rest h task ending)
 rest_at h task (place.Close ending) = ending_rest h task ending
 rest_at h task (place.Unchanged node) = changes_nothing h node.number

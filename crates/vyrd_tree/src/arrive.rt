@@ -24,7 +24,9 @@ impl Task {
     /// The place after a walk has arrived at a node with this many entries.
     pub(crate) fn arrived(self, visit: Visit, count: u32) -> Place
         requires { count ≤ 4 }
-        ensures { (h : Header) → rest_at h self result ≡ arrived_for h self visit.errand (arrived_at visit (take count visit.entries.slots)) }
+        ensures { (h : Header)
+            → rest_at h self result
+            ≡ arrived_for h self visit.errand (arrived_at visit (take count visit.entries.slots)) }
     {
         if let Errand::Ascent(ascent) = visit.errand {
             return self.add_child(visit, count, ascent);
@@ -40,8 +42,9 @@ impl Task {
     fn insert(self, visit: Visit, count: u32) -> Place
         requires operation { visit.errand ≡ Errand.Operation }
         requires count { count ≤ 4 }
-        ensures { (h : Header) → rest_at h self result
-            ≡ insert_in h self.variant self.key self.value (arrived_at visit (take count visit.entries.slots)) (place_of self.key (take count visit.entries.slots)) }
+        ensures { (h : Header)
+            → rest_at h self result ≡ insert_in h self.variant self.key self.value (arrived_at visit
+            (take count visit.entries.slots)) (place_of self.key (take count visit.entries.slots)) }
     {
         match visit.entries.slot_of(count, u64::from(self.key)) {
             Some(slot) => Place::Open(
@@ -59,8 +62,9 @@ impl Task {
     /// The place of a delete there.
     fn delete(self, visit: Visit, count: u32) -> Place
         requires { count ≤ 4 }
-        ensures { (h : Header) → rest_at h self result
-            ≡ delete_in h (arrived_at visit (take count visit.entries.slots)) (place_of self.key (take count visit.entries.slots)) }
+        ensures { (h : Header)
+            → rest_at h self result ≡ delete_in h (arrived_at visit
+            (take count visit.entries.slots)) (place_of self.key (take count visit.entries.slots)) }
     {
         match visit.entries.slot_of(count, u64::from(self.key)) {
             Some(slot) => Place::Open(
@@ -78,8 +82,9 @@ impl Task {
     /// The place of a lookup there.
     fn look_up(self, visit: Visit, count: u32) -> Place
         requires { count ≤ 4 }
-        ensures { (h : Header) → rest_at h self result
-            ≡ look_in h (arrived_at visit (take count visit.entries.slots)) (place_of self.key (take count visit.entries.slots)) }
+        ensures { (h : Header)
+            → rest_at h self result ≡ look_in h (arrived_at visit (take count visit.entries.slots))
+            (place_of self.key (take count visit.entries.slots)) }
     {
         let reply = visit.entries.reply(count, u64::from(self.key));
         Place::Unlock(Lock::Node(visit.node), After::Return(reply))
@@ -92,8 +97,10 @@ impl Task {
     fn add_child(self, visit: Visit, count: u32, ascent: Ascent) -> Place
         requires errand { visit.errand ≡ Errand.Ascent ascent }
         requires count { count ≤ 4 }
-        ensures { (h : Header) → rest_at h self result ≡ add_child h ascent.level ascent.key ascent.node.number
-            (arrived_at visit (take count visit.entries.slots)) (returns 1) (next_round h self ascent) }
+        ensures { (h : Header)
+            → rest_at h self result ≡ add_child h ascent.level ascent.key ascent.node.number
+            (arrived_at visit (take count visit.entries.slots)) (returns 1)
+            (next_round h self ascent) }
     {
         if visit.level <= u64::from(ascent.level) {
             return Place::Unlock(Lock::Node(visit.node), After::Return(1));
@@ -104,7 +111,9 @@ impl Task {
     /// The place where the node of a visit, with this many entries, gets one more.
     fn add(self, visit: Visit, count: u32, entry: Entry) -> Place
         requires { count ≤ 4 }
-        ensures { (h : Header) → rest_at h self result ≡ add_rest h self visit.errand (arrived_at visit (take count visit.entries.slots)) entry.0 entry.1 }
+        ensures { (h : Header)
+            → rest_at h self result ≡ add_rest h self visit.errand
+            (arrived_at visit (take count visit.entries.slots)) entry.0 entry.1 }
     {
         let place = visit.entries.place_below(count, entry.0);
         let five = visit.entries.with(place, entry);

@@ -15,7 +15,8 @@ use vyrd_memory::Act;
 impl Climbing {
     /// What comes next of a round.
     pub(crate) fn wants(self, header: &Header) -> Act
-        ensures { (task : Task) (a : Ascent) → result ≡ next_act (climbing_rest header.now task a self) }
+        ensures { (task : Task) (a : Ascent)
+            → result ≡ next_act (climbing_rest header.now task a self) }
     {
         match self {
             Climbing::Lock => Act::Take(root_lock(header)),
@@ -26,7 +27,8 @@ impl Climbing {
 }
 
 impl Task {
-    /// The place after what came next of a round. A root of the round's level, or lower, gets a new root above it.
+    /// The place after what came next of a round. A root of the round's level, or lower, gets a new
+    /// root above it.
     pub(crate) fn after_climbing(
         self,
         header: &Header,
@@ -34,7 +36,8 @@ impl Task {
         place: Climbing,
         answer: u64,
     ) -> Place
-        ensures { rest_at header.now self result ≡ after_answer (climbing_rest header.now self ascent place) answer }
+        ensures { rest_at header.now self result
+            ≡ after_answer (climbing_rest header.now self ascent place) answer }
     {
         match place {
             Climbing::Lock => Place::Climb(ascent, Climbing::LoadRoot),

@@ -1,6 +1,7 @@
 //! The entries of a node, as they are loaded and as they are to be written.
 
-ghost use Rattle.std.specs.Prelude.{◌≡◌, ◌<◌, ◌≤◌, ◌^◌, ◌+◌, ◌-◌, All, take, drop, slice_set, slice_index_or, insert, remove, map, MatchOption, None, Some};
+ghost use Rattle.std.specs.Prelude.{◌≡◌, ◌<◌, ◌≤◌, ◌^◌, ◌+◌, ◌-◌, All, take, drop, slice_set};
+ghost use Rattle.std.specs.Prelude.{slice_index_or, insert, remove, map, MatchOption, None, Some};
 ghost use Rattle.vyrd_tree.specs.Procedures.{place_of, reply_of};
 ghost use Rattle.vyrd_tree.specs.Procedures.Split.{place_below, first_key};
 ghost use Rattle.vyrd_tree.specs.Procedures.Walk.{child_place};
@@ -35,7 +36,8 @@ impl Entries {
     /// With the value in the slot, beside the key.
     pub(crate) fn with_value(self, slot: Slot, value: u64) -> Entries
         requires { value < 2 ^ 63 }
-        ensures { result.slots ≡ slice_set self.slots slot.place ((slice_index_or self.slots slot.place (0, 0)).0, value) }
+        ensures { result.slots ≡ slice_set self.slots slot.place
+            ((slice_index_or self.slots slot.place (0, 0)).0, value) }
     {
         let mut slots = self.slots;
         slots[slot.place as usize].1 = value;
@@ -92,11 +94,13 @@ impl Entries {
         entries.iter().filter(|entry| entry.0 < key).count() as u32
     }
 
-    /// The slot of the child that the key belongs to: that of the last key, among this many, that is at most the key, and
-    /// the first slot if there is none.
+    /// The slot of the child that the key belongs to: that of the last key, among this many, that
+    /// is at most the key, and the first slot if there is none.
     pub(crate) fn child_slot(self, count: u32, key: u64) -> Option<Slot>
         requires { count ≤ 4 }
-        ensures { MatchOption result (count ≡ 0) (λ slot. (slot.place ≡ child_place key (map (λ entry. entry.0) (take count self.slots))) × (slot.of ≡ count)) }
+        ensures { MatchOption result (count ≡ 0) (λ slot.
+            (slot.place ≡ child_place key (map (λ entry. entry.0) (take count self.slots)))
+            × (slot.of ≡ count)) }
     {
         let mut last = 0;
         for place in 1..count {

@@ -35,7 +35,8 @@ pub(crate) enum Word {
 impl Node {
     /// The node that has this number, if there is one.
     pub(crate) fn numbered(header: &Header, number: u64) -> Option<Node>
-        ensures { MatchOption result (header.now.size ≤ number) (λ node. (node.number ≡ number) × (number < header.now.size)) }
+        ensures { MatchOption result (header.now.size ≤ number)
+            (λ node. (node.number ≡ number) × (number < header.now.size)) }
     {
         if number < u64::from(header.size()) {
             Some(Node {

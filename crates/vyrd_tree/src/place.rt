@@ -41,7 +41,8 @@ pub(crate) enum Place {
     Over,
 }
 
-/// A node that is full and gets one more entry. With it there are five, and the new one has this place.
+/// A node that is full and gets one more entry. With it there are five, and the new one has this
+/// place.
 #[derive(Clone, Copy)]
 pub(crate) struct Full {
     pub(crate) errand: Errand,

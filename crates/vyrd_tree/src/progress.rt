@@ -11,7 +11,8 @@ use vyrd_memory::{Act, Op, Progress, Variant};
 
 /// How far an operation of the tree has come: its call, and a place in its procedure.
 ///
-/// It is a few hundred bytes, mostly the entries of the node that it is at. Each step costs the same.
+/// It is a few hundred bytes, mostly the entries of the node that it is at. Each step costs the
+/// same.
 #[derive(Clone, Copy)]
 pub struct TreeProgress {
     task: Task,

@@ -24,7 +24,8 @@ const LAST_ROUND: u32 = 15;
 impl Getting {
     /// What comes next of getting an unused node.
     pub(crate) fn wants(self, header: &Header) -> Act
-        ensures { (task : Task) (need : Need) → result ≡ next_act (getting_rest header.now task need self) }
+        ensures { (task : Task) (need : Need)
+            → result ≡ next_act (getting_rest header.now task need self) }
     {
         match self {
             Getting::Lock => Act::Take(used_lock(header)),
@@ -45,7 +46,8 @@ impl Task {
         answer: u64,
     ) -> Place
         requires { answer < 2 ^ 63 }
-        ensures { rest_at header.now self result ≡ after_answer (getting_rest header.now self need place) answer }
+        ensures { rest_at header.now self result
+            ≡ after_answer (getting_rest header.now self need place) answer }
     {
         let next = match place {
             Getting::Lock => Getting::Load,
@@ -84,10 +86,11 @@ impl Task {
         }
     }
 
-    /// The place where a node is split: the upper two of five entries go to the new node on its right, which takes over its bound
-    /// and its right link.
+    /// The place where a node is split: the upper two of five entries go to the new node on its
+    /// right, which takes over its bound and its right link.
     fn split(self, full: Full, new: Node) -> Place
-        ensures { (h : Header) → rest_at h self result ≡ found_for h self (Need.Split full) new.number }
+        ensures { (h : Header)
+            → rest_at h self result ≡ found_for h self (Need.Split full) new.number }
     {
         let key = split_key(full.five);
         let upper = Written {
@@ -116,9 +119,11 @@ impl Task {
         )
     }
 
-    /// What follows a split: the new node, whose first key this is, gets an entry on the next level.
+    /// What follows a split: the new node, whose first key this is, gets an entry on the next
+    /// level.
     fn after_split(self, errand: Errand, key: u64, new: Node) -> After
-        ensures { (h : Header) → after_rest h self result ≡ after_split h self errand key new.number }
+        ensures { (h : Header)
+            → after_rest h self result ≡ after_split h self errand key new.number }
     {
         let level = match errand {
             Errand::Operation => 0,
@@ -133,9 +138,11 @@ impl Task {
     }
 }
 
-/// The place where the tree gets a new root, with the old one and the new node of its level as children.
+/// The place where the tree gets a new root, with the old one and the new node of its level as
+/// children.
 fn grow(ascent: Ascent, root: Node, new: Node) -> Place
-    ensures { (h : Header) (task : Task) → rest_at h task result ≡ found_for h task (Need.Root ascent root) new.number }
+    ensures { (h : Header) (task : Task)
+        → rest_at h task result ≡ found_for h task (Need.Root ascent root) new.number }
 {
     let written = Written {
         node: new,

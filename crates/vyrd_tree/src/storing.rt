@@ -3,7 +3,8 @@
 ghost use Rattle.std.specs.Prelude.{◌≡◌};
 ghost use Rattle.vyrd_base.specs.declared.header.Header.{Header};
 ghost use Rattle.vyrd_memory.specs.Scripts.{Script, next_act, after_answer};
-ghost use Rattle.vyrd_tree.specs.Rests.Stores.{entries_from, new_from, old_from, storing_rest, storing_on, counting, then_rest};
+ghost use Rattle.vyrd_tree.specs.Rests.Stores.{entries_from, new_from, old_from, storing_rest};
+ghost use Rattle.vyrd_tree.specs.Rests.Stores.{storing_on, counting, then_rest};
 
 use crate::cells::root_cell;
 use crate::node::{Node, Word};
@@ -46,7 +47,9 @@ pub(crate) enum Storing {
 impl Storing {
     /// The entries of a node from a place on, its count, and what else the extent says.
     pub(crate) fn entries(written: Written, place: u32, extent: Extent) -> Storing
-        ensures { (h : Header) (later : Script) → storing_rest h result later ≡ entries_from written place (counting written extent later) }
+        ensures { (h : Header) (later : Script)
+            → storing_rest h result later
+            ≡ entries_from written place (counting written extent later) }
     {
         match Slot::new(place, written.count) {
             Some(slot) => Storing::Old(written, Word::Key(slot), extent),
@@ -54,9 +57,12 @@ impl Storing {
         }
     }
 
-    /// The entries of a node that wasn't in use, from a place on, and what is stored after the node.
+    /// The entries of a node that wasn't in use, from a place on, and what is stored after the
+    /// node.
     fn new_entries(written: Written, place: u32, then: Then) -> Storing
-        ensures { (h : Header) (later : Script) → storing_rest h result later ≡ entries_from written place (then_rest h written.node.number then later) }
+        ensures { (h : Header) (later : Script)
+            → storing_rest h result later
+            ≡ entries_from written place (then_rest h written.node.number then later) }
     {
         match (Slot::new(place, written.count), then) {
             (Some(slot), then) => Storing::New(written, Word::Key(slot), then),
@@ -80,7 +86,8 @@ impl Storing {
 
     /// What is stored after it, if anything.
     pub(crate) fn next(self) -> Option<Storing>
-        ensures { (h : Header) (later : Script) → storing_on h result later ≡ after_answer (storing_rest h self later) 0 }
+        ensures { (h : Header) (later : Script)
+            → storing_on h result later ≡ after_answer (storing_rest h self later) 0 }
     {
         match self {
             Storing::New(written, word, then) => Some(Storing::next_new(written, word, then)),
@@ -91,7 +98,9 @@ impl Storing {
 
     /// What is stored after a word of a node that wasn't in use.
     fn next_new(written: Written, word: Word, then: Then) -> Storing
-        ensures { (h : Header) (later : Script) → storing_rest h result later ≡ after_answer (new_from written word (then_rest h written.node.number then later)) 0 }
+        ensures { (h : Header) (later : Script)
+            → storing_rest h result later
+            ≡ after_answer (new_from written word (then_rest h written.node.number then later)) 0 }
     {
         match word {
             Word::Level => Storing::New(written, Word::Count, then),
@@ -105,7 +114,8 @@ impl Storing {
 
     /// What is stored after a word of a node that is in use.
     fn next_old(written: Written, word: Word, extent: Extent) -> Option<Storing>
-        ensures { (h : Header) (later : Script) → storing_on h result later ≡ after_answer (old_from written word extent later) 0 }
+        ensures { (h : Header) (later : Script)
+            → storing_on h result later ≡ after_answer (old_from written word extent later) 0 }
     {
         match (word, extent) {
             (Word::Key(slot), _) => Some(Storing::Old(written, Word::Value(slot), extent)),

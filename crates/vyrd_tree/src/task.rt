@@ -53,7 +53,8 @@ impl Task {
     /// The place after an answer.
     pub(crate) fn after(self, header: &Header, place: Place, answer: u64) -> Place
         requires { answer < 2 ^ 63 }
-        ensures { rest_at header.now self result ≡ after_answer (rest_at header.now self place) answer }
+        ensures { rest_at header.now self result
+            ≡ after_answer (rest_at header.now self place) answer }
     {
         match place {
             Place::LoadRoot => self.walk(header, Errand::Operation, header.size(), answer),

@@ -71,7 +71,8 @@ fn acts(
     Ok(acts)
 }
 
-/// The words of a tree of three nodes with one leaf, which is full: 10, 20, 30 and 40 with the values 1 to 4.
+/// The words of a tree of three nodes with one leaf, which is full: 10, 20, 30 and 40 with the
+/// values 1 to 4.
 const FULL_LEAF: [u64; 38] = [
     0, 4, 0, 0, 10, 20, 30, 40, 1, 2, 3, 4, // node 0
     0, 0, 0, 0, 0, 0, 0, 0, 0, 0, 0, 0, // node 1

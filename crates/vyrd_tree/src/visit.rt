@@ -19,8 +19,9 @@ use crate::written::Written;
 use vyrd_base::{Header, Kind};
 use vyrd_memory::Act;
 
-/// A round of the ascent: the node of this level was split, and the new node needs an entry with this key on the next level.
-/// The rounds have their levels' numbers, since the first one is of level 0.
+/// A round of the ascent: the node of this level was split, and the new node needs an entry with
+/// this key on the next level. The rounds have their levels' numbers, since the first one is of
+/// level 0.
 #[derive(Clone, Copy)]
 pub(crate) struct Ascent {
     pub(crate) level: u32,
@@ -59,7 +60,8 @@ impl Errand {
     }
 }
 
-/// A node that a walk visits, as far as it is loaded, and how many nodes the walk may visit after it.
+/// A node that a walk visits, as far as it is loaded, and how many nodes the walk may visit after
+/// it.
 #[derive(Clone, Copy)]
 pub(crate) struct Visit {
     pub(crate) errand: Errand,
@@ -106,8 +108,9 @@ impl Visit {
     /// The store of this many first entries, from a place on, and of their count.
     pub(crate) fn rewrite(self, entries: [Entry; 4], count: u32, place: u32) -> Storing
         requires { count ≤ 4 }
-        ensures { (h : Header) (later : Script) → storing_rest h result later ≡ write_entries self.node.number place (drop place (take count entries))
-            (perform (Store (count_cell self.node.number) count) later) }
+        ensures { (h : Header) (later : Script)
+            → storing_rest h result later ≡ write_entries self.node.number place (drop place
+            (take count entries)) (perform (Store (count_cell self.node.number) count) later) }
     {
         let written = Written {
             node: self.node,

@@ -7,7 +7,8 @@ ghost use Rattle.vyrd_memory.specs.Scripts.{after_answer};
 ghost use Rattle.vyrd_tree.specs.Procedures.Walk.{moves_right};
 ghost use Rattle.vyrd_tree.specs.Rests.{rest_at};
 ghost use Rattle.vyrd_tree.specs.Rests.Errands.{key_for, lost_for, walk_on};
-ghost use Rattle.vyrd_tree.specs.Rests.Visits.{keys_of, with_keys, keys_from_rest, values_from_rest, looked_at, loading, visiting_rest};
+ghost use Rattle.vyrd_tree.specs.Rests.Visits.{keys_of, with_keys, keys_from_rest};
+ghost use Rattle.vyrd_tree.specs.Rests.Visits.{values_from_rest, looked_at, loading, visiting_rest};
 
 use crate::node::{Node, Word};
 use crate::place::Place;
@@ -61,7 +62,8 @@ impl Task {
         answer: u64,
     ) -> Place
         requires { answer < 2 ^ 63 }
-        ensures { rest_at header.now self result ≡ after_answer (visiting_rest header.now self visit place) answer }
+        ensures { rest_at header.now self result
+            ≡ after_answer (visiting_rest header.now self visit place) answer }
     {
         match place {
             Visiting::Lock => Place::Visit(visit, Visiting::Load(Word::Level)),
@@ -75,7 +77,8 @@ impl Task {
     /// The place after a word of the node was loaded.
     fn loaded(self, header: &Header, visit: Visit, word: Word, answer: u64) -> Place
         requires { answer < 2 ^ 63 }
-        ensures { rest_at header.now self result ≡ after_answer (loading header.now self visit word) answer }
+        ensures { rest_at header.now self result
+            ≡ after_answer (loading header.now self visit word) answer }
     {
         match word {
             Word::Level => Place::Visit(
@@ -124,7 +127,8 @@ impl Task {
 
     /// The place where the node's first four words are loaded.
     fn look(self, header: &Header, visit: Visit) -> Place
-        ensures { rest_at header.now self result ≡ looked_at header.now self visit visit.level visit.count visit.bound visit.right }
+        ensures { rest_at header.now self result
+            ≡ looked_at header.now self visit visit.level visit.count visit.bound visit.right }
     {
         if self.moves_right(visit.level, visit.bound, self.key(visit.errand)) {
             return Place::Visit(visit, Visiting::Leave(visit.right));
@@ -136,7 +140,8 @@ impl Task {
     fn keys_from(self, header: &Header, visit: Visit, place: u32, count: u32) -> Place
         requires count { count ≤ 4 }
         requires place { place ≤ count }
-        ensures { rest_at header.now self result ≡ keys_from_rest header.now self visit place count }
+        ensures { rest_at header.now self result
+            ≡ keys_from_rest header.now self visit place count }
     {
         match Slot::new(place, count) {
             Some(slot) => Place::Visit(visit, Visiting::Load(Word::Key(slot))),
@@ -146,7 +151,8 @@ impl Task {
 
     /// The place after a key was loaded.
     fn key_loaded(self, header: &Header, visit: Visit, slot: Slot, key: u64) -> Place
-        ensures { rest_at header.now self result ≡ after_answer (loading header.now self visit (Word.Key slot)) key }
+        ensures { rest_at header.now self result
+            ≡ after_answer (loading header.now self visit (Word.Key slot)) key }
     {
         let visit = Visit {
             entries: visit.entries.with_key(slot, key),
@@ -155,10 +161,12 @@ impl Task {
         self.keys_from(header, visit, slot.place + 1, slot.of)
     }
 
-    /// The place after all keys, this many, were loaded: down to a child, or the walk has come to its level.
+    /// The place after all keys, this many, were loaded: down to a child, or the walk has come to
+    /// its level.
     fn keys_loaded(self, header: &Header, visit: Visit, count: u32) -> Place
         requires { count ≤ 4 }
-        ensures { rest_at header.now self result ≡ with_keys header.now self visit count (keys_of (take count visit.entries.slots)) }
+        ensures { rest_at header.now self result
+            ≡ with_keys header.now self visit count (keys_of (take count visit.entries.slots)) }
     {
         if visit.level > visit.errand.toward() {
             let key = self.key(visit.errand);
@@ -185,7 +193,8 @@ impl Task {
     /// The place after a value was loaded.
     fn value_loaded(self, visit: Visit, slot: Slot, value: u64) -> Place
         requires { value < 2 ^ 63 }
-        ensures { (h : Header) → rest_at h self result ≡ after_answer (loading h self visit (Word.Value slot)) value }
+        ensures { (h : Header)
+            → rest_at h self result ≡ after_answer (loading h self visit (Word.Value slot)) value }
     {
         let visit = Visit {
             entries: visit.entries.with_value(slot, value),

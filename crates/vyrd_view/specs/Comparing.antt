@@ -1,5 +1,6 @@
 -- What a comparison has taken in, and what it keeps of that.
-use Rattle.std.specs.Prelude.{◌≡◌, ℕ, Bool, false, ◌+◌, ◌*◌, ◌<◌, ◌==◌, List, length, map, slice_index, slice_index_or, if◌then◌else◌}
+use Rattle.std.specs.Prelude.{◌≡◌, ℕ, Bool, false, ◌+◌, ◌*◌, ◌<◌, ◌==◌, List, length, map}
+use Rattle.std.specs.Prelude.{slice_index, slice_index_or, if◌then◌else◌}
 use Rattle.std.specs.List.{list_any}
 use Rattle.vyrd_base.specs.declared.header.Header.{Header}
 use Rattle.vyrd_base.specs.declared.subject.Subject.{Subject}
@@ -9,7 +10,8 @@ use Rattle.vyrd_base.specs.Amounts.{Amounts}
 use Rattle.vyrd_view.specs.Pairs.{slot_pair, chunk_pair, buffer_pair}
 use Rattle.vyrd_view.specs.Chains.{tree_pair, is_on_chain, has_link}
 
--- the header, the words that are compared, the specification's amounts, and whether memory was refused
+-- the header, the words that are compared, the specification's amounts, and whether memory was
+-- refused
 pub record Comparison : Type 0 where
   pub header : Header
   pub words : List ℕ
@@ -28,17 +30,20 @@ abbrev pub AreMarks : Subject → ℕ → List ℕ → List Bool → List Bool �
 AreMarks Multiset size words marks next = Unit {0}
 AreMarks Cache size words marks next = Unit {0}
 AreMarks Tree size words marks next =
-    (length marks ≡ size) × (length next ≡ size) × ((n : ℕ) → n < size → slice_index_or marks n false ≡ is_on_chain size words n)
+    (length marks ≡ size) × (length next ≡ size)
+    × ((n : ℕ) → n < size → slice_index_or marks n false ≡ is_on_chain size words n)
 AreMarks Buffers size words marks next = Unit {0}
 
 -- what is kept is that of these words
-pub record IsCurrent (header : Header) (words : List ℕ) (pairs : List (ℕ × ℕ)) (marks next : List Bool) : Type 0 where
+pub record IsCurrent (header : Header) (words : List ℕ) (pairs : List (ℕ × ℕ))
+    (marks next : List Bool) : Type 0 where
   pub given : pairs ≡ pairs_in header.subject header.size words
   pub marked : AreMarks header.subject header.size words marks next
 
 -- the words are the same except for those that have changed
 abbrev pub AgreeElsewhere : List ℕ → List ℕ → List ℕ → Type 0
-AgreeElsewhere before words changed = (w : ℕ) → list_any (λ x. x == w) changed ≡ false → slice_index words w ≡ slice_index before w
+AgreeElsewhere before words changed =
+    (w : ℕ) → list_any (λ x. x == w) changed ≡ false → slice_index words w ≡ slice_index before w
 
 -- how many keys a part of the subject gives amounts to at most
 abbrev pub keys_of_part : Subject → ℕ

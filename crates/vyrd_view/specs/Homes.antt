@@ -1,5 +1,7 @@
 -- Places in a table, where a key stands in one of a few places in a row.
-use Rattle.std.specs.Prelude.{◌≡◌, ◌≢◌, ℕ, Bool, true, false, ◌+◌, ◌*◌, ◌/◌, ◌%◌, ◌^◌, ◌<◌, ◌≤◌, ◌==◌, ◌||◌, not, List, length, map, slice_index_or, Option, Some, None}
+use Rattle.std.specs.Prelude.{◌≡◌, ◌≢◌, ℕ, Bool, true, false, ◌+◌, ◌*◌, ◌/◌, ◌%◌, ◌^◌, ◌<◌, ◌≤◌}
+use Rattle.std.specs.Prelude.{◌==◌, ◌||◌, not, List, length, map, slice_index_or, Option, Some}
+use Rattle.std.specs.Prelude.{None}
 use Rattle.vyrd_view.specs.declared.homes.Home.{Home}
 
 -- a place where no key stands
@@ -25,7 +27,8 @@ shown_pairs places = map (λ home. (home.key, home.shown)) places
 abbrev pub specified_pairs : List Home → List (ℕ × ℕ)
 specified_pairs places = map (λ home. (home.key, home.specified)) places
 
--- the first of the places in which a key may stand: a multiple of the golden ratio's fraction, so that keys in a row lie apart
+-- the first of the places in which a key may stand: a multiple of the golden ratio's fraction, so
+-- that keys in a row lie apart
 unfoldable pub first_place : ℕ → ℕ → ℕ
 first_place shift key = (key * 11400714819323198485) % 2 ^ 64 / 2 ^ shift
 
@@ -33,10 +36,12 @@ first_place shift key = (key * 11400714819323198485) % 2 ^ 64 / 2 ^ shift
 abbrev pub IsWithin : ℕ → ℕ → ℕ → Type 0
 IsWithin shift key i = (first_place shift key ≤ i) × (i < first_place shift key + 4)
 
--- a key that has an amount stands in one of its places, and no place of its before that one has its name
+-- a key that has an amount stands in one of its places, and no place of its before that one has its
+-- name
 pub record AreHomes (shift : ℕ) (places : List Home) : Type 0 where
   pub reach : (i : ℕ) → is_taken (home_at places i) ≡ true → IsWithin shift (home_at places i).key i
-  pub first : (i : ℕ) → is_taken (home_at places i) ≡ true → (j : ℕ) → first_place shift (home_at places i).key ≤ j → j < i
+  pub first : (i : ℕ) → is_taken (home_at places i) ≡ true → (j : ℕ)
+      → first_place shift (home_at places i).key ≤ j → j < i
       → (home_at places j).key ≢ (home_at places i).key
   pub room : (q : ℕ) → first_place shift q + 4 ≤ length places
 
@@ -48,11 +53,13 @@ IsFoundAt shift places key (Some i) = IsWithin shift key i × ((home_at places i
 
 -- where a key stands, if it stands anywhere
 abbrev pub IsHomeOf : List Home → ℕ → Option ℕ → Type 0
-IsHomeOf places key None = (i : ℕ) → is_taken (home_at places i) ≡ true → (home_at places i).key ≢ key
+IsHomeOf places key None =
+    (i : ℕ) → is_taken (home_at places i) ≡ true → (home_at places i).key ≢ key
 IsHomeOf places key (Some i) = (is_taken (home_at places i) ≡ true) × ((home_at places i).key ≡ key)
 
 -- the least key that stands in a place whose amounts differ
 abbrev pub IsLeastHome : List Home → Option ℕ → Type 0
 IsLeastHome places None = (i : ℕ) → is_apart (home_at places i) ≡ false
-IsLeastHome places (Some k) = ((i : ℕ) × (is_apart (home_at places i) ≡ true) × ((home_at places i).key ≡ k))
+IsLeastHome places (Some k) =
+    ((i : ℕ) × (is_apart (home_at places i) ≡ true) × ((home_at places i).key ≡ k))
     × ((j : ℕ) → is_apart (home_at places j) ≡ true → k ≤ (home_at places j).key)

@@ -7,4 +7,5 @@ use Rattle.vyrd_view.specs.declared.rest.Rest.{Rest}
 
 -- the keys that are set apart are those whose amounts differ
 abbrev pub IsSettled : Rest → Type 0
-IsSettled rest = (q : ℕ) → contains nat_cmp rest.apart q ≡ not (amount_of rest.shown q == amount_of rest.specified q)
+IsSettled rest = (q : ℕ)
+    → contains nat_cmp rest.apart q ≡ not (amount_of rest.shown q == amount_of rest.specified q)

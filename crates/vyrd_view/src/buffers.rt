@@ -35,7 +35,8 @@ fn add_buffer(
     requires small { size + number ≤ 2048 }
     requires key { amount_of sums.old number ≡ 0 }
     requires past { amount_of sums.old (size + number) ≡ 0 }
-    ensures { OnOk result (sums.new ≡ added sums.old (buffer_parts size number (buffer_at words.now number))) }
+    ensures { OnOk result
+        (sums.new ≡ added sums.old (buffer_parts size number (buffer_at words.now number))) }
 {
     let (key, amount) = pair_at(words, size, number);
     sums.add(key, amount)

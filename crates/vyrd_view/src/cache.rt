@@ -1,9 +1,11 @@
 //! The chunks of a cache, as their words change.
 
-ghost use Rattle.std.specs.Prelude.{◌≡◌, ℕ, ◌+◌, ◌*◌, ◌/◌, ◌<◌, ◌≤◌, true, false, length, map, All, slice_index_or, OnOk, OnErr};
+ghost use Rattle.std.specs.Prelude.{◌≡◌, ℕ, ◌+◌, ◌*◌, ◌/◌, ◌<◌, ◌≤◌, true, false, length, map, All};
+ghost use Rattle.std.specs.Prelude.{slice_index_or, OnOk, OnErr};
 ghost use Rattle.vyrd_base.specs.Places.{numbers_below};
 ghost use Rattle.vyrd_base.specs.Views.{chunk_at};
-ghost use Rattle.vyrd_view.specs.Pairs.{is_touched, chunk_amount, chunk_flaw, chunk_pair, HaveChunkKeys};
+ghost use Rattle.vyrd_view.specs.Pairs.{is_touched, chunk_amount, chunk_flaw, chunk_pair};
+ghost use Rattle.vyrd_view.specs.Pairs.{HaveChunkKeys};
 
 use crate::chunk::Chunk;
 use crate::parts::Parts;
@@ -20,7 +22,8 @@ const UNEQUAL: u64 = 1;
 /// What is amiss with five words that aren't a chunk.
 const DAMAGED: u64 = 2;
 
-/// Each chunk that a changed word is in gives what its words show now. Once memory was refused the parts may only be dropped.
+/// Each chunk that a changed word is in gives what its words show now. Once memory was refused the
+/// parts may only be dropped.
 pub(crate) fn chunks_changed<L: Ledger>(
     parts: &mut Parts,
     size: usize,
@@ -34,9 +37,11 @@ pub(crate) fn chunks_changed<L: Ledger>(
     requires places { length parts.old.pairs ≡ 2 * size }
     requires keys { HaveChunkKeys size parts.old.pairs }
     requires within { All (λ w. w < length words.now) changed.now }
-    requires others { (m : ℕ) → m < length parts.old.pairs → is_touched 5 (m / 2) changed.now ≡ false →
-        slice_index_or parts.old.pairs m (0, 0) ≡ chunk_pair size words.now m }
-    ensures ok { OnOk result (parts.new ≡ record parts.old { pairs = map (chunk_pair size words.now) (numbers_below (2 * size)) }) }
+    requires others { (m : ℕ) → m < length parts.old.pairs
+        → is_touched 5 (m / 2) changed.now ≡ false
+        → slice_index_or parts.old.pairs m (0, 0) ≡ chunk_pair size words.now m }
+    ensures ok { OnOk result (parts.new
+        ≡ record parts.old { pairs = map (chunk_pair size words.now) (numbers_below (2 * size)) }) }
     ensures refused { OnErr result (parts.new.refused ≡ true) }
     ensures steps { steps.new ≤ steps.old + 5 * length changed.now }
 {

@@ -1,6 +1,7 @@
 //! What the chain of a tree's leaves shows.
 
-ghost use Rattle.std.specs.Prelude.{◌≡◌, ◌+◌, ◌*◌, ◌<◌, ◌≤◌, ◌^◌, ℕ, true, length, slice_index_or, IfOk, OnOk};
+ghost use Rattle.std.specs.Prelude.{◌≡◌, ◌+◌, ◌*◌, ◌<◌, ◌≤◌, ◌^◌, ℕ, true, length, slice_index_or};
+ghost use Rattle.std.specs.Prelude.{IfOk, OnOk};
 ghost use Rattle.vyrd_base.specs.declared.subject.Subject.TheVariants.{Tree};
 ghost use Rattle.vyrd_base.specs.Amounts.{amount_of, collected};
 ghost use Rattle.vyrd_base.specs.TreeView.{entry_parts, node_parts};
@@ -28,13 +29,15 @@ const VALUES: usize = 8;
 /// How many entries a node has room for.
 const MOST_ENTRIES: u64 = 4;
 
-/// What is added to a value, so that the amount of a key that is there is never 0. Keys and values are below it.
+/// What is added to a value, so that the amount of a key that is there is never 0. Keys and values
+/// are below it.
 const PRESENT: u64 = 1 << 32;
 
 /// The key that stands for damage. It is above all others.
 const DAMAGE: u64 = 1 << 33;
 
-/// What the leaves show, from node 0 on along the right links. A link past the nodes or back to the chain is damage, and ends it.
+/// What the leaves show, from node 0 on along the right links. A link past the nodes or back to the
+/// chain is damage, and ends it.
 pub(crate) fn chain(alloc: Global, size: usize, words: &[u64]) -> Result<AmountMap, AllocError>
     requires count { length words.now ≡ 12 * size + 2 }
     requires some { 0 < size }

@@ -1,6 +1,7 @@
 //! The words against the specification, change by change.
 
-ghost use Rattle.std.specs.Prelude.{◌≡◌, ◌+◌, ◌*◌, ◌<◌, ◌≤◌, [], false, length, replicate, All, IfOk, OnOk, is_err};
+ghost use Rattle.std.specs.Prelude.{◌≡◌, ◌+◌, ◌*◌, ◌<◌, ◌≤◌, [], false, length, replicate, All};
+ghost use Rattle.std.specs.Prelude.{IfOk, OnOk, is_err};
 ghost use Rattle.vyrd_base.specs.Amounts.{with_amount, first_difference};
 ghost use Rattle.vyrd_base.specs.Layout.{plain_words};
 ghost use Rattle.vyrd_base.specs.Views.{view_of_words};
@@ -37,17 +38,28 @@ impl Model for Compared {
 
     ghost Value = { Comparison };
 
-    ghost view = { λ c. record { header = c.header; words = c.words.items; specified = c.parts.specified; refused = c.parts.refused } };
+    ghost view = { λ c. record {
+      header = c.header;
+      words = c.words.items;
+      specified = c.parts.specified;
+      refused = c.parts.refused;
+    } };
 
     ghost invariant = { λ c. (length c.words.items ≡ plain_words c.header)
-        × (c.parts.refused ≡ false → IsCurrent c.header c.words.items c.parts.pairs c.marks.items c.next.items) };
+        × (c.parts.refused ≡ false
+        → IsCurrent c.header c.words.items c.parts.pairs c.marks.items c.next.items) };
 }
 
 impl Compared {
-    /// Zeroed words against an empty specification. It takes memory in proportion to the words: 8 bytes for each, and 64 to 112
-    /// for each key that a part may give.
+    /// Zeroed words against an empty specification. It takes memory in proportion to the words: 8
+    /// bytes for each, and 64 to 112 for each key that a part may give.
     pub fn new(alloc: Global, header: Header) -> Result<Compared, AllocError>
-        ensures { IfOk result (λ c. c ≡ record { header = header; words = replicate (plain_words header) 0; specified = []; refused = false }) }
+        ensures { IfOk result (λ c. c ≡ record {
+          header = header;
+          words = replicate (plain_words header) 0;
+          specified = [];
+          refused = false;
+        }) }
     {
         Ok(Compared {
             header,
@@ -75,7 +87,9 @@ impl Compared {
         ensures refused { self.new.refused ≡ is_err result }
         ensures header { self.new.header ≡ self.old.header }
         ensures steps { steps.new ≤ steps.old
-            + parts_looked_at self.old.header.subject self.old.header.size changed.now * (1 + 2 * keys_of_part self.old.header.subject) + 2 }
+            + parts_looked_at self.old.header.subject self.old.header.size changed.now
+            * (1 + 2 * keys_of_part self.old.header.subject)
+            + 2 }
     {
         bring_up_to_date(
             self.header,
@@ -98,7 +112,8 @@ impl Compared {
         steps: &mut Steps<L>,
     ) -> Result<(), AllocError>
         requires { self.old.refused ≡ false }
-        ensures ok { OnOk result (self.new ≡ record self.old { specified = with_amount self.old.specified key amount }) }
+        ensures ok { OnOk result
+            (self.new ≡ record self.old { specified = with_amount self.old.specified key amount }) }
         ensures refused { self.new.refused ≡ is_err result }
         ensures header { self.new.header ≡ self.old.header }
         ensures steps { steps.new ≤ steps.old + 1 }
@@ -112,7 +127,8 @@ impl Compared {
     #[inline(always)]
     pub fn first_difference(&self) -> Option<u64>
         requires { self.now.refused ≡ false }
-        ensures { result ≡ first_difference (view_of_words self.now.header self.now.words) self.now.specified }
+        ensures { result
+            ≡ first_difference (view_of_words self.now.header self.now.words) self.now.specified }
     {
         self.parts.first_difference()
     }

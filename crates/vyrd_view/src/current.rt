@@ -2,7 +2,8 @@
 
 ghost use Rattle.std.specs.Prelude.{◌≡◌, ◌+◌, ◌*◌, ◌<◌, ◌≤◌, false, length, All, OnOk, is_err};
 ghost use Rattle.vyrd_base.specs.Layout.{plain_words};
-ghost use Rattle.vyrd_view.specs.Comparing.{AgreeElsewhere, IsCurrent, keys_of_part, parts_looked_at};
+ghost use Rattle.vyrd_view.specs.Comparing.{AgreeElsewhere, IsCurrent, keys_of_part};
+ghost use Rattle.vyrd_view.specs.Comparing.{parts_looked_at};
 
 use crate::cache::chunks_changed;
 use crate::multiset::slots_changed;
@@ -15,7 +16,8 @@ use std::alloc::AllocError;
 use std::sync::ledger::Ledger;
 use vyrd_base::{Header, Subject};
 
-/// What is kept of the words before becomes what is kept of the words now. Once memory was refused it may only be dropped.
+/// What is kept of the words before becomes what is kept of the words now. Once memory was refused
+/// it may only be dropped.
 pub(crate) fn bring_up_to_date<L: Ledger>(
     header: Header,
     kept: &mut [u64],
@@ -36,7 +38,10 @@ pub(crate) fn bring_up_to_date<L: Ledger>(
     ensures current { OnOk result (IsCurrent header words.now parts.new.pairs marks.new next.new) }
     ensures specified { OnOk result (parts.new.specified ≡ parts.old.specified) }
     ensures refused { parts.new.refused ≡ is_err result }
-    ensures steps { steps.new ≤ steps.old + parts_looked_at header.subject header.size changed.now * (1 + 2 * keys_of_part header.subject) + 2 }
+    ensures steps { steps.new ≤ steps.old
+        + parts_looked_at header.subject header.size changed.now
+        * (1 + 2 * keys_of_part header.subject)
+        + 2 }
 {
     copy_changed(kept, words, changed);
     let size = header.size() as usize;

@@ -1,8 +1,10 @@
 //! What zeroed words give.
 
-ghost use Rattle.std.specs.Prelude.{◌≡◌, ◌+◌, ◌*◌, ◌<◌, ◌≤◌, true, false, map, replicate, slice_set, IfOk};
+ghost use Rattle.std.specs.Prelude.{◌≡◌, ◌+◌, ◌*◌, ◌<◌, ◌≤◌, true, false, map, replicate};
+ghost use Rattle.std.specs.Prelude.{slice_set, IfOk};
 ghost use Rattle.vyrd_base.specs.Places.{numbers_below};
-ghost use Rattle.vyrd_view.specs.Firsts.{first_pairs_in, first_chunk_pair, first_buffer_pair, nodes_in};
+ghost use Rattle.vyrd_view.specs.Firsts.{first_pairs_in, first_chunk_pair, first_buffer_pair};
+ghost use Rattle.vyrd_view.specs.Firsts.{nodes_in};
 
 use std::alloc::{AllocError, Global};
 use vyrd_base::{Header, Subject};
@@ -30,7 +32,8 @@ fn nothing(alloc: Global, count: usize) -> Result<Vec<(u64, u64)>, AllocError>
 /// The two places of each chunk, with their keys.
 fn first_chunks(alloc: Global, size: usize) -> Result<Vec<(u64, u64)>, AllocError>
     requires { size ≤ 1024 }
-    ensures { IfOk result (λ pairs. pairs.items ≡ map (first_chunk_pair size) (numbers_below (2 * size))) }
+    ensures { IfOk result
+        (λ pairs. pairs.items ≡ map (first_chunk_pair size) (numbers_below (2 * size))) }
 {
     let mut pairs = Vec::with_capacity(alloc, 2 * size)?;
     for number in 0..size {
@@ -53,7 +56,8 @@ fn first_buffers(alloc: Global, size: usize) -> Result<Vec<(u64, u64)>, AllocErr
 
 /// No marks at all: one for each node of a tree, and none for another subject.
 pub(crate) fn no_marks(alloc: Global, header: Header) -> Result<Vec<bool>, AllocError>
-    ensures { IfOk result (λ marks. marks.items ≡ replicate (nodes_in header.subject header.size) false) }
+    ensures { IfOk result
+        (λ marks. marks.items ≡ replicate (nodes_in header.subject header.size) false) }
 {
     let nodes = match header.subject() {
         Subject::Multiset | Subject::Cache | Subject::Buffers => 0,
@@ -64,7 +68,8 @@ pub(crate) fn no_marks(alloc: Global, header: Header) -> Result<Vec<bool>, Alloc
 
 /// The marks of a tree of zeroed words: its first node alone.
 pub(crate) fn first_marks(alloc: Global, header: Header) -> Result<Vec<bool>, AllocError>
-    ensures { IfOk result (λ marks. marks.items ≡ slice_set (replicate (nodes_in header.subject header.size) false) 0 true) }
+    ensures { IfOk result (λ marks. marks.items
+        ≡ slice_set (replicate (nodes_in header.subject header.size) false) 0 true) }
 {
     let mut marks = no_marks(alloc, header)?;
     if !marks.is_empty() {

@@ -1,13 +1,15 @@
 //! A table in which a key stands in one of a few places in a row.
 
-ghost use Rattle.std.specs.Prelude.{◌≡◌, ℕ, ◌+◌, ◌-◌, ◌<◌, ◌≤◌, ◌^◌, ◌==◌, false, length, slice_set, replicate, count_by, Some, None, IfOk, IfSome, ◌≢◌};
+ghost use Rattle.std.specs.Prelude.{◌≡◌, ℕ, ◌+◌, ◌-◌, ◌<◌, ◌≤◌, ◌^◌, ◌==◌, false, length};
+ghost use Rattle.std.specs.Prelude.{slice_set, replicate, count_by, Some, None, IfOk, IfSome, ◌≢◌};
 
 use std::alloc::{AllocError, Global};
 
 /// How many places in a row a key may stand in.
 const REACH: usize = 4;
 
-/// 2^64 times the fraction of the golden ratio, an odd number. Its multiples modulo 2^64 lie far apart.
+/// 2^64 times the fraction of the golden ratio, an odd number. Its multiples modulo 2^64 lie far
+/// apart.
 const SPREAD: u64 = 0x9E37_79B9_7F4A_7C15;
 
 /// A key with what the words and the specification show of it. If both are 0, the place is free.
@@ -47,12 +49,14 @@ pub(crate) struct Homes {
 }
 
 impl Homes {
-    ghost use Rattle.vyrd_view.specs.Homes.{no_home, home_at, is_taken, is_apart, first_place, AreHomes, IsFoundAt, IsLeastHome};
+    ghost use Rattle.vyrd_view.specs.Homes.{no_home, home_at, is_taken, is_apart, first_place};
+    ghost use Rattle.vyrd_view.specs.Homes.{AreHomes, IsFoundAt, IsLeastHome};
 
     /// Free places, 2^bits and a few more.
     pub(crate) fn new(alloc: Global, bits: u32) -> Result<Homes, AllocError>
         requires { (1 ≤ bits) × (bits ≤ 20) }
-        ensures free { IfOk result (λ homes. homes.places.items ≡ replicate (2 ^ bits + 3) no_home) }
+        ensures free { IfOk result
+            (λ homes. homes.places.items ≡ replicate (2 ^ bits + 3) no_home) }
         ensures shift { IfOk result (λ homes. homes.shift + bits ≡ 64) }
         ensures apart { IfOk result (λ homes. homes.apart ≡ 0) }
     {

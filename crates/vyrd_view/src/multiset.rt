@@ -1,6 +1,7 @@
 //! The slots of a multiset, as their words change.
 
-ghost use Rattle.std.specs.Prelude.{◌≡◌, ℕ, ◌+◌, ◌*◌, ◌<◌, ◌≤◌, true, false, length, map, All, slice_index_or, OnOk, OnErr};
+ghost use Rattle.std.specs.Prelude.{◌≡◌, ℕ, ◌+◌, ◌*◌, ◌<◌, ◌≤◌, true, false, length, map, All};
+ghost use Rattle.std.specs.Prelude.{slice_index_or, OnOk, OnErr};
 ghost use Rattle.vyrd_base.specs.Places.{numbers_below};
 ghost use Rattle.vyrd_view.specs.Pairs.{is_touched, slot_pair, EachAtMost};
 
@@ -12,7 +13,8 @@ use std::sync::ledger::Ledger;
 /// The state of a slot that holds a value of the multiset.
 const VALID: u64 = 2;
 
-/// Each slot that a changed word is in gives what its words show now. Once memory was refused the parts may only be dropped.
+/// Each slot that a changed word is in gives what its words show now. Once memory was refused the
+/// parts may only be dropped.
 pub(crate) fn slots_changed<L: Ledger>(
     parts: &mut Parts,
     words: &[u64],
@@ -26,7 +28,9 @@ pub(crate) fn slots_changed<L: Ledger>(
     requires within { All (λ w. w < length words.now) changed.now }
     requires others { (i : ℕ) → i < length parts.old.pairs → is_touched 2 i changed.now ≡ false →
         slice_index_or parts.old.pairs i (0, 0) ≡ slot_pair words.now i }
-    ensures ok { OnOk result (parts.new ≡ record parts.old { pairs = map (slot_pair words.now) (numbers_below (length parts.old.pairs)) }) }
+    ensures ok { OnOk result (parts.new ≡ record parts.old {
+      pairs = map (slot_pair words.now) (numbers_below (length parts.old.pairs));
+    }) }
     ensures refused { OnErr result (parts.new.refused ≡ true) }
     ensures steps { steps.new ≤ steps.old + 3 * length changed.now }
 {

@@ -1,6 +1,7 @@
 //! What the parts give, pair by pair.
 
-ghost use Rattle.std.specs.Prelude.{◌≡◌, ℕ, ◌+◌, ◌<◌, ◌≤◌, ◌^◌, [], true, false, length, slice_set, OnOk, OnErr, IfOk};
+ghost use Rattle.std.specs.Prelude.{◌≡◌, ℕ, ◌+◌, ◌<◌, ◌≤◌, ◌^◌, [], true, false, length, slice_set};
+ghost use Rattle.std.specs.Prelude.{OnOk, OnErr, IfOk};
 ghost use Rattle.vyrd_base.specs.Amounts.{with_amount, collected, first_difference, given};
 
 use crate::sides::Sides;
@@ -15,8 +16,8 @@ const LEAST_BITS: u32 = 3;
 /// A table has 2^20 places at most. There are 4,097 pairs at most, so it has 2^14.
 const MOST_BITS: u32 = 20;
 
-/// The pairs of a key and an amount that the parts of the words give, each in a place of its own, beside the specification's
-/// amounts. A pair whose amount is 0 gives nothing.
+/// The pairs of a key and an amount that the parts of the words give, each in a place of its own,
+/// beside the specification's amounts. A pair whose amount is 0 gives nothing.
 #[derive(Drop)]
 pub(crate) struct Parts {
     pairs: Vec<(u64, u64)>,
@@ -32,16 +33,19 @@ impl Model for Parts {
 
     ghost Value = { Kept };
 
-    ghost view = { λ p. record { pairs = p.pairs.items; specified = specified_of p.sides; refused = p.refused } };
+    ghost view = { λ p.
+        record { pairs = p.pairs.items; specified = specified_of p.sides; refused = p.refused } };
 
-    ghost invariant = { λ p. p.refused ≡ false → (IsSettled p.sides × ((q : ℕ) → shown_at p.sides q ≡ given q p.pairs.items)) };
+    ghost invariant = { λ p. p.refused ≡ false
+        → (IsSettled p.sides × ((q : ℕ) → shown_at p.sides q ≡ given q p.pairs.items)) };
 }
 
 impl Parts {
     /// These pairs, which give nothing, and an empty specification.
     pub(crate) fn new(alloc: Global, pairs: Vec<(u64, u64)>) -> Result<Parts, AllocError>
         requires { (q : ℕ) → given q pairs.items ≡ 0 }
-        ensures { IfOk result (λ p. p ≡ record { pairs = pairs.items; specified = []; refused = false }) }
+        ensures { IfOk result
+            (λ p. p ≡ record { pairs = pairs.items; specified = []; refused = false }) }
     {
         let bits = table_bits(pairs.len());
         Ok(Parts {
@@ -63,7 +67,8 @@ impl Parts {
         requires sound { self.old.refused ≡ false }
         requires place { place < length self.old.pairs }
         requires fits { given pair.0 (slice_set self.old.pairs place pair) < 2 ^ 64 }
-        ensures ok { OnOk result (self.new ≡ record self.old { pairs = slice_set self.old.pairs place pair }) }
+        ensures ok { OnOk result
+            (self.new ≡ record self.old { pairs = slice_set self.old.pairs place pair }) }
         ensures refused { OnErr result (self.new.refused ≡ true) }
         ensures steps { steps.new ≤ steps.old + 2 }
     {
@@ -85,7 +90,8 @@ impl Parts {
         requires sound { self.old.refused ≡ false }
         requires place { place < length self.old.pairs }
         requires fits { given pair.0 (slice_set self.old.pairs place pair) < 2 ^ 64 }
-        ensures ok { OnOk result (self.new ≡ record self.old { pairs = slice_set self.old.pairs place pair }) }
+        ensures ok { OnOk result
+            (self.new ≡ record self.old { pairs = slice_set self.old.pairs place pair }) }
         ensures refused { OnErr result (self.new.refused ≡ true) }
         ensures steps { steps.new ≤ steps.old + 2 }
     {
@@ -100,7 +106,8 @@ impl Parts {
         }
     }
 
-    /// The specification has this amount of the key. Once memory was refused the value may only be dropped.
+    /// The specification has this amount of the key. Once memory was refused the value may only be
+    /// dropped.
     #[inline(always)]
     pub(crate) fn specify<L: Ledger>(
         &mut self,
@@ -109,7 +116,8 @@ impl Parts {
         steps: &mut Steps<L>,
     ) -> Result<(), AllocError>
         requires { self.old.refused ≡ false }
-        ensures ok { OnOk result (self.new ≡ record self.old { specified = with_amount self.old.specified key amount }) }
+        ensures ok { OnOk result
+            (self.new ≡ record self.old { specified = with_amount self.old.specified key amount }) }
         ensures refused { OnErr result (self.new.refused ≡ true) }
         ensures steps { steps.new ≤ steps.old + 1 }
     {

@@ -14,7 +14,8 @@ pub(crate) struct Both {
     pub(crate) specified: u64,
 }
 
-/// Amounts by key on both sides, in ordered maps: whatever the keys are, a look-up costs the logarithm of their number.
+/// Amounts by key on both sides, in ordered maps: whatever the keys are, a look-up costs the
+/// logarithm of their number.
 #[derive(Drop)]
 pub(crate) struct Rest {
     pub(crate) shown: AmountMap,
@@ -66,7 +67,8 @@ impl Rest {
     pub(crate) fn put(&mut self, key: u64, both: Both) -> Result<(), AllocError>
         requires { IsSettled self.old }
         ensures shown { OnOk result (self.new.shown ≡ with_amount self.old.shown key both.shown) }
-        ensures specified { OnOk result (self.new.specified ≡ with_amount self.old.specified key both.specified) }
+        ensures specified { OnOk result
+            (self.new.specified ≡ with_amount self.old.specified key both.specified) }
         ensures settled { OnOk result (IsSettled self.new) }
     {
         self.shown.set(key, both.shown)?;

@@ -1,6 +1,7 @@
 //! What the words and the specification have of each key.
 
-ghost use Rattle.std.specs.Prelude.{◌≡◌, ℕ, ◌+◌, ◌-◌, ◌<◌, ◌≤◌, ◌^◌, ◌==◌, [], OnOk, IfOk, if◌then◌else◌};
+ghost use Rattle.std.specs.Prelude.{◌≡◌, ℕ, ◌+◌, ◌-◌, ◌<◌, ◌≤◌, ◌^◌, ◌==◌, [], OnOk, IfOk};
+ghost use Rattle.std.specs.Prelude.{if◌then◌else◌};
 ghost use Rattle.vyrd_base.specs.Amounts.{amount_of, with_amount, part_given};
 
 use crate::homes::{Home, Homes};
@@ -44,7 +45,8 @@ impl Sides {
         })
     }
 
-    /// The words show less of the key by one amount, and more by another. Once memory was refused it may only be dropped.
+    /// The words show less of the key by one amount, and more by another. Once memory was refused
+    /// it may only be dropped.
     #[inline(always)]
     pub(crate) fn exchange<L: Ledger>(
         &mut self,
@@ -82,7 +84,8 @@ impl Sides {
         requires enough { before.1 ≤ shown_at self.old before.0 }
         requires fits { shown_at self.old pair.0 + pair.1 < 2 ^ 64 + part_given pair.0 before }
         ensures settled { OnOk result (IsSettled self.new) }
-        ensures shown { OnOk result ((q : ℕ) → shown_at self.new q + part_given q before ≡ shown_at self.old q + part_given q pair) }
+        ensures shown { OnOk result ((q : ℕ)
+            → shown_at self.new q + part_given q before ≡ shown_at self.old q + part_given q pair) }
         ensures specified { OnOk result (specified_of self.new ≡ specified_of self.old) }
         ensures steps { steps.new ≤ steps.old + 2 }
     {
@@ -98,7 +101,8 @@ impl Sides {
         Ok(())
     }
 
-    /// The specification has this amount of the key. Once memory was refused it may only be dropped.
+    /// The specification has this amount of the key. Once memory was refused it may only be
+    /// dropped.
     #[inline(always)]
     pub(crate) fn specify<L: Ledger>(
         &mut self,
@@ -109,7 +113,8 @@ impl Sides {
         requires settled { IsSettled self.old }
         ensures settled { OnOk result (IsSettled self.new) }
         ensures shown { OnOk result ((q : ℕ) → shown_at self.new q ≡ shown_at self.old q) }
-        ensures specified { OnOk result (specified_of self.new ≡ with_amount (specified_of self.old) key amount) }
+        ensures specified { OnOk result
+            (specified_of self.new ≡ with_amount (specified_of self.old) key amount) }
         ensures steps { steps.new ≡ steps.old + 1 }
     {
         let found = self.at(key);
@@ -138,7 +143,8 @@ impl Sides {
         requires { IsSettled self.now }
         ensures shown { result.both.shown ≡ shown_at self.now key }
         ensures specified { result.both.specified ≡ amount_of (specified_of self.now) key }
-        ensures place { IsFoundAt self.now.homes.shift self.now.homes.places.items key result.place }
+        ensures place { IsFoundAt self.now.homes.shift self.now.homes.places.items key
+            result.place }
     {
         match self.homes.find(key) {
             None => Found {
@@ -170,8 +176,10 @@ impl Sides {
         requires settled { IsSettled self.old }
         requires place { IsFoundAt self.old.homes.shift self.old.homes.places.items key place }
         ensures settled { OnOk result (IsSettled self.new) }
-        ensures shown { OnOk result ((q : ℕ) → shown_at self.new q ≡ (if q == key then both.shown else shown_at self.old q)) }
-        ensures specified { OnOk result (specified_of self.new ≡ with_amount (specified_of self.old) key both.specified) }
+        ensures shown { OnOk result ((q : ℕ)
+            → shown_at self.new q ≡ (if q == key then both.shown else shown_at self.old q)) }
+        ensures specified { OnOk result
+            (specified_of self.new ≡ with_amount (specified_of self.old) key both.specified) }
         ensures steps { steps.new ≡ steps.old + 1 }
     {
         steps.tick();
@@ -184,15 +192,17 @@ impl Sides {
         }
     }
 
-    /// Gives a key that no place has the name of new amounts: in a free place of its own, if there is one and it isn't among
-    /// the rest.
+    /// Gives a key that no place has the name of new amounts: in a free place of its own, if there
+    /// is one and it isn't among the rest.
     #[inline(never)]
     fn put_anew(&mut self, key: u64, both: Both) -> Result<(), AllocError>
         requires settled { IsSettled self.old }
         requires nowhere { IsFoundAt self.old.homes.shift self.old.homes.places.items key None }
         ensures settled { OnOk result (IsSettled self.new) }
-        ensures shown { OnOk result ((q : ℕ) → shown_at self.new q ≡ (if q == key then both.shown else shown_at self.old q)) }
-        ensures specified { OnOk result (specified_of self.new ≡ with_amount (specified_of self.old) key both.specified) }
+        ensures shown { OnOk result ((q : ℕ)
+            → shown_at self.new q ≡ (if q == key then both.shown else shown_at self.old q)) }
+        ensures specified { OnOk result
+            (specified_of self.new ≡ with_amount (specified_of self.old) key both.specified) }
     {
         match self.homes.free_place(key) {
             Some(place) if self.rest.has_none(key) => {

@@ -1,6 +1,7 @@
 //! What the slots of a multiset show.
 
-ghost use Rattle.std.specs.Prelude.{◌≡◌, ◌+◌, ◌*◌, ◌<◌, ◌≤◌, ◌^◌, ◌==◌, length, [], ◌∷◌, if◌then◌else◌, IfOk, OnOk};
+ghost use Rattle.std.specs.Prelude.{◌≡◌, ◌+◌, ◌*◌, ◌<◌, ◌≤◌, ◌^◌, ◌==◌, length, [], ◌∷◌};
+ghost use Rattle.std.specs.Prelude.{if◌then◌else◌, IfOk, OnOk};
 ghost use Rattle.vyrd_base.specs.declared.subject.Subject.TheVariants.{Multiset};
 ghost use Rattle.vyrd_base.specs.Amounts.{amount_of, collected};
 ghost use Rattle.vyrd_base.specs.Views.{parts_of};
@@ -12,7 +13,8 @@ use vyrd_base::AmountMap;
 /// The state of a slot that holds a value of the multiset.
 const VALID: u64 = 2;
 
-/// How often each value stands in a valid slot. A bucket has four slots, and a slot two words: its state and its value.
+/// How often each value stands in a valid slot. A bucket has four slots, and a slot two words: its
+/// state and its value.
 pub(crate) fn slots(alloc: Global, size: usize, words: &[u64]) -> Result<AmountMap, AllocError>
     requires count { length words.now ≡ 8 * size }
     requires small { size ≤ 1024 }

@@ -1,6 +1,7 @@
 //! The texts of string buffers, as their words change.
 
-ghost use Rattle.std.specs.Prelude.{◌≡◌, ℕ, ◌+◌, ◌*◌, ◌<◌, ◌≤◌, false, length, map, All, slice_index_or, OnOk, OnErr, true};
+ghost use Rattle.std.specs.Prelude.{◌≡◌, ℕ, ◌+◌, ◌*◌, ◌<◌, ◌≤◌, false, length, map, All};
+ghost use Rattle.std.specs.Prelude.{slice_index_or, OnOk, OnErr, true};
 ghost use Rattle.vyrd_base.specs.Places.{numbers_below};
 ghost use Rattle.vyrd_view.specs.Pairs.{is_touched, buffer_pair, HaveBufferKeys};
 
@@ -11,7 +12,8 @@ use std::alloc::AllocError;
 use std::sync::ledger::Ledger;
 use vyrd_base::BUFFER_WORDS;
 
-/// Each buffer that a changed word is in gives what its words show now. Once memory was refused the parts may only be dropped.
+/// Each buffer that a changed word is in gives what its words show now. Once memory was refused the
+/// parts may only be dropped.
 pub(crate) fn buffers_changed<L: Ledger>(
     parts: &mut Parts,
     size: usize,
@@ -27,7 +29,8 @@ pub(crate) fn buffers_changed<L: Ledger>(
     requires within { All (λ w. w < length words.now) changed.now }
     requires others { (b : ℕ) → b < length parts.old.pairs → is_touched 8 b changed.now ≡ false →
         slice_index_or parts.old.pairs b (0, 0) ≡ buffer_pair size words.now b }
-    ensures ok { OnOk result (parts.new ≡ record parts.old { pairs = map (buffer_pair size words.now) (numbers_below size) }) }
+    ensures ok { OnOk result (parts.new
+        ≡ record parts.old { pairs = map (buffer_pair size words.now) (numbers_below size) }) }
     ensures refused { OnErr result (parts.new.refused ≡ true) }
     ensures steps { steps.new ≤ steps.old + 3 * length changed.now }
 {

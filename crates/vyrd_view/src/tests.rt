@@ -91,7 +91,8 @@ fn one_slot_changed(rt: HostRuntime) -> Result<(), Fail> {
     Ok(())
 }
 
-/// The first difference after a slot got the value 5, first its value and then its state, and after the specification has it too.
+/// The first difference after a slot got the value 5, first its value and then its state, and after
+/// the specification has it too.
 fn one_slot<L: Ledger>(alloc: Global, blank: Blank) -> Result<(Option<u64>, Option<u64>), Fail>
     requires name { blank.name ≡ L.name }
     requires parts { blank.parts ≡ L.parts }
@@ -183,7 +184,8 @@ fn damaged_buffer_differs_until_it_is_mended(rt: HostRuntime) -> Result<(), Fail
     Ok(())
 }
 
-/// The first difference after these writes to a subject of size 2, and after these amounts of the specification too.
+/// The first difference after these writes to a subject of size 2, and after these amounts of the
+/// specification too.
 fn differences<L: Ledger>(
     alloc: Global,
     blank: Blank,

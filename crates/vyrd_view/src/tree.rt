@@ -1,8 +1,10 @@
 //! The leaves of a tree, as their words change.
 
-ghost use Rattle.std.specs.Prelude.{◌≡◌, ℕ, ◌+◌, ◌-◌, ◌*◌, ◌/◌, ◌%◌, ◌<◌, ◌≤◌, ◌^◌, true, false, length, map, slice_index_or, OnOk, OnErr, if◌then◌else◌};
+ghost use Rattle.std.specs.Prelude.{◌≡◌, ℕ, ◌+◌, ◌-◌, ◌*◌, ◌/◌, ◌%◌, ◌<◌, ◌≤◌, ◌^◌, true, false};
+ghost use Rattle.std.specs.Prelude.{length, map, slice_index_or, OnOk, OnErr, if◌then◌else◌};
 ghost use Rattle.vyrd_view.specs.Pairs.{EachAtMost};
-ghost use Rattle.vyrd_view.specs.Chains.{entry_pair, node_pair, tree_pair, end_pair, is_stale, has_link, is_on_chain, is_broken};
+ghost use Rattle.vyrd_view.specs.Chains.{entry_pair, node_pair, tree_pair, end_pair, is_stale};
+ghost use Rattle.vyrd_view.specs.Chains.{has_link, is_on_chain, is_broken};
 ghost use Rattle.vyrd_base.specs.Places.{numbers_below};
 
 use crate::chain::is_seen;
@@ -29,7 +31,8 @@ const VALUES: usize = 8;
 /// How many entries a node has room for.
 const MOST_ENTRIES: usize = 4;
 
-/// What is added to a value, so that the amount of a key that is there is never 0. Keys and values are below it.
+/// What is added to a value, so that the amount of a key that is there is never 0. Keys and values
+/// are below it.
 const PRESENT: u64 = 1 << 32;
 
 /// The key that stands for damage. It is above all others.
@@ -53,16 +56,23 @@ pub(crate) fn leaves_changed<L: Ledger>(
     requires count { length words.now ≡ 12 * length marks.old + 2 }
     requires places { length parts.old.pairs ≡ 4 * length marks.old + 1 }
     requires most { EachAtMost (2 ^ 33) parts.old.pairs }
-    requires others { (m : ℕ) → m < 4 * length marks.old → is_stale marks.old (m / 4) changed.now ≡ false →
-        slice_index_or parts.old.pairs m (0, 0) ≡ node_pair words.now marks.old m }
+    requires others { (m : ℕ) → m < 4 * length marks.old
+        → is_stale marks.old (m / 4) changed.now ≡ false
+        → slice_index_or parts.old.pairs m (0, 0) ≡ node_pair words.now marks.old m }
     requires marked { has_link changed.now ≡ false → (n : ℕ) → n < length marks.old →
         slice_index_or marks.old n false ≡ is_on_chain (length marks.old) words.now n }
-    requires end { has_link changed.now ≡ false →
-        slice_index_or parts.old.pairs (4 * length marks.old) (0, 0) ≡ end_pair (is_broken (length marks.old) words.now) }
-    ensures ok { OnOk result (parts.new ≡ record parts.old { pairs = map (tree_pair (length marks.old) words.now) (numbers_below (4 * length marks.old + 1)) }) }
-    ensures marked { OnOk result ((n : ℕ) → n < length marks.old → slice_index_or marks.new n false ≡ is_on_chain (length marks.old) words.now n) }
+    requires end { has_link changed.now ≡ false
+        → slice_index_or parts.old.pairs (4 * length marks.old) (0, 0)
+        ≡ end_pair (is_broken (length marks.old) words.now) }
+    ensures ok { OnOk result (parts.new ≡ record parts.old {
+      pairs =
+          map (tree_pair (length marks.old) words.now) (numbers_below (4 * length marks.old + 1));
+    }) }
+    ensures marked { OnOk result ((n : ℕ) → n < length marks.old
+        → slice_index_or marks.new n false ≡ is_on_chain (length marks.old) words.now n) }
     ensures refused { OnErr result (parts.new.refused ≡ true) }
-    ensures steps { steps.new ≤ steps.old + 9 * (length changed.now + (if has_link changed.now then length marks.old else 0)) + 2 }
+    ensures steps { steps.new ≤ steps.old
+        + 9 * (length changed.now + (if has_link changed.now then length marks.old else 0)) + 2 }
 {
     entries_changed(parts, marks, words, changed, steps)?;
     if !has_link(changed) {
@@ -89,8 +99,8 @@ fn end_pair(broken: bool) -> (u64, u64)
     if broken { (DAMAGE, 1) } else { (0, 0) }
 }
 
-/// Each marked node that a changed word is in gives what its words show now. Once memory was refused the parts may only be
-/// dropped.
+/// Each marked node that a changed word is in gives what its words show now. Once memory was
+/// refused the parts may only be dropped.
 fn entries_changed<L: Ledger>(
     parts: &mut Parts,
     marks: &[bool],
@@ -103,14 +113,17 @@ fn entries_changed<L: Ledger>(
     requires count { length words.now ≡ 12 * length marks.now + 2 }
     requires places { length parts.old.pairs ≡ 4 * length marks.now + 1 }
     requires most { EachAtMost (2 ^ 33) parts.old.pairs }
-    requires others { (m : ℕ) → m < 4 * length marks.now → is_stale marks.now (m / 4) changed.now ≡ false →
-        slice_index_or parts.old.pairs m (0, 0) ≡ node_pair words.now marks.now m }
+    requires others { (m : ℕ) → m < 4 * length marks.now
+        → is_stale marks.now (m / 4) changed.now ≡ false
+        → slice_index_or parts.old.pairs m (0, 0) ≡ node_pair words.now marks.now m }
     ensures sound { OnOk result (parts.new.refused ≡ false) }
     ensures specified { OnOk result (parts.new.specified ≡ parts.old.specified) }
     ensures places { OnOk result (length parts.new.pairs ≡ length parts.old.pairs) }
     ensures most { OnOk result (EachAtMost (2 ^ 33) parts.new.pairs) }
-    ensures nodes { OnOk result ((m : ℕ) → m < 4 * length marks.now → slice_index_or parts.new.pairs m (0, 0) ≡ node_pair words.now marks.now m) }
-    ensures end { OnOk result (slice_index_or parts.new.pairs (4 * length marks.now) (0, 0) ≡ slice_index_or parts.old.pairs (4 * length marks.now) (0, 0)) }
+    ensures nodes { OnOk result ((m : ℕ) → m < 4 * length marks.now
+        → slice_index_or parts.new.pairs m (0, 0) ≡ node_pair words.now marks.now m) }
+    ensures end { OnOk result (slice_index_or parts.new.pairs (4 * length marks.now) (0, 0)
+        ≡ slice_index_or parts.old.pairs (4 * length marks.now) (0, 0)) }
     ensures refused { OnErr result (parts.new.refused ≡ true) }
     ensures steps { steps.new ≤ steps.old + 9 * length changed.now }
 {
@@ -124,11 +137,13 @@ fn entries_changed<L: Ledger>(
     Ok(())
 }
 
-/// Marks the nodes on the chain of leaves, and no others. The answer is whether the chain is damaged.
+/// Marks the nodes on the chain of leaves, and no others. The answer is whether the chain is
+/// damaged.
 fn walk(marks: &mut [bool], words: &[u64]) -> bool
     requires some { 0 < length marks.old }
     requires count { length words.now ≡ 12 * length marks.old + 2 }
-    ensures marks { (n : ℕ) → n < length marks.old → slice_index_or marks.new n false ≡ is_on_chain (length marks.old) words.now n }
+    ensures marks { (n : ℕ) → n < length marks.old
+        → slice_index_or marks.new n false ≡ is_on_chain (length marks.old) words.now n }
     ensures broken { result ≡ is_broken (length marks.old) words.now }
 {
     marks.fill(false);
@@ -147,8 +162,8 @@ fn walk(marks: &mut [bool], words: &[u64]) -> bool
     false
 }
 
-/// The marks become the next ones, and each node that gets a mark or loses one gives what it shows now. Once memory was refused
-/// the parts may only be dropped.
+/// The marks become the next ones, and each node that gets a mark or loses one gives what it shows
+/// now. Once memory was refused the parts may only be dropped.
 fn remark<L: Ledger>(
     parts: &mut Parts,
     marks: &mut [bool],
@@ -162,13 +177,16 @@ fn remark<L: Ledger>(
     requires count { length words.now ≡ 12 * length marks.old + 2 }
     requires places { length parts.old.pairs ≡ 4 * length marks.old + 1 }
     requires most { EachAtMost (2 ^ 33) parts.old.pairs }
-    requires nodes { (m : ℕ) → m < 4 * length marks.old → slice_index_or parts.old.pairs m (0, 0) ≡ node_pair words.now marks.old m }
+    requires nodes { (m : ℕ) → m < 4 * length marks.old
+        → slice_index_or parts.old.pairs m (0, 0) ≡ node_pair words.now marks.old m }
     ensures sound { OnOk result (parts.new.refused ≡ false) }
     ensures specified { OnOk result (parts.new.specified ≡ parts.old.specified) }
     ensures places { OnOk result (length parts.new.pairs ≡ length parts.old.pairs) }
     ensures most { OnOk result (EachAtMost (2 ^ 33) parts.new.pairs) }
-    ensures marks { OnOk result ((n : ℕ) → n < length marks.old → slice_index_or marks.new n false ≡ slice_index_or next.now n false) }
-    ensures nodes { OnOk result ((m : ℕ) → m < 4 * length marks.old → slice_index_or parts.new.pairs m (0, 0) ≡ node_pair words.now marks.new m) }
+    ensures marks { OnOk result ((n : ℕ) → n < length marks.old
+        → slice_index_or marks.new n false ≡ slice_index_or next.now n false) }
+    ensures nodes { OnOk result ((m : ℕ) → m < 4 * length marks.old
+        → slice_index_or parts.new.pairs m (0, 0) ≡ node_pair words.now marks.new m) }
     ensures refused { OnErr result (parts.new.refused ≡ true) }
     ensures steps { steps.new ≤ steps.old + 9 * length marks.old }
 {
@@ -191,7 +209,9 @@ fn shown_node<L: Ledger>(
     steps: &mut Steps<L>,
 ) -> [(u64, u64); 4]
     requires { 12 * node + 11 < length words.now }
-    ensures entries { (j : ℕ) → j < 4 → slice_index_or result j (0, 0) ≡ (if marked then entry_pair words.now node j else (0, 0)) }
+    ensures entries { (j : ℕ) → j < 4
+        → slice_index_or result j (0, 0)
+        ≡ (if marked then entry_pair words.now node j else (0, 0)) }
     ensures steps { steps.new ≤ steps.old + 1 }
 {
     if marked {
@@ -211,7 +231,8 @@ fn is_marked(marks: &[bool], node: usize) -> bool
 /// What the four entries of a node give.
 fn decoded_node<L: Ledger>(words: &[u64], node: usize, steps: &mut Steps<L>) -> [(u64, u64); 4]
     requires { 12 * node + 11 < length words.now }
-    ensures entries { (j : ℕ) → j < 4 → slice_index_or result j (0, 0) ≡ entry_pair words.now node j }
+    ensures entries { (j : ℕ) → j < 4
+        → slice_index_or result j (0, 0) ≡ entry_pair words.now node j }
     ensures steps { steps.new ≡ steps.old + 1 }
 {
     steps.tick();
@@ -242,7 +263,8 @@ fn entry(words: &[u64], node: usize, j: usize) -> (u64, u64)
     }
 }
 
-/// The four places of a node give these pairs now. Once memory was refused the parts may only be dropped.
+/// The four places of a node give these pairs now. Once memory was refused the parts may only be
+/// dropped.
 fn put_node<L: Ledger>(
     parts: &mut Parts,
     node: usize,
@@ -258,9 +280,13 @@ fn put_node<L: Ledger>(
     ensures specified { OnOk result (parts.new.specified ≡ parts.old.specified) }
     ensures places { OnOk result (length parts.new.pairs ≡ length parts.old.pairs) }
     ensures most { OnOk result (EachAtMost (2 ^ 33) parts.new.pairs) }
-    ensures below { OnOk result ((m : ℕ) → m < 4 * node → slice_index_or parts.new.pairs m (0, 0) ≡ slice_index_or parts.old.pairs m (0, 0)) }
-    ensures inside { OnOk result ((j : ℕ) → j < 4 → slice_index_or parts.new.pairs (4 * node + j) (0, 0) ≡ slice_index_or entries.now j (0, 0)) }
-    ensures above { OnOk result ((m : ℕ) → 4 * node + 4 ≤ m → slice_index_or parts.new.pairs m (0, 0) ≡ slice_index_or parts.old.pairs m (0, 0)) }
+    ensures below { OnOk result ((m : ℕ) → m < 4 * node
+        → slice_index_or parts.new.pairs m (0, 0) ≡ slice_index_or parts.old.pairs m (0, 0)) }
+    ensures inside { OnOk result ((j : ℕ) → j < 4
+        → slice_index_or parts.new.pairs (4 * node + j) (0, 0)
+        ≡ slice_index_or entries.now j (0, 0)) }
+    ensures above { OnOk result ((m : ℕ) → 4 * node + 4 ≤ m
+        → slice_index_or parts.new.pairs m (0, 0) ≡ slice_index_or parts.old.pairs m (0, 0)) }
     ensures refused { OnErr result (parts.new.refused ≡ true) }
     ensures steps { steps.new ≤ steps.old + 8 }
 {

@@ -1,8 +1,10 @@
 -- The workload of this many operations, for each of which a number is drawn, one after the other.
-use Rattle.std.specs.Prelude.{ℕ, zero, suc, ◌+◌, ◌*◌, ◌/◌, ◌%◌, ◌==◌, nat_lt, List, [], ◌∷◌, refl, if◌then◌else◌}
+use Rattle.std.specs.Prelude.{ℕ, zero, suc, ◌+◌, ◌*◌, ◌/◌, ◌%◌, ◌==◌, nat_lt, List, [], ◌∷◌, refl}
+use Rattle.std.specs.Prelude.{if◌then◌else◌}
 use Rattle.vyrd_base.specs.declared.header.Header.{Header}
 use Rattle.vyrd_base.specs.declared.subject.Subject.TheVariants.{Multiset}
-use Rattle.vyrd_base.specs.declared.subject.Method.TheVariants.{MsInsert, MsInsertPair, MsDelete, MsLookup}
+use Rattle.vyrd_base.specs.declared.subject.Method.TheVariants.{MsInsert, MsInsertPair, MsDelete}
+use Rattle.vyrd_base.specs.declared.subject.Method.TheVariants.{MsLookup}
 use Rattle.vyrd_memory.specs.declared.op.Op.{Op}
 use Rattle.vyrd_memory.specs.declared.op.Variant.TheVariants.{Correct}
 use Rattle.vyrd_work.specs.declared.work.WorkOp.{WorkOp}
@@ -16,7 +18,8 @@ next_draw x = (x * 1103515245 + 12345) % 2147483648
 abbrev pub upper : ℕ → ℕ
 upper x = x / 65536
 
--- Of eight operations three insert a value, one inserts a pair, two delete and two look up. A remainder by 8 says which.
+-- Of eight operations three insert a value, one inserts a pair, two delete and two look up. A
+-- remainder by 8 says which.
 abbrev pub op_for : ℕ → ℕ → ℕ → Op
 op_for kind v w =
     if nat_lt kind 3 then record { method = MsInsert; args = record { a = v; b = 0; c = 0 } }
@@ -43,4 +46,5 @@ generated_header = record { version = 1; subject = Multiset; size = 64; callers 
 
 -- the workload of n operations; the first number is that after n
 unfoldable pub generated : ℕ → Workload
-generated n = record { header = generated_header; variant = Correct; ops = ops_from n 0 n; turns = [] }
+generated n =
+    record { header = generated_header; variant = Correct; ops = ops_from n 0 n; turns = [] }

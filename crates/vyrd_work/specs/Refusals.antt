@@ -2,8 +2,10 @@
 use Rattle.std.specs.Prelude.{◌≡◌, ⊤, ℕ, List, ◌++◌, Result, Err, codes, decimal}
 use Rattle.vyrd_base.specs.Spelling.{ended_line}
 use Rattle.vyrd_work.specs.declared.fault.WorkRule.{WorkRule}
-use Rattle.vyrd_work.specs.declared.fault.WorkRule.TheVariants.{AfterEnd, BadHeader, BadLine, CallerRange, ArgumentRange}
-use Rattle.vyrd_work.specs.declared.fault.WorkRule.TheVariants.{OpAfterTurn, TooManyOps, TooManyTurns, NoLineFeed, NoEnd}
+use Rattle.vyrd_work.specs.declared.fault.WorkRule.TheVariants.{AfterEnd, BadHeader, BadLine}
+use Rattle.vyrd_work.specs.declared.fault.WorkRule.TheVariants.{CallerRange, ArgumentRange}
+use Rattle.vyrd_work.specs.declared.fault.WorkRule.TheVariants.{OpAfterTurn, TooManyOps}
+use Rattle.vyrd_work.specs.declared.fault.WorkRule.TheVariants.{TooManyTurns, NoLineFeed, NoEnd}
 use Rattle.vyrd_work.specs.declared.fault.WorkFault.{WorkFault}
 use Rattle.vyrd_work.specs.declared.fault.WorkFault.TheVariants.{Refused, Memory}
 use Rattle.vyrd_work.specs.Workloads.{Workload}
@@ -24,7 +26,8 @@ work_rule_text NoEnd = codes "no end"
 
 -- the line that names a bad line and its rule, with its line feed
 abbrev pub refusal_text : ℕ → WorkRule → List ℕ
-refusal_text line rule = ended_line (codes "workload refused at line " ++ decimal line ++ codes ": " ++ work_rule_text rule)
+refusal_text line rule = ended_line (codes "workload refused at line " ++ decimal line ++ codes ": "
+    ++ work_rule_text rule)
 
 -- what a refusal says of a reading; if memory ran out, nothing is known
 abbrev pub IsRefusal : WorkFault → Result Workload Refusal → Type 0

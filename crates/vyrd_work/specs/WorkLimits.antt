@@ -1,4 +1,5 @@
--- The limits of a workload: its operations fit the header, and neither they nor the turns are too many.
+-- The limits of a workload: its operations fit the header, and neither they nor the turns are too
+-- many.
 use Rattle.std.specs.Prelude.{◌≡◌, ◌≤◌, Bool, true, ◌&&◌, nat_lt, nat_le, length}
 use Rattle.std.specs.List.{AllByRecursion}
 use Rattle.vyrd_base.specs.declared.header.Header.{Header}
@@ -10,9 +11,11 @@ use Rattle.vyrd_memory.specs.Arguments.{are_small}
 use Rattle.vyrd_memory.specs.Bounds.{most_ops}
 use Rattle.vyrd_work.specs.WorkReading.{turns_in}
 
--- whether the caller is below the header's callers, the method is of its subject, and the arguments are the method's and in range
+-- whether the caller is below the header's callers, the method is of its subject, and the arguments
+-- are the method's and in range
 abbrev pub is_op_of : Header → WorkOp → Bool
-is_op_of h o = nat_lt o.caller h.callers && (same_subject (subject_of o.op.method) h.subject && are_args h.size o.op.method o.op.args)
+is_op_of h o = nat_lt o.caller h.callers
+    && (same_subject (subject_of o.op.method) h.subject && are_args h.size o.op.method o.op.args)
 
 -- whether the caller is below the header's callers, and there are from 1 to 4,000,000 turns
 abbrev pub is_turn_of : Header → Turn → Bool

@@ -1,7 +1,9 @@
--- What bytes say as a workload, or their first bad line with the first rule that it breaks. The bytes are cut at their line
--- feeds. Line 1 has to spell a header, and each later line an operation, turns or `end`, after which nothing follows. Reading
--- goes line by line with the workload so far: its operations and its turns are counted, and so is the sum of the turns.
-use Rattle.std.specs.Prelude.{ℕ, ◌+◌, ◌==◌, not, ◌||◌, nat_lt, nat_le, List, [], ◌∷◌, ◌++◌, length, sum, map, Option, Some, None, Result, Ok, Err, if◌then◌else◌}
+-- What bytes say as a workload, or their first bad line with the first rule that it breaks. The
+-- bytes are cut at their line feeds. Line 1 has to spell a header, and each later line an
+-- operation, turns or `end`, after which nothing follows. Reading goes line by line with the
+-- workload so far: its operations and its turns are counted, and so is the sum of the turns.
+use Rattle.std.specs.Prelude.{ℕ, ◌+◌, ◌==◌, not, ◌||◌, nat_lt, nat_le, List, [], ◌∷◌, ◌++◌, length}
+use Rattle.std.specs.Prelude.{sum, map, Option, Some, None, Result, Ok, Err, if◌then◌else◌}
 use Rattle.std.specs.Str.{bytes_eq}
 use Rattle.std.specs.List.{slice_split}
 use Rattle.vyrd_base.specs.Subjects.{are_args}
@@ -12,8 +14,10 @@ use Rattle.vyrd_memory.specs.Bounds.{most_ops}
 use Rattle.vyrd_work.specs.declared.line.Item.{Item}
 use Rattle.vyrd_work.specs.declared.line.Item.TheVariants as item
 use Rattle.vyrd_work.specs.declared.fault.WorkRule.{WorkRule}
-use Rattle.vyrd_work.specs.declared.fault.WorkRule.TheVariants.{AfterEnd, BadHeader, BadLine, CallerRange, ArgumentRange}
-use Rattle.vyrd_work.specs.declared.fault.WorkRule.TheVariants.{OpAfterTurn, TooManyOps, TooManyTurns, NoLineFeed, NoEnd}
+use Rattle.vyrd_work.specs.declared.fault.WorkRule.TheVariants.{AfterEnd, BadHeader, BadLine}
+use Rattle.vyrd_work.specs.declared.fault.WorkRule.TheVariants.{CallerRange, ArgumentRange}
+use Rattle.vyrd_work.specs.declared.fault.WorkRule.TheVariants.{OpAfterTurn, TooManyOps}
+use Rattle.vyrd_work.specs.declared.fault.WorkRule.TheVariants.{TooManyTurns, NoLineFeed, NoEnd}
 use Rattle.vyrd_work.specs.Workloads.{Workload, most_turn_lines, most_turns}
 use Rattle.vyrd_work.specs.WorkLines.{begun_in, item_in}
 
@@ -39,12 +43,17 @@ broken_by w (item.Op o) =
     else (if nat_le most_ops (length w.ops) then Some TooManyOps else None)))
 broken_by w (item.Turns t) =
     if nat_le w.header.callers t.caller then Some CallerRange
-    else (if nat_le most_turn_lines (length w.turns) || nat_lt most_turns (turns_in w.turns + t.count) then Some TooManyTurns else None)
+    else
+    (if nat_le most_turn_lines (length w.turns) || nat_lt most_turns (turns_in w.turns + t.count)
+    then Some TooManyTurns
+    else None)
 
 -- one more operation, or turns
 abbrev pub with_item : Workload → Item → Workload
-with_item w (item.Op o) = record { header = w.header; variant = w.variant; ops = w.ops ++ o ∷ []; turns = w.turns }
-with_item w (item.Turns t) = record { header = w.header; variant = w.variant; ops = w.ops; turns = w.turns ++ t ∷ [] }
+with_item w (item.Op o) =
+    record { header = w.header; variant = w.variant; ops = w.ops ++ o ∷ []; turns = w.turns }
+with_item w (item.Turns t) =
+    record { header = w.header; variant = w.variant; ops = w.ops; turns = w.turns ++ t ∷ [] }
 
 -- what was read with a line that says this, unless it breaks a rule
 abbrev pub unless_broken : Workload → Item → Option WorkRule → Result Workload WorkRule
@@ -71,7 +80,8 @@ first_read line = begun_or_bad (begun_in line)
 
 -- the bytes after the last line feed: with more than 64 of them they begin no good line
 abbrev pub unfinished_rule : WorkRule → List ℕ → WorkRule
-unfinished_rule bad rest = if nat_lt 64 (length rest) then bad else (if has_any rest then NoLineFeed else NoEnd)
+unfinished_rule bad rest =
+    if nat_lt 64 (length rest) then bad else (if has_any rest then NoLineFeed else NoEnd)
 
 -- Nothing follows the line `end`, after which line n would come: the lines from there on are one
 -- without bytes.

@@ -1,4 +1,5 @@
--- The scripts of a workload: each caller does its operations in their order, by the procedures of the structure.
+-- The scripts of a workload: each caller does its operations in their order, by the procedures of
+-- the structure.
 use Rattle.std.specs.Prelude.{ℕ, ◌==◌, List, map, filter_map, Option, Some, None, if◌then◌else◌}
 use Rattle.vyrd_base.specs.declared.header.Header.{Header}
 use Rattle.vyrd_base.specs.declared.subject.Subject.{Subject}

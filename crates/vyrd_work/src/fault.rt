@@ -58,7 +58,8 @@ impl WorkRule {
 /// Why no workload was read.
 #[derive(Clone, Copy, Debug, PartialEq, Eq)]
 pub enum WorkFault {
-    /// The bytes aren't a workload: this line is the first bad one, and this the first rule that it breaks.
+    /// The bytes aren't a workload: this line is the first bad one, and this the first rule that it
+    /// breaks.
     Refused {
         /// The line.
         line: u64,
@@ -80,7 +81,8 @@ impl fmt::Display for WorkFault {
 
 impl Error for WorkFault {}
 
-/// Appends the line that says which line of a workload is bad and why, with its line feed. A refusal leaves `out` unchanged.
+/// Appends the line that says which line of a workload is bad and why, with its line feed. A
+/// refusal leaves `out` unchanged.
 pub fn write_refusal(line: u64, rule: WorkRule, out: &mut Vec<u8>) -> Result<(), AllocError>
     ensures ok { OnOk result (out.new.items ≡ out.old.items ++ refusal_text line rule) }
     ensures err { OnErr result (out.new.items ≡ out.old.items) }

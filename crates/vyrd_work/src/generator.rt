@@ -3,7 +3,8 @@
 ghost use Rattle.std.specs.Prelude.{◌≡◌, ◌≤◌, ◌<◌, ◌^◌, ◌%◌, IfOk};
 ghost use Rattle.vyrd_work.specs.Workloads.{workload_of};
 ghost use Rattle.vyrd_work.specs.WorkLimits.{KeepsLimits};
-ghost use Rattle.vyrd_work.specs.Generated.{generated, generated_header, next_draw, work_op_from, ops_from, op_for};
+ghost use Rattle.vyrd_work.specs.Generated.{generated, generated_header, next_draw, work_op_from};
+ghost use Rattle.vyrd_work.specs.Generated.{ops_from, op_for};
 ghost use Rattle.vyrd_memory.specs.Bounds.{most_ops};
 
 use crate::work::{Work, WorkOp};
@@ -29,9 +30,11 @@ const SIZE: u32 = 64;
 /// How many callers there are. They do the operations in turn.
 const CALLERS: u32 = 4;
 
-/// A workload of `n` operations on a correct multiset of 64 buckets with 4 callers. It has no turns.
+/// A workload of `n` operations on a correct multiset of 64 buckets with 4 callers. It has no
+/// turns.
 ///
-/// The same `n`, from 1 to 200,000, always gives the same workload. The time and the memory grow with `n`.
+/// The same `n`, from 1 to 200,000, always gives the same workload. The time and the memory grow
+/// with `n`.
 pub fn generate(alloc: Global, n: u32) -> Result<Work, AllocError>
     requires low { 1 ≤ n }
     requires high { n ≤ most_ops }

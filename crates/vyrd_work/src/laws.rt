@@ -16,13 +16,15 @@ pub fn text_is_read()
 
 /// Bytes that are read as a workload are its text, and it keeps its limits.
 pub fn read_text_is_a_workload()
-    ensures text { (bytes : List ℕ) (w : Workload) → work_reading bytes ≡ Ok w → bytes ≡ work_text w }
+    ensures text { (bytes : List ℕ) (w : Workload) → work_reading bytes ≡ Ok w
+        → bytes ≡ work_text w }
     ensures limits { (bytes : List ℕ) (w : Workload) → work_reading bytes ≡ Ok w → KeepsLimits w }
 {}
 
 /// No line of a workload that keeps its limits has more than 64 bytes, without its line feed.
 pub fn lines_are_short()
-    ensures { (w : Workload) → KeepsLimits w → AllByRecursion (λ line. length line ≤ 64) (lines_of w) }
+    ensures { (w : Workload) → KeepsLimits w
+        → AllByRecursion (λ line. length line ≤ 64) (lines_of w) }
 {}
 
 /// The scripts of a workload that keeps its limits are sound.
@@ -32,5 +34,6 @@ pub fn scripts_are_sound()
 
 /// What the longest input or more bytes say doesn't change with bytes that follow them.
 pub fn long_inputs_are_settled()
-    ensures { (bytes more : List ℕ) → longest_input ≤ length bytes → work_reading (bytes ++ more) ≡ work_reading bytes }
+    ensures { (bytes more : List ℕ) → longest_input ≤ length bytes
+        → work_reading (bytes ++ more) ≡ work_reading bytes }
 {}

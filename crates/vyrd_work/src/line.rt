@@ -23,8 +23,8 @@ pub enum Item {
     Turns(Turn),
 }
 
-/// The header and the variant that the first line spells, without the line feed. `None` exactly when it spells none within
-/// the limits.
+/// The header and the variant that the first line spells, without the line feed. `None` exactly
+/// when it spells none within the limits.
 pub fn read_first(line: &[u8]) -> Option<(Header, Variant)>
     ensures { option_map (λ r. begun r.1 r.0) result ≡ begun_in line.now }
 {
@@ -66,7 +66,8 @@ fn read_variant(text: &[u8]) -> Option<Variant>
     None
 }
 
-/// The operation or the turns that the line spells, without the line feed. `None` exactly when it spells neither.
+/// The operation or the turns that the line spells, without the line feed. `None` exactly when it
+/// spells neither.
 pub fn read_item(subject: Subject, line: &[u8]) -> Option<Item>
     ensures read { result ≡ item_in subject line.now }
     ensures ranges { IfSome result (λ x. is_item_of subject x ≡ true) }

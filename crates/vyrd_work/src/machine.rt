@@ -35,15 +35,40 @@ pub type AnyMachine = MachineOf<MultisetMachine, CacheMachine, TreeMachine, Buff
 impl<M: Machine, C: Machine, T: Machine, B: Machine> Machine for MachineOf<M, C, T, B> {
     ghost use Rattle.vyrd_work.specs.declared.machine.MachineOf.TheVariants as of;
 
-    ghost header_of = { elim [ of.Multiset m ↦ M.header_of m | of.Cache m ↦ C.header_of m | of.Tree m ↦ T.header_of m | of.Buffers m ↦ B.header_of m ] };
+    ghost header_of = { elim [
+      | of.Multiset m ↦ M.header_of m
+      | of.Cache m ↦ C.header_of m
+      | of.Tree m ↦ T.header_of m
+      | of.Buffers m ↦ B.header_of m
+    ] };
 
-    ghost caller_of = { elim [ of.Multiset m ↦ M.caller_of m | of.Cache m ↦ C.caller_of m | of.Tree m ↦ T.caller_of m | of.Buffers m ↦ B.caller_of m ] };
+    ghost caller_of = { elim [
+      | of.Multiset m ↦ M.caller_of m
+      | of.Cache m ↦ C.caller_of m
+      | of.Tree m ↦ T.caller_of m
+      | of.Buffers m ↦ B.caller_of m
+    ] };
 
-    ghost script = { elim [ of.Multiset m ↦ M.script m | of.Cache m ↦ C.script m | of.Tree m ↦ T.script m | of.Buffers m ↦ B.script m ] };
+    ghost script = { elim [
+      | of.Multiset m ↦ M.script m
+      | of.Cache m ↦ C.script m
+      | of.Tree m ↦ T.script m
+      | of.Buffers m ↦ B.script m
+    ] };
 
-    ghost ahead = { elim [ of.Multiset m ↦ M.ahead m | of.Cache m ↦ C.ahead m | of.Tree m ↦ T.ahead m | of.Buffers m ↦ B.ahead m ] };
+    ghost ahead = { elim [
+      | of.Multiset m ↦ M.ahead m
+      | of.Cache m ↦ C.ahead m
+      | of.Tree m ↦ T.ahead m
+      | of.Buffers m ↦ B.ahead m
+    ] };
 
-    ghost op_ahead = { elim [ of.Multiset m ↦ M.op_ahead m | of.Cache m ↦ C.op_ahead m | of.Tree m ↦ T.op_ahead m | of.Buffers m ↦ B.op_ahead m ] };
+    ghost op_ahead = { elim [
+      | of.Multiset m ↦ M.op_ahead m
+      | of.Cache m ↦ C.op_ahead m
+      | of.Tree m ↦ T.op_ahead m
+      | of.Buffers m ↦ B.op_ahead m
+    ] };
 
     fn wants(&self) -> Act {
         match self {
@@ -90,31 +115,69 @@ impl<M: Machine, C: Machine, T: Machine, B: Machine> Machine for MachineOf<M, C,
         }
     }
 
-    ghost is_sound = { elim [ of.Multiset m ↦ M.is_sound m | of.Cache m ↦ C.is_sound m | of.Tree m ↦ T.is_sound m | of.Buffers m ↦ B.is_sound m ] };
+    ghost is_sound = { elim [
+      | of.Multiset m ↦ M.is_sound m
+      | of.Cache m ↦ C.is_sound m
+      | of.Tree m ↦ T.is_sound m
+      | of.Buffers m ↦ B.is_sound m
+    ] };
 
-    ghost ends_in_time = { elim [ of.Multiset m ↦ M.ends_in_time m | of.Cache m ↦ C.ends_in_time m | of.Tree m ↦ T.ends_in_time m | of.Buffers m ↦ B.ends_in_time m ] };
+    ghost ends_in_time = { elim [
+      | of.Multiset m ↦ M.ends_in_time m
+      | of.Cache m ↦ C.ends_in_time m
+      | of.Tree m ↦ T.ends_in_time m
+      | of.Buffers m ↦ B.ends_in_time m
+    ] };
 
-    ghost next_bound = { elim [ of.Multiset m ↦ M.next_bound m | of.Cache m ↦ C.next_bound m | of.Tree m ↦ T.next_bound m | of.Buffers m ↦ B.next_bound m ] };
+    ghost next_bound = { elim [
+      | of.Multiset m ↦ M.next_bound m
+      | of.Cache m ↦ C.next_bound m
+      | of.Tree m ↦ T.next_bound m
+      | of.Buffers m ↦ B.next_bound m
+    ] };
 
-    ghost sums = { elim [ of.Multiset m ↦ M.sums m | of.Cache m ↦ C.sums m | of.Tree m ↦ T.sums m | of.Buffers m ↦ B.sums m ] };
+    ghost sums = { elim [
+      | of.Multiset m ↦ M.sums m
+      | of.Cache m ↦ C.sums m
+      | of.Tree m ↦ T.sums m
+      | of.Buffers m ↦ B.sums m
+    ] };
 
-    ghost op_is_ahead = { elim [ of.Multiset m ↦ M.op_is_ahead m | of.Cache m ↦ C.op_is_ahead m | of.Tree m ↦ T.op_is_ahead m | of.Buffers m ↦ B.op_is_ahead m ] };
+    ghost op_is_ahead = { elim [
+      | of.Multiset m ↦ M.op_is_ahead m
+      | of.Cache m ↦ C.op_is_ahead m
+      | of.Tree m ↦ T.op_is_ahead m
+      | of.Buffers m ↦ B.op_is_ahead m
+    ] };
 
-    ghost rests = { elim [ of.Multiset m ↦ M.rests m | of.Cache m ↦ C.rests m | of.Tree m ↦ T.rests m | of.Buffers m ↦ B.rests m ] };
+    ghost rests = { elim [
+      | of.Multiset m ↦ M.rests m
+      | of.Cache m ↦ C.rests m
+      | of.Tree m ↦ T.rests m
+      | of.Buffers m ↦ B.rests m
+    ] };
 
-    ghost done = { elim [ of.Multiset m ↦ M.done m | of.Cache m ↦ C.done m | of.Tree m ↦ T.done m | of.Buffers m ↦ B.done m ] };
+    ghost done = { elim [
+      | of.Multiset m ↦ M.done m
+      | of.Cache m ↦ C.done m
+      | of.Tree m ↦ T.done m
+      | of.Buffers m ↦ B.done m
+    ] };
 }
 
 /// A machine that can be made for a caller of a workload.
 pub trait WorkMachine: Machine + Sized {
-    /// The machine of a caller of the workload, which keeps its limits. It does the caller's operations in their order.
+    /// The machine of a caller of the workload, which keeps its limits. It does the caller's
+    /// operations in their order.
     fn of_caller(alloc: Global, work: &Work, caller: u32) -> Result<Self, AllocError>
         requires limits { KeepsLimits (workload_of work.now) }
         requires caller { caller < work.now.header.callers }
         ensures header { IfOk result (λ m. Self.header_of m ≡ work.now.header) }
         ensures caller { IfOk result (λ m. Self.caller_of m ≡ caller) }
-        ensures script { IfOk result (λ m. Self.script m ≡ work_script (workload_of work.now) caller) }
-        ensures bound { IfOk result (λ m. Self.ahead m ≡ bounds_of work.now.header (ops_of caller work.now.ops.items)) };
+        ensures script { IfOk result
+            (λ m. Self.script m ≡ work_script (workload_of work.now) caller) }
+        ensures bound { IfOk result
+            (λ m. Self.ahead m ≡ bounds_of work.now.header (ops_of caller work.now.ops.items)) };
 }
 
 impl WorkMachine for MachineOf<MultisetMachine, CacheMachine, TreeMachine, BufferMachine> {
@@ -124,14 +187,18 @@ impl WorkMachine for MachineOf<MultisetMachine, CacheMachine, TreeMachine, Buffe
 }
 
 impl MachineOf<MultisetMachine, CacheMachine, TreeMachine, BufferMachine> {
-    /// The machine of a caller of the workload, which keeps its limits. It does the caller's operations in their order.
+    /// The machine of a caller of the workload, which keeps its limits. It does the caller's
+    /// operations in their order.
     pub fn new(alloc: Global, work: &Work, caller: u32) -> Result<AnyMachine, AllocError>
         requires limits { KeepsLimits (workload_of work.now) }
         requires caller { caller < work.now.header.callers }
-        ensures header { IfOk result (λ m. ⟦<AnyMachine as Machine>⟧.header_of m ≡ work.now.header) }
+        ensures header { IfOk result
+            (λ m. ⟦<AnyMachine as Machine>⟧.header_of m ≡ work.now.header) }
         ensures caller { IfOk result (λ m. ⟦<AnyMachine as Machine>⟧.caller_of m ≡ caller) }
-        ensures script { IfOk result (λ m. ⟦<AnyMachine as Machine>⟧.script m ≡ work_script (workload_of work.now) caller) }
-        ensures bound { IfOk result (λ m. ⟦<AnyMachine as Machine>⟧.ahead m ≡ bounds_of work.now.header (ops_of caller work.now.ops.items)) }
+        ensures script { IfOk result
+            (λ m. ⟦<AnyMachine as Machine>⟧.script m ≡ work_script (workload_of work.now) caller) }
+        ensures bound { IfOk result (λ m. ⟦<AnyMachine as Machine>⟧.ahead m
+            ≡ bounds_of work.now.header (ops_of caller work.now.ops.items)) }
     {
         let ops = ops_of(alloc, work, caller)?;
         match work.header.subject() {

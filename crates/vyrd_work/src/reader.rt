@@ -5,7 +5,9 @@ ghost use Rattle.std.specs.List.{slice_split};
 ghost use Rattle.vyrd_base.specs.Subjects.{subject_of, same_subject};
 ghost use Rattle.vyrd_work.specs.Workloads.{Workload, workload_of};
 ghost use Rattle.vyrd_work.specs.WorkLines.{is_item_of};
-ghost use Rattle.vyrd_work.specs.WorkReading.{turns_in, broken_by, with_item, line_read, first_read, unfinished_rule, ended, lines_read, work_reading};
+ghost use Rattle.vyrd_work.specs.WorkReading.{turns_in, broken_by, with_item, line_read};
+ghost use Rattle.vyrd_work.specs.WorkReading.{first_read, unfinished_rule, ended, lines_read};
+ghost use Rattle.vyrd_work.specs.WorkReading.{work_reading};
 ghost use Rattle.vyrd_work.specs.WorkLimits.{KeepsLimits};
 ghost use Rattle.vyrd_work.specs.Refusals.{IsRefusal, IsRefusedAt};
 
@@ -24,8 +26,9 @@ const MOST_LINES: usize = 200_000;
 
 /// The workload that the bytes say.
 ///
-/// `Refused` comes exactly when they aren't a workload's text, with the first bad line and the first rule that it breaks.
-/// `Memory` may come at any time. The time grows with the bytes, the memory with the operations and the turns.
+/// `Refused` comes exactly when they aren't a workload's text, with the first bad line and the
+/// first rule that it breaks. `Memory` may come at any time. The time grows with the bytes, the
+/// memory with the operations and the turns.
 pub fn read_work(alloc: Global, bytes: &[u8]) -> Result<Work, WorkFault>
     ensures work { IfOk result (λ work. work_reading bytes.now ≡ Ok (workload_of work)) }
     ensures limits { IfOk result (λ work. KeepsLimits (workload_of work)) }
@@ -65,8 +68,11 @@ fn read_first_line(alloc: Global, line: &[u8]) -> Result<Work, WorkFault>
 /// Takes in the lines from line 2 on.
 fn read_lines(text: &[u8], work: &mut Work) -> Result<(), WorkFault>
     requires { work.old.turns.items ≡ [] }
-    ensures ok { OnOk result (lines_read (workload_of work.old) 2 (slice_split (λ b. b == 10) text.now) ≡ Ok (workload_of work.new)) }
-    ensures err { IfErr result (λ fault. IsRefusal fault (lines_read (workload_of work.old) 2 (slice_split (λ b. b == 10) text.now))) }
+    ensures ok { OnOk result (lines_read (workload_of work.old) 2
+        (slice_split (λ b. b == 10) text.now)
+        ≡ Ok (workload_of work.new)) }
+    ensures err { IfErr result (λ fault. IsRefusal fault
+        (lines_read (workload_of work.old) 2 (slice_split (λ b. b == 10) text.now))) }
 {
     let mut rest = text;
     let mut number: u64 = 2;
@@ -87,8 +93,11 @@ fn read_lines(text: &[u8], work: &mut Work) -> Result<(), WorkFault>
 
 /// Nothing may follow the line `end`. Line `number` comes after it.
 fn end(number: u64, rest: &[u8]) -> Result<(), WorkFault>
-    ensures ok { (w : Workload) → OnOk result (ended w number (slice_split (λ b. b == 10) rest.now) ≡ Ok w) }
-    ensures err { (w : Workload) → IfErr result (λ fault. IsRefusal fault (ended w number (slice_split (λ b. b == 10) rest.now))) }
+    ensures ok { (w : Workload)
+        → OnOk result (ended w number (slice_split (λ b. b == 10) rest.now) ≡ Ok w) }
+    ensures err { (w : Workload)
+        → IfErr result
+        (λ fault. IsRefusal fault (ended w number (slice_split (λ b. b == 10) rest.now))) }
 {
     if rest.is_empty() {
         return Ok(());
@@ -102,9 +111,11 @@ fn end(number: u64, rest: &[u8]) -> Result<(), WorkFault>
 /// Takes in a line that isn't `end`, and answers the sum of all turns after it.
 fn take_line(number: u64, line: &[u8], turns: u32, work: &mut Work) -> Result<u32, WorkFault>
     requires { turns ≡ turns_in work.old.turns.items }
-    ensures ok { IfOk result (λ sum. line_read (workload_of work.old) line.now ≡ Ok (workload_of work.new)) }
+    ensures ok { IfOk result
+        (λ sum. line_read (workload_of work.old) line.now ≡ Ok (workload_of work.new)) }
     ensures sum { IfOk result (λ sum. sum ≡ turns_in work.new.turns.items) }
-    ensures err { IfErr result (λ fault. IsRefusedAt number fault (line_read (workload_of work.old) line.now)) }
+    ensures err { IfErr result
+        (λ fault. IsRefusedAt number fault (line_read (workload_of work.old) line.now)) }
 {
     let Some(item) = read_item(work.header.subject(), line) else {
         return Err(WorkFault::Refused {

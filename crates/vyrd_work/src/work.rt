@@ -6,7 +6,8 @@ use vyrd_memory::{Op, Turn, Variant};
 /// An operation of one caller.
 #[derive(Clone, Copy, Debug, PartialEq, Eq)]
 pub struct WorkOp {
-    /// Whose operation it is: a number below the header's callers in a workload that keeps its limits.
+    /// Whose operation it is: a number below the header's callers in a workload that keeps its
+    /// limits.
     pub caller: u32,
     /// What is called.
     pub op: Op,

@@ -2,7 +2,8 @@
 
 ghost use Rattle.std.specs.Prelude.{◌≡◌, ◌+◌, ◌≤◌, ◌++◌, length, take, flat_map, OnOk, OnErr};
 ghost use Rattle.vyrd_base.specs.Spelling.{ended_line};
-ghost use Rattle.vyrd_work.specs.Workloads.{workload_of, work_text, work_header_line, variant_name, item_line};
+ghost use Rattle.vyrd_work.specs.Workloads.{workload_of, work_text, work_header_line, variant_name};
+ghost use Rattle.vyrd_work.specs.Workloads.{item_line};
 
 use crate::line::Item;
 use crate::work::{Work, WorkOp};
@@ -40,7 +41,8 @@ fn append_work(work: &Work, out: &mut Vec<u8>) -> Result<(), AllocError>
 
 /// Appends the first line. A refusal leaves `out` unchanged.
 fn append_header(header: Header, variant: Variant, out: &mut Vec<u8>) -> Result<(), AllocError>
-    ensures ok { OnOk result (out.new.items ≡ out.old.items ++ ended_line (work_header_line header.subject header.size header.callers variant)) }
+    ensures ok { OnOk result (out.new.items ≡ out.old.items
+        ++ ended_line (work_header_line header.subject header.size header.callers variant)) }
     ensures err { OnErr result (out.new.items ≡ out.old.items) }
 {
     let mut line = LineBuffer::new();
@@ -58,7 +60,8 @@ fn append_header(header: Header, variant: Variant, out: &mut Vec<u8>) -> Result<
 
 /// Appends the operations' lines, or some of them if memory runs out.
 fn append_ops(ops: &[WorkOp], out: &mut Vec<u8>) -> Result<(), AllocError>
-    ensures ok { OnOk result (out.new.items ≡ out.old.items ++ flat_map (λ o. ended_line (item_line (Item.Op o))) ops.now) }
+    ensures ok { OnOk result (out.new.items
+        ≡ out.old.items ++ flat_map (λ o. ended_line (item_line (Item.Op o))) ops.now) }
     ensures err { OnErr result (take (length out.old.items) out.new.items ≡ out.old.items) }
 {
     let mut line = LineBuffer::new();
@@ -73,7 +76,8 @@ fn append_ops(ops: &[WorkOp], out: &mut Vec<u8>) -> Result<(), AllocError>
 
 /// Appends the lines of turns, or some of them if memory runs out.
 fn append_turns(turns: &[Turn], out: &mut Vec<u8>) -> Result<(), AllocError>
-    ensures ok { OnOk result (out.new.items ≡ out.old.items ++ flat_map (λ t. ended_line (item_line (Item.Turns t))) turns.now) }
+    ensures ok { OnOk result (out.new.items
+        ≡ out.old.items ++ flat_map (λ t. ended_line (item_line (Item.Turns t))) turns.now) }
     ensures err { OnErr result (take (length out.old.items) out.new.items ≡ out.old.items) }
 {
     let mut line = LineBuffer::new();

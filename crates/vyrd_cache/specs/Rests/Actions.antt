@@ -6,7 +6,9 @@ use Rattle.vyrd_cache.specs.declared.task.Action.{Action}
 use Rattle.vyrd_cache.specs.declared.task.Action.TheVariants.{Write, LookAndWrite, BareWrite, Flush}
 use Rattle.vyrd_cache.specs.declared.task.Action.TheVariants.{Evict, Forget, Read, Fetch}
 use Rattle.vyrd_cache.specs.declared.place.Place.{Place}
-use Rattle.vyrd_cache.specs.declared.place.Place.TheVariants.{Lock, LoadState, Open, StoreLow, StoreHigh, StoreState, Close, Commit, Unlock, Return, Over}
+use Rattle.vyrd_cache.specs.declared.place.Place.TheVariants.{Lock, LoadState, Open, StoreLow}
+use Rattle.vyrd_cache.specs.declared.place.Place.TheVariants.{StoreHigh, StoreState, Close, Commit}
+use Rattle.vyrd_cache.specs.declared.place.Place.TheVariants.{Unlock, Return, Over}
 use Rattle.vyrd_cache.specs.Cells.{cached_low, cached_high, stored_low, stored_high}
 use Rattle.vyrd_cache.specs.Procedures.{joined}
 

@@ -1,5 +1,5 @@
--- What callers of the tree leave to one another: what a caller relies on while the others act, and what
--- each of its own acts leaves alone. The memories are those that callers see.
+-- What callers of the tree leave to one another: what a caller relies on while the others act, and
+-- what each of its own acts leaves alone. The memories are those that callers see.
 use Rattle.std.specs.Prelude.{◌≡◌, ◌≢◌, ℕ, ◌+◌, ◌*◌, ◌<◌, ◌≤◌, true, false, Some}
 use Rattle.vyrd_base.specs.declared.header.Header.{Header}
 use Rattle.vyrd_memory.specs.Alone.{Memory}
@@ -9,8 +9,8 @@ use Rattle.vyrd_tree.specs.Contents.{level_at, last_in, root_in}
 use Rattle.vyrd_every.specs.Trees.Shapes.{Shape, IsLinked, Hangs}
 use Rattle.vyrd_every.specs.Trees.Locals.{TreeLocals}
 
--- What stays true for good, so that it outlives locks: linked nodes stay linked, with their low and their
--- level, and the root that the log shows doesn't sink.
+-- What stays true for good, so that it outlives locks: linked nodes stay linked, with their low and
+-- their level, and the root that the log shows doesn't sink.
 pub record Grows (g : Shape) (m : Memory) (g' : Shape) (m' : Memory) : Type 0 where
   pub linked : (n : ℕ) → g.linked n ≡ true → g'.linked n ≡ true
   pub low : (n : ℕ) → g.linked n ≡ true → g'.low n ≡ g.low n
@@ -35,9 +35,9 @@ pub record TreeRely (h : Header) (s : Situation) (k : TreeLocals) (g : Shape) (m
   pub tree : IsLinked h.size g' m'
   pub calm : holds s (root_lock h) ≡ true → k.out ≡ false → g'.top ≡ level_at m' (root_in h.size m')
 
--- What an act of a caller leaves alone: the words of linked nodes whose lock it doesn't hold, nodes that
--- others have taken, those that hang for others, and the root's word and the count of nodes in use without
--- their locks. No node in use becomes unused.
+-- What an act of a caller leaves alone: the words of linked nodes whose lock it doesn't hold, nodes
+-- that others have taken, those that hang for others, and the root's word and the count of nodes in
+-- use without their locks. No node in use becomes unused.
 pub record TreeLeaves (h : Header) (s : Situation) (k : TreeLocals) (g : Shape) (m : Memory)
     (g' : Shape) (m' : Memory) : Type 0 where
   pub others : (n place : ℕ) → g.linked n ≡ true → holds s (lock_of h n) ≡ false → place < 12

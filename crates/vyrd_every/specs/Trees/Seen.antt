@@ -1,7 +1,7 @@
--- The memory that callers of the tree see. It is the one that the log shows, with one exception: the root's
--- word is loaded without its lock, so a new root is seen from the store of the root's word on, with all
--- that was written in its block before, while the block is still open. Nothing but its close is to come in
--- that block.
+-- The memory that callers of the tree see. It is the one that the log shows, with one exception:
+-- the root's word is loaded without its lock, so a new root is seen from the store of the root's
+-- word on, with all that was written in its block before, while the block is still open. Nothing
+-- but its close is to come in that block.
 use Rattle.std.specs.Prelude.{Bool, false, ◌∷◌, ◌==◌, ◌&&◌, ◌||◌, cond}
 use Rattle.vyrd_base.specs.declared.header.Header.{Header}
 use Rattle.vyrd_base.specs.declared.log.Kind.TheVariants.{BlockOpen, BlockClose, BlockCommit}
@@ -18,11 +18,12 @@ abbrev pub comes_out : Header → Situation → Act → Bool
 comes_out h s (Store cell value) = s.in_block && cell == root_cell h
 comes_out h s act = false
 
--- What an act makes of the memory that callers see. A store outside of blocks is seen at once. The writes
--- of a block are seen when it ends, or from the store of the root's word on.
+-- What an act makes of the memory that callers see. A store outside of blocks is seen at once. The
+-- writes of a block are seen when it ends, or from the store of the root's word on.
 abbrev pub seen_after : Header → Situation → TreeLocals → Memory → Act → Memory
 seen_after h s k m (Store cell value) =
-    cond s.in_block (cond (cell == root_cell h) (written ((cell, value) ∷ k.pending) m) m) (with_cell m cell value)
+    cond s.in_block (cond (cell == root_cell h) (written ((cell, value) ∷ k.pending) m) m)
+    (with_cell m cell value)
 seen_after h s k m (Mark BlockClose) = cond k.out m (written k.pending m)
 seen_after h s k m (Mark BlockCommit) = cond k.out m (written k.pending m)
 seen_after h s k m _ = m

@@ -1,15 +1,15 @@
--- The tree in the memory, between any two events. Only linked nodes are spoken of: those that the root,
--- right links and entries lead to. A node that a caller has taken and not linked yet is nobody else's
--- concern.
+-- The tree in the memory, between any two events. Only linked nodes are spoken of: those that the
+-- root, right links and entries lead to. A node that a caller has taken and not linked yet is
+-- nobody else's concern.
 use Rattle.std.specs.Prelude.{◌≡◌, ◌≢◌, ℕ, ◌+◌, ◌<◌, ◌≤◌, Bool, true, List, length}
 use Rattle.std.specs.List.{AllByRecursion}
 use Rattle.vyrd_memory.specs.Alone.{Memory}
 use Rattle.vyrd_tree.specs.Contents.{level_at, count_at, bound_at, right_at, last_in, root_in}
 use Rattle.vyrd_tree.specs.Contents.{Rising, InRange, BeginsAt, IsLeafEntry, entries_at}
 
--- What no word says: which nodes are linked; the low of each, the least key that it may have, which never
--- changes; and the level of the root that the log shows. Callers load a new root before its block is
--- closed, and the log shows it after.
+-- What no word says: which nodes are linked; the low of each, the least key that it may have, which
+-- never changes; and the level of the root that the log shows. Callers load a new root before its
+-- block is closed, and the log shows it after.
 pub record Shape : Type 0 where
   pub linked : ℕ → Bool
   pub low : ℕ → ℕ
@@ -27,9 +27,10 @@ pub record IsInner (g : Shape) (m : Memory) (above from : ℕ) (entries : List (
   pub first : BeginsAt from entries
   pub child : AllByRecursion (LeadsDown g m above) entries
 
--- The entries of a node, from its level, its low and its bound: their keys rise from the low on, below the
--- bound.
-pub record HasEntries (g : Shape) (m : Memory) (above from bound : ℕ) (entries : List (ℕ × ℕ)) : Type 0 where
+-- The entries of a node, from its level, its low and its bound: their keys rise from the low on,
+-- below the bound.
+pub record HasEntries (g : Shape) (m : Memory) (above from bound : ℕ)
+    (entries : List (ℕ × ℕ)) : Type 0 where
   pub rise : Rising entries
   pub in_range : AllByRecursion (InRange from bound) entries
   pub leaf : above ≡ 0 → AllByRecursion IsLeafEntry entries
@@ -49,9 +50,10 @@ pub record HasNeighbour (g : Shape) (m : Memory) (n : ℕ) : Type 0 where
   pub leads : right_at m node ≡ n
   pub some : n ≢ 0
 
--- The memory holds a tree of the linked nodes. There is room for them, and they are among those in use.
--- Node 0 is the first leaf, and the root is the first node of the highest level. Each node has a right link
--- or no bound, each but the first of a level has a left neighbour, and each has at most four entries.
+-- The memory holds a tree of the linked nodes. There is room for them, and they are among those in
+-- use. Node 0 is the first leaf, and the root is the first node of the highest level. Each node has
+-- a right link or no bound, each but the first of a level has a left neighbour, and each has at
+-- most four entries.
 pub record IsLinked (size : ℕ) (g : Shape) (m : Memory) : Type 0 where
   pub last_low : last_in size m < size
   pub taken : (n : ℕ) → g.linked n ≡ true → n ≤ last_in size m
@@ -67,13 +69,15 @@ pub record IsLinked (size : ℕ) (g : Shape) (m : Memory) : Type 0 where
   pub one_first : (a b : ℕ) → g.linked a ≡ true → g.linked b ≡ true → level_at m a ≡ level_at m b
       → g.low a ≡ 0 → g.low b ≡ 0 → a ≡ b
   pub few : (n : ℕ) → g.linked n ≡ true → count_at m n ≤ 4
-  pub entries : (n : ℕ) → g.linked n ≡ true → HasEntries g m (level_at m n) (g.low n) (bound_at m n) (entries_at m n)
+  pub entries : (n : ℕ) → g.linked n ≡ true
+      → HasEntries g m (level_at m n) (g.low n) (bound_at m n) (entries_at m n)
 
 -- no entry of an inner node leads to the node
 abbrev pub Unnamed : Shape → Memory → ℕ → Type 0
-Unnamed g m n = (p : ℕ) → g.linked p ≡ true → level_at m p ≢ 0 → AllByRecursion (λ entry. entry.1 ≢ n) (entries_at m p)
+Unnamed g m n = (p : ℕ) → g.linked p ≡ true → level_at m p ≢ 0
+    → AllByRecursion (λ entry. entry.1 ≢ n) (entries_at m p)
 
--- The node hangs on its left neighbour alone: a split made it, and its entry above is still to come. The
--- first node of a level has no left neighbour.
+-- The node hangs on its left neighbour alone: a split made it, and its entry above is still to
+-- come. The first node of a level has no left neighbour.
 abbrev pub Hangs : Shape → Memory → ℕ → Type 0
 Hangs g m n = (g.low n ≢ 0) × Unnamed g m n

@@ -4,14 +4,19 @@ pub mod FreeSlots
 pub mod Changes
 pub mod Played
 pub mod Done
-use Rattle.std.proofs.Common.{◌≡◌, ℕ, ◌-◌, ◌≤◌, inl, inr, true, false, cond, not, Some, None, refl, ap, ◌∙◌, sym, subst, arith}
+use Rattle.std.proofs.Common.{◌≡◌, ℕ, ◌-◌, ◌≤◌, inl, inr, true, false, cond, not, Some, None, refl}
+use Rattle.std.proofs.Common.{ap, ◌∙◌, sym, subst, arith}
 use Rattle.std.specs.Prelude.{◌==◌, IsSome}
 use Rattle.std.specs.Bool.{then_some}
 use Rattle.std.proofs.lemmas.Bool.Decides.{nat_tests}
 use Rattle.vyrd_base.specs.declared.header.Header.{Header}
 use Rattle.vyrd_base.specs.declared.subject.Subject.TheVariants.{Multiset}
 use Rattle.vyrd_base.specs.declared.subject.Method.{Method}
-use Rattle.vyrd_base.specs.declared.subject.Method.TheVariants.{MsInsert, MsInsertPair, MsDelete, MsLookup, CaWrite, CaFlush, CaEvict, CaRead, TrInsert, TrDelete, TrLookup, BuAppend, BuAppendFrom, BuCut, BuLength, BuRead}
+use Rattle.vyrd_base.specs.declared.subject.Method.TheVariants.{MsInsert, MsInsertPair, MsDelete}
+use Rattle.vyrd_base.specs.declared.subject.Method.TheVariants.{MsLookup, CaWrite, CaFlush, CaEvict}
+use Rattle.vyrd_base.specs.declared.subject.Method.TheVariants.{CaRead, TrInsert, TrDelete}
+use Rattle.vyrd_base.specs.declared.subject.Method.TheVariants.{TrLookup, BuAppend, BuAppendFrom}
+use Rattle.vyrd_base.specs.declared.subject.Method.TheVariants.{BuCut, BuLength, BuRead}
 use Rattle.vyrd_base.specs.declared.subject.Args.{Args}
 use Rattle.vyrd_base.specs.Subjects.{subject_of, is_observer}
 use Rattle.vyrd_base.specs.Amounts.{Amounts, amount_of, with_amount, plus_amount}
@@ -19,7 +24,8 @@ use Rattle.vyrd_base.specs.Specification.{by_reply, is_present, next_state}
 use Rattle.vyrd_memory.specs.declared.op.Op.{Op}
 use Rattle.vyrd_memory.specs.declared.op.Variant.TheVariants.{Correct}
 use Rattle.vyrd_memory.specs.Scripts.{Script}
-use Rattle.vyrd_memory.specs.Alone.{Memory, alone, state_in, state_after, MeetsSpecification, IsRightAlone}
+use Rattle.vyrd_memory.specs.Alone.{Memory, alone, state_in, state_after, MeetsSpecification}
+use Rattle.vyrd_memory.specs.Alone.{IsRightAlone}
 use Rattle.vyrd_memory.proofs.AloneLaws.{EndsSo, ended_with, is_there, isnt_there}
 use Rattle.vyrd_multiset.specs.Procedures.{insert, insert_pair, delete, lookup, procedure_of}
 use Rattle.vyrd_multiset.specs.Contents.{IsMultiset}
@@ -33,13 +39,15 @@ record Meets (h : Header) (op : Op) (s : Amounts) (reply : ℕ) (after : Memory)
   says : state_after (is_observer op.method) op reply s ≡ Some state
   is : IsMultiset h after state
 
-meets : (h : Header) (op : Op) (script : Script) (c : ℕ) (memory : Memory) (s : Amounts) → h.subject ≡ Multiset
-    → (Q : ℕ → Memory → Type 0) → EndsSo (alone c script memory) Q → ((reply : ℕ) (after : Memory) → Q reply after → Meets h op s reply after)
+meets : (h : Header) (op : Op) (script : Script) (c : ℕ) (memory : Memory) (s : Amounts)
+    → h.subject ≡ Multiset → (Q : ℕ → Memory → Type 0) → EndsSo (alone c script memory) Q
+    → ((reply : ℕ) (after : Memory) → Q reply after → Meets h op s reply after)
     → MeetsSpecification h op script c memory s
 meets h op script c memory s is Q ended says =
     let o = ended_with (alone c script memory) Q ended in
     let m = says o.0.reply o.0.memory o.2 in
-    let e : state_in h o.0.memory ≡ Some m.state = multiset_represented h o.0.memory m.state is m.is in
+    let e : state_in h o.0.memory ≡ Some m.state =
+    multiset_represented h o.0.memory m.state is m.is in
     record {
       outcome = o.0;
       ends = o.1;
@@ -52,10 +60,12 @@ by_method_right : (h : Header) (method : Method) (args : Args) → h.subject ≡
     → MeetsSpecification h (record { method = method; args = args })
     (procedure_of h Correct method args) c memory s
 by_method_right h MsInsert args is of c memory s m =
-    meets h (record { method = MsInsert; args = args }) (insert h Correct args.a) c memory s is (InsertDone h memory s args.a)
+    meets h (record { method = MsInsert; args = args }) (insert h Correct args.a) c memory s is
+    (InsertDone h memory s args.a)
     (insert_done h c memory s args.a m) says
   where
-    says : (reply : ℕ) (after : Memory) → InsertDone h memory s args.a reply after → Meets h (record { method = MsInsert; args = args }) s reply after
+    says : (reply : ℕ) (after : Memory) → InsertDone h memory s args.a reply after
+        → Meets h (record { method = MsInsert; args = args }) s reply after
     says reply after (inl d) = record {
       state = plus_amount s args.a 1;
       says = ap (λ r. by_reply r (Some s) (Some (plus_amount s args.a 1)) None) d.0;
@@ -67,49 +77,61 @@ by_method_right h MsInsert args is of c memory s m =
       is = d.1;
     }
 by_method_right h MsInsertPair args is of c memory s m =
-    meets h (record { method = MsInsertPair; args = args }) (insert_pair h Correct args.a args.b) c memory s is (PairDone h memory s args.a args.b)
+    meets h (record { method = MsInsertPair; args = args }) (insert_pair h Correct args.a args.b) c
+    memory s is (PairDone h memory s args.a args.b)
     (pair_done h c memory s args.a args.b m) says
   where
     says : (reply : ℕ) (after : Memory) → PairDone h memory s args.a args.b reply after
         → Meets h (record { method = MsInsertPair; args = args }) s reply after
     says reply after (inl d) = record {
       state = plus_amount (plus_amount s args.a 1) args.b 1;
-      says = ap (λ r. by_reply r (Some s) (Some (plus_amount (plus_amount s args.a 1) args.b 1)) None) d.0;
+      says =
+          ap (λ r. by_reply r (Some s) (Some (plus_amount (plus_amount s args.a 1) args.b 1)) None)
+          d.0;
       is = d.1;
     }
     says reply after (inr d) = record {
       state = s;
-      says = ap (λ r. by_reply r (Some s) (Some (plus_amount (plus_amount s args.a 1) args.b 1)) None) d.0;
+      says =
+          ap (λ r. by_reply r (Some s) (Some (plus_amount (plus_amount s args.a 1) args.b 1)) None)
+          d.0;
       is = d.1;
     }
 by_method_right h MsDelete args is of c memory s m =
-    meets h (record { method = MsDelete; args = args }) (delete h args.a) c memory s is (DeleteDone h s args.a)
+    meets h (record { method = MsDelete; args = args }) (delete h args.a) c memory s is
+    (DeleteDone h s args.a)
     (delete_done h c memory s args.a m) says
   where
     fewer : Amounts
     fewer = with_amount s args.a (amount_of s args.a - 1)
 
-    says : (reply : ℕ) (after : Memory) → DeleteDone h s args.a reply after → Meets h (record { method = MsDelete; args = args }) s reply after
+    says : (reply : ℕ) (after : Memory) → DeleteDone h s args.a reply after
+        → Meets h (record { method = MsDelete; args = args }) s reply after
     says reply after (inl d) = record {
       state = with_amount s args.a (amount_of s args.a - 1);
       says = ap (λ r. next_state MsDelete args r s) d.0
-          ∙ ap (λ b. then_some b (with_amount s args.a (amount_of s args.a - 1))) (is_there s args.a (let some = d.2 in omega (arith, some)));
+          ∙ ap (λ b. then_some b (with_amount s args.a (amount_of s args.a - 1)))
+          (is_there s args.a (let some = d.2 in omega (arith, some)));
       is = d.1;
     }
     says reply after (inr d) = record {
       state = s;
-      says = ap (λ r. next_state MsDelete args r s) d.0 ∙ ap (λ b. then_some (not b) s) (isnt_there s args.a d.2);
+      says = ap (λ r. next_state MsDelete args r s) d.0
+          ∙ ap (λ b. then_some (not b) s) (isnt_there s args.a d.2);
       is = d.1;
     }
 by_method_right h MsLookup args is of c memory s m =
-    meets h (record { method = MsLookup; args = args }) (lookup h args.a) c memory s is (LookupDone h s args.a)
+    meets h (record { method = MsLookup; args = args }) (lookup h args.a) c memory s is
+    (LookupDone h s args.a)
     (lookup_done h c memory s args.a m) says
   where
-    says : (reply : ℕ) (after : Memory) → LookupDone h s args.a reply after → Meets h (record { method = MsLookup; args = args }) s reply after
+    says : (reply : ℕ) (after : Memory) → LookupDone h s args.a reply after
+        → Meets h (record { method = MsLookup; args = args }) s reply after
     says reply after (m', inl d) = record {
       state = s;
       says = ap (λ r. state_after true (record { method = MsLookup; args = args }) r s) d.0
-          ∙ ap (λ b. cond (1 == cond b 1 0) (Some s) None) (is_there s args.a (let some = d.1 in omega (arith, some)));
+          ∙ ap (λ b. cond (1 == cond b 1 0) (Some s) None)
+          (is_there s args.a (let some = d.1 in omega (arith, some)));
       is = m';
     }
     says reply after (m', inr d) = record {

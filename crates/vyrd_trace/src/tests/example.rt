@@ -25,7 +25,8 @@ const EVENTS: u64 = 9;
 pub(super) fn load_again<R: Wait>(rt: &R, traced: &Traced, hand: &mut Hand, cell: u32) -> Seen
     requires hand { IsOf traced.now hand.old × (0 < hand.old.spare) }
     requires cell { cell < traced.now.plan.plain }
-    ensures { hand.new ≡ with_one_more hand.old result.number (Read cell result.value) hand.new.look }
+    ensures { hand.new
+        ≡ with_one_more hand.old result.number (Read cell result.value) hand.new.look }
 {
     for _ in rt.forever() {
         if let Ok(seen) = traced.load(hand, cell) {
@@ -58,7 +59,8 @@ pub(super) fn store_again<R: Wait>(
 // Takes a lock, trying again while it is busy.
 fn take_again<R: Wait>(rt: &R, traced: &Traced, hand: &mut Hand, lock: u32) -> u64
     requires hand { IsOf traced.now hand.old × (0 < hand.old.spare) }
-    requires lock { (traced.now.plan.plain ≤ lock) × (lock < traced.now.plan.plain + traced.now.plan.locks) }
+    requires lock { (traced.now.plan.plain ≤ lock)
+        × (lock < traced.now.plan.plain + traced.now.plan.locks) }
     ensures { hand.new ≡ with_one_more hand.old result (Took lock) hand.new.look }
 {
     for _ in rt.forever() {

@@ -26,14 +26,18 @@ pub mod FullNodeSplits
 pub mod AscentKeepsState
 pub mod NewKey
 pub mod Inserted
-use Rattle.std.proofs.Common.{◌≡◌, ◌≢◌, ℕ, ◌+◌, ◌-◌, ◌<◌, ◌^◌, inl, inr, true, false, cond, not, Option, Some, None, refl, ap, ◌∙◌, sym, subst, arith}
+use Rattle.std.proofs.Common.{◌≡◌, ◌≢◌, ℕ, ◌+◌, ◌-◌, ◌<◌, ◌^◌, inl, inr, true, false, cond, not}
+use Rattle.std.proofs.Common.{Option, Some, None, refl, ap, ◌∙◌, sym, subst, arith}
 use Rattle.std.specs.Prelude.{◌==◌, IsSome}
 use Rattle.std.specs.Bool.{then_some}
 use Rattle.vyrd_base.specs.declared.header.Header.{Header}
 use Rattle.vyrd_base.specs.declared.subject.Subject.TheVariants.{Tree}
 use Rattle.vyrd_base.specs.declared.subject.Method.{Method}
-use Rattle.vyrd_base.specs.declared.subject.Method.TheVariants.{MsInsert, MsInsertPair, MsDelete, MsLookup, CaWrite, CaFlush}
-use Rattle.vyrd_base.specs.declared.subject.Method.TheVariants.{CaEvict, CaRead, TrInsert, TrDelete, TrLookup, BuAppend, BuAppendFrom, BuCut, BuLength, BuRead}
+use Rattle.vyrd_base.specs.declared.subject.Method.TheVariants.{MsInsert, MsInsertPair, MsDelete}
+use Rattle.vyrd_base.specs.declared.subject.Method.TheVariants.{MsLookup, CaWrite, CaFlush}
+use Rattle.vyrd_base.specs.declared.subject.Method.TheVariants.{CaEvict, CaRead, TrInsert, TrDelete}
+use Rattle.vyrd_base.specs.declared.subject.Method.TheVariants.{TrLookup, BuAppend, BuAppendFrom}
+use Rattle.vyrd_base.specs.declared.subject.Method.TheVariants.{BuCut, BuLength, BuRead}
 use Rattle.vyrd_base.specs.declared.subject.Args.{Args}
 use Rattle.vyrd_base.specs.Subjects.{subject_of, is_observer}
 use Rattle.vyrd_base.specs.Amounts.{Amounts, amount_of, with_amount}
@@ -44,7 +48,8 @@ use Rattle.vyrd_memory.specs.declared.op.Variant.TheVariants.{Correct}
 use Rattle.vyrd_memory.specs.Scripts.{Script}
 use Rattle.vyrd_memory.specs.Arguments.{are_small}
 use Rattle.vyrd_memory.proofs.Small.{small_a, small_b}
-use Rattle.vyrd_memory.specs.Alone.{Memory, alone, state_in, state_after, MeetsSpecification, IsRightAlone}
+use Rattle.vyrd_memory.specs.Alone.{Memory, alone, state_in, state_after, MeetsSpecification}
+use Rattle.vyrd_memory.specs.Alone.{IsRightAlone}
 use Rattle.vyrd_tree.specs.Procedures.{procedure_of, lookup, delete, insert_entry}
 use Rattle.vyrd_tree.specs.Contents.{TreeRepresents}
 use Rattle.vyrd_tree.specs.Laws.Alone.Changes.{tree_represents, tree_represented}
@@ -56,14 +61,15 @@ use Rattle.vyrd_tree.specs.Laws.Alone.Inserted.{InsertDone, insert_alone}
 abbrev says_of : Op → Amounts → ℕ → Option Amounts
 says_of op s reply = state_after (is_observer op.method) op reply s
 
-meets : (h : Header) (op : Op) (script : Script) (c : ℕ) (memory : Memory) (s : Amounts) → h.subject ≡ Tree
-    → (Q : ℕ → Memory → Type 0) → EndsSo (alone c script memory) Q
+meets : (h : Header) (op : Op) (script : Script) (c : ℕ) (memory : Memory) (s : Amounts)
+    → h.subject ≡ Tree → (Q : ℕ → Memory → Type 0) → EndsSo (alone c script memory) Q
     → ((reply : ℕ) (after : Memory) → Q reply after → Meets h (says_of op s) reply after)
     → MeetsSpecification h op script c memory s
 meets h op script c memory s is Q ended says =
     let o = ended_with (alone c script memory) Q ended in
     let m = says o.0.reply o.0.memory o.2 in
-    let e : state_in h o.0.memory ≡ Some m.state = tree_represented h o.0.memory m.state is m.represents in
+    let e : state_in h o.0.memory ≡ Some m.state =
+    tree_represented h o.0.memory m.state is m.represents in
     record {
       outcome = o.0;
       ends = o.1;
@@ -77,7 +83,8 @@ by_method_right : (h : Header) (method : Method) (args : Args) → h.subject ≡
     → MeetsSpecification h (record { method = method; args = args })
     (procedure_of h Correct method args) c memory s
 by_method_right h TrInsert args is of small_key small c memory s st =
-    meets h (record { method = TrInsert; args = args }) (insert_entry h Correct args.a args.b) c memory s is (InsertDone h memory s args.a args.b)
+    meets h (record { method = TrInsert; args = args }) (insert_entry h Correct args.a args.b) c
+    memory s is (InsertDone h memory s args.a args.b)
     (insert_alone h c memory s args.a args.b st small_key small) says
   where
     next : Amounts
@@ -85,21 +92,26 @@ by_method_right h TrInsert args is of small_key small c memory s st =
 
     says : (reply : ℕ) (after : Memory) → InsertDone h memory s args.a args.b reply after
         → Meets h (says_of (record { method = TrInsert; args = args }) s) reply after
-    says reply after (inl d) = record { state = s; allowed = ap (λ r. next_state TrInsert args r s) d.0; represents = d.2 }
+    says reply after (inl d) =
+        record { state = s; allowed = ap (λ r. next_state TrInsert args r s) d.0; represents = d.2 }
     says reply after (inr (inl d)) = record {
       state = next;
       allowed = ap (λ r. next_state TrInsert args r s) d.0
-          ∙ ap (λ b. then_some (not b) (with_amount s args.a (2 ^ 32 + args.b))) (isnt_there s args.a d.1);
+          ∙ ap (λ b. then_some (not b) (with_amount s args.a (2 ^ 32 + args.b)))
+          (isnt_there s args.a d.1);
       represents = d.2;
     }
     says reply after (inr (inr d)) = record {
       state = next;
-      allowed = ap (λ r. next_state TrInsert args r s) d.0 ∙ ap (λ b. then_some b (with_amount s args.a (2 ^ 32 + args.b))) (is_there s args.a d.1);
+      allowed = ap (λ r. next_state TrInsert args r s) d.0
+          ∙ ap (λ b. then_some b (with_amount s args.a (2 ^ 32 + args.b))) (is_there s args.a d.1);
       represents = d.2;
     }
 by_method_right h TrDelete args is of small_key small c memory s st =
-    meets h (record { method = TrDelete; args = args }) (delete h Correct args.a) c memory s is _ (delete_alone h c memory s args.a st)
-    (λ reply after d. elim d as (λ d. Meets h (says_of (record { method = TrDelete; args = args }) s) reply after) [
+    meets h (record { method = TrDelete; args = args }) (delete h Correct args.a) c memory s is _
+    (delete_alone h c memory s args.a st)
+    (λ reply after d. elim d as
+    (λ d. Meets h (says_of (record { method = TrDelete; args = args }) s) reply after) [
       | inl d ↦ record {
         state = s;
         allowed = ap (λ r. next_state TrDelete args r s) d.1
@@ -114,19 +126,23 @@ by_method_right h TrDelete args is of small_key small c memory s st =
       }
     ])
 by_method_right h TrLookup args is of small_key small c memory s st =
-    meets h (record { method = TrLookup; args = args }) (lookup h Correct args.a) c memory s is _ (lookup_alone h c memory s args.a st)
+    meets h (record { method = TrLookup; args = args }) (lookup h Correct args.a) c memory s is _
+    (lookup_alone h c memory s args.a st)
     (λ reply after d. record { state = s; allowed = answered reply d.1; represents = d.0 })
   where
-    answers : (reply : ℕ) → reply ≡ answer_in s TrLookup args → cond (reply == answer_in s TrLookup args) (Some s) None ≡ Some s
+    answers : (reply : ℕ) → reply ≡ answer_in s TrLookup args
+        → cond (reply == answer_in s TrLookup args) (Some s) None ≡ Some s
     answers reply e = ap (λ b. cond b (Some s) None) (is_same reply (answer_in s TrLookup args) e)
 
     answered : (reply : ℕ) → Rattle.std.proofs.Common.◌⊎◌ ((amount_of s args.a ≡ 0) × (reply ≡ 0))
         ((value : ℕ) × (amount_of s args.a ≡ 2 ^ 32 + value) × (reply ≡ value + 1))
         → cond (reply == answer_in s TrLookup args) (Some s) None ≡ Some s
-    answered reply (inl d) = answers reply (d.1 ∙ sym (ap (λ b. cond b (amount_of s args.a - 2 ^ 32 + 1) 0) (isnt_there s args.a d.0)))
+    answered reply (inl d) = answers reply
+        (d.1 ∙ sym (ap (λ b. cond b (amount_of s args.a - 2 ^ 32 + 1) 0) (isnt_there s args.a d.0)))
     answered reply (inr d) =
         answers reply (d.2 ∙ plus_one d.0 (amount_of s args.a) d.1
-        ∙ sym (ap (λ b. cond b (amount_of s args.a - 2 ^ 32 + 1) 0) (is_there s args.a (let e = d.1 in omega (arith, e)))))
+        ∙ sym (ap (λ b. cond b (amount_of s args.a - 2 ^ 32 + 1) 0)
+        (is_there s args.a (let e = d.1 in omega (arith, e)))))
       where
         plus_one : (value amount : ℕ) → amount ≡ 2 ^ 32 + value → value + 1 ≡ amount - 2 ^ 32 + 1
         plus_one value amount e = omega arith

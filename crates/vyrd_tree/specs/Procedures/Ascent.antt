@@ -1,5 +1,5 @@
--- After a node was split, the ascent gives the new node an entry on the next level, where that node may be split in turn. It may
--- stop early: what is missing above is still found by the right links.
+-- After a node was split, the ascent gives the new node an entry on the next level, where that node
+-- may be split in turn. It may stop early: what is missing above is still found by the right links.
 use Rattle.std.specs.Prelude.{ℕ, zero, suc, ◌+◌, nat_lt, nat_le, [], ◌∷◌, length, if◌then◌else◌}
 use Rattle.vyrd_base.specs.declared.header.Header.{Header}
 use Rattle.vyrd_base.specs.declared.log.Kind.TheVariants.{BlockOpen, BlockClose}
@@ -11,7 +11,8 @@ use Rattle.vyrd_tree.specs.Procedures.Walk.{Arrived, walk_from}
 use Rattle.vyrd_tree.specs.Procedures.Split.{with_unused, write_node, add_entry, split_entry}
 use Rattle.vyrd_tree.specs.Procedures.Split.{split_key}
 
--- With the root's lock held: a new root above the old one, which has the old one and the new node as its children.
+-- With the root's lock held: a new root above the old one, which has the old one and the new node
+-- as its children.
 abbrev pub grow_root : Header → ℕ → ℕ → ℕ → ℕ → Script → Script
 grow_root h level key node root ended = with_unused h (unlock_root h ended) (λ new.
     perform (Mark BlockOpen) (write_node new (level + 1) 0 0 ((0, root) ∷ (key, node) ∷ [])
@@ -25,19 +26,20 @@ add_child h level key node at ended next =
     else with_unused h (unlock_node h at.node ended) (λ new.
     split_entry h at key node new BlockClose (next (level + 1) (split_key at key node) new)))
 
--- One round: on the level above this one, the node gets an entry with this key. The ascent stops, or the next round has the
--- level, the key and the node of the split above.
+-- One round: on the level above this one, the node gets an entry with this key. The ascent stops,
+-- or the next round has the level, the key and the node of the split above.
 abbrev pub ascend_once : Header → Variant → ℕ → ℕ → ℕ → Script → (ℕ → ℕ → ℕ → Script) → Script
-ascend_once h variant level key node ended next = lock_root h (step (Load (root_cell h)) (λ root.
-    if nat_lt root h.size
-    then step (Load (level_cell root)) (λ top.
-    if nat_le top level
+ascend_once h variant level key node ended next =
+    lock_root h (step (Load (root_cell h)) (λ root. if nat_lt root h.size
+    then step (Load (level_cell root)) (λ top. if nat_le top level
     then grow_root h level key node root ended
-    else unlock_root h (walk_from h variant key (level + 1) h.size root ended (λ at. add_child h level key node at ended next)))
+    else unlock_root h (walk_from h variant key (level + 1) h.size root ended
+    (λ at. add_child h level key node at ended next)))
     else unlock_root h ended))
 
 -- an ascent with this many rounds left
 abbrev pub ascend : Header → Variant → ℕ → ℕ → ℕ → ℕ → Script → Script
 ascend h variant zero level key node ended = ended
 ascend h variant (suc left) level key node ended =
-    ascend_once h variant level key node ended (λ level' key' node'. ascend h variant left level' key' node' ended)
+    ascend_once h variant level key node ended
+    (λ level' key' node'. ascend h variant left level' key' node' ended)

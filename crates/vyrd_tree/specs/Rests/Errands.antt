@@ -43,23 +43,27 @@ next_round h task a level key node = ascend h task.variant (15 - a.level) level 
 
 -- a round, and those after it
 abbrev pub round : Header → Task → Ascent → Script
-round h task a = ascend_once h task.variant a.level a.key a.node.number (returns 1) (next_round h task a)
+round h task a =
+    ascend_once h task.variant a.level a.key a.node.number (returns 1) (next_round h task a)
 
 -- what follows when an operation's walk has arrived
 abbrev pub arrived_call : Header → Task → Call → Arrived → Script
-arrived_call h task call.Insert at = insert_in h task.variant task.key task.value at (place_of task.key at.entries)
+arrived_call h task call.Insert at =
+    insert_in h task.variant task.key task.value at (place_of task.key at.entries)
 arrived_call h task call.Delete at = delete_in h at (place_of task.key at.entries)
 arrived_call h task call.Lookup at = look_in h at (place_of task.key at.entries)
 
 -- what follows when a walk has arrived
 abbrev pub arrived_for : Header → Task → Errand → Arrived → Script
 arrived_for h task errand.Operation at = arrived_call h task task.call at
-arrived_for h task (errand.Ascent a) at = add_child h a.level a.key a.node.number at (returns 1) (next_round h task a)
+arrived_for h task (errand.Ascent a) at =
+    add_child h a.level a.key a.node.number at (returns 1) (next_round h task a)
 
 -- a walk from a node on, with this many visits left
 abbrev pub walk_on : Header → Task → Errand → ℕ → ℕ → Script
 walk_on h task errand left node =
-    walk_from h task.variant (key_for task errand) (toward errand) left node (lost_for task errand) (arrived_for h task errand)
+    walk_from h task.variant (key_for task errand) (toward errand) left node (lost_for task errand)
+    (arrived_for h task errand)
 
 -- the mark that closes a block: that of an operation's own change commits
 abbrev pub close_for : Errand → Kind
@@ -79,6 +83,7 @@ after_split h task (errand.Ascent a) key new = next_round h task a (a.level + 1)
 -- one more entry in the node where a walk has arrived
 abbrev pub add_rest : Header → Task → Errand → Arrived → ℕ → ℕ → Script
 add_rest h task e at key value =
-    if nat_lt (length at.entries) 4 then add_entry h at key value (close_for e) (returns 1)
-    else with_unused h (unsplit h e at.node) (λ new.
-    split_entry h at key value new (close_for e) (after_split h task e (split_key at key value) new))
+    if nat_lt (length at.entries) 4
+    then add_entry h at key value (close_for e) (returns 1)
+    else with_unused h (unsplit h e at.node) (λ new. split_entry h at key value new (close_for e)
+    (after_split h task e (split_key at key value) new))

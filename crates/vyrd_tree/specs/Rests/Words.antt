@@ -2,7 +2,8 @@
 use Rattle.std.specs.Prelude.{ℕ}
 use Rattle.vyrd_tree.specs.declared.node.Word.{Word}
 use Rattle.vyrd_tree.specs.declared.node.Word.TheVariants.{Level, Count, Bound, Right, Key, Value}
-use Rattle.vyrd_tree.specs.Cells.{level_cell, count_cell, bound_cell, right_cell, key_cell, value_cell}
+use Rattle.vyrd_tree.specs.Cells.{level_cell, count_cell, bound_cell, right_cell, key_cell}
+use Rattle.vyrd_tree.specs.Cells.{value_cell}
 
 -- the cell of a word of the node
 abbrev pub cell_of : ℕ → Word → ℕ
