@@ -39,3 +39,10 @@ pub mod StartLaws
 pub mod NoStart
 pub mod VersionLaws
 pub mod AddedLaws
+pub mod EffectWords
+pub mod ChangedLists
+pub mod FrontLaws
+pub mod KeptLaws
+pub mod CommitLaws
+pub mod StateLaws
+pub mod VerdictParts

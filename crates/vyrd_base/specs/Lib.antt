@@ -4,6 +4,7 @@ pub mod Places
 pub mod Subjects
 pub mod Layout
 pub mod Callers
+pub mod Entries
 pub mod Words
 pub mod Shape
 pub mod Front

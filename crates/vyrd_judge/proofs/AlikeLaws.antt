@@ -12,7 +12,7 @@ use Rattle.vyrd_base.specs.Commits.{is_commit}
 use Rattle.vyrd_base.proofs.PlaceLaws.{first_answer-append}
 use Rattle.vyrd_base.proofs.TestLaws.{same_of, lower_isnt}
 use Rattle.vyrd_shadow.specs.Blocks.{with_writes}
-use Rattle.vyrd_plain.proofs.WordFacts.{one_write}
+use Rattle.vyrd_base.proofs.EffectWords.{one_write}
 use Rattle.vyrd_judge.specs.Cuts.{with_part, first_with}
 use Rattle.vyrd_judge.specs.Effects.{effect_parts, with_effects, cut_if, given_last, ActAlike, AllActAlike, HasParts}
 

@@ -30,7 +30,7 @@ use Rattle.vyrd_base.proofs.TestLaws.{below_of, is_below}
 use Rattle.vyrd_shape.specs.Following.{Kept as ShapeKept, HasFollowed as ShapeFollows}
 use Rattle.vyrd_judge.specs.declared.waiting.Waiting.{Waiting}
 use Rattle.vyrd_judge.specs.HasWords.{HasWords, HasTaken, Keeps, MayFollow}
-use Rattle.vyrd_plain.specs.Entries.{place_of}
+use Rattle.vyrd_base.specs.Entries.{place_of}
 use Rattle.vyrd_judge.specs.Watching.{Seen}
 use Rattle.vyrd_judge.specs.declared.waiting.Event.{Event}
 use Rattle.vyrd_judge.specs.Cuts.{first_with}
@@ -41,8 +41,8 @@ use Rattle.vyrd_judge.specs.Queued.{HasQueued, HasTakenUp, MayQueue}
 use Rattle.vyrd_judge.specs.Judged.{Judged, MayJudge}
 use Rattle.vyrd_judge.specs.declared.outcome.Advance.TheVariants.{Stops}
 use Rattle.vyrd_judge.specs.Following.{Kept, HasTakenIn, IsFaultless, IsSomewhere, MayCatchUp, AdvanceGives}
-use Rattle.vyrd_plain.proofs.FrontLaws.{kept-push, front_at_break, break_at_break, nothing_broken}
-use Rattle.vyrd_plain.proofs.VerdictFacts.{sound_start, so_far_kept, so_far_break, at_end_open, at_end_accepted}
+use Rattle.vyrd_base.proofs.FrontLaws.{kept-push, front_at_break, break_at_break, nothing_broken}
+use Rattle.vyrd_base.proofs.VerdictParts.{sound_start, so_far_kept, so_far_break, at_end_open, at_end_accepted}
 use Rattle.vyrd_judge.proofs.JudgedLaws.{judged_more, judged_head, judged_all}
 
 -- before the first entry

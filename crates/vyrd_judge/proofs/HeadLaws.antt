@@ -31,13 +31,13 @@ use Rattle.vyrd_base.proofs.ShadowLaws.{caller_kept}
 use Rattle.vyrd_shadow.specs.Blocks.{with_writes}
 use Rattle.vyrd_judge.specs.declared.waiting.Waiting.{Waiting}
 use Rattle.vyrd_judge.specs.Effects.{effect_parts, AllActAlike}
-use Rattle.vyrd_plain.specs.Entries.{has_method, place_of}
+use Rattle.vyrd_base.specs.Entries.{has_method, place_of}
 use Rattle.vyrd_judge.specs.Watching.{Seen, has_answer, IsWatched}
 use Rattle.vyrd_judge.specs.Reached.{Reached, AreCurrent, AllSee}
 use Rattle.vyrd_judge.specs.Judged.{Judged}
 use Rattle.vyrd_judge.proofs.AlikeLaws.{Split, has_parts_next}
-use Rattle.vyrd_plain.proofs.KeptFacts.{call_kept, commit_kept, block_commit_runs}
-use Rattle.vyrd_plain.proofs.CommitLaws.{Commits as Committing, alone, with_block, commits_is}
+use Rattle.vyrd_base.proofs.KeptLaws.{call_kept, commit_kept, block_commit_runs}
+use Rattle.vyrd_base.proofs.CommitLaws.{Commits as Committing, alone, with_block, commits_is}
 use Rattle.vyrd_judge.proofs.Reaching.{OthersStay, reached_begins, reached_return}
 use Rattle.vyrd_judge.proofs.ReachedFaults.{commit_fault_at, commit_right, commit_waits, observer_at}
 use Rattle.vyrd_judge.proofs.WaitingLaws.{IsBegin, IsCommit, IsReturn}

@@ -9,7 +9,7 @@ use Rattle.vyrd_base.specs.declared.verdict.Stop.TheVariants.{End}
 use Rattle.vyrd_base.specs.Verdicts.{verdict_so_far, verdict_at, verdict}
 use Rattle.vyrd_base.proofs.VerdictLaws.{verdict_lasts}
 use Rattle.vyrd_judge.specs.Following.{Kept, JudgeView, FollowsBy, HasFollowed, IsFaultless, HasTakenIn}
-use Rattle.vyrd_plain.proofs.VerdictFacts.{no_first_fault, so_far_kept, verdict_standing}
+use Rattle.vyrd_base.proofs.VerdictParts.{no_first_fault, so_far_kept, verdict_standing}
 
 pub standing : {j : JudgeView} {starting : List StartWord} {log : List Entry} {v : Verdict}
     → j.so_far ≡ Some v → HasFollowed j starting log

@@ -27,13 +27,13 @@ use Rattle.vyrd_judge.specs.declared.waiting.Event.{Event}
 use Rattle.vyrd_judge.specs.declared.waiting.Event.TheVariants.{Begins, Commits, Returns}
 use Rattle.vyrd_judge.specs.declared.waiting.Waiting.{Waiting}
 use Rattle.vyrd_judge.specs.HasWords.{Keeps}
-use Rattle.vyrd_plain.specs.Entries.{place_of}
+use Rattle.vyrd_base.specs.Entries.{place_of}
 use Rattle.vyrd_judge.specs.Queued.{IsCaller, IsPending, IsUnreturned, HasQueued, HasTakenUp, MayQueue, CanLeave}
 use Rattle.vyrd_judge.specs.Waiting.{commit_of, waiting_of, waiting_at, replied_event, replied}
-use Rattle.vyrd_plain.proofs.StateLaws.{open_call-other, open_call-quiet}
-use Rattle.vyrd_plain.proofs.CommitLaws.{Commits as Committing, alone, with_block, commits_inside, commits_unreturned}
-use Rattle.vyrd_plain.proofs.KeptFacts.{commit_kept, block_commit_runs, return_kept}
-use Rattle.vyrd_plain.proofs.ListFacts.{slice_get-set_same, slice_get-set_other}
+use Rattle.vyrd_base.proofs.StateLaws.{open_call-other, open_call-quiet}
+use Rattle.vyrd_base.proofs.CommitLaws.{Commits as Committing, alone, with_block, commits_inside, commits_unreturned}
+use Rattle.vyrd_base.proofs.KeptLaws.{commit_kept, block_commit_runs, return_kept}
+use Rattle.vyrd_base.proofs.ListLaws.{slice_get-set_same, slice_get-set_other}
 
 some_same : {A : Type 0} {a b : A} → Some a ≡ Some b → a ≡ b
 some_same e = cc

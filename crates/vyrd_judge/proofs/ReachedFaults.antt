@@ -19,11 +19,11 @@ use Rattle.vyrd_base.specs.Views.{view_of_words}
 use Rattle.vyrd_base.specs.Commits.{next_reply, committed_at, commits_after, commit_count, once_returned, state_after}
 use Rattle.vyrd_base.specs.Faults.{step_fault, commit_fault, states_since_call, observer_fault, fault_at}
 use Rattle.vyrd_base.proofs.BlockLaws.{entry}
-use Rattle.vyrd_plain.specs.Entries.{place_of}
+use Rattle.vyrd_base.specs.Entries.{place_of}
 use Rattle.vyrd_judge.specs.Watching.{Seen, has_answer, IsWatched}
 use Rattle.vyrd_judge.specs.Reached.{Reached, AllSee}
-use Rattle.vyrd_plain.proofs.CommitLaws.{Commits, commits_is, commits_inside, commits_uncalled, fault_of_commit_kind}
-use Rattle.vyrd_plain.proofs.StateLaws.{state_here, ending-commit}
+use Rattle.vyrd_base.proofs.CommitLaws.{Commits, commits_is, commits_inside, commits_uncalled, fault_of_commit_kind}
+use Rattle.vyrd_base.proofs.StateLaws.{state_here, ending-commit}
 use Rattle.vyrd_judge.proofs.Reaching.{reached_commit}
 
 -- what the words show at a commit

@@ -14,7 +14,7 @@ use Rattle.vyrd_base.specs.declared.subject.Args.{Args}
 use Rattle.vyrd_base.specs.Buffers.{text_length}
 use Rattle.vyrd_base.specs.Specification.{next_state, answer_in}
 use Rattle.vyrd_judge.specs.Reached.{AreCurrent, AllSee}
-use Rattle.vyrd_plain.proofs.ListFacts.{slice_get-set_same, slice_get-set_other}
+use Rattle.vyrd_base.proofs.ListLaws.{slice_get-set_same, slice_get-set_other}
 
 -- the watches before this place have seen the state, and those from it on are as they were
 pub record SeenBelow (state : Amounts) (i : ℕ) (old new : List Seen) : Type 0 where

@@ -12,7 +12,7 @@ use Rattle.vyrd_base.specs.Words.{given_to, value_after}
 use Rattle.vyrd_base.specs.Starts.{is_out_of_range, is_out_of_order, do_follow, may_start, words_at_start}
 use Rattle.vyrd_base.proofs.PlaceLaws.{first_answer-append}
 use Rattle.vyrd_base.proofs.TestLaws.{above_of, is_same, lower_isnt, first_true, second_true, neither_true}
-use Rattle.vyrd_plain.proofs.WordFacts.{map_set}
+use Rattle.vyrd_base.proofs.EffectWords.{map_set}
 use Rattle.vyrd_judge.proofs.StartWords.{StartFits, StartsFit, starts_of}
 
 -- each starting word is in range

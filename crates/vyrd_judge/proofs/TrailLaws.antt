@@ -16,12 +16,12 @@ use Rattle.vyrd_base.proofs.TestLaws.{same_number, same_of, apart_of}
 use Rattle.vyrd_spec.specs.declared.touched.Touched.{Touched}
 use Rattle.vyrd_spec.specs.Touching.{is_touched}
 use Rattle.vyrd_judge.specs.declared.watch.Watch.{Watch}
-use Rattle.vyrd_plain.specs.Entries.{has_method}
+use Rattle.vyrd_base.specs.Entries.{has_method}
 use Rattle.vyrd_judge.specs.Trails.{Asked, with_answer, after_state, seen_from, seen_by, IsOn, AreOn, AreAsking, KeepsAsked, moved}
 use Rattle.vyrd_judge.specs.Watching.{Seen, unwatched, has_answer, SeesAnswer, SeesState}
-use Rattle.vyrd_plain.proofs.SeenLaws.{changed_below}
+use Rattle.vyrd_base.proofs.ChangedLists.{changed_below}
 use Rattle.vyrd_judge.proofs.SeeingLaws.{SeenBelow, knows_already}
-use Rattle.vyrd_plain.proofs.ListFacts.{slice_get-set_same, slice_get-set_other}
+use Rattle.vyrd_base.proofs.ListLaws.{slice_get-set_same, slice_get-set_other}
 
 some_same : {A : Type 0} {a b : A} → Some a ≡ Some b → a ≡ b
 some_same e = cc

@@ -19,9 +19,9 @@ use Rattle.vyrd_base.proofs.ListLaws.{or_none}
 use Rattle.vyrd_judge.specs.declared.waiting.Event.{Event}
 use Rattle.vyrd_judge.specs.declared.waiting.Event.TheVariants.{Begins, Commits, Returns}
 use Rattle.vyrd_judge.specs.declared.waiting.Waiting.{Waiting}
-use Rattle.vyrd_plain.specs.Entries.{place_of}
+use Rattle.vyrd_base.specs.Entries.{place_of}
 use Rattle.vyrd_judge.specs.Waiting.{commit_of, event_of, waiting_of, waiting_at, waiting_after, replied}
-use Rattle.vyrd_plain.proofs.CommitLaws.{Commits as Committing, alone, with_block}
+use Rattle.vyrd_base.proofs.CommitLaws.{Commits as Committing, alone, with_block}
 
 -- a list and what comes after it
 filter_map-append : {A B : Type 0} (f : A → Option B) (xs ys : List A) → filter_map f (xs ++ ys) ≡ filter_map f xs ++ filter_map f ys

@@ -27,9 +27,9 @@ use Rattle.vyrd_judge.specs.Effects.{ActAlike, cut_if, number_at, inner_number, 
 use Rattle.vyrd_judge.specs.HasWords.{HasWords, HasTaken, Keeps, MayFollow}
 use Rattle.vyrd_judge.proofs.ActLaws.{written_alike, word_is}
 use Rattle.vyrd_judge.proofs.CutLaws.{with_part_nothing, first_with_nothing}
-use Rattle.vyrd_plain.proofs.KeptFacts.{write_kept}
+use Rattle.vyrd_base.proofs.KeptLaws.{write_kept}
 use Rattle.vyrd_judge.proofs.ShadowFacts.{words_old}
-use Rattle.vyrd_plain.proofs.ListFacts.{slice_get-set_same, slice_get-set_other}
+use Rattle.vyrd_base.proofs.ListLaws.{slice_get-set_same, slice_get-set_other}
 
 -- what the rules say of an entry that may follow
 pub may_caller : {k : Kept} {inner : List ℕ} {e : Entry} {commits : ℕ} → MayFollow k inner e commits → e.caller < k.header.callers

@@ -7,7 +7,7 @@ use Rattle.vyrd_base.specs.Subjects.{is_observer}
 use Rattle.vyrd_base.specs.Amounts.{Amounts}
 use Rattle.vyrd_base.specs.Specification.{answer_in}
 use Rattle.vyrd_base.specs.Commits.{commit_count, commits_after, states_from}
-use Rattle.vyrd_plain.specs.Entries.{has_method}
+use Rattle.vyrd_base.specs.Entries.{has_method}
 use Rattle.vyrd_judge.specs.Watching.{Seen, has_answer, SeesAnswer, IsWatched}
 
 -- The states go on from this one with the commits from the place on, what is called may be called,

@@ -10,7 +10,7 @@ use Rattle.vyrd_base.specs.Specification.{answer_in}
 use Rattle.vyrd_spec.specs.declared.touched.Touched.{Touched}
 use Rattle.vyrd_spec.specs.Touching.{is_touched}
 use Rattle.vyrd_judge.specs.declared.watch.Watch.{Watch}
-use Rattle.vyrd_plain.specs.Entries.{has_method}
+use Rattle.vyrd_base.specs.Entries.{has_method}
 use Rattle.vyrd_judge.specs.Watching.{Seen, unwatched}
 
 -- whether some open observer may ask it, what was called, and what the states since then answer:

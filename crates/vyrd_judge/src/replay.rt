@@ -8,7 +8,7 @@ ghost use Rattle.vyrd_base.specs.Specification.{answer_in};
 ghost use Rattle.vyrd_base.specs.Subjects.{is_observer};
 ghost use Rattle.vyrd_judge.specs.declared.outcome.Outcome.TheVariants.{Goes};
 ghost use Rattle.vyrd_judge.specs.declared.waiting.Waiting.{Waiting};
-ghost use Rattle.vyrd_plain.specs.Entries.{has_method};
+ghost use Rattle.vyrd_base.specs.Entries.{has_method};
 ghost use Rattle.vyrd_judge.specs.Judged.{Judged, HeadGives, MayJudge, CommitLeads, KnowsState};
 ghost use Rattle.vyrd_judge.specs.Queued.{CanLeave};
 ghost use Rattle.vyrd_judge.specs.Reached.{AreCurrent};

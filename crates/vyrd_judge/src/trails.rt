@@ -5,7 +5,7 @@ ghost use Rattle.std.specs.Prelude.{IfOk, OnOk, OnErr, IfSome};
 ghost use Rattle.vyrd_base.specs.declared.header.Header.{Header};
 ghost use Rattle.vyrd_base.specs.Subjects.{is_observer};
 ghost use Rattle.vyrd_judge.specs.declared.watch.Watch.{Watch};
-ghost use Rattle.vyrd_plain.specs.Entries.{has_method};
+ghost use Rattle.vyrd_base.specs.Entries.{has_method};
 ghost use Rattle.vyrd_judge.specs.Trails.{Asked, AreOn, AreAsking, KeepsAsked, after_state};
 
 use crate::trail::Trail;

@@ -4,7 +4,7 @@ ghost use Rattle.std.specs.Prelude.{◌≡◌, ◌<◌, ◌∷◌, ℕ, [], true
 ghost use Rattle.std.specs.Prelude.{length, replicate, slice_get, slice_set};
 ghost use Rattle.vyrd_base.specs.Specification.{answer_in};
 ghost use Rattle.vyrd_base.specs.Subjects.{is_observer};
-ghost use Rattle.vyrd_plain.specs.Entries.{has_method};
+ghost use Rattle.vyrd_base.specs.Entries.{has_method};
 ghost use Rattle.vyrd_judge.specs.Reached.{AreCurrent, AllSee};
 ghost use Rattle.vyrd_judge.specs.Watching.{Seen, unwatched, has_answer};
 ghost use Rattle.vyrd_spec.specs.Touching.{is_touched};

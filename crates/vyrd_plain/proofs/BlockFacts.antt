@@ -18,8 +18,8 @@ use Rattle.vyrd_base.proofs.BlockLaws.{entry, by_same, own_answer, other_answer,
 use Rattle.vyrd_base.proofs.TestLaws.{same_number, apart_of}
 use Rattle.vyrd_plain.specs.declared.effects.Block.{Block}
 use Rattle.vyrd_plain.specs.OpenBlocks.{written_by, writes_in, IsOpenBlock, IsBlockOf, committed, block_after, HasEffects}
-use Rattle.vyrd_plain.specs.Entries.{place_of}
-use Rattle.vyrd_plain.proofs.ListFacts.{take_one_more, slice_get-set_same, slice_get-set_other}
+use Rattle.vyrd_base.specs.Entries.{place_of}
+use Rattle.vyrd_base.proofs.ListLaws.{take_one_more, slice_get-set_same, slice_get-set_other}
 use Rattle.vyrd_plain.proofs.StepLaws.{next_is}
 use Rattle.vyrd_plain.proofs.EffectFacts.{writes_in-append, drop_here, words_without, none_there}
 

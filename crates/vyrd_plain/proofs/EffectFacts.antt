@@ -20,9 +20,9 @@ use Rattle.vyrd_base.proofs.BlockLaws.{entry}
 use Rattle.vyrd_base.proofs.ShadowLaws.{close_kept, block_commit_kept}
 use Rattle.vyrd_plain.specs.declared.effects.Block.{Block}
 use Rattle.vyrd_plain.specs.OpenBlocks.{written_by, writes_in, IsOpenBlock}
-use Rattle.vyrd_plain.proofs.KeptFacts.{rules_at, write_kept}
-use Rattle.vyrd_plain.proofs.ListFacts.{take_one_more}
-use Rattle.vyrd_plain.proofs.WordFacts.{one_write}
+use Rattle.vyrd_base.proofs.KeptLaws.{rules_at, write_kept}
+use Rattle.vyrd_base.proofs.ListLaws.{take_one_more}
+use Rattle.vyrd_base.proofs.EffectWords.{one_write}
 
 -- the writes among two lists of entries, one after the other
 pub writes_in-append : (c : ℕ) (xs ys : List Entry)

@@ -29,11 +29,11 @@ use Rattle.vyrd_plain.specs.declared.outcome.Outcome.{Outcome}
 use Rattle.vyrd_plain.specs.declared.outcome.Outcome.TheVariants.{Goes, Faults, Ends}
 use Rattle.vyrd_plain.specs.Executions.{is_reply, answers, begun, IsExecution}
 use Rattle.vyrd_plain.specs.Tracking.{Tracks}
-use Rattle.vyrd_plain.specs.Entries.{place_of}
+use Rattle.vyrd_base.specs.Entries.{place_of}
 use Rattle.vyrd_plain.specs.Outcomes.{CommitGives, PlaceGives, return_outcome}
-use Rattle.vyrd_plain.proofs.CommitLaws.{Commits, alone, with_block, commits_is, commits_inside, commits_unreturned, commits_uncalled, fault_of_commit_kind}
-use Rattle.vyrd_plain.proofs.StateLaws.{next_reply-quiet, state_here, ending-commit}
-use Rattle.vyrd_plain.proofs.KeptFacts.{commit_kept, block_commit_runs}
+use Rattle.vyrd_base.proofs.CommitLaws.{Commits, alone, with_block, commits_is, commits_inside, commits_unreturned, commits_uncalled, fault_of_commit_kind}
+use Rattle.vyrd_base.proofs.StateLaws.{next_reply-quiet, state_here, ending-commit}
+use Rattle.vyrd_base.proofs.KeptLaws.{commit_kept, block_commit_runs}
 use Rattle.vyrd_plain.proofs.StepLaws.{IsAt, Leads, call_allowed, called_is, leads_for}
 use Rattle.std.proofs.lemmas.Result.{IfOk-weaker}
 use Rattle.vyrd_plain.proofs.TrackingLaws.{tracks_inside, tracks_call, tracks_return, tracks_commit}

@@ -1,11 +1,3 @@
-pub mod ListFacts
-pub mod SeenLaws
-pub mod WordFacts
-pub mod FrontLaws
-pub mod KeptFacts
-pub mod CommitLaws
-pub mod StateLaws
-pub mod VerdictFacts
 pub mod ExecutionLaws
 pub mod TrackingLaws
 pub mod EffectFacts

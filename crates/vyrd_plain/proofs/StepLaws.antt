@@ -28,15 +28,15 @@ use Rattle.vyrd_base.proofs.Lasting.{no_fault_beyond}
 use Rattle.vyrd_base.proofs.ShadowLaws.{caller_kept}
 use Rattle.vyrd_base.proofs.NoStart.{state_at_start-none}
 use Rattle.vyrd_plain.specs.declared.execution.Execution.{Execution}
-use Rattle.vyrd_plain.specs.Entries.{has_method, place_of}
+use Rattle.vyrd_base.specs.Entries.{has_method, place_of}
 use Rattle.vyrd_plain.specs.Executions.{IsExecution, IsOpen, AreAllowed}
 use Rattle.vyrd_plain.specs.Tracking.{Tracks}
 use Rattle.vyrd_plain.specs.declared.outcome.Outcome.{Outcome}
 use Rattle.vyrd_plain.specs.Outcomes.{PlaceGives}
-use Rattle.vyrd_plain.proofs.FrontLaws.{newest_next}
-use Rattle.vyrd_plain.proofs.VerdictFacts.{line_without}
+use Rattle.vyrd_base.proofs.FrontLaws.{newest_next}
+use Rattle.vyrd_base.proofs.VerdictParts.{line_without}
 use Rattle.vyrd_plain.proofs.EffectFacts.{none_there}
-use Rattle.vyrd_plain.proofs.KeptFacts.{rules_at, call_kept, return_kept}
+use Rattle.vyrd_base.proofs.KeptLaws.{rules_at, call_kept, return_kept}
 
 -- a caller that is in an execution
 pub running_at : (h : Header) (states : List Amounts) (earlier later : List Entry) (state : Amounts)

@@ -13,7 +13,7 @@ use Rattle.vyrd_base.specs.Specification.{answer_in}
 use Rattle.vyrd_base.specs.Commits.{next_reply}
 use Rattle.vyrd_base.specs.Faults.{states_since_call}
 use Rattle.vyrd_plain.specs.declared.execution.Execution.{Execution}
-use Rattle.vyrd_plain.specs.Entries.{has_method}
+use Rattle.vyrd_base.specs.Entries.{has_method}
 
 -- whether a reply, if there is one, is this number
 abbrev pub is_reply : Option ℕ → ℕ → Bool

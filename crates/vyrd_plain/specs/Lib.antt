@@ -1,4 +1,3 @@
-pub mod Entries
 pub mod Executions
 pub mod Tracking
 pub mod Outcomes

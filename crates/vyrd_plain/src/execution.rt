@@ -3,7 +3,7 @@
 ghost use Rattle.std.specs.Prelude.{◌≡◌, true, Option, Some, None, map, vec_len};
 ghost use Rattle.vyrd_base.specs.Commits.{next_reply};
 ghost use Rattle.vyrd_plain.specs.declared.execution.Execution.{Execution};
-ghost use Rattle.vyrd_plain.specs.Entries.{has_method};
+ghost use Rattle.vyrd_base.specs.Entries.{has_method};
 ghost use Rattle.vyrd_plain.specs.Executions.{AreAllowed, seeing};
 
 use vyrd_base::{Args, Entry, Header, Kind, Method};

@@ -12,11 +12,11 @@ ghost use Rattle.vyrd_base.specs.Views.{view_of_words};
 ghost use Rattle.vyrd_base.specs.Specification.{start};
 ghost use Rattle.vyrd_base.specs.Verdicts.{states_along};
 ghost use Rattle.vyrd_plain.specs.declared.execution.Execution.{Execution};
-ghost use Rattle.vyrd_plain.specs.Entries.{has_method};
+ghost use Rattle.vyrd_base.specs.Entries.{has_method};
 ghost use Rattle.vyrd_plain.specs.Executions.{begun, AreAllowed};
 ghost use Rattle.vyrd_plain.specs.Tracking.{Tracks};
 ghost use Rattle.vyrd_plain.specs.OpenBlocks.{HasEffects};
-ghost use Rattle.vyrd_plain.specs.Entries.{place_of};
+ghost use Rattle.vyrd_base.specs.Entries.{place_of};
 ghost use Rattle.vyrd_plain.specs.Outcomes.{CommitGives, PlaceGives, return_outcome};
 ghost use Rattle.vyrd_plain.specs.declared.outcome.Outcome.TheVariants.{Goes};
 

@@ -1,7 +1,7 @@
 use Rattle.std.proofs.Common.{drop, get_or, set, map, subst, ap, sym, ◌∙◌}
 use Rattle.std.proofs.lemmas.Option.{slice_get-get_or}
 use Rattle.vyrd_base.specs.Subjects.{is_observer}
-use Rattle.vyrd_plain.specs.Entries.{has_method}
+use Rattle.vyrd_base.specs.Entries.{has_method}
 use Rattle.vyrd_judge.specs.Trails.{AreOn, seen_by}
 use Rattle.vyrd_judge.proofs.TrailLaws.{seen_moved, on_moved, asking_set}
 use Rattle.vyrd_judge.proofs.leaving.forget.Goals as goal

@@ -1,6 +1,6 @@
 use Rattle.std.proofs.Common.{◌≡◌}
 use Rattle.vyrd_judge.specs.Trails.{moved}
-use Rattle.vyrd_plain.proofs.SeenLaws.{changed_below}
+use Rattle.vyrd_base.proofs.ChangedLists.{changed_below}
 use Rattle.vyrd_judge.proofs.leaving.move_all.Given as goal
 
 abbrev pub invariant-loop-watch : goal.invariant-loop-watch

@@ -1,7 +1,7 @@
 use Rattle.std.proofs.Common.{◌++◌, ◌∷◌, [], get_or, map, ap, sym, ◌∙◌}
 use Rattle.std.proofs.lemmas.List.{map_more}
 use Rattle.vyrd_base.specs.declared.log.StartWord.{StartWord}
-use Rattle.vyrd_plain.proofs.FrontLaws.{take_past}
+use Rattle.vyrd_base.proofs.FrontLaws.{take_past}
 use Rattle.vyrd_judge.proofs.starting.words_of.Goals as goal
 
 pub loop-s-preserved : goal.loop-s-preserved

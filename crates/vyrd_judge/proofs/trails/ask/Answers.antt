@@ -1,7 +1,7 @@
 use Rattle.std.proofs.Common.{ap, ◌∙◌, arith}
 use Rattle.std.proofs.lemmas.Option.{slice_get_within}
-use Rattle.vyrd_plain.specs.Entries.{has_method}
-use Rattle.vyrd_plain.proofs.ListFacts.{slice_get-set_same}
+use Rattle.vyrd_base.specs.Entries.{has_method}
+use Rattle.vyrd_base.proofs.ListLaws.{slice_get-set_same}
 use Rattle.vyrd_base.specs.Subjects.{is_observer}
 use Rattle.vyrd_judge.proofs.TrailLaws.{asking_set, keeps_set}
 use Rattle.vyrd_judge.proofs.trails.ask.Goals as goal

@@ -2,7 +2,7 @@ use Rattle.std.proofs.Common.{◌<◌, ◌≤◌, ap, sym, subst, ◌∙◌, len
 use Rattle.std.proofs.lemmas.List.{set-get_or}
 use Rattle.std.proofs.lemmas.Option.{slice_get-get_or}
 use Rattle.vyrd_judge.specs.Trails.{AreAsking, AreOn, after_state}
-use Rattle.vyrd_plain.proofs.SeenLaws.{changed_next, changed_all}
+use Rattle.vyrd_base.proofs.ChangedLists.{changed_next, changed_all}
 use Rattle.vyrd_judge.proofs.TrailLaws.{asking_after, on_after, length-changed}
 use Rattle.vyrd_judge.proofs.trails.see_all.Goals as goal
 

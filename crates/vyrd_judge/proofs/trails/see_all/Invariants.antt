@@ -1,6 +1,6 @@
 use Rattle.std.proofs.Common.{◌≡◌}
 use Rattle.vyrd_judge.specs.Trails.{after_state}
-use Rattle.vyrd_plain.proofs.SeenLaws.{changed_below}
+use Rattle.vyrd_base.proofs.ChangedLists.{changed_below}
 use Rattle.vyrd_judge.proofs.trails.see_all.Given as goal
 
 abbrev pub invariant-loop-i : goal.invariant-loop-i

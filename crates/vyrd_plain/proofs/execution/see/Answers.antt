@@ -1,7 +1,7 @@
 use Rattle.std.proofs.Common.{◌≡◌, ◌<◌, Some, None, length, map, drop, get_or, slice_get, sym, ap, ◌∙◌, arith}
 use Rattle.std.proofs.lemmas.Option.{slice_get-get_or}
 use Rattle.vyrd_plain.specs.Executions.{seeing}
-use Rattle.vyrd_plain.proofs.SeenLaws.{changed_next, changed_all, unchanged_at, written_back}
+use Rattle.vyrd_base.proofs.ChangedLists.{changed_next, changed_all, unchanged_at, written_back}
 use Rattle.vyrd_plain.proofs.execution.see.Goals as goal
 
 pub seeing-requires-clause-allowed : goal.seeing-requires-clause-allowed

@@ -1,6 +1,6 @@
 use Rattle.std.proofs.Common.{◌≡◌}
 use Rattle.vyrd_plain.specs.Executions.{seeing}
-use Rattle.vyrd_plain.proofs.SeenLaws.{changed_below}
+use Rattle.vyrd_base.proofs.ChangedLists.{changed_below}
 use Rattle.vyrd_plain.proofs.execution.see.Given as goal
 
 abbrev pub invariant-loop-execution : goal.invariant-loop-execution

@@ -5,7 +5,7 @@ use Rattle.vyrd_base.specs.Places.{newest_first}
 use Rattle.vyrd_base.specs.Front.{first_break}
 use Rattle.vyrd_base.specs.Verdicts.{is_call_open}
 use Rattle.vyrd_shape.specs.Following.{HasFollowed}
-use Rattle.vyrd_plain.proofs.FrontLaws.{kept_next, newest_next, front_at, break_at, kept_all, take_past, front_of_all, nothing_broken}
+use Rattle.vyrd_base.proofs.FrontLaws.{kept_next, newest_next, front_at, break_at, kept_all, take_past, front_of_all, nothing_broken}
 use Rattle.vyrd_plain.proofs.front.front_of.Goals as goal
 
 pub loop-i-init : goal.loop-i-init

@@ -5,7 +5,7 @@ use Rattle.vyrd_base.specs.declared.verdict.Rule.TheVariants.{CallOpen}
 use Rattle.vyrd_base.specs.declared.verdict.Stop.TheVariants.{End}
 use Rattle.vyrd_base.specs.declared.verdict.Verdict.TheVariants.{Malformed}
 use Rattle.vyrd_base.specs.Verdicts.{line_of, verdict_at, accepted}
-use Rattle.vyrd_plain.proofs.VerdictFacts.{sound_without, line_without, at_end_open, at_end_accepted, at_text_open, at_text_before, at_text_closed}
+use Rattle.vyrd_base.proofs.VerdictParts.{sound_without, line_without, at_end_open, at_end_accepted, at_text_open, at_text_before, at_text_closed}
 use Rattle.std.proofs.lemmas.Result.{IfOk-weaker}
 use Rattle.vyrd_plain.proofs.judge.at_stop.Goals as goal
 use Rattle.vyrd_plain.proofs.judge.at_stop.Goals.{then-is_open-2+else-line-after, else-is_open-2}

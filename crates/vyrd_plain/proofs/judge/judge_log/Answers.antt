@@ -1,7 +1,7 @@
 use Rattle.std.proofs.Common.{[], sym, ap, ◌∙◌}
 use Rattle.vyrd_base.specs.declared.verdict.Verdict.TheVariants.{Malformed}
 use Rattle.vyrd_base.specs.Verdicts.{line_of}
-use Rattle.vyrd_plain.proofs.VerdictFacts.{sound_without, line_without, verdict_standing, so_far_fault, so_far_break, so_far_none}
+use Rattle.vyrd_base.proofs.VerdictParts.{sound_without, line_without, verdict_standing, so_far_fault, so_far_break, so_far_none}
 use Rattle.vyrd_plain.proofs.judge.judge_log.Goals as goal
 
 pub returns-in-Some : goal.returns-in-Some

@@ -2,7 +2,7 @@ use Rattle.std.proofs.Common.{◌++◌, take, ap, sym, subst, ◌∙◌, arith, 
 use Rattle.std.proofs.lemmas.List.{take_more}
 use Rattle.vyrd_base.specs.Verdicts.{verdict_so_far}
 use Rattle.vyrd_judge.specs.Following.{JudgeView, HasFollowed}
-use Rattle.vyrd_plain.proofs.FrontLaws.{take_past}
+use Rattle.vyrd_base.proofs.FrontLaws.{take_past}
 use Rattle.vyrd_judge.proofs.OnlineLaws.{so_far_is_known, still_known, refused_stays, on_error}
 use Rattle.vyrd_judge.proofs.online.Judge.follow.Goals as goal
 

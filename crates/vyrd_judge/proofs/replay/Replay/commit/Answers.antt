@@ -3,7 +3,7 @@ use Rattle.std.specs.Prelude.{option_map}
 use Rattle.vyrd_base.specs.Amounts.{first_difference}
 use Rattle.vyrd_base.specs.Views.{view_of_words}
 use Rattle.vyrd_base.specs.declared.verdict.Why.TheVariants.{View}
-use Rattle.vyrd_plain.proofs.ListFacts.{is_none}
+use Rattle.vyrd_base.proofs.ListLaws.{is_none}
 use Rattle.vyrd_judge.proofs.ReachedFaults.{by_next}
 use Rattle.vyrd_spec.specs.Touching.{is_touched, with_touched}
 use Rattle.vyrd_spec.proofs.TouchLaws.{touched_makes}

@@ -1,7 +1,7 @@
 use Rattle.std.proofs.Common.{◌≡◌, ◌<◌, ◌≤◌, Some, true, [], ◌∷◌, length, set, subst, ap, sym, ◌∙◌, arith}
 use Rattle.std.proofs.lemmas.List.{length-map}
 use Rattle.std.proofs.lemmas.Option.{slice_get_within}
-use Rattle.vyrd_plain.specs.Entries.{has_method}
+use Rattle.vyrd_base.specs.Entries.{has_method}
 use Rattle.vyrd_judge.specs.Watching.{Watched}
 use Rattle.vyrd_judge.specs.Trails.{Asked, IsOn, seen_by}
 use Rattle.vyrd_judge.specs.declared.watch.Watch.{Watch}

@@ -3,7 +3,7 @@ use Rattle.std.proofs.lemmas.List.{map-set}
 use Rattle.std.proofs.lemmas.Option.{slice_get_within}
 use Rattle.vyrd_judge.specs.Watching.{Watched, Seen, unwatched, has_answer}
 use Rattle.vyrd_judge.specs.Trails.{Asked, AreOn, AreAsking, seen_by, seen_from}
-use Rattle.vyrd_plain.proofs.SeenLaws.{written_back}
+use Rattle.vyrd_base.proofs.ChangedLists.{written_back}
 use Rattle.vyrd_judge.proofs.TrailLaws.{on_set, read_is, watch_read, seen_there, closed_stays}
 use Rattle.vyrd_judge.proofs.watches.Watches.end.Goals as goal
 

@@ -2,10 +2,10 @@ use Rattle.std.proofs.Common.{◌≡◌, Ok, Some, sym, ap, ◌∙◌, slice_get
 use Rattle.vyrd_base.specs.Amounts.{first_difference}
 use Rattle.vyrd_base.specs.Views.{view_of_words}
 use Rattle.vyrd_plain.specs.Outcomes.{CommitFaults, CommitGoes}
-use Rattle.vyrd_plain.proofs.KeptFacts.{method_subject, method_args}
+use Rattle.vyrd_base.proofs.KeptLaws.{method_subject, method_args}
 use Rattle.vyrd_base.specs.declared.verdict.Why.TheVariants.{Reply, View}
 use Rattle.vyrd_plain.proofs.OutcomeLaws.{for_execution, refused, differs}
-use Rattle.vyrd_plain.proofs.ListFacts.{is_none}
+use Rattle.vyrd_base.proofs.ListLaws.{is_none}
 use Rattle.vyrd_plain.proofs.scan.Scan.commit.Goals as goal
 
 pub step-requires-clause-subject : goal.step-requires-clause-subject

@@ -5,7 +5,7 @@ use Rattle.vyrd_base.specs.Commits.{next_reply}
 use Rattle.vyrd_plain.specs.OpenBlocks.{HasEffects}
 use Rattle.vyrd_plain.specs.Outcomes.{CommitGives}
 use Rattle.vyrd_plain.proofs.StepLaws.{known_at, same_entry, running, allowed_all, leads_as, leads_for, call_allowed, return_called}
-use Rattle.vyrd_plain.proofs.CommitLaws.{commits_by}
+use Rattle.vyrd_base.proofs.CommitLaws.{commits_by}
 use Rattle.vyrd_plain.proofs.FaultLaws.{commit_called, commit_mutates, commit_leads, return_leads, call_leads, quiet_by, quiet_leads}
 use Rattle.vyrd_plain.proofs.BlockFacts.{words_here}
 use Rattle.vyrd_plain.proofs.scan.Scan.step.Goals as goal

@@ -12,7 +12,7 @@ use Rattle.vyrd_base.specs.Commits.{is_commit, returned, next_reply, commit_coun
 use Rattle.vyrd_base.specs.Faults.{states_since_call}
 use Rattle.vyrd_base.proofs.BlockLaws.{entry, other_answer, no_answer}
 use Rattle.vyrd_base.proofs.Lasting.{commit_count-cons, states_begin}
-use Rattle.vyrd_plain.proofs.ListFacts.{slice_get-drop, take_one_more}
+use Rattle.vyrd_base.proofs.ListLaws.{slice_get-drop, take_one_more}
 use Rattle.std.specs.Bool.{then_some}
 use Rattle.std.specs.List.{cons_option}
 

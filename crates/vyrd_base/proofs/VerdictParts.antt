@@ -19,7 +19,7 @@ use Rattle.vyrd_base.specs.Starts.{state_at_start}
 use Rattle.vyrd_base.specs.Front.{front, first_break}
 use Rattle.vyrd_base.specs.Verdicts.{line_of, first_fault, shape_verdict, start_verdict, begun_verdict, verdict_so_far, is_call_open, end_verdict, accepted, verdict, verdict_at}
 use Rattle.vyrd_base.proofs.NoStart.{state_at_start-none}
-use Rattle.vyrd_plain.proofs.FrontLaws.{front_whole}
+use Rattle.vyrd_base.proofs.FrontLaws.{front_whole}
 
 -- starting words that stand for a state aren't a fault
 pub sound_start : (h : Header) (starting : List StartWord) (state : Amounts)

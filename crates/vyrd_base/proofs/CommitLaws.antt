@@ -11,7 +11,7 @@ use Rattle.vyrd_base.specs.Amounts.{Amounts}
 use Rattle.vyrd_base.specs.Commits.{is_commit, returned}
 use Rattle.vyrd_base.specs.Faults.{fault_of_commit, fault_at}
 use Rattle.vyrd_base.proofs.BlockLaws.{entry}
-use Rattle.vyrd_plain.specs.Entries.{place_of}
+use Rattle.vyrd_base.specs.Entries.{place_of}
 
 -- a kind of entry that commits
 pub data Commits : Kind → Type 0 where

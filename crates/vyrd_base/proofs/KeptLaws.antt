@@ -20,8 +20,8 @@ use Rattle.vyrd_base.proofs.VerdictLaws.{first_break-append}
 use Rattle.vyrd_base.proofs.ShadowLaws.{all_kept}
 use Rattle.vyrd_base.proofs.TestLaws.{above_of, first_true, second_true}
 use Rattle.vyrd_base.proofs.SubjectLaws.{same_subjects}
-use Rattle.vyrd_plain.specs.Entries.{has_method}
-use Rattle.vyrd_plain.proofs.FrontLaws.{split_at_next}
+use Rattle.vyrd_base.specs.Entries.{has_method}
+use Rattle.vyrd_base.proofs.FrontLaws.{split_at_next}
 
 -- the entry at each place of a log that keeps all rules
 pub kept_at : (h : Header) (front : List Entry) (at : ℕ) (d : Entry) → at < length front → first_break h front ≡ None
