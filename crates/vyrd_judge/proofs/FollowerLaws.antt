@@ -31,12 +31,12 @@ use Rattle.vyrd_shape.specs.Following.{Kept as ShapeKept, HasFollowed as ShapeFo
 use Rattle.vyrd_judge.specs.declared.waiting.Waiting.{Waiting}
 use Rattle.vyrd_judge.specs.HasWords.{HasWords, HasTaken, Keeps, MayFollow}
 use Rattle.vyrd_base.specs.Entries.{place_of}
-use Rattle.vyrd_judge.specs.Watching.{Seen}
+use Rattle.vyrd_observers.specs.Watching.{Seen}
 use Rattle.vyrd_judge.specs.declared.waiting.Event.{Event}
 use Rattle.vyrd_judge.specs.Cuts.{first_with}
 use Rattle.vyrd_judge.specs.Effects.{parts_behind}
 use Rattle.vyrd_judge.specs.Waiting.{replied, event_of, waiting_of, waiting_at}
-use Rattle.vyrd_judge.specs.Reached.{AreCurrent}
+use Rattle.vyrd_observers.specs.Watching.{AreCurrent}
 use Rattle.vyrd_judge.specs.Queued.{HasQueued, HasTakenUp, MayQueue}
 use Rattle.vyrd_judge.specs.Judged.{Judged, MayJudge}
 use Rattle.vyrd_judge.specs.declared.outcome.Advance.TheVariants.{Stops}

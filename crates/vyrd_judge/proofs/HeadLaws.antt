@@ -32,8 +32,10 @@ use Rattle.vyrd_shadow.specs.Blocks.{with_writes}
 use Rattle.vyrd_judge.specs.declared.waiting.Waiting.{Waiting}
 use Rattle.vyrd_judge.specs.Effects.{effect_parts, AllActAlike}
 use Rattle.vyrd_base.specs.Entries.{has_method, place_of}
-use Rattle.vyrd_judge.specs.Watching.{Seen, has_answer, IsWatched}
-use Rattle.vyrd_judge.specs.Reached.{Reached, AreCurrent, AllSee}
+use Rattle.vyrd_observers.specs.Watching.{Seen, has_answer}
+use Rattle.vyrd_judge.specs.Reached.{IsWatched}
+use Rattle.vyrd_judge.specs.Reached.{Reached}
+use Rattle.vyrd_observers.specs.Watching.{AreCurrent, AllSee}
 use Rattle.vyrd_judge.specs.Judged.{Judged}
 use Rattle.vyrd_judge.proofs.AlikeLaws.{Split, has_parts_next}
 use Rattle.vyrd_base.proofs.KeptLaws.{call_kept, commit_kept, block_commit_runs}

@@ -31,9 +31,10 @@ use Rattle.vyrd_judge.specs.declared.waiting.Waiting.{Waiting}
 use Rattle.vyrd_judge.specs.Cuts.{first_with, with_part}
 use Rattle.vyrd_judge.specs.Effects.{effect_parts, with_effects, cut_if, parts_behind, ActAlike, AllActAlike, HasParts}
 use Rattle.vyrd_base.specs.Entries.{place_of}
-use Rattle.vyrd_judge.specs.Watching.{Seen}
+use Rattle.vyrd_observers.specs.Watching.{Seen}
 use Rattle.vyrd_judge.specs.Waiting.{waiting_of, waiting_at, waiting_after, replied, commit_of}
-use Rattle.vyrd_judge.specs.Reached.{Reached, AreCurrent}
+use Rattle.vyrd_judge.specs.Reached.{Reached}
+use Rattle.vyrd_observers.specs.Watching.{AreCurrent}
 use Rattle.vyrd_judge.specs.Judged.{Judged}
 use Rattle.vyrd_judge.proofs.AlikeLaws.{has_parts_more}
 use Rattle.vyrd_judge.proofs.EndingLaws.{AllEnd, end_next, end_more}

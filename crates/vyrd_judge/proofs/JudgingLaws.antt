@@ -23,8 +23,8 @@ use Rattle.vyrd_judge.specs.declared.outcome.Outcome.TheVariants.{Goes, Faults, 
 use Rattle.vyrd_judge.specs.declared.waiting.Event.TheVariants.{Begins, Commits, Returns}
 use Rattle.vyrd_judge.specs.declared.waiting.Waiting.{Waiting}
 use Rattle.vyrd_base.specs.Entries.{has_method}
-use Rattle.vyrd_judge.specs.Watching.{Seen, unwatched, has_answer}
-use Rattle.vyrd_judge.specs.Reached.{AreCurrent}
+use Rattle.vyrd_observers.specs.Watching.{Seen, unwatched, has_answer}
+use Rattle.vyrd_observers.specs.Watching.{AreCurrent}
 use Rattle.vyrd_judge.specs.Judged.{Judged, HeadGives, MayJudge, CommitLeads}
 use Rattle.vyrd_base.proofs.ListLaws.{slice_get-set_same, slice_get-set_other}
 use Rattle.vyrd_judge.proofs.Reaching.{OthersStay}

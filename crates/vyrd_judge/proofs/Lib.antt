@@ -8,8 +8,6 @@ pub mod OnlineLaws
 pub mod FollowerLaws
 pub mod QueueLaws
 pub mod JudgingLaws
-pub mod TrailLaws
-pub mod SeeingLaws
 pub mod WordsLaws
 pub mod CutLaws
 pub mod ShadowFacts

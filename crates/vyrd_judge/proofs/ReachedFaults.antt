@@ -20,8 +20,10 @@ use Rattle.vyrd_base.specs.Commits.{next_reply, committed_at, commits_after, com
 use Rattle.vyrd_base.specs.Faults.{step_fault, commit_fault, states_since_call, observer_fault, fault_at}
 use Rattle.vyrd_base.proofs.BlockLaws.{entry}
 use Rattle.vyrd_base.specs.Entries.{place_of}
-use Rattle.vyrd_judge.specs.Watching.{Seen, has_answer, IsWatched}
-use Rattle.vyrd_judge.specs.Reached.{Reached, AllSee}
+use Rattle.vyrd_observers.specs.Watching.{Seen, has_answer}
+use Rattle.vyrd_judge.specs.Reached.{IsWatched}
+use Rattle.vyrd_judge.specs.Reached.{Reached}
+use Rattle.vyrd_observers.specs.Watching.{AllSee}
 use Rattle.vyrd_base.proofs.CommitLaws.{Commits, commits_is, commits_inside, commits_uncalled, fault_of_commit_kind}
 use Rattle.vyrd_base.proofs.StateLaws.{state_here, ending-commit}
 use Rattle.vyrd_judge.proofs.Reaching.{reached_commit}

@@ -19,8 +19,10 @@ use Rattle.vyrd_base.specs.Faults.{states_since_call}
 use Rattle.vyrd_base.proofs.BlockLaws.{entry, by_same, own_answer}
 use Rattle.vyrd_base.proofs.TestLaws.{same_number}
 use Rattle.vyrd_base.specs.Entries.{has_method}
-use Rattle.vyrd_judge.specs.Watching.{Seen, SeesAnswer, IsWatched}
-use Rattle.vyrd_judge.specs.Reached.{Reached, AllSee}
+use Rattle.vyrd_observers.specs.Watching.{Seen, SeesAnswer}
+use Rattle.vyrd_judge.specs.Reached.{IsWatched}
+use Rattle.vyrd_judge.specs.Reached.{Reached}
+use Rattle.vyrd_observers.specs.Watching.{AllSee}
 use Rattle.vyrd_base.proofs.StateLaws.{open_call-other, before_call-other, open_call-quiet, before_call-quiet, count-commit, window-quiet, window-commit, window-call, state_here, going-quiet, going-commit}
 
 -- an open observer is watched on where the entry leaves its window

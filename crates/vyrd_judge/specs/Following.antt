@@ -17,7 +17,7 @@ use Rattle.vyrd_judge.specs.declared.outcome.Advance.TheVariants.{Goes, Stops}
 use Rattle.vyrd_judge.specs.declared.waiting.Waiting.{Waiting}
 use Rattle.vyrd_judge.specs.Cuts.{Cuts}
 use Rattle.vyrd_judge.specs.HasWords.{HasWords}
-use Rattle.vyrd_judge.specs.Watching.{Seen}
+use Rattle.vyrd_observers.specs.Watching.{Seen}
 use Rattle.vyrd_judge.specs.Queued.{HasQueued}
 use Rattle.vyrd_judge.specs.Judged.{Judged}
 

@@ -20,9 +20,10 @@ use Rattle.vyrd_judge.specs.declared.outcome.Outcome.TheVariants.{Goes, Faults, 
 use Rattle.vyrd_judge.specs.declared.waiting.Waiting.{Waiting}
 use Rattle.vyrd_judge.specs.Cuts.{Cuts}
 use Rattle.vyrd_judge.specs.Effects.{effect_parts, HasParts, is_ended}
-use Rattle.vyrd_judge.specs.Watching.{Seen}
+use Rattle.vyrd_observers.specs.Watching.{Seen}
 use Rattle.vyrd_judge.specs.Waiting.{waiting_after}
-use Rattle.vyrd_judge.specs.Reached.{Reached, AreCurrent, AllSee}
+use Rattle.vyrd_judge.specs.Reached.{Reached}
+use Rattle.vyrd_observers.specs.Watching.{AreCurrent, AllSee}
 
 -- All entries before some place are judged, and none of them is a fault; those from it on that are
 -- judged wait, and so do the words at its commits. This stands however the log goes on: a commit

@@ -1,5 +1,3 @@
-pub mod Watching
-pub mod Trails
 pub mod Waiting
 pub mod Reached
 pub mod Judged

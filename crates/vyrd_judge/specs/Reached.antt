@@ -8,7 +8,18 @@ use Rattle.vyrd_base.specs.Amounts.{Amounts}
 use Rattle.vyrd_base.specs.Specification.{answer_in}
 use Rattle.vyrd_base.specs.Commits.{commit_count, commits_after, states_from}
 use Rattle.vyrd_base.specs.Entries.{has_method}
-use Rattle.vyrd_judge.specs.Watching.{Seen, has_answer, SeesAnswer, IsWatched}
+use Rattle.vyrd_observers.specs.Watching.{Seen, has_answer, SeesAnswer}
+
+-- what is kept stands for the open observer of a caller: what was called, and what the states since
+-- the call answer
+pub record IsWatched (states : List Amounts) (c : ℕ) (earlier : List Entry) (called : Called)
+    (seen : Seen) : Type 0 where
+  pub is_open : seen.is_open ≡ true
+  pub method : seen.method ≡ called.method
+  pub args : seen.args ≡ called.args
+  pub answers : (reply : ℕ)
+      → has_answer seen.answers reply ≡ list_any (λ state.
+      answer_in state called.method called.args == reply) (states_since_call states c earlier)
 
 -- The states go on from this one with the commits from the place on, what is called may be called,
 -- and each open observer is watched.
@@ -20,15 +31,3 @@ pub record Reached (h : Header) (states : List Amounts) (earlier later : List En
   pub watched : (c : ℕ) (called : Called) → c < h.callers → open_call c earlier ≡ Some called
       → is_observer called.method ≡ true
       → (seen : Seen) × (slice_get watches c ≡ Some seen) × IsWatched states c earlier called seen
-
--- every open watch knows the state's answer
-abbrev pub AreCurrent : Amounts → List Seen → Type 0
-AreCurrent state watches =
-    (c : ℕ) (seen : Seen) → slice_get watches c ≡ Some seen → seen.is_open ≡ true
-    → has_answer seen.answers (answer_in state seen.method seen.args) ≡ true
-
--- each open watch has seen the state's answer too
-abbrev pub AllSee : Amounts → List Seen → List Seen → Type 0
-AllSee state old new = (c : ℕ) (seen : Seen) → slice_get old c ≡ Some seen → seen.is_open ≡ true
-    → (next : Seen) × (slice_get new c ≡ Some next)
-    × SeesAnswer (answer_in state seen.method seen.args) seen next

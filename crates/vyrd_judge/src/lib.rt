@@ -21,7 +21,6 @@
 mod any;
 mod caller;
 mod follower;
-mod leaving;
 mod logged;
 mod online;
 mod outcome;
@@ -30,12 +29,8 @@ mod replay;
 mod starting;
 #[cfg(test)]
 mod tests;
-mod trail;
-mod trails;
 mod views;
 mod waiting;
-mod watch;
-mod watches;
 mod words;
 
 pub use any::{AnyJudge, judge_history};

@@ -11,15 +11,15 @@ ghost use Rattle.vyrd_judge.specs.declared.waiting.Waiting.{Waiting};
 ghost use Rattle.vyrd_base.specs.Entries.{has_method};
 ghost use Rattle.vyrd_judge.specs.Judged.{Judged, HeadGives, MayJudge, CommitLeads, KnowsState};
 ghost use Rattle.vyrd_judge.specs.Queued.{CanLeave};
-ghost use Rattle.vyrd_judge.specs.Reached.{AreCurrent};
-ghost use Rattle.vyrd_judge.specs.Watching.{Seen, unwatched, has_answer};
+ghost use Rattle.vyrd_observers.specs.Watching.{AreCurrent};
+ghost use Rattle.vyrd_observers.specs.Watching.{Seen, unwatched, has_answer};
 
 use crate::outcome::Outcome;
 use crate::views::Views;
 use crate::waiting::{Event, Waiting};
-use crate::watches::Watches;
 use std::alloc::{AllocError, Global};
 use vyrd_base::{Args, Header, Method, Why};
+use vyrd_observers::Watches;
 use vyrd_spec::Spec;
 
 /// What is known when all entries before some place are judged: the state of the specification

@@ -7,7 +7,7 @@ use Rattle.vyrd_base.proofs.ListLaws.{is_none}
 use Rattle.vyrd_judge.proofs.ReachedFaults.{by_next}
 use Rattle.vyrd_spec.specs.Touching.{is_touched, with_touched}
 use Rattle.vyrd_spec.proofs.TouchLaws.{touched_makes}
-use Rattle.vyrd_judge.proofs.SeeingLaws.{still_current}
+use Rattle.vyrd_observers.proofs.SeeingLaws.{still_current}
 use Rattle.vyrd_judge.proofs.replay.Replay.commit.Goals as goal
 
 pub returns-then-not-branch-clause-leads : goal.returns-then-not-branch-clause-leads

@@ -1,5 +1,0 @@
-use Rattle.vyrd_judge.proofs.TrailLaws.{all_closed}
-use Rattle.vyrd_judge.proofs.watches.Watches.new.Goals as goal
-
-pub returns-clause-closed : goal.returns-clause-closed
-returns-clause-closed c = all_closed _ _ _ c.in_ok-no_watches.ensures

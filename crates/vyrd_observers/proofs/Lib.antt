@@ -1,0 +1,2 @@
+pub mod SeeingLaws
+pub mod TrailLaws

@@ -1,0 +1,411 @@
+-- Trails of answers that open observers share.
+use Rattle.std.proofs.Common.{◌≡◌, ℕ, zero, suc, ◌+◌, ◌-◌, ◌<◌, ◌≤◌, Bool, true, false, cond, ◌&&◌, ◌||◌, List, [], ◌∷◌, ◌++◌, length, drop, map, set, get_or, Option, Some, None, slice_get, refl, ap, subst, ◌∙◌, sym, arith, length-drop}
+use Rattle.std.specs.Prelude.{◌==◌, option_map, unwrap_or, replicate}
+use Rattle.std.specs.List.{list_any}
+use Rattle.std.proofs.lemmas.List.{drop-append-le, drop-drop, length-map, map-set, set-get_or}
+use Rattle.std.proofs.lemmas.List.Folds.{list_any-append}
+use Rattle.std.proofs.lemmas.Option.{slice_get_within, slice_get_past, slice_get-map, slice_get-get_or, unwrap_or-slice_get}
+use Rattle.vyrd_base.specs.declared.header.Header.{Header}
+use Rattle.vyrd_base.specs.declared.subject.Method.{Method}
+use Rattle.vyrd_base.specs.declared.subject.Args.{Args}
+use Rattle.vyrd_base.specs.Amounts.{Amounts}
+use Rattle.vyrd_base.specs.Subjects.{is_observer}
+use Rattle.vyrd_base.specs.Specification.{answer_in}
+use Rattle.vyrd_base.proofs.BlockLaws.{by_same}
+use Rattle.vyrd_base.proofs.TestLaws.{same_number, same_of, apart_of}
+use Rattle.vyrd_spec.specs.declared.touched.Touched.{Touched}
+use Rattle.vyrd_spec.specs.Touching.{is_touched}
+use Rattle.vyrd_observers.specs.declared.watch.Watch.{Watch}
+use Rattle.vyrd_base.specs.Entries.{has_method}
+use Rattle.vyrd_observers.specs.Trails.{Asked, with_answer, after_state, seen_from, seen_by, IsOn, AreOn, AreAsking, KeepsAsked, moved}
+use Rattle.vyrd_observers.specs.Watching.{Seen, unwatched, has_answer, SeesAnswer, SeesState}
+use Rattle.vyrd_base.proofs.ChangedLists.{changed_below}
+use Rattle.vyrd_observers.proofs.SeeingLaws.{SeenBelow, knows_already}
+use Rattle.vyrd_base.proofs.ListLaws.{slice_get-set_same, slice_get-set_other}
+
+some_same : {A : Type 0} {a b : A} → Some a ≡ Some b → a ≡ b
+some_same e = cc
+
+none_some : {A : Type 0} {a : A} → None ≡ Some a → ⊥
+none_some e = cc
+
+false_true : {b : Bool} → b ≡ false → b ≡ true → ⊥
+false_true is_false is_true = cc
+
+-- one more element at the end
+pub before_pushed : {A : Type 0} (xs : List A) (y : A) (i : ℕ) (x : A) → slice_get xs i ≡ Some x → slice_get (xs ++ y ∷ []) i ≡ Some x
+before_pushed [] y i x is = absurd (none_some is)
+before_pushed (z ∷ xs) y zero x is = is
+before_pushed (z ∷ xs) y (suc i) x is = before_pushed xs y i x is
+
+pub is_pushed : {A : Type 0} (xs : List A) (y : A) → slice_get (xs ++ y ∷ []) (length xs) ≡ Some y
+is_pushed [] y = refl
+is_pushed (z ∷ xs) y = is_pushed xs y
+
+pub all_pushed : {A : Type 0} (P : A → Type 0) (xs : List A) (y : A) → P y → ((i : ℕ) (x : A) → slice_get xs i ≡ Some x → P x)
+    → (i : ℕ) (x : A) → slice_get (xs ++ y ∷ []) i ≡ Some x → P x
+all_pushed P [] y own all zero x is = subst P (some_same is) own
+all_pushed P [] y own all (suc i) x is = absurd (none_some is)
+all_pushed P (z ∷ xs) y own all zero x is = all 0 x is
+all_pushed P (z ∷ xs) y own all (suc i) x is = all_pushed P xs y own (λ j w. all (suc j) w) i x is
+
+-- lists in which some elements are changed
+pub all_changed : {A : Type 0} (P : A → Type 0) (f : A → A) → ((x : A) → P x → P (f x)) → (n : ℕ) (xs : List A)
+    → ((i : ℕ) (x : A) → slice_get xs i ≡ Some x → P x) → (i : ℕ) (y : A) → slice_get (changed_below f n xs) i ≡ Some y → P y
+all_changed P f step zero xs all i y is = all i y is
+all_changed P f step (suc n) [] all i y is = all i y is
+all_changed P f step (suc n) (x ∷ xs) all zero y is = subst P (some_same is) (step x (all 0 x refl))
+all_changed P f step (suc n) (x ∷ xs) all (suc i) y is = all_changed P f step n xs (λ j w. all (suc j) w) i y is
+
+pub changed_there : {A : Type 0} (Q : A → A → Type 0) (f : A → A) → ((x : A) → Q x x) → ((x : A) → Q x (f x)) → (n : ℕ) (xs : List A) (i : ℕ) (x : A)
+    → slice_get xs i ≡ Some x → (y : A) × (slice_get (changed_below f n xs) i ≡ Some y) × Q x y
+changed_there Q f stays steps zero xs i x is = (x, is, stays x)
+changed_there Q f stays steps (suc n) [] i x is = absurd (none_some is)
+changed_there Q f stays steps (suc n) (z ∷ xs) zero x is = (f x, ap (λ o. option_map f o) is, steps x)
+changed_there Q f stays steps (suc n) (z ∷ xs) (suc i) x is = changed_there Q f stays steps n xs i x is
+
+pub map_alike : {A B : Type 0} (f g : A → B) (xs : List A) → ((i : ℕ) (x : A) → slice_get xs i ≡ Some x → f x ≡ g x) → map f xs ≡ map g xs
+map_alike f g [] same = refl
+map_alike f g (x ∷ xs) same = (λ i. same 0 x refl i ∷ map_alike f g xs (λ j y. same (suc j) y) i)
+
+pub map_after : {A B C : Type 0} (f : B → C) (g : A → B) (xs : List A) → map f (map g xs) ≡ map (λ x. f (g x)) xs
+map_after f g [] = refl
+map_after f g (x ∷ xs) = ap (λ ys. f (g x) ∷ ys) (map_after f g xs)
+
+-- a trail that nobody asks is added
+pub asking_pushed : (h : Header) (trails : List Asked) (t : Asked) → t.is_asked ≡ false → AreAsking h trails → AreAsking h (trails ++ t ∷ [])
+asking_pushed h trails t free all =
+    all_pushed (λ u. u.is_asked ≡ true → (has_method h u.method u.args ≡ true) × (is_observer u.method ≡ true)) trails t (λ is. absurd (false_true free is)) all
+
+-- a trail is changed
+pub asking_set : (h : Header) (trails : List Asked) (i : ℕ) (t : Asked) → i < length trails
+    → (t.is_asked ≡ true → (has_method h t.method t.args ≡ true) × (is_observer t.method ≡ true)) → AreAsking h trails → AreAsking h (set trails i t)
+asking_set h trails i t within own all = λ j u there. by_same i j
+    (λ same. let it : t ≡ u = some_same (sym (slice_get-set_same trails i t within) ∙ ap (slice_get (set trails i t)) same ∙ there) in
+    subst (λ v. v.is_asked ≡ true → (has_method h v.method v.args ≡ true) × (is_observer v.method ≡ true)) it own)
+    (λ other. all j u (sym (slice_get-set_other trails i j t (apart_of i j other)) ∙ there))
+
+pub keeps_set : (trails : List Asked) (i : ℕ) (t new : Asked) → slice_get trails i ≡ Some t → t.is_asked ≡ false → KeepsAsked trails (set trails i new)
+keeps_set trails i t new here free = λ j u there is_asked. by_same i j
+    (λ same. let it : t ≡ u = some_same (sym here ∙ ap (slice_get trails) same ∙ there) in
+    absurd (false_true free (ap (λ v. v.is_asked) it ∙ is_asked)))
+    (λ other. slice_get-set_other trails i j new (apart_of i j other) ∙ there)
+
+-- what is asked stays, and so do the observers and what they have seen
+pub on_kept : (old new : List Asked) (watches : List (Option Watch)) → KeepsAsked old new → AreOn old watches → AreOn new watches
+on_kept old new watches keeps on = λ c w here. let was = on c w here in record {
+  asked = was.asked;
+  there = keeps w.trail was.asked was.there was.is_asked;
+  is_asked = was.is_asked;
+  within = was.within;
+}
+
+pub seen_kept : (old new : List Asked) (watches : List (Option Watch)) → KeepsAsked old new → AreOn old watches
+    → map (seen_by new) watches ≡ map (seen_by old) watches
+seen_kept old new watches keeps on = map_alike (seen_by new) (seen_by old) watches (λ c o here. by_watch c o here)
+  where
+    by_watch : (c : ℕ) (o : Option Watch) → slice_get watches c ≡ Some o → seen_by new o ≡ seen_by old o
+    by_watch c None here = refl
+    by_watch c (Some w) here = let was = on c w here in
+        ap (seen_from w.since) (keeps w.trail was.asked was.there was.is_asked ∙ sym was.there)
+
+-- an observer is on a trail, or on none
+pub on_set : (trails : List Asked) (watches : List (Option Watch)) (c : ℕ) (o : Option Watch) → c < length watches
+    → ((w : Watch) → o ≡ Some w → IsOn trails w) → AreOn trails watches → AreOn trails (set watches c o)
+on_set trails watches c o within own on = λ d w here. by_same c d
+    (λ same. own w (some_same (sym (slice_get-set_same watches c o within) ∙ ap (slice_get (set watches c o)) same ∙ here)))
+    (λ other. on d w (sym (slice_get-set_other watches c d o (apart_of c d other)) ∙ here))
+
+drop_whole : {A : Type 0} (xs : List A) → drop (length xs) xs ≡ []
+drop_whole [] = refl
+drop_whole (x ∷ xs) = drop_whole xs
+
+-- what an observer has seen that begins now
+pub seen_at_end : (t : Asked) → seen_from (length t.others) (Some t) ≡ record { is_open = true; method = t.method; args = t.args; answers = t.latest ∷ [] }
+seen_at_end t = ap (λ xs. record { is_open = true; method = t.method; args = t.args; answers = t.latest ∷ xs }) (drop_whole t.others)
+
+-- the same question, which has as many answers or more
+pub record SameQuestion (t new : Asked) : Type 0 where
+  pub is_asked : new.is_asked ≡ t.is_asked
+  pub method : new.method ≡ t.method
+  pub args : new.args ≡ t.args
+  pub grown : length t.others ≤ length new.others
+
+question_stays : (t : Asked) → SameQuestion t t
+question_stays t = record { is_asked = refl; method = refl; args = refl; grown = omega arith }
+
+length-pushed : {A : Type 0} (xs : List A) (y : A) → length (xs ++ y ∷ []) ≡ length xs + 1
+length-pushed [] y = refl
+length-pushed (x ∷ xs) y = let rest : length (xs ++ y ∷ []) ≡ length xs + 1 = length-pushed xs y in omega (arith, rest)
+
+question_after : (touched : Touched) (state : Amounts) (t : Asked) → SameQuestion t (after_state touched state t)
+question_after touched state t = by_touched (t.is_asked && is_touched touched t.args.a)
+  where
+    answer : ℕ
+    answer = answer_in state t.method t.args
+
+    by_answer : (b : Bool) → SameQuestion t (cond b t (record t { latest = answer; others = t.others ++ t.latest ∷ [] }))
+    by_answer true = question_stays t
+    by_answer false = record { is_asked = refl; method = refl; args = refl; grown = omega (arith, length-pushed t.others t.latest) }
+
+    by_touched : (b : Bool) → SameQuestion t (cond b (with_answer answer t) t)
+    by_touched true = by_answer (answer == t.latest)
+    by_touched false = question_stays t
+
+-- some trails have the next state's answer
+pub asking_after : (h : Header) (touched : Touched) (state : Amounts) (n : ℕ) (trails : List Asked) → AreAsking h trails
+    → AreAsking h (changed_below (after_state touched state) n trails)
+asking_after h touched state n trails all = all_changed (λ u. u.is_asked ≡ true → (has_method h u.method u.args ≡ true) × (is_observer u.method ≡ true))
+    (after_state touched state)
+    (λ t was is_asked. let same = question_after touched state t in let own = was (sym same.is_asked ∙ is_asked) in (
+      ap (λ m. has_method h m (after_state touched state t).args) same.method ∙ ap (has_method h t.method) same.args ∙ own.0,
+      ap is_observer same.method ∙ own.1,
+    ))
+    n trails all
+
+pub on_after : (touched : Touched) (state : Amounts) (n : ℕ) (trails : List Asked) (watches : List (Option Watch)) → AreOn trails watches
+    → AreOn (changed_below (after_state touched state) n trails) watches
+on_after touched state n trails watches on = λ c w here.
+    let was = on c w here in
+    let now = changed_there SameQuestion (after_state touched state) question_stays (question_after touched state) n trails w.trail was.asked was.there in
+    record {
+      asked = now.0;
+      there = now.1;
+      is_asked = now.2.is_asked ∙ was.is_asked;
+      within = omega (arith, was.within, now.2.grown);
+    }
+
+pub length-changed : {A : Type 0} (f : A → A) (n : ℕ) (xs : List A) → length (changed_below f n xs) ≡ length xs
+length-changed f zero xs = refl
+length-changed f (suc n) [] = refl
+length-changed f (suc n) (x ∷ xs) = ap suc (length-changed f n xs)
+
+pub all_mapped : {A B : Type 0} (P : B → Type 0) (f : A → B) (xs : List A) → ((i : ℕ) (x : A) → slice_get xs i ≡ Some x → P (f x))
+    → (i : ℕ) (y : B) → slice_get (map f xs) i ≡ Some y → P y
+all_mapped P f [] all i y is = absurd (none_some is)
+all_mapped P f (x ∷ xs) all zero y is = subst P (some_same is) (all 0 x refl)
+all_mapped P f (x ∷ xs) all (suc i) y is = all_mapped P f xs (λ j z. all (suc j) z) i y is
+
+-- a trail is changed that no observer is on
+abbrev pub NoneOn : ℕ → List (Option Watch) → Type 0
+NoneOn i watches = (c : ℕ) (w : Watch) → slice_get watches c ≡ Some (Some w) → w.trail ≡ i → ⊥
+
+pub seen_without : (trails : List Asked) (watches : List (Option Watch)) (i : ℕ) (t : Asked) → NoneOn i watches
+    → map (seen_by (set trails i t)) watches ≡ map (seen_by trails) watches
+seen_without trails watches i t none = map_alike (seen_by (set trails i t)) (seen_by trails) watches by_watch
+  where
+    by_watch : (c : ℕ) (o : Option Watch) → slice_get watches c ≡ Some o → seen_by (set trails i t) o ≡ seen_by trails o
+    by_watch c None here = refl
+    by_watch c (Some w) here = ap (seen_from w.since) (slice_get-set_other trails i w.trail t (λ same. none c w here (sym same)))
+
+pub on_without : (trails : List Asked) (watches : List (Option Watch)) (i : ℕ) (t : Asked) → NoneOn i watches → AreOn trails watches
+    → AreOn (set trails i t) watches
+on_without trails watches i t none on = λ c w here. let was = on c w here in record {
+  asked = was.asked;
+  there = slice_get-set_other trails i w.trail t (λ same. none c w here (sym same)) ∙ was.there;
+  is_asked = was.is_asked;
+  within = was.within;
+}
+
+-- the first answers of a trail are dropped, which count for no observer
+abbrev pub Uncounted : ℕ → ℕ → List (Option Watch) → Type 0
+Uncounted i n watches = (c : ℕ) (w : Watch) → slice_get watches c ≡ Some (Some w) → w.trail ≡ i → n ≤ w.since
+
+seen_shorter : (n since : ℕ) (t : Asked) → n ≤ since → seen_from (since - n) (Some (record t { others = drop n t.others })) ≡ seen_from since (Some t)
+seen_shorter n since t low =
+    let count : n + (since - n) ≡ since = omega (arith, low) in
+    ap (λ xs. record { is_open = true; method = t.method; args = t.args; answers = t.latest ∷ xs })
+    (drop-drop (since - n) n t.others ∙ ap (λ k. drop k t.others) count)
+
+pub seen_moved : (trails : List Asked) (watches : List (Option Watch)) (i n : ℕ) (t : Asked) → slice_get trails i ≡ Some t → Uncounted i n watches
+    → map (seen_by (set trails i (record t { others = drop n t.others }))) (map (moved i n) watches) ≡ map (seen_by trails) watches
+seen_moved trails watches i n t here low =
+    map_after (seen_by (set trails i new)) (moved i n) watches
+    ∙ map_alike (λ o. seen_by (set trails i new) (moved i n o)) (seen_by trails) watches by_watch
+  where
+    new : Asked
+    new = record t { others = drop n t.others }
+
+    by_test : (w : Watch) (b : Bool) → (w.trail == i) ≡ b → (w.trail ≡ i → n ≤ w.since)
+        → seen_by (set trails i new) (Some (cond b (record { trail = w.trail; since = w.since - n }) w)) ≡ seen_by trails (Some w)
+    by_test w true e counts = let same : w.trail ≡ i = same_of w.trail i e in
+        ap (λ k. seen_from (w.since - n) (slice_get (set trails i new) k)) same
+        ∙ ap (seen_from (w.since - n)) (slice_get-set_same trails i new (slice_get_within trails i t here))
+        ∙ seen_shorter n w.since t (counts same)
+        ∙ ap (seen_from w.since) (sym here)
+        ∙ ap (λ k. seen_from w.since (slice_get trails k)) (sym same)
+    by_test w false e counts =
+        ap (seen_from w.since) (slice_get-set_other trails i w.trail new (λ same. apart_of w.trail i e (sym same)))
+
+    by_watch : (c : ℕ) (o : Option Watch) → slice_get watches c ≡ Some o → seen_by (set trails i new) (moved i n o) ≡ seen_by trails o
+    by_watch c None there = refl
+    by_watch c (Some w) there = by_test w (w.trail == i) refl (low c w there)
+
+pub on_moved : (trails : List Asked) (watches : List (Option Watch)) (i n : ℕ) (t : Asked) → slice_get trails i ≡ Some t → Uncounted i n watches
+    → AreOn trails watches → AreOn (set trails i (record t { others = drop n t.others })) (map (moved i n) watches)
+on_moved trails watches i n t here low on = λ c w there.
+    all_mapped (λ o. (v : Watch) → o ≡ Some v → IsOn (set trails i new) v) (moved i n) watches by_watch c (Some w) there w refl
+  where
+    new : Asked
+    new = record t { others = drop n t.others }
+
+    by_test : (w : Watch) (b : Bool) → (w.trail == i) ≡ b → (w.trail ≡ i → n ≤ w.since) → IsOn trails w
+        → IsOn (set trails i new) (cond b (record { trail = w.trail; since = w.since - n }) w)
+    by_test w true e counts was =
+        let same : w.trail ≡ i = same_of w.trail i e in
+        let it : t ≡ was.asked = some_same (sym here ∙ ap (slice_get trails) (sym same) ∙ was.there) in
+        record {
+          asked = new;
+          there = ap (slice_get (set trails i new)) same ∙ slice_get-set_same trails i new (slice_get_within trails i t here);
+          is_asked = ap (λ u. u.is_asked) it ∙ was.is_asked;
+          within = omega (arith, was.within, counts same, ap (λ u. length u.others) it, length-drop n t.others);
+        }
+    by_test w false e counts was = record {
+      asked = was.asked;
+      there = slice_get-set_other trails i w.trail new (λ same. apart_of w.trail i e (sym same)) ∙ was.there;
+      is_asked = was.is_asked;
+      within = was.within;
+    }
+
+    by_watch : (c : ℕ) (o : Option Watch) → slice_get watches c ≡ Some o → (v : Watch) → moved i n o ≡ Some v → IsOn (set trails i new) v
+    by_watch c None there v is = absurd (none_some is)
+    by_watch c (Some w) there v is = subst (IsOn (set trails i new)) (some_same is) (by_test w (w.trail == i) refl (low c w there) (on c w there))
+
+-- what the next state makes of what an observer has seen
+or_last : (a b l : Bool) → (a || (b || (l || false))) ≡ ((l || b) || a)
+or_last true true true = refl
+or_last true true false = refl
+or_last true false true = refl
+or_last true false false = refl
+or_last false true true = refl
+or_last false true false = refl
+or_last false false true = refl
+or_last false false false = refl
+
+sees_answer : (answer since : ℕ) (t : Asked) → since ≤ length t.others
+    → SeesAnswer answer (seen_from since (Some t)) (seen_from since (Some (with_answer answer t)))
+sees_answer answer since t within = by_answer (answer == t.latest) refl
+  where
+    by_answer : (b : Bool) → (answer == t.latest) ≡ b
+        → SeesAnswer answer (seen_from since (Some t)) (seen_from since (Some (cond b t (record t { latest = answer; others = t.others ++ t.latest ∷ [] }))))
+    by_answer true e = knows_already answer (seen_from since (Some t))
+        (ap (λ k. has_answer (t.latest ∷ drop since t.others) k) (same_of answer t.latest e)
+        ∙ ap (λ b. b || list_any (λ x. x == t.latest) (drop since t.others)) (same_number t.latest))
+    by_answer false e = record {
+      is_open = refl;
+      method = refl;
+      args = refl;
+      answers = λ reply.
+          ap (λ xs. answer == reply || list_any (λ x. x == reply) xs) (drop-append-le since t.others (t.latest ∷ []) within)
+          ∙ ap (λ b. answer == reply || b) (list_any-append (λ x. x == reply) (drop since t.others) (t.latest ∷ []))
+          ∙ or_last (answer == reply) (list_any (λ x. x == reply) (drop since t.others)) (t.latest == reply);
+    }
+
+sees_state : (touched : Touched) (state : Amounts) (since : ℕ) (t : Asked) → t.is_asked ≡ true → since ≤ length t.others
+    → (is_touched touched t.args.a ≡ false → has_answer (t.latest ∷ drop since t.others) (answer_in state t.method t.args) ≡ true)
+    → SeesState state (seen_from since (Some t)) (seen_from since (Some (after_state touched state t)))
+sees_state touched state since t is_asked within current =
+    subst (λ b. SeesState state (seen_from since (Some t)) (seen_from since (Some (cond (b && is_touched touched t.args.a) (with_answer answer t) t)))) (sym is_asked)
+    (by_touched (is_touched touched t.args.a) refl)
+  where
+    answer : ℕ
+    answer = answer_in state t.method t.args
+
+    by_touched : (b : Bool) → is_touched touched t.args.a ≡ b
+        → SeesState state (seen_from since (Some t)) (seen_from since (Some (cond b (with_answer answer t) t)))
+    by_touched true e = let sees = sees_answer answer since t within in
+        record { is_open = sees.is_open; method = sees.method; args = sees.args; answers = λ is_open. sees }
+    by_touched false e = let sees = knows_already answer (seen_from since (Some t)) (current e) in
+        record { is_open = refl; method = refl; args = refl; answers = λ is_open. sees }
+
+-- all callers see the state that all trails have the answer of
+pub callers_see : (touched : Touched) (state : Amounts) (trails : List Asked) (watches : List (Option Watch)) → AreOn trails watches
+    → ((c : ℕ) (seen : Seen) → slice_get (map (seen_by trails) watches) c ≡ Some seen → seen.is_open ≡ true
+    → is_touched touched seen.args.a ≡ false → has_answer seen.answers (answer_in state seen.method seen.args) ≡ true)
+    → SeenBelow state (length watches) (map (seen_by trails) watches) (map (seen_by (map (after_state touched state) trails)) watches)
+callers_see touched state trails watches on current = record {
+  below = λ k seen low here. by_place k seen (slice_get watches k) refl (sym (slice_get-map (seen_by trails) watches k) ∙ here);
+  above = λ k high.
+      slice_get_past (map (seen_by now) watches) k (omega (arith, high, length-map watches (seen_by now)))
+      ∙ sym (slice_get_past (map (seen_by trails) watches) k (omega (arith, high, length-map watches (seen_by trails))));
+}
+  where
+    now : List Asked
+    now = map (after_state touched state) trails
+
+    closed : SeesState state unwatched unwatched
+    closed = record { is_open = refl; method = refl; args = refl; answers = λ is_open. absurd (false_true refl is_open) }
+
+    by_place : (k : ℕ) (seen : Seen) (o : Option (Option Watch)) → slice_get watches k ≡ o → option_map (seen_by trails) o ≡ Some seen
+        → (next : Seen) × (slice_get (map (seen_by now) watches) k ≡ Some next) × SeesState state seen next
+    by_place k seen None place is = absurd (none_some is)
+    by_place k seen (Some None) place is = (
+      unwatched,
+      slice_get-map (seen_by now) watches k ∙ ap (option_map (seen_by now)) place,
+      subst (λ s. SeesState state s unwatched) (some_same is) closed,
+    )
+    by_place k seen (Some (Some w)) place is =
+        let was = on k w place in
+        let there : slice_get now w.trail ≡ Some (after_state touched state was.asked) =
+        slice_get-map (after_state touched state) trails w.trail ∙ ap (option_map (after_state touched state)) was.there in
+        let here : slice_get (map (seen_by trails) watches) k ≡ Some (seen_from w.since (Some was.asked)) =
+        slice_get-map (seen_by trails) watches k ∙ ap (option_map (seen_by trails)) place ∙ ap (λ o. Some (seen_from w.since o)) was.there in (
+          seen_from w.since (Some (after_state touched state was.asked)),
+          slice_get-map (seen_by now) watches k ∙ ap (option_map (seen_by now)) place ∙ ap (λ o. Some (seen_from w.since o)) there,
+          subst (λ s. SeesState state s (seen_from w.since (Some (after_state touched state was.asked))))
+              (ap (seen_from w.since) (sym was.there) ∙ some_same is)
+              (sees_state touched state w.since was.asked was.is_asked was.within
+              (λ untouched. current k (seen_from w.since (Some was.asked)) here refl untouched)),
+        )
+
+-- what is read at a place
+pub read_is : {A : Type 0} (xs : List A) (i : ℕ) (x d : A) → slice_get xs i ≡ Some x → d ≡ get_or xs i d → x ≡ d
+read_is xs i x d here is = sym (ap (λ o. unwrap_or o d) here) ∙ unwrap_or-slice_get xs i d ∙ sym is
+
+pub is_read : {A : Type 0} (xs : List A) (i : ℕ) (d : A) → i < length xs → d ≡ get_or xs i d → slice_get xs i ≡ Some d
+is_read xs i d within is = slice_get-get_or xs i d within ∙ ap Some (sym is)
+
+-- the watch that is read of a caller
+pub watch_read : (trails : List Asked) (watches : List (Option Watch)) (seen : List Seen) (c : ℕ) (o p : Option Watch) → map (seen_by trails) watches ≡ seen
+    → c < length seen → o ≡ get_or watches c o → o ≡ p → slice_get watches c ≡ Some p
+watch_read trails watches seen c o p is low read same =
+    let within : c < length watches = omega (arith, low, ap length is, length-map watches (seen_by trails)) in
+    is_read watches c o within read ∙ ap Some same
+
+-- what a caller has seen
+pub seen_there : (trails : List Asked) (watches : List (Option Watch)) (c : ℕ) (o : Option Watch) → slice_get watches c ≡ Some o
+    → slice_get (map (seen_by trails) watches) c ≡ Some (seen_by trails o)
+seen_there trails watches c o here = slice_get-map (seen_by trails) watches c ∙ ap (option_map (seen_by trails)) here
+
+-- an observer begins, on a trail whose latest answer is this
+pub begins_seen : (old new : List Asked) (watches : List (Option Watch)) (c i since : ℕ) (t : Asked) (method : Method) (args : Args) (answer : ℕ)
+    → KeepsAsked old new → AreOn old watches → slice_get new i ≡ Some t → t.method ≡ method → t.args ≡ args → t.latest ≡ answer → since ≡ length t.others
+    → map (seen_by new) (set watches c (Some (record { trail = i; since = since })))
+    ≡ set (map (seen_by old) watches) c (record { is_open = true; method = method; args = args; answers = answer ∷ [] })
+begins_seen old new watches c i since t method args answer keeps on there same_method same_args same_answer at_end =
+    map-set (seen_by new) watches c (Some (record { trail = i; since = since }))
+    ∙ ap (λ seen. set seen c (seen_from since (slice_get new i))) (seen_kept old new watches keeps on)
+    ∙ ap (λ o. set (map (seen_by old) watches) c (seen_from since o)) there
+    ∙ ap (λ k. set (map (seen_by old) watches) c (seen_from k (Some t))) at_end
+    ∙ ap (set (map (seen_by old) watches) c) (seen_at_end t)
+    ∙ (λ j. set (map (seen_by old) watches) c (record { is_open = true; method = same_method j; args = same_args j; answers = same_answer j ∷ [] }))
+
+-- no caller has an open observer
+replicated : {A : Type 0} (n : ℕ) (a : A) (i : ℕ) (x : A) → slice_get (replicate n a) i ≡ Some x → a ≡ x
+replicated zero a i x is = absurd (none_some is)
+replicated (suc n) a zero x is = some_same is
+replicated (suc n) a (suc i) x is = replicated n a i x is
+
+pub all_closed : (trails : List Asked) (watches : List (Option Watch)) (n : ℕ) → watches ≡ replicate n None
+    → (c : ℕ) (seen : Seen) → slice_get (map (seen_by trails) watches) c ≡ Some seen → seen.is_open ≡ false
+all_closed trails watches n none = all_mapped (λ s. s.is_open ≡ false) (seen_by trails) watches (λ i o here.
+    ap (λ p. (seen_by trails p).is_open) (sym (replicated n None i o (ap (λ xs. slice_get xs i) (sym none) ∙ here))))
+
+-- a caller that has none is as after its return
+pub closed_stays : (trails : List Asked) (watches : List (Option Watch)) (c : ℕ) → slice_get watches c ≡ Some None
+    → map (seen_by trails) watches ≡ set (map (seen_by trails) watches) c unwatched
+closed_stays trails watches c here =
+    let seen = map (seen_by trails) watches in
+    let there : unwatched ≡ get_or seen c unwatched =
+    sym (ap (λ o. unwrap_or o unwatched) (seen_there trails watches c None here)) ∙ unwrap_or-slice_get seen c unwatched in
+    sym (set-get_or seen c unwatched) ∙ ap (set seen c) (sym there)

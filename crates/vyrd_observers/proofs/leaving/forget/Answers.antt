@@ -1,0 +1,37 @@
+use Rattle.std.proofs.Common.{drop, get_or, set, map, subst, ap, sym, ◌∙◌}
+use Rattle.std.proofs.lemmas.Option.{slice_get-get_or}
+use Rattle.vyrd_base.specs.Subjects.{is_observer}
+use Rattle.vyrd_base.specs.Entries.{has_method}
+use Rattle.vyrd_observers.specs.Trails.{AreOn, seen_by}
+use Rattle.vyrd_observers.proofs.TrailLaws.{seen_moved, on_moved, asking_set}
+use Rattle.vyrd_observers.proofs.leaving.forget.Goals as goal
+
+pub returns-clause-seen : goal.returns-clause-seen
+returns-clause-seen c =
+    let trails = c.args.trails.now in
+    let t = get_or trails c.args.trail c.index-trails-trail.result in
+    ap (λ u. map (seen_by (set trails c.args.trail u)) c.move_all.new.watches.items) c.forget.ensures
+    ∙ ap (map (seen_by (set trails c.args.trail (record t { others = drop c.args.n t.others })))) c.move_all.ensures
+    ∙ seen_moved trails c.args.watches.now.items c.args.trail c.args.n t (slice_get-get_or trails c.args.trail c.index-trails-trail.result c.requires.trail)
+    c.requires.uncounted
+
+pub returns-clause-on : goal.returns-clause-on
+returns-clause-on c =
+    let trails = c.args.trails.now in
+    let t = get_or trails c.args.trail c.index-trails-trail.result in
+    subst (λ u. AreOn (set trails c.args.trail u) c.move_all.new.watches.items) (sym c.forget.ensures)
+    (subst (AreOn (set trails c.args.trail (record t { others = drop c.args.n t.others }))) (sym c.move_all.ensures)
+    (on_moved trails c.args.watches.now.items c.args.trail c.args.n t (slice_get-get_or trails c.args.trail c.index-trails-trail.result c.requires.trail)
+    c.requires.uncounted c.requires.on))
+
+pub returns-clause-asking : goal.returns-clause-asking
+returns-clause-asking c = λ h all.
+    let trails = c.args.trails.now in
+    let t = get_or trails c.args.trail c.index-trails-trail.result in
+    asking_set h trails c.args.trail c.forget.new.self c.requires.trail
+    (λ is. let was = all c.args.trail t (slice_get-get_or trails c.args.trail c.index-trails-trail.result c.requires.trail)
+    (ap (λ u. u.is_asked) (sym c.forget.ensures) ∙ is) in (
+      ap (λ u. has_method h u.method u.args) c.forget.ensures ∙ was.0,
+      ap (λ u. is_observer u.method) c.forget.ensures ∙ was.1,
+    ))
+    all

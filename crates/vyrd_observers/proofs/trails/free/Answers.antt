@@ -1,0 +1,24 @@
+use Rattle.std.proofs.Common.{◌∷◌, ◌++◌, [], slice_get, subst, ap, sym, ◌∙◌}
+use Rattle.vyrd_observers.specs.Trails.{AreAsking}
+use Rattle.vyrd_observers.proofs.TrailLaws.{before_pushed, is_pushed, asking_pushed}
+use Rattle.vyrd_observers.proofs.trails.free.Goals as goal
+
+pub returns-in_err-push-clause-asking : goal.returns-in_err-push-clause-asking
+returns-in_err-push-clause-asking c = λ h all. subst (AreAsking h) (sym c.in_err-push.ensures.items) all
+
+pub returns-clause-free : goal.returns-clause-free
+returns-clause-free c = (
+  c.new.result,
+  ap (λ xs. slice_get xs c.len-i.result) c.in_ok-push.ensures.items
+      ∙ ap (slice_get (c.args.trails.now.items ++ c.new.result ∷ [])) (c.len-i.ensures ∙ c.args.trails.now.ok.0)
+      ∙ is_pushed c.args.trails.now.items c.new.result,
+  c.new.ensures,
+)
+
+pub returns-clause-kept : goal.returns-clause-kept
+returns-clause-kept c = λ i t here is_asked.
+    ap (λ xs. slice_get xs i) c.in_ok-push.ensures.items ∙ before_pushed c.args.trails.now.items c.new.result i t here
+
+pub returns-clause-asking : goal.returns-clause-asking
+returns-clause-asking c = λ h all.
+    subst (AreAsking h) (sym c.in_ok-push.ensures.items) (asking_pushed h c.args.trails.now.items c.new.result c.new.ensures all)

@@ -1,0 +1,5 @@
+use Rattle.vyrd_observers.proofs.TrailLaws.{all_closed}
+use Rattle.vyrd_observers.proofs.watches.Watches.new.Goals as goal
+
+pub returns-clause-closed : goal.returns-clause-closed
+returns-clause-closed c = all_closed _ _ _ c.in_ok-no_watches.ensures

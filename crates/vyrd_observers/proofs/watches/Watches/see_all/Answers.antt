@@ -1,0 +1,50 @@
+use Rattle.std.proofs.Common.{length, map, slice_get, subst, ap, sym, ◌∙◌, arith}
+use Rattle.std.proofs.lemmas.List.{length-map}
+use Rattle.vyrd_observers.specs.Watching.{Watched}
+use Rattle.vyrd_observers.specs.Watching.{AreCurrent, AllSee}
+use Rattle.vyrd_observers.specs.Trails.{AreAsking, after_state, seen_by}
+use Rattle.vyrd_observers.proofs.SeeingLaws.{seen_all, seen_current}
+use Rattle.vyrd_observers.proofs.TrailLaws.{callers_see}
+use Rattle.vyrd_observers.proofs.watches.Watches.see_all.Goals as goal
+
+pub see_all-requires-clause-asking : goal.see_all-requires-clause-asking
+see_all-requires-clause-asking g c =
+    subst (λ h. AreAsking h c.self.inside.trails.items) (ap (λ (k : Watched). k.header) c.self.view_is ∙ sym c.requires.header) c.self.invariant.1
+
+pub invariant_of-self : goal.invariant_of-self
+invariant_of-self g c = (
+  c.see_all.ensures.on c.self.inside.by_caller.items c.self.invariant.0,
+  subst (λ h. AreAsking h c.see_all.new.trails.items) (c.requires.header ∙ ap (λ (k : Watched). k.header) (sym c.self.view_is)) c.see_all.ensures.asking,
+)
+
+pub invariant_of-self-2 : goal.invariant_of-self-2
+invariant_of-self-2 g c = (
+  c.see_all.ensures.on c.self.inside.by_caller.items c.self.invariant.0,
+  subst (λ h. AreAsking h c.see_all.new.trails.items) (c.requires.header ∙ ap (λ (k : Watched). k.header) (sym c.self.view_is)) c.see_all.ensures.asking,
+)
+
+pub returns-clause-seen : goal.returns-clause-seen
+returns-clause-seen g c =
+    let state = g.S.Spec.state c.args.spec.now in
+    let watches = c.self.inside.by_caller.items in
+    let old = map (seen_by c.self.inside.trails.items) watches in
+    let see = callers_see c.args.touched state c.self.inside.trails.items watches c.self.invariant.0
+    (λ d seen here is_open untouched. c.requires.current d seen (ap (λ (k : Watched). slice_get k.by_caller d) (sym c.self.view_is) ∙ here) is_open untouched) in
+    subst (λ (k : Watched). AllSee state k.by_caller (map (seen_by c.see_all.new.trails.items) watches)) c.self.view_is
+    (subst (λ ts. AllSee state old (map (seen_by ts) watches)) (sym c.in_ok-see_all.ensures.saw)
+    (seen_all state (length watches) old (map (seen_by (map (after_state c.args.touched state) c.self.inside.trails.items)) watches)
+    (omega (arith, length-map watches (seen_by c.self.inside.trails.items))) see))
+
+pub returns-clause-current : goal.returns-clause-current
+returns-clause-current g c =
+    let state = g.S.Spec.state c.args.spec.now in
+    let watches = c.self.inside.by_caller.items in
+    let trails = c.self.inside.trails.items in
+    let old = map (seen_by trails) watches in
+    let new = map (seen_by (map (after_state c.args.touched state) trails)) watches in
+    let see = callers_see c.args.touched state trails watches c.self.invariant.0
+    (λ d seen here is_open untouched. c.requires.current d seen (ap (λ (k : Watched). slice_get k.by_caller d) (sym c.self.view_is) ∙ here) is_open untouched) in
+    subst (λ ts. AreCurrent state (map (seen_by ts) watches)) (sym c.in_ok-see_all.ensures.saw)
+    (seen_current state (length watches) old new
+    (omega (arith, length-map watches (seen_by trails)))
+    (length-map watches (seen_by (map (after_state c.args.touched state) trails)) ∙ sym (length-map watches (seen_by trails))) see)

@@ -1,0 +1,73 @@
+-- What open observers ask, and how they share what the states since their calls answer.
+use Rattle.std.specs.Prelude.{◌≡◌, ◌≤◌, ◌-◌, ℕ, Bool, true, cond, ◌&&◌, ◌==◌, List, [], ◌∷◌, ◌++◌}
+use Rattle.std.specs.Prelude.{length, drop, Option, Some, None, slice_get}
+use Rattle.vyrd_base.specs.declared.header.Header.{Header}
+use Rattle.vyrd_base.specs.declared.subject.Method.{Method}
+use Rattle.vyrd_base.specs.declared.subject.Args.{Args}
+use Rattle.vyrd_base.specs.Subjects.{is_observer}
+use Rattle.vyrd_base.specs.Amounts.{Amounts}
+use Rattle.vyrd_base.specs.Specification.{answer_in}
+use Rattle.vyrd_spec.specs.declared.touched.Touched.{Touched}
+use Rattle.vyrd_spec.specs.Touching.{is_touched}
+use Rattle.vyrd_observers.specs.declared.watch.Watch.{Watch}
+use Rattle.vyrd_base.specs.Entries.{has_method}
+use Rattle.vyrd_observers.specs.Watching.{Seen, unwatched}
+
+-- whether some open observer may ask it, what was called, and what the states since then answer:
+-- the last of them, and others before it
+pub record Asked : Type 0 where
+  pub is_asked : Bool
+  pub method : Method
+  pub args : Args
+  pub latest : ℕ
+  pub others : List ℕ
+
+-- the same, after one more state that answers this
+abbrev pub with_answer : ℕ → Asked → Asked
+with_answer answer t =
+    cond (answer == t.latest) t (record t { latest = answer; others = t.others ++ t.latest ∷ [] })
+
+-- the same, after a state that differs from the one before in the touched keys alone
+abbrev pub after_state : Touched → Amounts → Asked → Asked
+after_state touched state t = cond (t.is_asked && is_touched touched t.args.a)
+    (with_answer (answer_in state t.method t.args) t) t
+
+-- what an observer has seen for which the answers count from this one on
+abbrev pub seen_from : ℕ → Option Asked → Seen
+seen_from since None = unwatched
+seen_from since (Some t) = record {
+  is_open = true;
+  method = t.method;
+  args = t.args;
+  answers = t.latest ∷ drop since t.others;
+}
+
+abbrev pub seen_by : List Asked → Option Watch → Seen
+seen_by trails None = unwatched
+seen_by trails (Some w) = seen_from w.since (slice_get trails w.trail)
+
+-- an open observer has a trail that is asked, and counts its answers from one of them on
+pub record IsOn (trails : List Asked) (w : Watch) : Type 0 where
+  pub asked : Asked
+  pub there : slice_get trails w.trail ≡ Some asked
+  pub is_asked : asked.is_asked ≡ true
+  pub within : w.since ≤ length asked.others
+
+abbrev pub AreOn : List Asked → List (Option Watch) → Type 0
+AreOn trails watches = (c : ℕ) (w : Watch) → slice_get watches c ≡ Some (Some w) → IsOn trails w
+
+-- what is asked is an observer of the header's specification
+abbrev pub AreAsking : Header → List Asked → Type 0
+AreAsking h trails = (i : ℕ) (t : Asked) → slice_get trails i ≡ Some t → t.is_asked ≡ true
+    → (has_method h t.method t.args ≡ true) × (is_observer t.method ≡ true)
+
+-- what is asked stays as it is
+abbrev pub KeepsAsked : List Asked → List Asked → Type 0
+KeepsAsked old new =
+    (i : ℕ) (t : Asked) → slice_get old i ≡ Some t → t.is_asked ≡ true → slice_get new i ≡ Some t
+
+-- an observer that counts the answers of a trail, once the first n of them are dropped
+abbrev pub moved : ℕ → ℕ → Option Watch → Option Watch
+moved trail n None = None
+moved trail n (Some w) =
+    Some (cond (w.trail == trail) (record { trail = w.trail; since = w.since - n }) w)

@@ -1,0 +1,64 @@
+-- What is kept of a caller's open observer.
+use Rattle.std.specs.Prelude.{◌≡◌, ℕ, Bool, true, false, Some, ◌||◌, ◌==◌, List, [], slice_get}
+use Rattle.std.specs.List.{list_any}
+use Rattle.vyrd_base.specs.declared.header.Header.{Header}
+use Rattle.vyrd_base.specs.declared.subject.Method.{Method}
+use Rattle.vyrd_base.specs.declared.subject.Method.TheVariants.{MsLookup}
+use Rattle.vyrd_base.specs.declared.subject.Args.{Args}
+use Rattle.vyrd_base.specs.declared.log.Entry.{Entry}
+use Rattle.vyrd_base.specs.Callers.{Called}
+use Rattle.vyrd_base.specs.Amounts.{Amounts}
+use Rattle.vyrd_base.specs.Specification.{answer_in}
+use Rattle.vyrd_base.specs.Faults.{states_since_call}
+
+-- whether an observer is open, what was called, and what the states since its call answer
+pub record Seen : Type 0 where
+  pub is_open : Bool
+  pub method : Method
+  pub args : Args
+  pub answers : List ℕ
+
+-- what is kept of a caller that has no open observer
+abbrev pub unwatched : Seen
+unwatched = record {
+  is_open = false;
+  method = MsLookup;
+  args = record { a = 0; b = 0; c = 0 };
+  answers = [];
+}
+
+-- what is kept of each caller, and the header whose methods its observers call
+pub record Watched : Type 0 where
+  pub header : Header
+  pub by_caller : List Seen
+
+-- whether one of the answers is this
+abbrev pub has_answer : List ℕ → ℕ → Bool
+has_answer answers reply = list_any (λ x. x == reply) answers
+
+-- the same observer, with one more answer
+pub record SeesAnswer (answer : ℕ) (old new : Seen) : Type 0 where
+  pub is_open : new.is_open ≡ old.is_open
+  pub method : new.method ≡ old.method
+  pub args : new.args ≡ old.args
+  pub answers : (reply : ℕ)
+      → has_answer new.answers reply ≡ (has_answer old.answers reply || answer == reply)
+
+-- the same watch, which has seen this state too if it is open
+pub record SeesState (state : Amounts) (old new : Seen) : Type 0 where
+  pub is_open : new.is_open ≡ old.is_open
+  pub method : new.method ≡ old.method
+  pub args : new.args ≡ old.args
+  pub answers : old.is_open ≡ true → SeesAnswer (answer_in state old.method old.args) old new
+
+-- every open watch knows the state's answer
+abbrev pub AreCurrent : Amounts → List Seen → Type 0
+AreCurrent state watches =
+    (c : ℕ) (seen : Seen) → slice_get watches c ≡ Some seen → seen.is_open ≡ true
+    → has_answer seen.answers (answer_in state seen.method seen.args) ≡ true
+
+-- each open watch has seen the state's answer too
+abbrev pub AllSee : Amounts → List Seen → List Seen → Type 0
+AllSee state old new = (c : ℕ) (seen : Seen) → slice_get old c ≡ Some seen → seen.is_open ≡ true
+    → (next : Seen) × (slice_get new c ≡ Some next)
+    × SeesAnswer (answer_in state seen.method seen.args) seen next

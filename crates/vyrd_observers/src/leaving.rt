@@ -1,0 +1,99 @@
+//! What an observer that has returned leaves behind.
+
+ghost use Rattle.std.specs.Prelude.{◌≡◌, ◌≤◌, ◌<◌, ℕ, Option, Some, IfSome, map, length, slice_get};
+ghost use Rattle.vyrd_base.specs.declared.header.Header.{Header};
+ghost use Rattle.vyrd_observers.specs.declared.watch.Watch.{Watch};
+ghost use Rattle.vyrd_observers.specs.Trails.{Asked, AreOn, AreAsking, moved, seen_by};
+
+use crate::trail::Trail;
+use crate::watch::Watch;
+
+/// The earlier of a place in a trail and the one from which an observer counts, if it asks that
+/// trail. The answers of the trail end at the last place.
+fn earlier(first: Option<usize>, watch: Option<Watch>, trail: usize, end: usize) -> Option<usize>
+    requires within { IfSome first (λ n. n ≤ end) }
+    ensures within { IfSome result (λ n. n ≤ end) }
+    ensures before { (n : ℕ) → first ≡ Some n → (m : ℕ) × (result ≡ Some m) × (m ≤ n) }
+    ensures counts { (w : Watch) → watch ≡ Some w → w.trail ≡ trail
+        → (m : ℕ) × (result ≡ Some m) × (m ≤ w.since) }
+{
+    match watch {
+        Some(w) if w.trail == trail => Some(w.since.min(first.unwrap_or(end))),
+        _ => first,
+    }
+}
+
+/// The place in a trail from which on its answers count for some open observer, if one asks it.
+fn first_that_counts(watches: &[Option<Watch>], trail: usize, end: usize) -> Option<usize>
+    ensures within { IfSome result (λ n. n ≤ end) }
+    ensures counts { (c : ℕ) (w : Watch) → slice_get watches.now c ≡ Some (Some w) → w.trail ≡ trail
+        → (n : ℕ) × (result ≡ Some n) × (n ≤ w.since) }
+{
+    let mut first = None;
+    for watch in watches {
+        first = earlier(first, *watch, trail, end);
+    }
+    first
+}
+
+/// An observer, once the first n answers of a trail are dropped.
+fn moved(watch: Option<Watch>, trail: usize, n: usize) -> Option<Watch>
+    requires { (w : Watch) → watch ≡ Some w → w.trail ≡ trail → n ≤ w.since }
+    ensures { result ≡ moved trail n watch }
+{
+    let mut w = watch?;
+    if w.trail == trail {
+        w.since -= n;
+    }
+    Some(w)
+}
+
+/// All observers, once the first n answers of a trail are dropped.
+fn move_all(watches: &mut Vec<Option<Watch>>, trail: usize, n: usize)
+    requires { (c : ℕ) (w : Watch) → slice_get watches.old.items c ≡ Some (Some w) → w.trail ≡ trail
+        → n ≤ w.since }
+    ensures { watches.new.items ≡ map (moved trail n) watches.old.items }
+{
+    for watch in watches.iter_mut() {
+        *watch = moved(*watch, trail, n);
+    }
+}
+
+/// Drops the first n answers of a trail, which count for no open observer.
+fn forget(trails: &mut [Trail], watches: &mut Vec<Option<Watch>>, trail: usize, n: usize)
+    requires trail { trail < length trails.old }
+    requires within { (t : Asked) → slice_get trails.old trail ≡ Some t → n ≤ length t.others }
+    requires uncounted { (c : ℕ) (w : Watch) → slice_get watches.old.items c ≡ Some (Some w)
+        → w.trail ≡ trail
+        → n ≤ w.since }
+    requires on { AreOn trails.old watches.old.items }
+    ensures seen { map (seen_by trails.new) watches.new.items
+        ≡ map (seen_by trails.old) watches.old.items }
+    ensures on { AreOn trails.new watches.new.items }
+    ensures asking { (h : Header) → AreAsking h trails.old → AreAsking h trails.new }
+{
+    trails[trail].forget(n);
+    move_all(watches, trail, n);
+}
+
+/// An observer that asked this trail has returned. The trail is free if no other asks it. Otherwise
+/// the answers that count for no other are dropped if they are at least half of all, so that this
+/// takes constant time for each answer.
+pub(crate) fn let_go(trails: &mut [Trail], watches: &mut Vec<Option<Watch>>, trail: usize)
+    requires trail { trail < length trails.old }
+    requires on { AreOn trails.old watches.old.items }
+    ensures seen { map (seen_by trails.new) watches.new.items
+        ≡ map (seen_by trails.old) watches.old.items }
+    ensures on { AreOn trails.new watches.new.items }
+    ensures asking { (h : Header) → AreAsking h trails.old → AreAsking h trails.new }
+{
+    let end = trails[trail].len();
+    match first_that_counts(watches, trail, end) {
+        None => trails[trail].end(),
+        Some(n) => {
+            if end / 2 < n {
+                forget(trails, watches, trail, n);
+            }
+        }
+    }
+}

@@ -1,0 +1,160 @@
+//! A question that observers ask.
+
+ghost use Rattle.std.specs.Prelude.{◌≡◌, ◌≤◌, ◌<◌, ◌∷◌, ◌==◌, ◌&&◌, [], false, true, length, drop};
+ghost use Rattle.std.specs.Prelude.{OnOk, OnErr};
+ghost use Rattle.std.specs.List.{list_any};
+ghost use Rattle.vyrd_spec.specs.Touching.{is_touched};
+ghost use Rattle.vyrd_observers.specs.Trails.{with_answer};
+ghost use Rattle.vyrd_observers.specs.Watching.{has_answer};
+
+use std::alloc::{AllocError, Global};
+use std::marker::Model;
+use vyrd_base::{Args, Method};
+use vyrd_spec::Touched;
+
+/// A question that open observers ask, and what the states since the first of their calls answer.
+/// If none asks it, it is free to be another question.
+#[derive(Drop)]
+pub(crate) struct Trail {
+    is_asked: bool,
+    method: Method,
+    args: Args,
+    /// What the last state answers.
+    latest: u64,
+    /// What the states before it answer, each if it differs from the one before.
+    others: Vec<u64>,
+}
+
+impl Model for Trail {
+    ghost use Rattle.vyrd_observers.specs.Trails.{Asked};
+
+    ghost Value = { Asked };
+
+    ghost view = { λ t. record {
+      is_asked = t.is_asked;
+      method = t.method;
+      args = t.args;
+      latest = t.latest;
+      others = t.others.items;
+    } };
+}
+
+impl Trail {
+    /// No question yet.
+    pub fn new(alloc: Global) -> Trail
+        ensures { result.is_asked ≡ false }
+    {
+        Trail {
+            is_asked: false,
+            method: Method::MsLookup,
+            args: Args { a: 0, b: 0, c: 0 },
+            latest: 0,
+            others: Vec::new(alloc),
+        }
+    }
+
+    /// It is asked for the first time, in a state that answers this.
+    pub fn begin(&mut self, method: Method, args: Args, answer: u64)
+        ensures { self.new ≡ record {
+          is_asked = true;
+          method = method;
+          args = args;
+          latest = answer;
+          others = [];
+        } }
+    {
+        self.is_asked = true;
+        self.method = method;
+        self.args = args;
+        self.latest = answer;
+        self.others.clear();
+    }
+
+    /// The last observer that asked it has returned.
+    pub fn end(&mut self)
+        ensures { self.new.is_asked ≡ false }
+    {
+        self.is_asked = false;
+        self.others.clear();
+    }
+
+    /// Whether an open observer may ask it.
+    pub fn is_asked(&self) -> bool
+        ensures { result ≡ self.now.is_asked }
+    {
+        self.is_asked
+    }
+
+    /// Whether it is asked, it is this question, and the last state answers this.
+    pub fn is(&self, method: Method, args: Args, answer: u64) -> bool
+        ensures { result ≡ true
+            → (self.now.is_asked ≡ true) × (self.now.method ≡ method) × (self.now.args ≡ args)
+            × (self.now.latest ≡ answer) }
+    {
+        self.is_asked && self.method == method && self.args == args && self.latest == answer
+    }
+
+    /// How many answers stand before the latest.
+    pub fn len(&self) -> usize
+        ensures { result ≡ length self.now.others }
+    {
+        self.others.len()
+    }
+
+    /// Whether it is asked, and its key is touched.
+    pub fn is_touched(&self, touched: Touched) -> bool
+        ensures { result ≡ (self.now.is_asked && is_touched touched self.now.args.a) }
+    {
+        self.is_asked && touched.has(u64::from(self.args.a))
+    }
+
+    /// What is called.
+    pub fn method(&self) -> Method
+        ensures { result ≡ self.now.method }
+    {
+        self.method
+    }
+
+    /// What it is called with.
+    pub fn args(&self) -> Args
+        ensures { result ≡ self.now.args }
+    {
+        self.args
+    }
+
+    /// One more state answers this.
+    pub fn see(&mut self, answer: u64) -> Result<(), AllocError>
+        ensures saw { OnOk result (self.new ≡ with_answer answer self.old) }
+        ensures unchanged { OnErr result (self.new ≡ self.old) }
+    {
+        if answer != self.latest {
+            self.others.push(self.latest)?;
+            self.latest = answer;
+        }
+        Ok(())
+    }
+
+    /// Whether a state answers this, of those from an answer on.
+    pub fn has_answer(&self, since: usize, reply: u64) -> bool
+        requires { since ≤ length self.now.others }
+        ensures { result ≡ has_answer (self.now.latest ∷ drop since self.now.others) reply }
+    {
+        let (_, counted) = self.others.split_at(since);
+        self.latest == reply || is_among(counted, reply)
+    }
+
+    /// The first n answers count for no open observer.
+    pub fn forget(&mut self, n: usize)
+        requires { n ≤ length self.old.others }
+        ensures { self.new ≡ record self.old { others = drop n self.old.others } }
+    {
+        self.others.drain(..n);
+    }
+}
+
+/// Whether a number is among others.
+fn is_among(numbers: &[u64], number: u64) -> bool
+    ensures { result ≡ list_any (λ x. x == number) numbers.now }
+{
+    numbers.iter().any(|x| *x == number)
+}

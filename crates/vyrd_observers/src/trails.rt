@@ -1,0 +1,116 @@
+//! The questions that observers ask.
+
+ghost use Rattle.std.specs.Prelude.{◌≡◌, ◌<◌, true, false, List, Option, Some, map, slice_get};
+ghost use Rattle.std.specs.Prelude.{IfOk, OnOk, OnErr, IfSome};
+ghost use Rattle.vyrd_base.specs.declared.header.Header.{Header};
+ghost use Rattle.vyrd_base.specs.Subjects.{is_observer};
+ghost use Rattle.vyrd_observers.specs.declared.watch.Watch.{Watch};
+ghost use Rattle.vyrd_base.specs.Entries.{has_method};
+ghost use Rattle.vyrd_observers.specs.Trails.{Asked, AreOn, AreAsking, KeepsAsked, after_state};
+
+use crate::trail::Trail;
+use std::alloc::{AllocError, Global};
+use vyrd_base::{Args, Method};
+use vyrd_spec::{Spec, Touched};
+
+/// The trail of a question that the last state answers in this way, if it is asked.
+fn find(trails: &[Trail], method: Method, args: Args, answer: u64) -> Option<usize>
+    ensures { IfSome result (λ i. (t : Asked) × (slice_get trails.now i ≡ Some t)
+        × (t.is_asked ≡ true) × (t.method ≡ method) × (t.args ≡ args) × (t.latest ≡ answer)) }
+{
+    for i in 0..trails.len() {
+        if trails[i].is(method, args, answer) {
+            return Some(i);
+        }
+    }
+    None
+}
+
+/// The first trail that isn't asked.
+fn find_free(trails: &[Trail]) -> Option<usize>
+    ensures { IfSome result
+        (λ i. (t : Asked) × (slice_get trails.now i ≡ Some t) × (t.is_asked ≡ false)) }
+{
+    for i in 0..trails.len() {
+        if !trails[i].is_asked() {
+            return Some(i);
+        }
+    }
+    None
+}
+
+/// A trail that isn't asked. One more is made if all are.
+fn free(alloc: Global, trails: &mut Vec<Trail>) -> Result<usize, AllocError>
+    ensures free { IfOk result
+        (λ i. (t : Asked) × (slice_get trails.new.items i ≡ Some t) × (t.is_asked ≡ false)) }
+    ensures kept { KeepsAsked trails.old.items trails.new.items }
+    ensures asking { (h : Header) → AreAsking h trails.old.items → AreAsking h trails.new.items }
+{
+    if let Some(i) = find_free(trails) {
+        return Ok(i);
+    }
+    let i = trails.len();
+    trails.push(Trail::new(alloc))?;
+    Ok(i)
+}
+
+/// An observer asks a question, in a state that answers this. It gives its trail, whose latest
+/// answer is this. All that are asked have the last state's answer, so if the question is asked
+/// already, its trail has this answer.
+pub(crate) fn ask(
+    alloc: Global,
+    trails: &mut Vec<Trail>,
+    method: Method,
+    args: Args,
+    answer: u64,
+) -> Result<usize, AllocError>
+    ensures asked { IfOk result (λ i. (t : Asked) × (slice_get trails.new.items i ≡ Some t)
+        × (t.is_asked ≡ true) × (t.method ≡ method) × (t.args ≡ args) × (t.latest ≡ answer)) }
+    ensures kept { KeepsAsked trails.old.items trails.new.items }
+    ensures asking { (h : Header) → has_method h method args ≡ true → is_observer method ≡ true
+        → AreAsking h trails.old.items
+        → AreAsking h trails.new.items }
+{
+    if let Some(i) = find(trails, method, args, answer) {
+        return Ok(i);
+    }
+    let i = free(alloc, trails)?;
+    trails[i].begin(method, args, answer);
+    Ok(i)
+}
+
+/// A question that is asked gets the answer of the specification's state too, which differs from
+/// the one before in the touched keys alone.
+fn see<S: Spec>(trail: &mut Trail, spec: &S, touched: Touched) -> Result<(), AllocError>
+    requires allowed { trail.old.is_asked ≡ true
+        → has_method (S.header_of spec.now) trail.old.method trail.old.args ≡ true }
+    requires observer { trail.old.is_asked ≡ true → is_observer trail.old.method ≡ true }
+    requires subject { (S.header_of spec.now).subject ≡ S.subject }
+    ensures saw { OnOk result (trail.new ≡ after_state touched (S.state spec.now) trail.old) }
+    ensures unchanged { OnErr result (trail.new ≡ trail.old) }
+{
+    if trail.is_touched(touched) {
+        trail.see(spec.answer(trail.method(), trail.args()))?;
+    }
+    Ok(())
+}
+
+/// All questions that are asked get the answer of the specification's state too.
+pub(crate) fn see_all<S: Spec>(
+    trails: &mut Vec<Trail>,
+    spec: &S,
+    touched: Touched,
+) -> Result<(), AllocError>
+    requires asking { AreAsking (S.header_of spec.now) trails.old.items }
+    requires subject { (S.header_of spec.now).subject ≡ S.subject }
+    ensures saw { OnOk result
+        (trails.new.items ≡ map (after_state touched (S.state spec.now)) trails.old.items) }
+    ensures asking { AreAsking (S.header_of spec.now) trails.new.items }
+    ensures on { (watches : List (Option Watch)) → AreOn trails.old.items watches
+        → AreOn trails.new.items watches }
+{
+    for i in 0..trails.len() {
+        see(&mut trails[i], spec, touched)?;
+    }
+    Ok(())
+}

@@ -1,0 +1,132 @@
+//! What is known of the open observers of all callers.
+
+ghost use Rattle.std.specs.Prelude.{◌≡◌, ◌<◌, ◌∷◌, ℕ, [], true, false, Some, None, IfOk, OnOk};
+ghost use Rattle.std.specs.Prelude.{length, replicate, slice_get, slice_set};
+ghost use Rattle.vyrd_base.specs.Specification.{answer_in};
+ghost use Rattle.vyrd_base.specs.Subjects.{is_observer};
+ghost use Rattle.vyrd_base.specs.Entries.{has_method};
+ghost use Rattle.vyrd_observers.specs.Watching.{AreCurrent, AllSee};
+ghost use Rattle.vyrd_observers.specs.Watching.{Seen, unwatched, has_answer};
+ghost use Rattle.vyrd_spec.specs.Touching.{is_touched};
+
+use crate::leaving::let_go;
+use crate::trail::Trail;
+use crate::trails::{ask, see_all};
+use crate::watch::Watch;
+use std::alloc::{AllocError, Global};
+use std::marker::Model;
+use vyrd_base::{Args, Header, Method};
+use vyrd_spec::{Spec, Touched};
+
+/// What is known of each caller's open observer, if it has one. Observers that ask the same share
+/// one trail of answers.
+#[derive(Drop)]
+pub struct Watches {
+    alloc: Global,
+    header: Header,
+    trails: Vec<Trail>,
+    by_caller: Vec<Option<Watch>>,
+}
+
+impl Model for Watches {
+    ghost use Rattle.std.specs.Prelude.{map};
+    ghost use Rattle.vyrd_observers.specs.Trails.{AreOn, AreAsking, seen_by};
+    ghost use Rattle.vyrd_observers.specs.Watching.{Watched};
+
+    ghost Value = { Watched };
+
+    ghost view = { λ w.
+        record { header = w.header; by_caller = map (seen_by w.trails.items) w.by_caller.items } };
+
+    ghost invariant = { λ w. AreOn w.trails.items w.by_caller.items
+        × AreAsking w.header w.trails.items };
+}
+
+impl Watches {
+    /// No caller has an open observer.
+    pub fn new(alloc: Global, header: Header) -> Result<Watches, AllocError>
+        ensures header { IfOk result (λ w. w.header ≡ header) }
+        ensures len { IfOk result (λ w. length w.by_caller ≡ header.callers) }
+        ensures closed { IfOk result (λ w. (c : ℕ) (seen : Seen)
+            → slice_get w.by_caller c ≡ Some seen → seen.is_open ≡ false) }
+    {
+        Ok(Watches {
+            alloc,
+            header,
+            trails: Vec::new(alloc),
+            by_caller: no_watches(alloc, header.callers() as usize)?,
+        })
+    }
+
+    /// An observer begins in a state that answers this. It takes time in proportion to the
+    /// different questions that are asked.
+    pub fn begin(
+        &mut self,
+        caller: u32,
+        method: Method,
+        args: Args,
+        answer: u64,
+    ) -> Result<(), AllocError>
+        requires caller { caller < length self.old.by_caller }
+        requires allowed { has_method self.old.header method args ≡ true }
+        requires observer { is_observer method ≡ true }
+        ensures watches { OnOk result (self.new.by_caller ≡ slice_set self.old.by_caller caller
+            (record { is_open = true; method = method; args = args; answers = answer ∷ [] })) }
+        ensures header { self.new.header ≡ self.old.header }
+        ensures len { length self.new.by_caller ≡ length self.old.by_caller }
+    {
+        let trail = ask(self.alloc, &mut self.trails, method, args, answer)?;
+        self.by_caller[caller as usize] = Some(Watch {
+            trail,
+            since: self.trails[trail].len(),
+        });
+        Ok(())
+    }
+
+    /// An observer returns. It says whether some state since its call answers the reply. It takes
+    /// time in proportion to the callers and to the answers of its trail.
+    pub fn end(&mut self, caller: u32, reply: u64) -> bool
+        requires caller { caller < length self.old.by_caller }
+        ensures answered { (seen : Seen) → slice_get self.old.by_caller caller ≡ Some seen
+            → result ≡ has_answer seen.answers reply }
+        ensures watches { self.new.by_caller ≡ slice_set self.old.by_caller caller unwatched }
+        ensures header { self.new.header ≡ self.old.header }
+        ensures len { length self.new.by_caller ≡ length self.old.by_caller }
+    {
+        match self.by_caller[caller as usize] {
+            Some(watch) => {
+                let answered = self.trails[watch.trail].has_answer(watch.since, reply);
+                self.by_caller[caller as usize] = None;
+                let_go(&mut self.trails, &mut self.by_caller, watch.trail);
+                answered
+            }
+            None => false,
+        }
+    }
+
+    /// Every open observer sees the specification's state too, which differs from the one before in
+    /// the touched keys alone. It takes time in proportion to the different questions that are
+    /// asked.
+    pub fn see_all<S: Spec>(&mut self, spec: &S, touched: Touched) -> Result<(), AllocError>
+        requires header { S.header_of spec.now ≡ self.old.header }
+        requires subject { self.old.header.subject ≡ S.subject }
+        requires current { (c : ℕ) (seen : Seen) → slice_get self.old.by_caller c ≡ Some seen
+            → seen.is_open ≡ true → is_touched touched seen.args.a ≡ false
+            → has_answer seen.answers (answer_in (S.state spec.now) seen.method seen.args) ≡ true }
+        ensures seen { OnOk result
+            (AllSee (S.state spec.now) self.old.by_caller self.new.by_caller) }
+        ensures current { OnOk result (AreCurrent (S.state spec.now) self.new.by_caller) }
+        ensures header { self.new.header ≡ self.old.header }
+        ensures len { length self.new.by_caller ≡ length self.old.by_caller }
+    {
+        see_all(&mut self.trails, spec, touched)?;
+        Ok(())
+    }
+}
+
+/// This many callers, none of which has an open observer.
+fn no_watches(alloc: Global, callers: usize) -> Result<Vec<Option<Watch>>, AllocError>
+    ensures { IfOk result (λ watches. watches.items ≡ replicate callers None) }
+{
+    vec![in alloc; None; callers]
+}
