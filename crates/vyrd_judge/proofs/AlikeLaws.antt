@@ -13,8 +13,8 @@ use Rattle.vyrd_base.proofs.PlaceLaws.{first_answer-append}
 use Rattle.vyrd_base.proofs.TestLaws.{same_of, lower_isnt}
 use Rattle.vyrd_shadow.specs.Blocks.{with_writes}
 use Rattle.vyrd_base.proofs.EffectWords.{one_write}
-use Rattle.vyrd_judge.specs.Cuts.{with_part, first_with}
-use Rattle.vyrd_judge.specs.Effects.{effect_parts, with_effects, cut_if, given_last, ActAlike, AllActAlike, HasParts}
+use Rattle.vyrd_words.specs.Cuts.{with_part, first_with}
+use Rattle.vyrd_words.specs.Effects.{effect_parts, with_effects, cut_if, given_last, ActAlike, AllActAlike, HasParts}
 
 writes_onto : (h : Header) (starting : List StartWord) (effects writes : List (ℕ × ℕ))
     → with_writes (words_with h starting effects) writes ≡ words_with h starting (newest_first_onto effects writes)

@@ -14,7 +14,7 @@ use Rattle.vyrd_base.proofs.BlockLaws.{entry, by_same}
 use Rattle.vyrd_base.proofs.EffectLaws.{never, has_block_of, own_inner, other_inner}
 use Rattle.vyrd_base.proofs.Settled.{IsReturned}
 use Rattle.vyrd_base.proofs.ShadowLaws.{all_kept}
-use Rattle.vyrd_judge.specs.Effects.{ends_block, is_ended}
+use Rattle.vyrd_words.specs.Effects.{ends_block, is_ended}
 
 or_true : (b : Bool) → (b || true) ≡ true
 or_true true = refl

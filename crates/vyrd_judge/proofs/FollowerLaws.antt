@@ -29,12 +29,12 @@ use Rattle.vyrd_base.proofs.ShadowLaws.{caller_kept, well_formed-first_break}
 use Rattle.vyrd_base.proofs.TestLaws.{below_of, is_below}
 use Rattle.vyrd_shape.specs.Following.{Kept as ShapeKept, HasFollowed as ShapeFollows}
 use Rattle.vyrd_judge.specs.declared.waiting.Waiting.{Waiting}
-use Rattle.vyrd_judge.specs.HasWords.{HasWords, HasTaken, Keeps, MayFollow}
+use Rattle.vyrd_words.specs.HasWords.{HasWords, HasTaken, Keeps, MayFollow}
 use Rattle.vyrd_base.specs.Entries.{place_of}
 use Rattle.vyrd_observers.specs.Watching.{Seen}
 use Rattle.vyrd_judge.specs.declared.waiting.Event.{Event}
-use Rattle.vyrd_judge.specs.Cuts.{first_with}
-use Rattle.vyrd_judge.specs.Effects.{parts_behind}
+use Rattle.vyrd_words.specs.Cuts.{first_with}
+use Rattle.vyrd_words.specs.Effects.{parts_behind}
 use Rattle.vyrd_judge.specs.Waiting.{replied, event_of, waiting_of, waiting_at}
 use Rattle.vyrd_observers.specs.Watching.{AreCurrent}
 use Rattle.vyrd_judge.specs.Queued.{HasQueued, HasTakenUp, MayQueue}

@@ -30,7 +30,7 @@ use Rattle.vyrd_base.proofs.Settled.{IsReturned, words_at_stay}
 use Rattle.vyrd_base.proofs.ShadowLaws.{caller_kept}
 use Rattle.vyrd_shadow.specs.Blocks.{with_writes}
 use Rattle.vyrd_judge.specs.declared.waiting.Waiting.{Waiting}
-use Rattle.vyrd_judge.specs.Effects.{effect_parts, AllActAlike}
+use Rattle.vyrd_words.specs.Effects.{effect_parts, AllActAlike}
 use Rattle.vyrd_base.specs.Entries.{has_method, place_of}
 use Rattle.vyrd_observers.specs.Watching.{Seen, has_answer}
 use Rattle.vyrd_judge.specs.Reached.{IsWatched}

@@ -28,8 +28,8 @@ use Rattle.vyrd_base.proofs.PlaceLaws.{newest_first_onto-append, newest_first-pu
 use Rattle.vyrd_base.proofs.Settled.{IsReturned, Settled, settled_next}
 use Rattle.vyrd_judge.specs.declared.waiting.Event.{Event}
 use Rattle.vyrd_judge.specs.declared.waiting.Waiting.{Waiting}
-use Rattle.vyrd_judge.specs.Cuts.{first_with, with_part}
-use Rattle.vyrd_judge.specs.Effects.{effect_parts, with_effects, cut_if, parts_behind, ActAlike, AllActAlike, HasParts}
+use Rattle.vyrd_words.specs.Cuts.{first_with, with_part}
+use Rattle.vyrd_words.specs.Effects.{effect_parts, with_effects, cut_if, parts_behind, ActAlike, AllActAlike, HasParts}
 use Rattle.vyrd_base.specs.Entries.{place_of}
 use Rattle.vyrd_observers.specs.Watching.{Seen}
 use Rattle.vyrd_judge.specs.Waiting.{waiting_of, waiting_at, waiting_after, replied, commit_of}

@@ -1,4 +1,3 @@
-pub mod StartedLaws
 pub mod EndingLaws
 pub mod AlikeLaws
 pub mod PartLaws
@@ -8,14 +7,8 @@ pub mod OnlineLaws
 pub mod FollowerLaws
 pub mod QueueLaws
 pub mod JudgingLaws
-pub mod WordsLaws
-pub mod CutLaws
-pub mod ShadowFacts
-pub mod ActLaws
-pub mod StartingLaws
 pub mod HeadLaws
 pub mod JudgedLaws
 pub mod WaitingLaws
 pub mod ReachedFaults
 pub mod Reaching
-pub mod StartWords

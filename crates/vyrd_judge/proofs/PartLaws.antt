@@ -19,7 +19,7 @@ use Rattle.vyrd_base.proofs.ShadowLaws.{all_kept}
 use Rattle.vyrd_base.proofs.EffectLaws.{SameEffects, same_after, ends_committed_block, MoreAt, at_commit, own, other, MoreAtCommit, more_after, never, committed_since_open, own_inner, other_inner, inner_is_committed}
 use Rattle.vyrd_base.proofs.Lasting.{commit_count-cons}
 use Rattle.vyrd_base.proofs.TestLaws.{is_same, isnt_same, lower_isnt, flipped, first_true, second_true}
-use Rattle.vyrd_judge.specs.Effects.{effect_parts, with_effects, cut_if, number_at, inner_number, parts_since, parts_behind, ends_block, is_ended}
+use Rattle.vyrd_words.specs.Effects.{effect_parts, with_effects, cut_if, number_at, inner_number, parts_since, parts_behind, ends_block, is_ended}
 
 -- The effects at the entries from a place on, in parts as `effect_parts` has them, where these
 -- entries stand after them all.

@@ -26,7 +26,7 @@ use Rattle.vyrd_judge.specs.declared.caller.Caller.{Caller}
 use Rattle.vyrd_judge.specs.declared.waiting.Event.{Event}
 use Rattle.vyrd_judge.specs.declared.waiting.Event.TheVariants.{Begins, Commits, Returns}
 use Rattle.vyrd_judge.specs.declared.waiting.Waiting.{Waiting}
-use Rattle.vyrd_judge.specs.HasWords.{Keeps}
+use Rattle.vyrd_words.specs.HasWords.{Keeps}
 use Rattle.vyrd_base.specs.Entries.{place_of}
 use Rattle.vyrd_judge.specs.Queued.{IsCaller, IsPending, IsUnreturned, HasQueued, HasTakenUp, MayQueue, CanLeave}
 use Rattle.vyrd_judge.specs.Waiting.{commit_of, waiting_of, waiting_at, replied_event, replied}

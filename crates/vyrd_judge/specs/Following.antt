@@ -15,8 +15,8 @@ use Rattle.vyrd_judge.specs.declared.caller.Caller.{Caller}
 use Rattle.vyrd_judge.specs.declared.outcome.Advance.{Advance}
 use Rattle.vyrd_judge.specs.declared.outcome.Advance.TheVariants.{Goes, Stops}
 use Rattle.vyrd_judge.specs.declared.waiting.Waiting.{Waiting}
-use Rattle.vyrd_judge.specs.Cuts.{Cuts}
-use Rattle.vyrd_judge.specs.HasWords.{HasWords}
+use Rattle.vyrd_words.specs.Cuts.{Cuts}
+use Rattle.vyrd_words.specs.HasWords.{HasWords}
 use Rattle.vyrd_observers.specs.Watching.{Seen}
 use Rattle.vyrd_judge.specs.Queued.{HasQueued}
 use Rattle.vyrd_judge.specs.Judged.{Judged}

@@ -18,8 +18,8 @@ use Rattle.vyrd_shadow.specs.Blocks.{with_writes}
 use Rattle.vyrd_judge.specs.declared.outcome.Outcome.{Outcome}
 use Rattle.vyrd_judge.specs.declared.outcome.Outcome.TheVariants.{Goes, Faults, Ends}
 use Rattle.vyrd_judge.specs.declared.waiting.Waiting.{Waiting}
-use Rattle.vyrd_judge.specs.Cuts.{Cuts}
-use Rattle.vyrd_judge.specs.Effects.{effect_parts, HasParts, is_ended}
+use Rattle.vyrd_words.specs.Cuts.{Cuts}
+use Rattle.vyrd_words.specs.Effects.{effect_parts, HasParts, is_ended}
 use Rattle.vyrd_observers.specs.Watching.{Seen}
 use Rattle.vyrd_judge.specs.Waiting.{waiting_after}
 use Rattle.vyrd_judge.specs.Reached.{Reached}

@@ -1,9 +1,6 @@
 pub mod Waiting
 pub mod Reached
 pub mod Judged
-pub mod Cuts
-pub mod Effects
-pub mod HasWords
 pub mod Queued
 pub mod Following
 pub mod AnyJudges

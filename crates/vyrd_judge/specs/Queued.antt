@@ -11,7 +11,7 @@ use Rattle.vyrd_base.specs.Subjects.{is_observer}
 use Rattle.vyrd_judge.specs.declared.caller.Caller.{Caller}
 use Rattle.vyrd_judge.specs.declared.waiting.Event.TheVariants.{Commits}
 use Rattle.vyrd_judge.specs.declared.waiting.Waiting.{Waiting}
-use Rattle.vyrd_judge.specs.HasWords.{Keeps}
+use Rattle.vyrd_words.specs.HasWords.{Keeps}
 use Rattle.vyrd_base.specs.Entries.{place_of}
 use Rattle.vyrd_judge.specs.Waiting.{waiting_at, replied}
 

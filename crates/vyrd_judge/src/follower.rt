@@ -15,13 +15,12 @@ ghost use Rattle.vyrd_judge.specs.declared.outcome.Advance.TheVariants.{Goes};
 use crate::outcome::{Advance, Outcome};
 use crate::queue::Queue;
 use crate::replay::Replay;
-use crate::starting::words_of;
-use crate::words::Words;
 use std::alloc::{AllocError, Global};
 use std::marker::Model;
 use vyrd_base::{Entry, Header, Kind, Rule, StartWord, Verdict};
 use vyrd_shape::Shape;
 use vyrd_spec::Spec;
+use vyrd_words::{Words, words_of};
 
 /// What is kept of a log in which nothing is wrong so far: what the rules of shape need to know of
 /// it, its words, the entries that wait to be judged, and the state at the first of these.

@@ -8,11 +8,10 @@
 //! runs, and [`judge_history`] gives the verdict about the log of a history without making that
 //! log.
 //!
-//! How the pieces go: a `follower` takes in each entry, and `starting` gives it the words at the
-//! start. The shape, the `words` with their `views` and the `queue` follow it at once. After them
-//! the `replay` judges what is `waiting` in the queue, with its `watches`: each open observer has a
-//! `watch`, which is on the `trail` of its question, one of all `trails`. When an observer has
-//! returned, `leaving` drops the answers that nobody needs any more.
+//! How the pieces go: a `follower` takes in each entry. The rules of `vyrd_shape`, the words of
+//! `vyrd_words` and the `queue` follow it at once. After them the `replay` judges what is `waiting`
+//! in the queue: commits by the specification of `vyrd_spec` and by the words, and observers by the
+//! answers of `vyrd_observers`.
 //!
 //! [`judge_log`] is the plain judge of `vyrd_plain`, which has all entries before it begins. It is
 //! what this one is compared with, and shares no code with it.
@@ -26,12 +25,9 @@ mod online;
 mod outcome;
 mod queue;
 mod replay;
-mod starting;
 #[cfg(test)]
 mod tests;
-mod views;
 mod waiting;
-mod words;
 
 pub use any::{AnyJudge, judge_history};
 pub use logged::{entry_of, log_of};

@@ -16,11 +16,11 @@ ghost use Rattle.vyrd_judge.specs.Following.{HasFollowed};
 
 use crate::follower::Follower;
 use crate::logged::entry_of;
-use crate::starting::words_at_start;
 use std::alloc::{AllocError, Global};
 use std::marker::Model;
 use vyrd_base::{Entry, Header, Rule, Stamped, StartWord, Verdict};
 use vyrd_spec::Spec;
+use vyrd_words::words_at_start;
 
 /// A judge that takes the entries of a log one by one, in their order, and never looks back. `S` is
 /// the specification of the header's subject.

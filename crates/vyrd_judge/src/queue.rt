@@ -12,7 +12,7 @@ ghost use Rattle.vyrd_judge.specs.declared.caller.Caller.{Caller};
 ghost use Rattle.vyrd_judge.specs.declared.waiting.Event.TheVariants.{Begins, Commits, Returns};
 ghost use Rattle.vyrd_base.specs.declared.log.Entry.{Entry};
 ghost use Rattle.vyrd_judge.specs.declared.waiting.Waiting.{Waiting};
-ghost use Rattle.vyrd_judge.specs.HasWords.{Keeps};
+ghost use Rattle.vyrd_words.specs.HasWords.{Keeps};
 ghost use Rattle.vyrd_judge.specs.Queued.{HasQueued, HasTakenUp, MayQueue, CanLeave};
 
 use crate::caller::Caller;

@@ -15,12 +15,12 @@ ghost use Rattle.vyrd_observers.specs.Watching.{AreCurrent};
 ghost use Rattle.vyrd_observers.specs.Watching.{Seen, unwatched, has_answer};
 
 use crate::outcome::Outcome;
-use crate::views::Views;
 use crate::waiting::{Event, Waiting};
 use std::alloc::{AllocError, Global};
 use vyrd_base::{Args, Header, Method, Why};
 use vyrd_observers::Watches;
 use vyrd_spec::Spec;
+use vyrd_words::Views;
 
 /// What is known when all entries before some place are judged: the state of the specification
 /// there, and each caller's open observer.

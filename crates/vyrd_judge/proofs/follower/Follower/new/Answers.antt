@@ -3,7 +3,7 @@ use Rattle.std.specs.Prelude.{All, replicate}
 use Rattle.vyrd_base.specs.Layout.{plain_words}
 use Rattle.vyrd_view.specs.Comparing.{AgreeElsewhere}
 use Rattle.vyrd_observers.specs.Watching.{AreCurrent}
-use Rattle.vyrd_judge.proofs.StartWords.{start_within, start_few, plain_words_few, length-words_at_start, small_at_start, zero_elsewhere}
+use Rattle.vyrd_words.proofs.StartWords.{start_within, start_few, plain_words_few, length-words_at_start, small_at_start, zero_elsewhere}
 use Rattle.vyrd_judge.proofs.FollowerLaws.{first_taken_in}
 use Rattle.vyrd_judge.proofs.follower.Follower.new.Goals as goal
 

@@ -7,7 +7,7 @@ use Rattle.vyrd_base.specs.Amounts.{Amounts}
 use Rattle.vyrd_base.specs.Layout.{lock_words}
 use Rattle.vyrd_base.specs.Represented.{state_of_words}
 use Rattle.vyrd_base.specs.Starts.{words_at_start, state_at_start}
-use Rattle.vyrd_judge.proofs.StartWords.{length-words_at_start, small_at_start}
+use Rattle.vyrd_words.proofs.StartWords.{length-words_at_start, small_at_start}
 use Rattle.vyrd_judge.proofs.online.Judge.start_from.Goals as goal
 
 -- the state at the start is that of the specification that was found

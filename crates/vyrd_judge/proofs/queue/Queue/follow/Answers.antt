@@ -1,7 +1,7 @@
 use Rattle.std.proofs.Common.{◌<◌, length, arith}
 use Rattle.vyrd_base.specs.declared.log.Kind.TheVariants.{Commit, BlockCommit}
 use Rattle.vyrd_base.proofs.CommitLaws.{alone, with_block}
-use Rattle.vyrd_judge.proofs.WordsLaws.{ok_three, low_caller}
+use Rattle.vyrd_words.proofs.WordsLaws.{ok_three, low_caller}
 use Rattle.vyrd_judge.proofs.QueueLaws.{write_up, open_up, close_up, call_up, commit_up, queue_caller, queue_few, queue_pending, ok_in, return_up, committing_called, known_caller, keeps_kind, taken_kind}
 use Rattle.vyrd_judge.proofs.queue.Queue.follow.Goals as goal
 

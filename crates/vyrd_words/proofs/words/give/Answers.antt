@@ -1,0 +1,51 @@
+use Rattle.std.proofs.Common.{◌≡◌, ℕ, List, ◌+◌, ◌∷◌, ◌++◌, [], take, get_or, refl, ap, sym, ◌∙◌}
+use Rattle.std.proofs.lemmas.List.{take_more, take_all}
+use Rattle.vyrd_words.specs.Cuts.{first_with, with_part, written}
+use Rattle.vyrd_words.proofs.CutLaws.{first_with_nothing, with_part_nothing, first_with_twice, with_part_twice, written_more}
+use Rattle.vyrd_words.proofs.words.give.Goals as goal
+
+pub loop-word-init : goal.loop-word-init
+loop-word-init c = record {
+  first = sym (first_with_nothing 0 c.args.views.now.first c.args.views.now.since);
+  since = sym (with_part_nothing 0 c.args.views.now.since);
+  specified = refl;
+  sound = c.requires.sound;
+  header = refl;
+}
+
+pub loop-word-preserved : goal.loop-word-preserved
+loop-word-preserved c =
+    let i = c.loop-word.word-index in
+    let all = c.args.changed.now in
+    let words = c.args.words.now in
+    let before = c.args.views.now in
+    let w : ℕ = get_or all i 0 in
+    let one : List (ℕ × ℕ) = (w, get_or words w 0) ∷ [] in
+    let sofar = written words (take i all) in
+    let more : sofar ++ one ≡ written words (take (i + 1) all) =
+    sym (written_more words (take i all) w) ∙ ap (written words) (sym (take_more all i 0 c.loop-word-test.true)) in
+    record {
+      first = c.in_ok-effect.ensures.first
+          ∙ (λ j. first_with 0 one (c.loop-word.invariant.first j) (c.loop-word.invariant.since j))
+          ∙ sym (first_with_twice 0 sofar one before.first before.since)
+          ∙ ap (λ ws. first_with 0 ws before.first before.since) more;
+      since = c.in_ok-effect.ensures.since
+          ∙ ap (with_part 0 one) c.loop-word.invariant.since
+          ∙ sym (with_part_twice 0 sofar one before.since)
+          ∙ ap (λ ws. with_part 0 ws before.since) more;
+      specified = c.in_ok-effect.ensures.specified ∙ c.loop-word.invariant.specified;
+      sound = c.in_ok-effect.ensures.sound;
+      header = c.effect.ensures.header ∙ c.loop-word.invariant.header;
+    }
+
+pub returns-clause-first : goal.returns-clause-first
+returns-clause-first c =
+    c.loop-word.invariant.first
+    ∙ ap (λ xs. first_with 0 (written c.args.words.now xs) c.args.views.now.first c.args.views.now.since)
+    (take_all c.loop-word.word-index c.args.changed.now c.loop-word-test.false)
+
+pub returns-clause-since : goal.returns-clause-since
+returns-clause-since c =
+    c.loop-word.invariant.since
+    ∙ ap (λ xs. with_part 0 (written c.args.words.now xs) c.args.views.now.since)
+    (take_all c.loop-word.word-index c.args.changed.now c.loop-word-test.false)

@@ -1,0 +1,3 @@
+pub mod Cuts
+pub mod Effects
+pub mod HasWords

@@ -1,0 +1,35 @@
+//! The starting words of a log.
+
+ghost use Rattle.std.specs.Prelude.{◌≡◌, true, map, IfOk};
+ghost use Rattle.vyrd_base.specs.Layout.{plain_words};
+ghost use Rattle.vyrd_base.specs.Starts.{may_start, words_at_start};
+
+use std::alloc::{AllocError, Global};
+use vyrd_base::{Header, StartWord};
+
+/// All plain words at the start.
+pub fn words_at_start(
+    alloc: Global,
+    header: Header,
+    start: &[StartWord],
+) -> Result<Vec<u64>, AllocError>
+    requires { may_start header start.now ≡ true }
+    ensures { IfOk result (λ words. words.items ≡ words_at_start header start.now) }
+{
+    let mut words = vec![in alloc; 0; header.plain_words() as usize]?;
+    for s in start {
+        words[s.word as usize] = s.value;
+    }
+    Ok(words)
+}
+
+/// Which words have a starting value.
+pub fn words_of(alloc: Global, start: &[StartWord]) -> Result<Vec<u32>, AllocError>
+    ensures { IfOk result (λ words. words.items ≡ map (λ s. s.word) start.now) }
+{
+    let mut words = Vec::with_capacity(alloc, start.len())?;
+    for s in start {
+        words.push(s.word)?;
+    }
+    Ok(words)
+}

@@ -1,0 +1,450 @@
+//! The words at the commits that wait, and what they show.
+
+ghost use Rattle.std.specs.VecDeque.{deque_len, deque_capacity};
+ghost use Rattle.std.specs.Prelude.{◌≡◌, ◌<◌, ◌≤◌, ◌^◌, ◌+◌, ◌++◌, ℕ, false, List, [], ◌∷◌, length};
+ghost use Rattle.std.specs.Prelude.{map, take, drop, sum, insert, replicate, slice_set};
+ghost use Rattle.std.specs.Prelude.{slice_index, Some, IfOk, OnOk, vec_len, vec_capacity, All};
+ghost use Rattle.vyrd_base.specs.Amounts.{with_amount, first_difference as least_difference};
+ghost use Rattle.std.specs.Result.{is_err};
+ghost use Rattle.vyrd_base.specs.Layout.{plain_words};
+ghost use Rattle.vyrd_base.specs.Views.{view_of_words};
+ghost use Rattle.vyrd_shadow.specs.Blocks.{with_writes, AreInRange};
+ghost use Rattle.vyrd_words.specs.Cuts.{first_with, with_part, written};
+ghost use Rattle.vyrd_spec.specs.Touching.{with_touched, with_key};
+ghost use Rattle.vyrd_view.specs.Comparing.{AgreeElsewhere};
+
+use std::alloc::{AllocError, Global};
+use std::collections::VecDeque;
+use std::marker::{Brand, Model};
+use std::sync::ledger::{Blank, Ledger};
+use vyrd_base::{Header, View};
+use vyrd_spec::{Spec, Touched};
+use vyrd_view::{Compared, Steps};
+
+/// How many changed words are kept before they are compared, so that their list doesn't grow with
+/// the log.
+const MOST_CHANGED: usize = 1024;
+
+/// The words at the last commit that was compared, and the writes that took effect since then, up
+/// to each commit that waits and after the last of them.
+#[derive(Drop)]
+pub struct Views {
+    header: Header,
+    words: Vec<u64>,
+    /// How many of the writes took effect between each commit that waits and the commit before it.
+    /// Those of a block take effect at the lone commit inside it, if there is one.
+    counts: VecDeque<usize>,
+    writes: VecDeque<(u32, u64)>,
+    /// How many of the writes took effect after the last commit.
+    tail: usize,
+    /// Which words have changed since they were compared.
+    changed: Vec<u32>,
+    compared: Compared,
+}
+
+impl Model for Views {
+    ghost use Rattle.vyrd_words.specs.Cuts.{Cuts, first_of, since_of, AreCuts, AreKnown};
+
+    ghost Value = { Cuts };
+
+    ghost view = { λ v. record {
+      header = v.header;
+      base = v.words.items;
+      first = first_of v.words.items v.counts.items v.writes.items;
+      since = since_of v.counts.items v.writes.items;
+      compared = v.compared.words;
+      specified = v.compared.specified;
+      refused = v.compared.refused;
+    } };
+
+    ghost invariant = { λ v. AreCuts v.header v.words.items v.counts.items v.writes.items v.tail
+        × AreKnown v.header v.words.items v.changed.items v.compared };
+}
+
+impl Views {
+    /// These are the words now; all but the changed ones are 0. No commit waits.
+    pub fn new(
+        alloc: Global,
+        header: Header,
+        words: &[u64],
+        changed: Vec<u32>,
+    ) -> Result<Views, AllocError>
+        requires all { length words.now ≡ plain_words header }
+        requires values { (w : ℕ) → slice_index words.now w < 2 ^ 63 }
+        requires changed { All (λ w. w < plain_words header) changed.items }
+        requires elsewhere { AgreeElsewhere (replicate (plain_words header) 0) words.now
+            changed.items }
+        ensures header { IfOk result (λ v. v.header ≡ header) }
+        ensures first { IfOk result (λ v. v.first ≡ words.now) }
+        ensures since { IfOk result (λ v. v.since ≡ []) }
+        ensures specified { IfOk result (λ v. v.specified ≡ []) }
+        ensures sound { IfOk result (λ v. v.refused ≡ false) }
+    {
+        Ok(Views {
+            header,
+            words: Vec::from_slice(alloc, words)?,
+            counts: VecDeque::new(alloc),
+            writes: VecDeque::new(alloc),
+            tail: 0,
+            changed,
+            compared: Compared::new(alloc, header)?,
+        })
+    }
+
+    /// The specification has these amounts at the start.
+    pub fn specify_start(&mut self, state: &View) -> Result<(), AllocError>
+        requires sound { self.old.refused ≡ false }
+        requires none { self.old.specified ≡ [] }
+        ensures specified { OnOk result (self.new.specified ≡ state.now) }
+        ensures sound { OnOk result (self.new.refused ≡ false) }
+        ensures first { self.new.first ≡ self.old.first }
+        ensures since { self.new.since ≡ self.old.since }
+        ensures header { self.new.header ≡ self.old.header }
+    {
+        tell_amounts(&mut self.compared, state)
+    }
+
+    /// A write takes effect. If no commit waits, it does so at once, and otherwise it waits too.
+    #[inline(always)]
+    pub fn effect(&mut self, word: u32, value: u64) -> Result<(), AllocError>
+        requires word { word < plain_words self.old.header }
+        requires value { value < 2 ^ 63 }
+        requires sound { self.old.refused ≡ false }
+        ensures first { OnOk result
+            (self.new.first ≡ first_with 0 ((word, value) ∷ []) self.old.first self.old.since) }
+        ensures since { OnOk result
+            (self.new.since ≡ with_part 0 ((word, value) ∷ []) self.old.since) }
+        ensures specified { OnOk result (self.new.specified ≡ self.old.specified) }
+        ensures sound { OnOk result (self.new.refused ≡ false) }
+        ensures header { self.new.header ≡ self.old.header }
+    {
+        if self.counts.is_empty() {
+            self.take_effect(word, value)
+        } else {
+            self.writes.push_back((word, value))?;
+            self.tail += 1;
+            Ok(())
+        }
+    }
+
+    /// A write takes effect at once, if no commit waits.
+    #[inline(always)]
+    fn take_effect(&mut self, word: u32, value: u64) -> Result<(), AllocError>
+        requires word { word < plain_words self.old.header }
+        requires value { value < 2 ^ 63 }
+        requires sound { self.old.refused ≡ false }
+        requires none_waits { self.old.since ≡ [] }
+        ensures first { OnOk result (self.new.first ≡ slice_set self.old.first word value) }
+        ensures since { OnOk result (self.new.since ≡ []) }
+        ensures specified { OnOk result (self.new.specified ≡ self.old.specified) }
+        ensures sound { OnOk result (self.new.refused ≡ false) }
+        ensures header { self.new.header ≡ self.old.header }
+    {
+        self.changed.reserve(self.tail + 1)?;
+        catch_up(
+            &mut self.words,
+            &mut self.changed,
+            &mut self.writes,
+            self.tail,
+        );
+        self.tail = 0;
+        self.words[word as usize] = value;
+        note(&mut self.changed, word);
+        if self.changed.len() >= MOST_CHANGED {
+            return self.compare_words();
+        }
+        Ok(())
+    }
+
+    /// The changed words have these values at a commit already, after which that many lists of
+    /// writes stand: their writes take effect there, after all others. If no such commit waits,
+    /// nothing happens. It costs time in what took effect since then.
+    pub fn late(&mut self, behind: usize, changed: &[u32], words: &[u64]) -> Result<(), AllocError>
+        requires some { 0 < behind }
+        requires changed { All (λ w. w < plain_words self.old.header) changed.now }
+        requires all { length words.now ≡ plain_words self.old.header }
+        requires values { (w : ℕ) → slice_index words.now w < 2 ^ 63 }
+        ensures first { OnOk result (self.new.first
+            ≡ first_with behind (written words.now changed.now) self.old.first self.old.since) }
+        ensures since { OnOk result
+            (self.new.since ≡ with_part behind (written words.now changed.now) self.old.since) }
+        ensures specified { self.new.specified ≡ self.old.specified }
+        ensures sound { self.new.refused ≡ self.old.refused }
+        ensures header { self.new.header ≡ self.old.header }
+    {
+        if behind > self.counts.len() {
+            return Ok(());
+        }
+        let index = self.counts.len() - behind;
+        self.writes.reserve(changed.len())?;
+        let place = place_behind(&self.counts, self.writes.len() - self.tail, index);
+        put(&mut self.writes, place, changed, words);
+        self.counts[index] += changed.len();
+        Ok(())
+    }
+
+    /// A commit waits from here on.
+    #[inline(always)]
+    pub fn cut(&mut self) -> Result<(), AllocError>
+        ensures first { OnOk result (self.new.first ≡ self.old.first) }
+        ensures since { OnOk result (self.new.since ≡ self.old.since ++ [] ∷ []) }
+        ensures specified { self.new.specified ≡ self.old.specified }
+        ensures sound { self.new.refused ≡ self.old.refused }
+        ensures header { self.new.header ≡ self.old.header }
+    {
+        self.counts.push_back(self.tail)?;
+        self.tail = 0;
+        Ok(())
+    }
+
+    /// The first commit no longer waits: its words are those to be compared.
+    #[inline(always)]
+    fn advance(&mut self) -> Result<(), AllocError>
+        ensures base { (part : List (ℕ × ℕ)) (rest : List (List (ℕ × ℕ)))
+            → self.old.since ≡ part ∷ rest
+            → OnOk result (self.new.base ≡ self.old.first) }
+        ensures first { (part : List (ℕ × ℕ)) (rest : List (List (ℕ × ℕ)))
+            → self.old.since ≡ part ∷ rest
+            → OnOk result (self.new.first ≡ with_writes self.old.first part) }
+        ensures since { (part : List (ℕ × ℕ)) (rest : List (List (ℕ × ℕ)))
+            → self.old.since ≡ part ∷ rest
+            → OnOk result (self.new.since ≡ rest) }
+        ensures specified { self.new.specified ≡ self.old.specified }
+        ensures sound { self.new.refused ≡ self.old.refused }
+        ensures header { self.new.header ≡ self.old.header }
+    {
+        let Some(first) = self.counts.front() else {
+            return Ok(());
+        };
+        let count = *first;
+        self.changed.reserve(count)?;
+        let _ = self.counts.pop_front();
+        catch_up(&mut self.words, &mut self.changed, &mut self.writes, count);
+        Ok(())
+    }
+
+    /// The changed words are compared.
+    fn compare_words(&mut self) -> Result<(), AllocError>
+        requires sound { self.old.refused ≡ false }
+        ensures first { self.new.first ≡ self.old.first }
+        ensures since { self.new.since ≡ self.old.since }
+        ensures compared { OnOk result (self.new.compared ≡ self.old.base) }
+        ensures specified { OnOk result (self.new.specified ≡ self.old.specified) }
+        ensures sound { OnOk result (self.new.refused ≡ false) }
+        ensures header { self.new.header ≡ self.old.header }
+    {
+        tell_words::<Brand>(
+            Blank::new(1),
+            &mut self.compared,
+            &self.words,
+            &self.changed,
+        )?;
+        self.changed.clear();
+        Ok(())
+    }
+
+    /// Compares what the words at the first commit that waits show with the specification's state
+    /// after it: the least key where they differ. That commit no longer waits then. The state
+    /// differs from that of the last comparison in the touched keys alone.
+    #[inline(always)]
+    pub fn difference<S: Spec>(
+        &mut self,
+        spec: &S,
+        touched: Touched,
+    ) -> Result<Option<u64>, AllocError>
+        requires sound { self.old.refused ≡ false }
+        ensures difference { (part : List (ℕ × ℕ)) (rest : List (List (ℕ × ℕ)))
+            → self.old.since ≡ part ∷ rest
+            → with_touched touched (S.state spec.now) self.old.specified ≡ S.state spec.now
+            → IfOk result (λ found. found
+            ≡ least_difference (view_of_words self.old.header self.old.first) (S.state spec.now)) }
+        ensures first { (part : List (ℕ × ℕ)) (rest : List (List (ℕ × ℕ)))
+            → self.old.since ≡ part ∷ rest
+            → OnOk result (self.new.first ≡ with_writes self.old.first part) }
+        ensures since { (part : List (ℕ × ℕ)) (rest : List (List (ℕ × ℕ)))
+            → self.old.since ≡ part ∷ rest
+            → OnOk result (self.new.since ≡ rest) }
+        ensures specified { OnOk result
+            (self.new.specified ≡ with_touched touched (S.state spec.now) self.old.specified) }
+        ensures sound { OnOk result (self.new.refused ≡ false) }
+        ensures header { self.new.header ≡ self.old.header }
+    {
+        self.advance()?;
+        self.compare_words()?;
+        self.specify(spec, touched.first)?;
+        self.specify(spec, touched.second)?;
+        Ok(self.compared.first_difference())
+    }
+
+    /// The specification has its amount of the key now.
+    #[inline(always)]
+    fn specify<S: Spec>(&mut self, spec: &S, key: Option<u64>) -> Result<(), AllocError>
+        requires sound { self.old.refused ≡ false }
+        ensures specified { OnOk result
+            (self.new.specified ≡ with_key key (S.state spec.now) self.old.specified) }
+        ensures sound { OnOk result (self.new.refused ≡ false) }
+        ensures first { self.new.first ≡ self.old.first }
+        ensures since { self.new.since ≡ self.old.since }
+        ensures compared { OnOk result (self.new.compared ≡ self.old.compared) }
+        ensures header { self.new.header ≡ self.old.header }
+    {
+        match key {
+            Some(k) => tell_amount::<Brand>(Blank::new(1), &mut self.compared, k, spec.amount(k)),
+            None => Ok(()),
+        }
+    }
+}
+
+/// The comparison learns the words. No contract says how many steps that takes.
+fn tell_words<L: Ledger>(
+    blank: Blank,
+    compared: &mut Compared,
+    words: &[u64],
+    changed: &[u32],
+) -> Result<(), AllocError>
+    requires name { blank.name ≡ L.name }
+    requires parts { blank.parts ≡ L.parts }
+    requires some { 0 < blank.parts }
+    requires sound { compared.old.refused ≡ false }
+    requires count { length words.now ≡ plain_words compared.old.header }
+    requires small { All (λ value. value < 2 ^ 63) words.now }
+    requires within { All (λ w. w < plain_words compared.old.header) changed.now }
+    requires elsewhere { AgreeElsewhere compared.old.words words.now changed.now }
+    ensures ok { OnOk result (compared.new ≡ record compared.old { words = words.now }) }
+    ensures refused { compared.new.refused ≡ is_err result }
+    ensures header { compared.new.header ≡ compared.old.header }
+{
+    let mut steps = Steps::<L>::new(blank);
+    compared.words_changed(words, changed, &mut steps)
+}
+
+/// The comparison learns all amounts of a state.
+fn tell_amounts(compared: &mut Compared, state: &View) -> Result<(), AllocError>
+    requires sound { compared.old.refused ≡ false }
+    requires none { compared.old.specified ≡ [] }
+    ensures ok { OnOk result (compared.new ≡ record compared.old { specified = state.now }) }
+    ensures refused { compared.new.refused ≡ is_err result }
+    ensures header { compared.new.header ≡ compared.old.header }
+{
+    for (key, amount) in state.pairs() {
+        tell_amount::<Brand>(Blank::new(1), compared, *key, *amount)?;
+    }
+    Ok(())
+}
+
+/// The comparison learns an amount.
+fn tell_amount<L: Ledger>(
+    blank: Blank,
+    compared: &mut Compared,
+    key: u64,
+    amount: u64,
+) -> Result<(), AllocError>
+    requires name { blank.name ≡ L.name }
+    requires parts { blank.parts ≡ L.parts }
+    requires some { 0 < blank.parts }
+    requires sound { compared.old.refused ≡ false }
+    ensures refused { compared.new.refused ≡ is_err result }
+    ensures ok { OnOk result (compared.new
+        ≡ record compared.old { specified = with_amount compared.old.specified key amount }) }
+    ensures header { compared.new.header ≡ compared.old.header }
+{
+    let mut steps = Steps::<L>::new(blank);
+    compared.spec_changed(key, amount, &mut steps)
+}
+
+/// The first writes take effect, and no longer wait. Mostly there are none.
+#[inline(always)]
+fn catch_up(
+    words: &mut Vec<u64>,
+    changed: &mut Vec<u32>,
+    writes: &mut VecDeque<(u32, u64)>,
+    count: usize,
+)
+    requires count { count ≤ length writes.old.items }
+    requires in_range { AreInRange (vec_len words.old) writes.old.items }
+    requires room { vec_len changed.old + count ≤ vec_capacity changed.old }
+    ensures words { words.new.items ≡ with_writes words.old.items (take count writes.old.items) }
+    ensures changed { changed.new.items
+        ≡ changed.old.items ++ map (λ write. write.0) (take count writes.old.items) }
+    ensures writes { writes.new.items ≡ drop count writes.old.items }
+    ensures all { vec_len words.new ≡ vec_len words.old }
+    ensures capacity { vec_capacity changed.old ≤ vec_capacity changed.new }
+{
+    if count != 0 {
+        write_first(words, changed, writes, count);
+    }
+}
+
+/// The first writes take effect, however many they are.
+fn write_first(
+    words: &mut Vec<u64>,
+    changed: &mut Vec<u32>,
+    writes: &mut VecDeque<(u32, u64)>,
+    count: usize,
+)
+    requires count { count ≤ length writes.old.items }
+    requires in_range { AreInRange (vec_len words.old) writes.old.items }
+    requires room { vec_len changed.old + count ≤ vec_capacity changed.old }
+    ensures words { words.new.items ≡ with_writes words.old.items (take count writes.old.items) }
+    ensures changed { changed.new.items
+        ≡ changed.old.items ++ map (λ write. write.0) (take count writes.old.items) }
+    ensures writes { writes.new.items ≡ drop count writes.old.items }
+    ensures all { vec_len words.new ≡ vec_len words.old }
+    ensures capacity { vec_capacity changed.old ≤ vec_capacity changed.new }
+{
+    for _ in 0..count {
+        if let Some((word, value)) = writes.pop_front() {
+            words[word as usize] = value;
+            note(changed, word);
+        }
+    }
+}
+
+/// The place after the writes of the commit with this index. `all` is how many writes all commits
+/// have.
+fn place_behind(counts: &VecDeque<usize>, all: usize, index: usize) -> usize
+    requires index { index < length counts.now.items }
+    requires all { sum counts.now.items ≡ all }
+    ensures { result ≡ sum (take (index + 1) counts.now.items) }
+{
+    let mut place = all;
+    for later in index + 1..counts.len() {
+        place -= counts[later];
+    }
+    place
+}
+
+/// The changed words are written from this place on. There is room for that.
+fn put(writes: &mut VecDeque<(u32, u64)>, place: usize, changed: &[u32], words: &[u64])
+    requires place { place ≤ length writes.old.items }
+    requires room { deque_len writes.old + length changed.now ≤ deque_capacity writes.old }
+    requires changed { All (λ w. w < length words.now) changed.now }
+    ensures writes { writes.new.items ≡ take place writes.old.items ++ written words.now changed.now
+        ++ drop place writes.old.items }
+{
+    for (i, word) in changed.iter().enumerate() {
+        put_one(writes, place + i, *word, words[*word as usize]);
+    }
+}
+
+/// One more write at this place. There is room for it.
+fn put_one(writes: &mut VecDeque<(u32, u64)>, place: usize, word: u32, value: u64)
+    requires place { place ≤ length writes.old.items }
+    requires room { deque_len writes.old < deque_capacity writes.old }
+    ensures items { writes.new.items ≡ insert writes.old.items place (word, value) }
+    ensures len { deque_len writes.new ≡ deque_len writes.old + 1 }
+    ensures capacity { deque_capacity writes.old ≤ deque_capacity writes.new }
+{
+    let _ = writes.insert(place, (word, value));
+}
+
+/// One more word has changed. There is room for it.
+#[inline(always)]
+fn note(changed: &mut Vec<u32>, word: u32)
+    requires { vec_len changed.old < vec_capacity changed.old }
+    ensures items { changed.new.items ≡ changed.old.items ++ word ∷ [] }
+    ensures len { vec_len changed.new ≡ vec_len changed.old + 1 }
+    ensures capacity { vec_capacity changed.old ≤ vec_capacity changed.new }
+{
+    changed.push_reserved(word);
+}
