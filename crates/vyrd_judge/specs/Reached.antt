@@ -1,5 +1,6 @@
 -- What is judged up to a place: the state there, and each caller's open observer.
-use Rattle.std.specs.Prelude.{◌≡◌, ◌<◌, ℕ, true, List, Some, drop, slice_get}
+use Rattle.std.specs.Prelude.{◌≡◌, ◌<◌, ◌==◌, ℕ, true, List, Some, drop, slice_get}
+use Rattle.std.specs.List.{list_any}
 use Rattle.vyrd_base.specs.declared.header.Header.{Header}
 use Rattle.vyrd_base.specs.declared.log.Entry.{Entry}
 use Rattle.vyrd_base.specs.Callers.{Called, open_call}
@@ -7,8 +8,9 @@ use Rattle.vyrd_base.specs.Subjects.{is_observer}
 use Rattle.vyrd_base.specs.Amounts.{Amounts}
 use Rattle.vyrd_base.specs.Specification.{answer_in}
 use Rattle.vyrd_base.specs.Commits.{commit_count, commits_after, states_from}
+use Rattle.vyrd_base.specs.Faults.{states_since_call}
 use Rattle.vyrd_base.specs.Entries.{has_method}
-use Rattle.vyrd_observers.specs.Watching.{Seen, has_answer, SeesAnswer}
+use Rattle.vyrd_observers.specs.Watching.{Seen, has_answer}
 
 -- what is kept stands for the open observer of a caller: what was called, and what the states since
 -- the call answer
