@@ -1,5 +1,5 @@
 -- Laws of amounts by key.
-use Rattle.std.proofs.Common.{◌≡◌, ℕ, Bool, true, false, cond, not, [], ◌∷◌, Option, Some, None, refl, ap, ◌∙◌, sym, arith, subst, ◌<◌, ◌++◌, T}
+use Rattle.std.proofs.Common.{◌≡◌, ℕ, Bool, true, false, cond, not, [], ◌∷◌, Option, Some, None, refl, ap, ◌∙◌, sym, arith, subst, ◌<◌, ◌≤◌, ◌++◌, T}
 use Rattle.std.specs.Prelude.{◌≢◌, ◌==◌, unwrap_or, filter, ◌&&◌, All}
 use Rattle.std.specs.Ordering.{nat_cmp, eq_by_cmp, is_lt}
 use Rattle.std.proofs.lemmas.List.Elements.{recursion_from_All}
@@ -7,6 +7,7 @@ use Rattle.std.specs.declared.cmp.Ordering.TheVariants.{Less, Equal, Greater}
 use Rattle.std.specs.Cmp.{unsigned_tied}
 use Rattle.std.proofs.lemmas.Cmp.{nat_cmp_total}
 use Rattle.std.proofs.lemmas.Bool.Decides.{nat_tests}
+use Rattle.std.proofs.lemmas.Option.{same_Some}
 use Rattle.std.specs.FinMap.{nat_cmp-IsAntisymmetric}
 use Rattle.std.specs.FinMap.Entries.{find, put, by_order, find-put, find-where_key, is_sorted-put, is_sorted-where_key, same_entries, below_all, is_sorted}
 use Rattle.std.specs.List.{AllByRecursion}
@@ -59,6 +60,10 @@ kept_put k a (e ∷ s) some all = elim (nat_cmp k e.0) as (λ o. AllSome (by_ord
   | Greater ↦ (all.0, kept_put k a s some all.1)
 ]
 
+-- no amounts at all
+pub no_amounts : IsAmounts []
+no_amounts = record { rising = tt; some = tt }
+
 -- amounts stay amounts
 pub IsAmounts-with_amount : (s : Amounts) (k a : ℕ) → IsAmounts s → IsAmounts (with_amount s k a)
 IsAmounts-with_amount s k a is = by_zero (a == 0) refl
@@ -70,14 +75,11 @@ IsAmounts-with_amount s k a is = by_zero (a == 0) refl
     }
     by_zero false e = record { rising = is_sorted-put nat_cmp nat_cmp_total k a s is.rising; some = kept_put k a s (apart_of a 0 e) is.some }
 
-some_same : (x y : ℕ) → ◌≡◌ {A = Option ℕ} (Some x) (Some y) → x ≡ y
-some_same x y e = cc
-
 -- what is found isn't 0
 found_some : (s : Amounts) (q v : ℕ) → AllSome s → find nat_cmp q s ≡ Some v → v ≢ 0
 found_some [] q v all e = cc
 found_some (entry ∷ s) q v all e = (elim (eq_by_cmp nat_cmp q entry.0) as (λ b. cond b (Some entry.1) (find nat_cmp q s) ≡ Some v → v ≢ 0) [
-  | true ↦ λ e'. λ zero'. all.0 (some_same entry.1 v e' ∙ zero')
+  | true ↦ λ e'. λ zero'. all.0 (same_Some entry.1 v e' ∙ zero')
   | false ↦ found_some s q v all.1
 ]) e
 
@@ -91,6 +93,14 @@ same_found (Some v) (Some w) some_x some_y e = ap Some e
 pub same_amounts : (s t : Amounts) → IsAmounts s → IsAmounts t → ((q : ℕ) → amount_of s q ≡ amount_of t q) → s ≡ t
 same_amounts s t is it same = same_entries nat_cmp nat_cmp_total nat_cmp-IsAntisymmetric s t is.rising it.rising
     (λ q. same_found (find nat_cmp q s) (find nat_cmp q t) (λ v e. found_some s q v is.some e) (λ v e. found_some t q v it.some e) (same q))
+
+-- amounts that are the old ones except for a key
+pub amounts_are : (s t : Amounts) (q a : ℕ) → IsAmounts s → IsAmounts t → ((r : ℕ) → amount_of t r ≡ cond (r == q) a (amount_of s r)) → t ≡ with_amount s q a
+amounts_are s t q a is it each = same_amounts t (with_amount s q a) it (IsAmounts-with_amount s q a is) (λ r. each r ∙ sym (amount_of-with_amount s q a r))
+
+-- a key before those that rise is none of them
+pub apart_from : (k q e : ℕ) → q ≤ k → T (is_lt (nat_cmp k e)) → (q == e) ≡ false
+apart_from k q e le h = grind (arith, nat_tests)
 
 less_of : (x k : ℕ) → x < k → nat_cmp x k ≡ Less
 less_of x k low = grind (arith, nat_tests)

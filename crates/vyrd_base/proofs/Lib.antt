@@ -30,6 +30,8 @@ pub mod KeyLaws
 pub mod DifferenceLaws
 pub mod StopLaws
 pub mod SumLaws
+pub mod PartLaws
+pub mod HeaderLaws
 pub mod TextLaws
 pub mod BufferLaws
 pub mod ListLaws

@@ -5,6 +5,7 @@ use Rattle.std.specs.Option.{option_map, option_and_then}
 use Rattle.std.specs.List.{list_all}
 use Rattle.std.specs.Char.{digit_value}
 use Rattle.std.specs.Str.{bytes_eq}
+use Rattle.std.proofs.lemmas.Bool.{and_right}
 use Rattle.std.proofs.lemmas.Bool.Decides.{nat_tests}
 use Rattle.std.proofs.lemmas.Slice.Eq.{bytes_eq-Decides}
 use Rattle.vyrd_base.specs.declared.subject.Subject.{Subject}
@@ -186,13 +187,9 @@ entry_in-entry_line subject e is =
     ∙ ap (λ b. cond b (Some e) None) (both_true _ _ is (bytes_same (entry_line e)))
 
 -- a list with a space isn't the line `end`
-spaced_isnt_end : (xs ys : List ℕ) → lacks 32 (xs ++ 32 ∷ ys) ≡ false
+pub spaced_isnt_end : (xs ys : List ℕ) → lacks 32 (xs ++ 32 ∷ ys) ≡ false
 spaced_isnt_end [] ys = refl
-spaced_isnt_end (x ∷ xs) ys = and_false (not (x == 32)) _ (spaced_isnt_end xs ys)
-  where
-    and_false : (a b : Bool) → b ≡ false → (a && b) ≡ false
-    and_false true b e = e
-    and_false false b e = refl
+spaced_isnt_end (x ∷ xs) ys = and_right (not (x == 32)) _ (spaced_isnt_end xs ys)
 
 kind_spaced : (start : List ℕ) (kind : Kind) → (rest : List ℕ) × (spaced (start ∷ kind_fields kind) ≡ start ++ 32 ∷ rest)
 kind_spaced start (Call method args) = (_, refl)

@@ -26,6 +26,11 @@ pub or_none : {A : Type 0} (o : Option A) → option_or o None ≡ o
 or_none None = refl
 or_none (Some x) = refl
 
+-- neither answers
+pub both_none : {A : Type 0} (a b : Option A) → option_or a b ≡ None → (a ≡ None) × (b ≡ None)
+both_none None b e = (refl, e)
+both_none (Some a) b e = cc
+
 -- zeros alone
 pub zeros : (n i : ℕ) → get_or (replicate n zero) i zero ≡ zero
 zeros zero i = refl

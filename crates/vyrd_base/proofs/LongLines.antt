@@ -20,7 +20,7 @@ use Rattle.vyrd_base.specs.Subjects.{arity_of, are_padded, subject_of, same_subj
 use Rattle.vyrd_base.specs.Spelling.{method_name, subject_name, header_line, kind_fields, start_line, entry_line, end_line, is_kind_of, is_entry_of}
 use Rattle.vyrd_base.specs.Lines.{fields_of, number_of, guessed_entry, entry_in, start_in, subject_called, header_of, header_spelled, header_from, header_in}
 use Rattle.vyrd_base.proofs.LineLaws.{is_start, start_numbers, start_in_sound}
-use Rattle.vyrd_base.proofs.TestLaws.{first_true, second_true}
+use Rattle.vyrd_base.proofs.TestLaws.{first_true, second_true, below_of}
 use Rattle.vyrd_base.proofs.SubjectLaws.{short_subject}
 
 -- how long fields are with the spaces after them
@@ -35,15 +35,18 @@ length-join c (x ∷ y ∷ fields) =
     let rest = length-join c (y ∷ fields) in
     omega (arith, length-append x (c ∷ join_with_byte c (y ∷ fields)), rest)
 
+-- how many digits a number of 32 bits has, and one of 64 bits
+pub short_number : (n : ℕ) → n < 2 ^ 32 → length (decimal n) ≤ 10
+short_number n low = length-decimal-le 10 n (omega arith) (omega arith) (omega arith)
+
+pub short_value : (n : ℕ) → n < 2 ^ 64 → length (decimal n) ≤ 20
+short_value n low = length-decimal-le 20 n (omega arith) (omega arith) (omega arith)
+
 short_32 : (n : ℕ) → nat_lt n (2 ^ 32) ≡ true → length (decimal n) ≤ 10
-short_32 n e =
-    let low : n < 2 ^ 32 = grind (arith, nat_tests) in
-    length-decimal-le 10 n (omega arith) (omega arith) (omega arith)
+short_32 n e = short_number n (below_of n (2 ^ 32) e)
 
 short_64 : (n : ℕ) → nat_lt n (2 ^ 64) ≡ true → length (decimal n) ≤ 20
-short_64 n e =
-    let low : n < 2 ^ 64 = grind (arith, nat_tests) in
-    length-decimal-le 20 n (omega arith) (omega arith) (omega arith)
+short_64 n e = short_value n (below_of n (2 ^ 64) e)
 
 short_name : (method : Method) → length (method_name method) ≤ 11
 short_name MsInsert = omega arith

@@ -1,5 +1,5 @@
 -- How the places of a list, and the first answer in it, grow with the list.
-use Rattle.std.proofs.Common.{◌≡◌, ℕ, zero, suc, ◌+◌, List, [], ◌∷◌, ◌++◌, length, map, Option, Some, None, refl, ap, ◌∙◌, sym, arith}
+use Rattle.std.proofs.Common.{◌≡◌, ℕ, zero, suc, ◌+◌, ◌<◌, ◌≤◌, List, [], ◌∷◌, ◌++◌, length, map, Option, Some, None, refl, ap, ◌∙◌, sym, arith}
 use Rattle.std.specs.Option.{option_or}
 use Rattle.vyrd_base.specs.Places.{Place, places_after, first_answer, newest_first_onto, newest_first, numbers_from, numbers_below}
 
@@ -31,6 +31,14 @@ newest_first_onto-append earlier (x ∷ xs) ys = newest_first_onto-append (x ∷
 pub newest_first-push : {A : Type 0} (xs : List A) (x : A) → newest_first (xs ++ x ∷ []) ≡ x ∷ newest_first xs
 newest_first-push xs x = newest_first_onto-append [] xs (x ∷ [])
 
+-- turning a list leaves its length
+pub length-newest_first_onto : {A : Type 0} (earlier xs : List A) → length (newest_first_onto earlier xs) ≡ length earlier + length xs
+length-newest_first_onto earlier [] = omega arith
+length-newest_first_onto earlier (x ∷ xs) = length-newest_first_onto (x ∷ earlier) xs ∙ omega arith
+
+pub length-newest_first : {A : Type 0} (xs : List A) → length (newest_first xs) ≡ length xs
+length-newest_first xs = length-newest_first_onto [] xs ∙ omega arith
+
 -- one number more
 pub numbers_from-push : (k n : ℕ) → numbers_from k (n + 1) ≡ numbers_from k n ++ (k + n) ∷ []
 numbers_from-push k zero = let e : k + 0 ≡ k = omega arith in ap (λ x. x ∷ []) (sym e)
@@ -46,3 +54,13 @@ numbers_below-push n = let e : 0 + n ≡ n = omega arith in numbers_from-push 0 
 pub length-mapped : (f : ℕ → ℕ) (k n : ℕ) → length (map f (numbers_from k n)) ≡ n
 length-mapped f k zero = refl
 length-mapped f k (suc n) = ap suc (length-mapped f (k + 1) n)
+
+-- two functions that agree at n numbers in a row
+pub map_alike_from : {A : Type 0} (f g : ℕ → A) (k n : ℕ) → ((i : ℕ) → k ≤ i → i < k + n → f i ≡ g i) → map f (numbers_from k n) ≡ map g (numbers_from k n)
+map_alike_from f g k zero same = refl
+map_alike_from f g k (suc n) same =
+    ap (λ x. x ∷ map f (numbers_from (k + 1) n)) (same k (omega arith) (omega arith))
+    ∙ ap (λ xs. g k ∷ xs) (map_alike_from f g (k + 1) n (λ i from to. same i (omega arith) (omega arith)))
+
+pub map_alike : {A : Type 0} (f g : ℕ → A) (n : ℕ) → ((i : ℕ) → i < n → f i ≡ g i) → map f (numbers_below n) ≡ map g (numbers_below n)
+map_alike f g n same = map_alike_from f g 0 n (λ i from to. same i (omega arith))

@@ -5,6 +5,7 @@ use Rattle.std.specs.List.{slice_split, onto_first}
 use Rattle.std.specs.Str.{bytes_eq}
 use Rattle.std.proofs.lemmas.Bool.Decides.{nat_tests}
 use Rattle.std.proofs.Math.Bool.{and-false}
+use Rattle.std.proofs.Math.Bool.{or-true}
 use Rattle.vyrd_base.specs.declared.header.Header.{Header}
 use Rattle.vyrd_base.specs.declared.subject.Subject.{Subject}
 use Rattle.vyrd_base.specs.declared.log.Entry.{Entry}
@@ -226,12 +227,8 @@ after_end_stays max n whole next (p ∷ ps) q [] rule h e = absurd (no_next p ps
     no_next p [] h = h
     no_next p (x ∷ ps) h = h
 after_end_stays max n whole next (p ∷ ps) q (q2 ∷ qs) rule h e =
-    ap (λ b. first_broken ((b && nat_lt max n breaks TooManyLines) ∷ (b breaks AfterEnd) ∷ [])) (any_right (has_any q)
-    ∙ sym (any_right (has_any next))) ∙ e
-  where
-    any_right : (b : Bool) → (b || true) ≡ true
-    any_right true = refl
-    any_right false = refl
+    ap (λ b. first_broken ((b && nat_lt max n breaks TooManyLines) ∷ (b breaks AfterEnd) ∷ [])) (or-true (has_any q)
+    ∙ sym (or-true (has_any next))) ∙ e
 
 line_grown : (n : ℕ) (past is_end : Bool) (end end' onward onward' : Reading) → Grown end end' → Grown onward onward'
     → Grown (cond past (stopped n (Some TooManyLines)) (cond is_end end onward))

@@ -1,5 +1,5 @@
 -- The text of a log is read as that log.
-use Rattle.std.proofs.Common.{◌≡◌, ℕ, zero, suc, ◌+◌, ◌<◌, ◌≤◌, ◌^◌, Bool, true, false, cond, not, ◌&&◌, ◌||◌, List, [], ◌∷◌, ◌++◌, map, length, Option, Some, None, Ok, Err, refl, ap, ◌∙◌, sym, arith, append_assoc}
+use Rattle.std.proofs.Common.{◌≡◌, ℕ, zero, suc, ◌+◌, ◌<◌, ◌≤◌, ◌^◌, Bool, true, false, cond, not, ◌||◌, List, [], ◌∷◌, ◌++◌, map, length, Option, Some, None, Ok, Err, refl, ap, ◌∙◌, sym, arith, append_assoc}
 use Rattle.std.specs.Prelude.{◌==◌, nat_lt, nat_le, codes, decimal, flat_map, ok_or}
 use Rattle.std.specs.Option.{option_or, unwrap_or}
 use Rattle.std.specs.List.{list_all, slice_split, AllByRecursion}
@@ -14,7 +14,7 @@ use Rattle.vyrd_base.specs.declared.log.Entry.{Entry}
 use Rattle.vyrd_base.specs.declared.log.StartWord.{StartWord}
 use Rattle.vyrd_base.specs.declared.verdict.Rule.TheVariants.{TooManyLines, StartRange, StartOrder, UnknownVersion, BadHeader}
 use Rattle.vyrd_base.specs.Layout.{plain_words, plain_words_of}
-use Rattle.vyrd_base.specs.Limits.{is_within, is_sized, is_known_version}
+use Rattle.vyrd_base.specs.Limits.{is_within, is_known_version}
 use Rattle.vyrd_base.specs.Starts.{is_out_of_range, is_out_of_order, start_rule, do_follow, may_start}
 use Rattle.vyrd_base.specs.Spelling.{ended_line, start_line, entry_line, end_line, header_line, subject_name, log_text, is_entry_of}
 use Rattle.vyrd_base.specs.Lines.{start_in, entry_in, header_in, fields_of, header_spelled, header_from, header_if, header_of}
@@ -23,6 +23,7 @@ use Rattle.vyrd_base.specs.Verdicts.{verdict_so_far, end_verdict, accepted, verd
 use Rattle.vyrd_base.specs.TextVerdicts.{known_verdict, text_verdict}
 use Rattle.vyrd_base.proofs.SplitLaws.{lacks, split_at, split-join, lacks-join, number_of_decimal, bytes_same}
 use Rattle.vyrd_base.proofs.LineLaws.{is_plain_field, plain_number, plain_spaces, plain_line_feeds, entry_line_whole, entry_in-entry_line, entry_line_isnt_end, is_start, start_line_whole, start_in-start_line, start_in-entry_line, start_in-end_line}
+use Rattle.vyrd_base.proofs.HeaderLaws.{sized, size_in_32_bits, callers_in_32_bits}
 use Rattle.vyrd_base.proofs.TestLaws.{both_true, first_true, second_true, neither_true, above_of, at_most_of, is_below}
 use Rattle.vyrd_base.proofs.SubjectLaws.{plain_subject, subject_read}
 use Rattle.vyrd_base.proofs.ListLaws.{or_none}
@@ -233,9 +234,6 @@ known_version (suc zero) e = omega arith
 known_version (suc (suc zero)) e = omega arith
 known_version (suc (suc (suc n))) e = cc
 
-small_number : (n most : ℕ) → most < 2 ^ 32 → nat_le n most ≡ true → n < 2 ^ 64
-small_number n most m e = grind (arith, nat_tests)
-
 version_fits : (n : ℕ) → n ≤ 2 → nat_lt n (2 ^ 32) ≡ true
 version_fits n h = is_below n (2 ^ 32) (omega arith)
 
@@ -255,7 +253,7 @@ header_in-header_line h =
     ∙ (λ i. header_spelled line (number_of_decimal h.version small_version i) (subject_read h.subject i)
     (number_of_decimal h.size small_size i) (number_of_decimal h.callers small_callers i))
     ∙ ap (λ b. cond b (ok_or (header_of h.version h.subject h.size h.callers) UnknownVersion) (Err BadHeader))
-    (both_true _ _ (both_true _ _ (version_fits h.version low) sized) (bytes_same line))
+    (both_true _ _ (both_true _ _ (version_fits h.version low) (sized h)) (bytes_same line))
     ∙ ap (λ o. ok_or o UnknownVersion)
     (header_if_within h.version h.subject h.size h.callers h.within (is_within h.version h.size h.callers) refl h.within)
   where
@@ -265,17 +263,14 @@ header_in-header_line h =
     low : h.version ≤ 2
     low = known_version h.version (first_true _ _ h.within)
 
-    sized : is_sized h.size h.callers ≡ true
-    sized = second_true (is_known_version h.version) _ h.within
-
     small_version : h.version < 2 ^ 64
     small_version = omega (arith, low)
 
     small_size : h.size < 2 ^ 64
-    small_size = small_number h.size 1024 (omega arith) (second_true (nat_le 1 h.size) _ (first_true _ _ (first_true _ _ sized)))
+    small_size = omega (arith, size_in_32_bits h)
 
     small_callers : h.callers < 2 ^ 64
-    small_callers = small_number h.callers 64 (omega arith) (second_true (nat_le 1 h.size && nat_le h.size 1024 && nat_le 1 h.callers) _ sized)
+    small_callers = omega (arith, callers_in_32_bits h)
 
     parts : List (List ℕ)
     parts = decimal h.version ∷ subject_name h.subject ∷ decimal h.size ∷ decimal h.callers ∷ []
@@ -295,17 +290,14 @@ header_lacks h = lacks-join 10 32 (codes "vyrd") (decimal h.version ∷ subject_
     (both_true _ _ (plain_subject h.subject)
     (both_true _ _ (plain_number h.size small_size) (both_true _ _ (plain_number h.callers small_callers) refl)))))
   where
-    sized : is_sized h.size h.callers ≡ true
-    sized = second_true (is_known_version h.version) _ h.within
-
     small_version : h.version < 2 ^ 64
     small_version = omega (arith, known_version h.version (first_true _ _ h.within))
 
     small_size : h.size < 2 ^ 64
-    small_size = small_number h.size 1024 (omega arith) (second_true (nat_le 1 h.size) _ (first_true _ _ (first_true _ _ sized)))
+    small_size = omega (arith, size_in_32_bits h)
 
     small_callers : h.callers < 2 ^ 64
-    small_callers = small_number h.callers 64 (omega arith) (second_true (nat_le 1 h.size && nat_le h.size 1024 && nat_le 1 h.callers) _ sized)
+    small_callers = omega (arith, callers_in_32_bits h)
 
 -- the whole text of a log, with `end` and no fault
 abbrev pub whole : Header → List StartWord → List Entry → Reading

@@ -19,11 +19,8 @@ use Rattle.vyrd_base.specs.Verdicts.{is_call_open}
 use Rattle.vyrd_base.proofs.PlaceLaws.{first_answer-append}
 use Rattle.vyrd_base.proofs.Fronts.{break_after}
 use Rattle.vyrd_base.proofs.BlockLaws.{entry, by_same, own_answer, other_answer, no_answer, wrote, block_value, own_value, own_wrote, other_writes, wrote_is}
+use Rattle.vyrd_base.proofs.ListLaws.{both_none}
 use Rattle.vyrd_base.proofs.TestLaws.{above_of, same_number, flipped}
-
-both_none : {A : Type 0} (a b : Option A) → option_or a b ≡ None → (a ≡ None) × (b ≡ None)
-both_none None b e = (refl, e)
-both_none (Some a) b e = cc
 
 pub well_formed_after : (h : Header) (earlier xs : List Entry) → WellFormed h earlier → break_after h earlier xs ≡ None
     → WellFormed h (newest_first_onto earlier xs)

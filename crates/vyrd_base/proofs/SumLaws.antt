@@ -1,10 +1,10 @@
 -- What parts give to a key, whose amount is the sum of it.
-use Rattle.std.proofs.Common.{◌≡◌, ℕ, zero, suc, ◌+◌, ◌*◌, ◌<◌, ◌≤◌, Bool, true, false, cond, List, [], ◌∷◌, ◌++◌, refl, ap, ◌∙◌, sym, arith}
+use Rattle.std.proofs.Common.{◌≡◌, ◌≢◌, ℕ, zero, suc, ◌+◌, ◌*◌, ◌<◌, ◌≤◌, Bool, true, false, cond, List, [], ◌∷◌, ◌++◌, length, get_or, set, refl, ap, ◌∙◌, sym, arith}
 use Rattle.std.specs.Prelude.{◌==◌, flat_map}
 use Rattle.vyrd_base.specs.Places.{numbers_from}
 use Rattle.vyrd_base.specs.Amounts.{Amounts, IsAmounts, amount_of, plus_amount, collected, part_given, given}
 use Rattle.vyrd_base.proofs.AmountLaws.{amount_of-with_amount, IsAmounts-with_amount}
-use Rattle.vyrd_base.proofs.TestLaws.{same_of}
+use Rattle.vyrd_base.proofs.TestLaws.{same_of, same_number, isnt_same}
 
 pub amount_of-plus : (s : Amounts) (k a q : ℕ) → amount_of (plus_amount s k a) q ≡ amount_of s q + part_given q (k, a)
 amount_of-plus s k a q = amount_of-with_amount s k (amount_of s k + a) q ∙ by_key (q == k) refl
@@ -43,3 +43,51 @@ given_nothing f q k (suc n) each =
       each k (omega arith) (omega arith),
       given_nothing f q (k + 1) n (λ j from to. each j (omega arith) (omega arith)),
     )
+
+-- ---- what a pair gives
+
+-- one pair gives way to another
+pub given-set : (q : ℕ) (pairs : List (ℕ × ℕ)) (i : ℕ) (pair d : ℕ × ℕ) → i < length pairs
+    → given q (set pairs i pair) + part_given q (get_or pairs i d) ≡ given q pairs + part_given q pair
+given-set q [] i pair d low = absurd (omega arith)
+given-set q (p ∷ pairs) zero pair d low = omega arith
+given-set q (p ∷ pairs) (suc i) pair d low = omega (arith, given-set q pairs i pair d (omega arith))
+
+-- what a pair gives to its own key, and to another
+pub own_part : (k a : ℕ) → part_given k (k, a) ≡ a
+own_part k a = ap (λ b. cond b a 0) (same_number k)
+
+pub other_part : (q k a : ℕ) → q ≢ k → part_given q (k, a) ≡ 0
+other_part q k a apart = ap (λ b. cond b a 0) (isnt_same q k apart)
+
+-- at most its amount
+pub part_at_most : (q k a : ℕ) → part_given q (k, a) ≤ a
+part_at_most q k a = by_key (q == k)
+  where
+    by_key : (b : Bool) → cond b a 0 ≤ a
+    by_key true = omega arith
+    by_key false = omega arith
+
+pub one_at_most : (q k a : ℕ) → given q ((k, a) ∷ []) ≤ a
+one_at_most q k a = omega (arith, part_at_most q k a)
+
+-- nothing gives nothing
+pub nothing_given : (q k : ℕ) → part_given q (k, 0) ≡ 0
+nothing_given q k = by_key (q == k)
+  where
+    by_key : (b : Bool) → cond {A = ℕ} b 0 0 ≡ 0
+    by_key true = refl
+    by_key false = refl
+
+-- no pair gives to the key
+pub none_gives : (q : ℕ) (pairs : List (ℕ × ℕ)) → ((j : ℕ) → part_given q (get_or pairs j (0, 0)) ≡ 0) → given q pairs ≡ 0
+none_gives q [] nothing = refl
+none_gives q (p ∷ pairs) nothing = omega (arith, nothing 0, none_gives q pairs (λ j. nothing (suc j)))
+
+-- one pair alone gives to it
+pub only_gives : (q : ℕ) (pairs : List (ℕ × ℕ)) (i : ℕ) → ((j : ℕ) → j ≢ i → part_given q (get_or pairs j (0, 0)) ≡ 0)
+    → given q pairs ≡ part_given q (get_or pairs i (0, 0))
+only_gives q [] i nothing = sym (nothing_given q 0)
+only_gives q (p ∷ pairs) zero nothing = omega (arith, none_gives q pairs (λ j. nothing (suc j) (λ e. absurd (omega (arith, e)))))
+only_gives q (p ∷ pairs) (suc i) nothing =
+    omega (arith, nothing 0 (λ e. absurd (omega (arith, e))), only_gives q pairs i (λ j other. nothing (suc j) (λ e. other (omega (arith, e)))))

@@ -1,54 +1,16 @@
 -- What the places of a table and the rest give to each key, and how that changes with one key.
-use Rattle.std.proofs.Common.{◌≡◌, ◌≢◌, ℕ, zero, suc, ◌+◌, ◌*◌, ◌%◌, ◌^◌, ◌<◌, ◌≤◌, Bool, true, false, cond, not, List, [], ◌∷◌, Option, Some, None, length, length-set, get_or, set, replicate, refl, ap, ◌∙◌, sym, subst, arith, get_or-set_same, get_or-set_other, take, T}
+use Rattle.std.proofs.Common.{◌≡◌, ◌≢◌, ℕ, zero, suc, ◌+◌, ◌*◌, ◌%◌, ◌^◌, ◌<◌, ◌≤◌, Bool, true, false, cond, not, List, [], ◌∷◌, Option, Some, None, length, length-set, set, replicate, refl, ap, ◌∙◌, sym, subst, arith, get_or-set_same, get_or-set_other, take, T}
 use Rattle.std.specs.Prelude.{◌==◌, nat_lt, unwrap_or}
 use Rattle.std.specs.Ordering.{nat_cmp, is_lt}
 use Rattle.std.specs.FinMap.Entries.{find, below_all}
 use Rattle.std.specs.Cmp.{unsigned_tied}
-use Rattle.std.proofs.lemmas.Bool.Decides.{nat_tests}
 use Rattle.std.proofs.lemmas.List.{length-replicate}
 use Rattle.std.proofs.lemmas.Nat.{shr_below}
 use Rattle.vyrd_base.specs.Amounts.{Amounts, IsAmounts, amount_of, with_amount, given, part_given}
 use Rattle.vyrd_base.specs.Tables.{pair_at, is_taken, first_place, IsWithin, IsFoundAt, IsTable, amounts_in, HasAll}
-use Rattle.vyrd_base.proofs.AmountLaws.{amount_of-with_amount, IsAmounts-with_amount, same_amounts, first_of_and, second_of_and}
-use Rattle.vyrd_base.proofs.SumLaws.{amount_of-plus}
-use Rattle.vyrd_base.proofs.TestLaws.{same_of, apart_of, same_number, is_same, isnt_same, below_of, not_below_of}
-
--- ---- what a pair gives
-
--- one pair gives way to another
-pub given-set : (q : ℕ) (pairs : List (ℕ × ℕ)) (i : ℕ) (pair d : ℕ × ℕ) → i < length pairs
-    → given q (set pairs i pair) + part_given q (get_or pairs i d) ≡ given q pairs + part_given q pair
-given-set q [] i pair d low = absurd (omega arith)
-given-set q (p ∷ pairs) zero pair d low = omega arith
-given-set q (p ∷ pairs) (suc i) pair d low = omega (arith, given-set q pairs i pair d (omega arith))
-
--- what a pair gives to its own key, and to another
-pub own_part : (k a : ℕ) → part_given k (k, a) ≡ a
-own_part k a = ap (λ b. cond b a 0) (same_number k)
-
-pub other_part : (q k a : ℕ) → q ≢ k → part_given q (k, a) ≡ 0
-other_part q k a apart = ap (λ b. cond b a 0) (isnt_same q k apart)
-
--- nothing gives nothing
-pub nothing_given : (q k : ℕ) → part_given q (k, 0) ≡ 0
-nothing_given q k = by_key (q == k)
-  where
-    by_key : (b : Bool) → cond {A = ℕ} b 0 0 ≡ 0
-    by_key true = refl
-    by_key false = refl
-
--- no pair gives to the key
-none_gives : (q : ℕ) (pairs : List (ℕ × ℕ)) → ((j : ℕ) → part_given q (get_or pairs j (0, 0)) ≡ 0) → given q pairs ≡ 0
-none_gives q [] nothing = refl
-none_gives q (p ∷ pairs) nothing = omega (arith, nothing 0, none_gives q pairs (λ j. nothing (suc j)))
-
--- one pair alone gives to it
-only_gives : (q : ℕ) (pairs : List (ℕ × ℕ)) (i : ℕ) → ((j : ℕ) → j ≢ i → part_given q (get_or pairs j (0, 0)) ≡ 0)
-    → given q pairs ≡ part_given q (get_or pairs i (0, 0))
-only_gives q [] i nothing = sym (nothing_given q 0)
-only_gives q (p ∷ pairs) zero nothing = omega (arith, none_gives q pairs (λ j. nothing (suc j) (λ e. absurd (omega (arith, e)))))
-only_gives q (p ∷ pairs) (suc i) nothing =
-    omega (arith, nothing 0 (λ e. absurd (omega (arith, e))), only_gives q pairs i (λ j other. nothing (suc j) (λ e. other (omega (arith, e)))))
+use Rattle.vyrd_base.proofs.AmountLaws.{amount_of-with_amount, IsAmounts-with_amount, same_amounts, amounts_are, no_amounts, apart_from, first_of_and, second_of_and}
+use Rattle.vyrd_base.proofs.SumLaws.{amount_of-plus, given-set, own_part, other_part, nothing_given, none_gives, only_gives}
+use Rattle.vyrd_base.proofs.TestLaws.{same_of, apart_of, is_same, isnt_same, below_of, not_below_of}
 
 -- ---- where a key stands
 
@@ -83,10 +45,6 @@ unfolding amounts_in
 amounts_formed [] rest formed = formed
 amounts_formed (p ∷ places) rest formed =
     IsAmounts-with_amount (amounts_in places rest) p.0 (amount_of (amounts_in places rest) p.0 + p.1) (amounts_formed places rest formed)
-
--- amounts that are the old ones except for a key
-pub amounts_are : (s t : Amounts) (q a : ℕ) → IsAmounts s → IsAmounts t → ((r : ℕ) → amount_of t r ≡ cond (r == q) a (amount_of s r)) → t ≡ with_amount s q a
-amounts_are s t q a is it each = same_amounts t (with_amount s q a) it (IsAmounts-with_amount s q a is) (λ r. each r ∙ sym (amount_of-with_amount s q a r))
 
 module _ (shift : ℕ) (places : List (ℕ × ℕ)) (rest : Amounts) (table : IsTable shift places rest) where
   -- a key has an amount in one place alone
@@ -323,15 +281,12 @@ all_free (suc n) zero = refl
 all_free (suc n) (suc i) = all_free n i
 
 -- a key has its places within the table
-places_within : (shift bits q : ℕ) → shift + bits ≡ 64 → first_place shift q < 2 ^ bits
+pub places_within : (shift bits q : ℕ) → shift + bits ≡ 64 → first_place shift q < 2 ^ bits
 unfolding first_place
 places_within shift bits q sum =
     let low : (q * 11400714819323198485) % 18446744073709551616 < 18446744073709551616 = omega arith in
     let is : 2 ^ (bits + shift) ≡ 18446744073709551616 = ap (λ n. 2 ^ n) (let e : bits + shift ≡ 64 = omega (arith, sum) in e) in
     shr_below ((q * 11400714819323198485) % 18446744073709551616) bits shift (omega (arith, low, is))
-
-empty_formed : IsAmounts []
-empty_formed = record { rising = tt; some = tt }
 
 pub new_table : (shift bits : ℕ) → 1 ≤ bits → shift + bits ≡ 64 → IsTable shift (replicate (2 ^ bits + 3) (0, 0)) []
 new_table shift bits some sum = record {
@@ -340,11 +295,11 @@ new_table shift bits some sum = record {
   first = λ i taken. absurd (let no = all_free (2 ^ bits + 3) i in cc);
   room = λ q. omega (arith, places_within shift bits q sum, length-replicate {A = ℕ × ℕ} (2 ^ bits + 3) (0, 0));
   away = λ i within. refl;
-  formed = empty_formed;
+  formed = no_amounts;
 }
 
 pub new_amounts : (n : ℕ) → amounts_in (replicate n (0, 0)) [] ≡ []
-new_amounts n = same_amounts (amounts_in (replicate n (0, 0)) []) [] (amounts_formed (replicate n (0, 0)) [] empty_formed) empty_formed
+new_amounts n = same_amounts (amounts_in (replicate n (0, 0)) []) [] (amounts_formed (replicate n (0, 0)) [] no_amounts) no_amounts
     (λ q. omega (
       arith,
       amount_in (replicate n (0, 0)) [] q,
@@ -426,9 +381,6 @@ places_have_all shift places rest table i taken =
     amount_there shift places rest table (pair_at places i).0 i (taken, refl)
 
 -- keys that rise, on top of nothing
-apart_from : (k q e : ℕ) → q ≤ k → T (is_lt (nat_cmp k e)) → (q == e) ≡ false
-apart_from k q e le h = grind (arith, nat_tests)
-
 none_below : (q k : ℕ) (s : Amounts) → q ≤ k → T (below_all nat_cmp k s) → given q s ≡ 0
 none_below q k [] le below = refl
 none_below q k (e ∷ s) le below =
@@ -471,4 +423,4 @@ pub amounts_have_all : (s : Amounts) → IsAmounts s → HasAll [] s
 amounts_have_all s is i taken = on_nothing s (pair_at s i).0 ∙ rising_have_all s is i taken
 
 pub amounts_again : (s : Amounts) → IsAmounts s → amounts_in s [] ≡ s
-amounts_again s is = same_amounts (amounts_in s []) s (amounts_formed s [] empty_formed) is (λ q. on_nothing s q ∙ given_amount s is q)
+amounts_again s is = same_amounts (amounts_in s []) s (amounts_formed s [] no_amounts) is (λ q. on_nothing s q ∙ given_amount s is q)

@@ -1,5 +1,6 @@
 -- What a test of numbers or of truths tells, and when it says so.
-use Rattle.std.proofs.Common.{◌≡◌, ◌≢◌, ℕ, ◌<◌, ◌≤◌, Bool, true, false, ◌&&◌, ◌||◌, refl, arith}
+use Rattle.std.proofs.Common.{◌≡◌, ◌≢◌, ℕ, ◌<◌, ◌≤◌, Bool, true, false, ◌&&◌, ◌||◌, Some, None, refl, arith}
+use Rattle.std.specs.Bool.{then_some}
 use Rattle.std.specs.Prelude.{◌==◌, nat_lt, nat_le}
 use Rattle.std.proofs.lemmas.Bool.Decides.{nat_tests}
 
@@ -72,3 +73,12 @@ second_true false b e = cc
 pub neither_true : (a b : Bool) → (a || b) ≡ false → (a ≡ false) × (b ≡ false)
 neither_true true b e = cc
 neither_true false b e = (refl, e)
+
+-- what a test gives, if it gives something
+pub then_some_true : {A : Type 0} (b : Bool) (x y : A) → then_some b x ≡ Some y → (b ≡ true) × (x ≡ y)
+then_some_true true x y e = (refl, cc)
+then_some_true false x y e = cc
+
+pub then_some_false : {A : Type 0} (b : Bool) (x : A) → then_some b x ≡ None → b ≡ false
+then_some_false true x e = cc
+then_some_false false x e = refl

@@ -3,6 +3,7 @@ use Rattle.std.proofs.Common.{◌≡◌, ℕ, ◌≤◌, Bool, true, false, cond
 use Rattle.std.specs.Prelude.{unwrap_or, option_map, option_and_then}
 use Rattle.std.specs.Option.{option_or}
 use Rattle.std.proofs.lemmas.Option.{option_and_then_some}
+use Rattle.std.proofs.lemmas.Bool.{or_right}
 use Rattle.vyrd_base.specs.declared.header.Header.{Header}
 use Rattle.vyrd_base.specs.declared.log.Entry.{Entry}
 use Rattle.vyrd_base.specs.declared.log.StartWord.{StartWord}
@@ -32,10 +33,6 @@ some_entries h starting [] v b e = absurd (none_is_some (sym (nothing_so_far h s
     none_is_some f = cc
 some_entries h starting (x ∷ es) v b e = refl
 
-or_true : (a b : Bool) → b ≡ true → (a || b) ≡ true
-or_true true b e = refl
-or_true false b e = e
-
 -- what is wrong already stays wrong
 known_stays : (old new : Reading) (v : Verdict) → TextGrown old new → known_verdict old ≡ Some v → known_verdict new ≡ Some v
 known_stays old new v g found = by_fault old.fault refl
@@ -57,7 +54,7 @@ known_stays old new v g found = by_fault old.fault refl
         at_end h false is w none = cc
         at_end h true is w none =
             let done = g.grown.ended e is in
-            let same = g.grown.begun e (or_true (has_any old.entries) old.ended is) in
+            let same = g.grown.begun e (or_right (has_any old.entries) old.ended is) in
             (λ i. option_or (verdict_so_far h (same i) (done.0 i)) (cond (done.1 i) (end_verdict h (same i) (done.0 i)) None))
             ∙ ap (λ o. option_or o (end_verdict h old.starting old.entries)) none ∙ w
 

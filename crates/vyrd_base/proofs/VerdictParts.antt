@@ -1,6 +1,6 @@
 -- The verdict by its parts: a fault in the front, a break of shape, an open call at `end`, the
 -- text, and acceptance. The starting words stand for a state, so that nothing is wrong with them.
-use Rattle.std.proofs.Common.{◌≡◌, ℕ, ◌+◌, Bool, true, false, cond, List, [], ◌∷◌, length, Option, Some, None, refl, ap, ◌∙◌, sym, arith}
+use Rattle.std.proofs.Common.{◌≡◌, ◌&&◌, ℕ, ◌+◌, Bool, true, false, cond, List, [], ◌∷◌, length, Option, Some, None, refl, ap, ◌∙◌, sym, arith}
 use Rattle.std.specs.Prelude.{◌==◌, is_none, option_map, unwrap_or}
 use Rattle.std.specs.Option.{option_or}
 use Rattle.std.specs.Bool.{then_some}
@@ -13,12 +13,12 @@ use Rattle.vyrd_base.specs.declared.verdict.Stop.{Stop}
 use Rattle.vyrd_base.specs.declared.verdict.Stop.TheVariants.{End, Text}
 use Rattle.vyrd_base.specs.declared.verdict.Verdict.{Verdict}
 use Rattle.vyrd_base.specs.declared.verdict.Verdict.TheVariants.{Malformed}
-use Rattle.vyrd_base.specs.Places.{newest_first}
+use Rattle.vyrd_base.specs.Places.{Place, newest_first}
+use Rattle.vyrd_base.specs.Shape.{is_observing}
 use Rattle.vyrd_base.specs.Amounts.{Amounts}
 use Rattle.vyrd_base.specs.Starts.{state_at_start}
 use Rattle.vyrd_base.specs.Front.{front, first_break}
-use Rattle.vyrd_base.specs.Verdicts.{line_of, first_fault, shape_verdict, start_verdict, begun_verdict, verdict_so_far, is_call_open, end_verdict, accepted, verdict, verdict_at}
-use Rattle.vyrd_base.proofs.NoStart.{state_at_start-none}
+use Rattle.vyrd_base.specs.Verdicts.{line_of, first_fault, shape_verdict, start_verdict, begun_verdict, verdict_so_far, is_return, is_call_open, end_verdict, accepted, verdict, verdict_at}
 use Rattle.vyrd_base.proofs.FrontLaws.{front_whole}
 
 -- starting words that stand for a state aren't a fault
@@ -27,9 +27,6 @@ pub sound_start : (h : Header) (starting : List StartWord) (state : Amounts)
     → start_verdict h starting ≡ None
 sound_start h starting state stands =
     ap (λ o. then_some (is_none o) (Malformed 2 StartState)) stands
-
-pub sound_without : (h : Header) → start_verdict h [] ≡ None
-sound_without h = ap (λ o. then_some (is_none o) (Malformed 2 StartState)) (state_at_start-none h)
 
 sound_begun : (h : Header) (starting : List StartWord) (entries : List Entry)
     → start_verdict h starting ≡ None
@@ -215,3 +212,7 @@ at_text_closed h starting entries line rule sound none closed =
     either : (b : Bool) → Malformed line rule ≡ text_answer starting entries line rule None b false
     either true = refl
     either false = refl
+
+-- whether an observer returns at a place
+abbrev pub observer_returns : Place Entry → Bool
+observer_returns place = is_return place.here.kind && is_observing place.here.caller place.earlier

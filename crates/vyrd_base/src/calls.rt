@@ -1,6 +1,6 @@
 //! The numbered calls of a device in memory, some of which are made to fail.
 
-ghost use Rattle.std.specs.Prelude.{◌≡◌, ◌-◌, ◌<◌, ◌≤◌, ◌^◌, IfOk};
+ghost use Rattle.std.specs.Prelude.{◌≡◌, ◌-◌, ◌<◌, ◌≤◌, IfOk};
 ghost use Rattle.vyrd_base.specs.Devices.{HasRisen, next_count, fails_next};
 
 use crate::device::Failed;

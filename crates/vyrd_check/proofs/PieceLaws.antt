@@ -3,6 +3,7 @@ use Rattle.std.proofs.Common.{◌≡◌, ◌≤◌, Bool, true, false, cond, ◌
 use Rattle.std.specs.Prelude.{option_and_then, is_none}
 use Rattle.std.specs.Bool.{then_some}
 use Rattle.std.specs.Option.{option_or}
+use Rattle.std.proofs.lemmas.Bool.{or_left, or_right}
 use Rattle.vyrd_base.specs.declared.header.Header.{Header}
 use Rattle.vyrd_base.specs.declared.log.Entry.{Entry}
 use Rattle.vyrd_base.specs.declared.log.StartWord.{StartWord}
@@ -32,21 +33,13 @@ any_more : (xs more : List Entry) → has_any xs ≡ true → has_any (xs ++ mor
 any_more [] more e = cc
 any_more (x ∷ xs) more e = refl
 
-either_true : (a b : Bool) → a ≡ true → (a || b) ≡ true
-either_true true b e = refl
-either_true false b e = cc
-
-second_also : (a b : Bool) → b ≡ true → (a || b) ≡ true
-second_also true b e = refl
-second_also false b e = e
-
 -- what has begun goes on
 pub begun_on : (old new : Reading) → TextGrown old new → old.fault ≡ None → has_begun old ≡ true
     → has_begun new ≡ true
 begun_on old new g none begun = by_end old.ended refl begun
   where
     by_end : (b : Bool) → old.ended ≡ b → (has_any old.entries || b) ≡ true → has_begun new ≡ true
-    by_end true e f = second_also (has_any new.entries) new.ended (g.grown.ended none e).1
+    by_end true e f = or_right (has_any new.entries) new.ended (g.grown.ended none e).1
     by_end false e f = by_entries (has_any old.entries) refl f
       where
         by_entries : (a : Bool) → has_any old.entries ≡ a → (a || false) ≡ true
@@ -54,7 +47,7 @@ begun_on old new g none begun = by_end old.ended refl begun
         by_entries false is h = cc
         by_entries true is h =
             let more = g.grown.entries none in
-            either_true (has_any new.entries) new.ended
+            or_left (has_any new.entries) new.ended
             (ap has_any more.1 ∙ any_more old.entries more.0 is)
 
 -- Once an entry or `end` may have been read, the judge has followed the entries from before.

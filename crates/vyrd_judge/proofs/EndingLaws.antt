@@ -3,6 +3,7 @@ use Rattle.std.proofs.Common.{◌≡◌, ℕ, Bool, true, false, cond, ◌&&◌,
 use Rattle.std.specs.Prelude.{◌==◌}
 use Rattle.std.specs.Option.{option_or}
 use Rattle.std.proofs.lemmas.List.Folds.{list_any-append}
+use Rattle.std.proofs.Math.Bool.{or-true}
 use Rattle.vyrd_base.specs.declared.header.Header.{Header}
 use Rattle.vyrd_base.specs.declared.log.Kind.{Kind}
 use Rattle.vyrd_base.specs.declared.log.Kind.TheVariants.{Call, Return, Write, Commit, BlockOpen, BlockClose, BlockCommit}
@@ -16,10 +17,6 @@ use Rattle.vyrd_base.proofs.Settled.{IsReturned}
 use Rattle.vyrd_base.proofs.ShadowLaws.{all_kept}
 use Rattle.vyrd_words.specs.Effects.{ends_block, is_ended}
 
-or_true : (b : Bool) → (b || true) ≡ true
-or_true true = refl
-or_true false = refl
-
 -- a caller that has returned has ended its block
 returned_ended : (c : ℕ) (later : List Entry) (r : ℕ) → next_reply c later ≡ Some r → is_ended c later ≡ true
 returned_ended c [] r found = cc
@@ -29,7 +26,7 @@ returned_ended c (e ∷ later) r found = by_test (e.caller == c) e.kind (λ f. r
     Rest = next_reply c later ≡ Some r → is_ended c later ≡ true
 
     or_rest : (b : Bool) → is_ended c later ≡ true → (b || is_ended c later) ≡ true
-    or_rest b so = ap (λ r. b || r) so ∙ or_true b
+    or_rest b so = ap (λ r. b || r) so ∙ or-true b
 
     by_test : (b : Bool) (kind : Kind) → Rest → option_or (cond b (returned kind) None) (next_reply c later) ≡ Some r
         → ((b && ends_block kind) || is_ended c later) ≡ true

@@ -23,7 +23,7 @@ use Rattle.vyrd_base.specs.Amounts.{Amounts}
 use Rattle.vyrd_base.specs.Starts.{words_at_start, state_at_start}
 use Rattle.vyrd_base.specs.Commits.{commits, is_commit, commit_count, states_of}
 use Rattle.vyrd_base.specs.Verdicts.{is_return, first_fault, start_verdict, verdict_so_far, verdict_at, verdict, accepted, is_call_open}
-use Rattle.vyrd_base.proofs.PlaceLaws.{newest_first-push}
+use Rattle.vyrd_base.proofs.PlaceLaws.{length-newest_first_onto, newest_first-push}
 use Rattle.vyrd_base.proofs.Lasting.{commit_count-cons}
 use Rattle.vyrd_base.proofs.ShadowLaws.{caller_kept, well_formed-first_break}
 use Rattle.vyrd_base.proofs.TestLaws.{below_of, is_below}
@@ -32,6 +32,7 @@ use Rattle.vyrd_judge.specs.declared.waiting.Waiting.{Waiting}
 use Rattle.vyrd_words.specs.HasWords.{HasWords, HasTaken, Keeps, MayFollow}
 use Rattle.vyrd_base.specs.Entries.{place_of}
 use Rattle.vyrd_observers.specs.Watching.{Seen}
+use Rattle.vyrd_base.proofs.VerdictParts.{observer_returns}
 use Rattle.vyrd_judge.specs.declared.waiting.Event.{Event}
 use Rattle.vyrd_words.specs.Cuts.{first_with}
 use Rattle.vyrd_words.specs.Effects.{parts_behind}
@@ -89,11 +90,7 @@ may_judge {k} x xs is may = ∥∥₁_map may (λ s. (s.0, s.1, xs, first_judged
 
 pub few_taken : {k : Kept} (x : Waiting) (xs : List Waiting) → k.waiting ≡ x ∷ xs → MayCatchUp k → k.taken + 1 < 2 ^ 64
 few_taken {k} x xs is may = below_of _ _ (∥∥₁_elim may (Bool-set _ _) (λ s.
-    let low : k.taken + 1 < 2 ^ 64 = omega (arith, s.2.queued.count, ap length is, long [] s.1, s.3) in is_below (k.taken + 1) (2 ^ 64) low))
-  where
-    long : (earlier xs : List Entry) → length (newest_first_onto earlier xs) ≡ length earlier + length xs
-    long earlier [] = omega arith
-    long earlier (y ∷ ys) = long (y ∷ earlier) ys ∙ omega arith
+    let low : k.taken + 1 < 2 ^ 64 = omega (arith, s.2.queued.count, ap length is, length-newest_first_onto [] s.1, s.3) in is_below (k.taken + 1) (2 ^ 64) low))
 
 position_is : (p : Place Entry) (x : Waiting) → waiting_at p ≡ Some x → x.position ≡ length p.earlier
 position_is p x is = by_event (event_of p p.here.kind) is
@@ -111,15 +108,11 @@ few_position {k} x xs is may short = below_of _ _ (∥∥₁_elim may (Bool-set 
       arith,
       short,
       position_is (place_of at.here at.earlier at.later) x at.is,
-      long (at.here ∷ at.earlier) at.later,
-      long [] s.1,
+      length-newest_first_onto (at.here ∷ at.earlier) at.later,
+      length-newest_first_onto [] s.1,
       ap length at.whole,
       s.3,
     ) in is_below (k.started + x.position + 2) (2 ^ 64) low))
-  where
-    long : (earlier ys : List Entry) → length (newest_first_onto earlier ys) ≡ length earlier + length ys
-    long earlier [] = omega arith
-    long earlier (y ∷ ys) = long (y ∷ earlier) ys ∙ omega arith
 
 -- the entry that waits first was judged, and leaves
 pub taken_on : (k n : Kept) (starting : List StartWord) (log : List Entry) (xs : List Waiting) → HasTakenIn k starting log
@@ -156,9 +149,6 @@ count_more f (y ∷ xs) x =
     let first : count_by f (y ∷ xs ++ x ∷ []) ≡ cond (f y) 1 0 + count_by f (xs ++ x ∷ []) = sum_by-cons (λ z. cond (f z) 1 0) y (xs ++ x ∷ []) in
     let whole : count_by f (y ∷ xs) ≡ cond (f y) 1 0 + count_by f xs = sum_by-cons (λ z. cond (f z) 1 0) y xs in
     omega (arith, rest, first, whole)
-
-abbrev observer_returns : Place Entry → Bool
-observer_returns place = is_return place.here.kind && is_observing place.here.caller place.earlier
 
 observers_more : (earlier xs : List Entry) (e : Entry) → count_by observer_returns (places_after earlier (xs ++ e ∷ []))
     ≡ count_by observer_returns (places_after earlier xs) + cond (is_return e.kind && is_observing e.caller (newest_first_onto earlier xs)) 1 0
@@ -255,12 +245,8 @@ pub may_queue : {k : Kept} (e : Entry) → IsSomewhere k
     → MayQueue k.header k.waiting k.taken k.callers e k.entries
 may_queue {k} e somewhere keeps = ∥∥₁_map somewhere (λ s. (newest_first s.1, s.2.taken_in.queued, keeps s.0 s.1 s.2, same s.1 s.2.taken_in.entries))
   where
-    long : (earlier ys : List Entry) → length (newest_first_onto earlier ys) ≡ length earlier + length ys
-    long earlier [] = omega arith
-    long earlier (y ∷ ys) = long (y ∷ earlier) ys ∙ omega arith
-
     same : (log : List Entry) → k.entries ≡ length log → k.entries ≡ length (newest_first log)
-    same log is = omega (arith, is, long [] log)
+    same log is = omega (arith, is, length-newest_first_onto [] log)
 
 -- counts are small
 count_few : {A : Type 0} (f : A → Bool) (xs : List A) → count_by f xs ≤ length xs
@@ -382,12 +368,8 @@ taken_all k n e queue_header commits_here observes shape_is shadow_is queue_is s
     queue : HasQueued queue_header k.waiting k.taken k.callers (newest_first log)
     queue = subst (λ h. HasQueued h k.waiting k.taken k.callers (newest_first log)) (sym queue_is) t.queued
 
-    long : (earlier ys : List Entry) → length (newest_first_onto earlier ys) ≡ length earlier + length ys
-    long earlier [] = omega arith
-    long earlier (y ∷ ys) = long (y ∷ earlier) ys ∙ omega arith
-
     reversed : (es : List Entry) → k.entries ≡ length es → k.entries ≡ length (newest_first es)
-    reversed es is = omega (arith, is, long [] es)
+    reversed es is = omega (arith, is, length-newest_first_onto [] es)
 
 pub may_catch_up : (k n : Kept) (e : Entry) → k.entries < 2 ^ 62 → IsSomewhere k
     → ((starting : List StartWord) (log : List Entry) → HasTakenIn k starting log → HasTakenIn n starting (log ++ e ∷ [])) → MayCatchUp n

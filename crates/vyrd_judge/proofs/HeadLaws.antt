@@ -2,6 +2,8 @@
 use Rattle.std.proofs.Common.{◌≡◌, ℕ, ◌+◌, ◌<◌, ◌≤◌, Bool, true, false, cond, List, [], ◌∷◌, ◌++◌, length, Option, Some, None, slice_get, refl, ap, subst, ◌∙◌, sym, arith, append-nil}
 use Rattle.std.specs.Prelude.{option_map}
 use Rattle.std.specs.Option.{option_or, option_map_or}
+use Rattle.std.proofs.lemmas.Option.{same_Some}
+use Rattle.vyrd_base.proofs.PlaceLaws.{length-newest_first_onto}
 use Rattle.vyrd_base.specs.declared.header.Header.{Header}
 use Rattle.vyrd_base.specs.declared.subject.Method.{Method}
 use Rattle.vyrd_base.specs.declared.subject.Args.{Args}
@@ -12,7 +14,7 @@ use Rattle.vyrd_base.specs.declared.log.StartWord.{StartWord}
 use Rattle.vyrd_base.specs.declared.verdict.Why.{Why}
 use Rattle.vyrd_base.specs.declared.verdict.Why.TheVariants.{Observer}
 use Rattle.vyrd_base.specs.declared.verdict.Verdict.TheVariants.{Violation}
-use Rattle.vyrd_base.specs.Places.{places_after, newest_first_onto, first_answer}
+use Rattle.vyrd_base.specs.Places.{places_after, first_answer}
 use Rattle.vyrd_base.specs.Callers.{Called, open_call}
 use Rattle.vyrd_base.specs.Subjects.{is_observer}
 use Rattle.vyrd_base.specs.Shape.{broken_rule}
@@ -126,10 +128,7 @@ watch_of {h} {starting} {log} {watches = watches} {x} seen at is here more =
     let call = returning at is in
     let kept = (at.judged.reached more).watched at.here.caller call.0 (caller_kept h at.earlier at.here at.keeps) call.1 call.2 in
     subst (λ s. IsWatched (states_along h starting (log ++ more)) at.here.caller at.earlier call.0 s)
-    (some_same (sym kept.1 ∙ ap (slice_get watches) (sym is.caller) ∙ here)) kept.2
-  where
-    some_same : {a b : Seen} → Some a ≡ Some b → a ≡ b
-    some_same e = cc
+    (same_Some _ _ (sym kept.1 ∙ ap (slice_get watches) (sym is.caller) ∙ here)) kept.2
 
 return_fault : {h : Header} {starting : List StartWord} {log : List Entry} {state : Amounts} {made : ℕ} {watches : List Seen} {x : Waiting}
     {xs : List Waiting} {first : List ℕ} {since : List (List (ℕ × ℕ))} {reply : ℕ} (seen : Seen) (at : AtHead h starting log state made watches x xs first since)
@@ -196,14 +195,11 @@ pub commit_fits : {h : Header} {starting : List StartWord} {log : List Entry} {s
     → IsCommit at.here at.earlier at.later x method args o → CommitFits h method args
 commit_fits {h} {method = method} {args = args} at is =
     let runs = commit_runs h at.here.caller at.earlier at.here.kind is.commits at.keeps in
-    let same : runs.0 ≡ record { method = method; args = args } = some_same (sym runs.1 ∙ is.opened) in
+    let same : runs.0 ≡ record { method = method; args = args } = same_Some _ _ (sym runs.1 ∙ is.opened) in
     record {
       may = (at.judged.reached []).allowed at.here.caller (record { method = method; args = args }) is.opened;
       mutates = ap (λ k. is_observer k.method) (sym same) ∙ runs.2;
     }
-  where
-    some_same : {a b : Called} → Some a ≡ Some b → a ≡ b
-    some_same e = cc
 
 -- the words at a commit are those that wait first, and the next ones wait after them
 words_here : {h : Header} {starting : List StartWord} {log : List Entry} {state : Amounts} {made : ℕ} {watches : List Seen} {x : Waiting} {xs : List Waiting}
@@ -297,11 +293,7 @@ pub head_few : {h : Header} {starting : List StartWord} {log : List Entry} {stat
 head_few {log = log} at = omega (
   arith,
   at.judged.few,
-  long (at.here ∷ at.earlier) at.later,
-  long [] log,
+  length-newest_first_onto (at.here ∷ at.earlier) at.later,
+  length-newest_first_onto [] log,
   ap length at.whole,
 )
-  where
-    long : (earlier xs : List Entry) → length (newest_first_onto earlier xs) ≡ length earlier + length xs
-    long earlier [] = omega arith
-    long earlier (y ∷ ys) = long (y ∷ earlier) ys ∙ omega arith

@@ -2,8 +2,9 @@
 use Rattle.std.proofs.Common.{◌≡◌, ℕ, ◌+◌, ◌≤◌, Bool, true, false, cond, List, [], ◌∷◌, ◌++◌, map, length, Option, Some, None, refl, ap, subst, ◌∙◌, sym, arith, append_assoc, append-nil}
 use Rattle.std.specs.Prelude.{option_map}
 use Rattle.std.specs.Option.{option_or, option_map_or}
-use Rattle.std.specs.Bool.{then_some}
 use Rattle.std.specs.List.{cons_option}
+use Rattle.vyrd_base.proofs.TestLaws.{then_some_false}
+use Rattle.vyrd_base.proofs.ListLaws.{both_none}
 use Rattle.vyrd_base.specs.declared.header.Header.{Header}
 use Rattle.vyrd_base.specs.declared.log.Kind.{Kind}
 use Rattle.vyrd_base.specs.declared.log.Kind.TheVariants.{Call, Return, Write, Commit, BlockOpen, BlockClose, BlockCommit}
@@ -129,10 +130,6 @@ quiet_on h starting log e earlier later state watches keeps quiet r = by_kind e.
     unwaiting p None is = refl
     unwaiting p (Some event) is = cc
 
-    untrue : {A : Type 0} (b : Bool) (a : A) → then_some b a ≡ None → b ≡ false
-    untrue false a is = refl
-    untrue true a is = cc
-
     at_commit : {A : Type 0} (o : Option Called) (reply : Option ℕ) → (called : Called) × (o ≡ Some called) × (is_observer called.method ≡ false)
         → option_map (commit_of reply) o ≡ None → A
     at_commit None reply runs none = absurd (apart runs.1)
@@ -150,13 +147,13 @@ quiet_on h starting log e earlier later state watches keeps quiet r = by_kind e.
     by_kind (Call method args) keeps' none r' = record {
       fault = λ more. refl;
       reached = λ more. reached_mutates h (states_along h starting (log ++ more)) c method args earlier (later ++ more) state watches
-          (untrue (is_observer method) _ (unwaiting (place (Call method args)) _ none)) (call_kept h c method args earlier keeps') (r' more);
+          (then_some_false (is_observer method) _ (unwaiting (place (Call method args)) _ none)) (call_kept h c method args earlier keeps') (r' more);
     }
     by_kind (Return reply) keeps' none r' =
         let called = return_kept h c reply earlier keeps' in
         let mutates : is_observer called.0.method ≡ false =
         ap (λ o. option_map_or (λ k. is_observer k.method) o false) (sym called.1)
-        ∙ untrue (is_observing c earlier) _ (unwaiting (place (Return reply)) _ none) in
+        ∙ then_some_false (is_observing c earlier) _ (unwaiting (place (Return reply)) _ none) in
         record {
           fault = λ more. mutator_at h starting (states_along h starting (log ++ more)) c reply earlier (later ++ more) state watches called.0 called.1 mutates (r' more);
           reached = λ more. reached_return h (states_along h starting (log ++ more)) c reply earlier (later ++ more) state watches watches (λ d other. refl) (r' more);
@@ -207,9 +204,6 @@ uncommitted h e earlier later keeps quiet = by_kind e.kind keeps quiet
     by_kind BlockClose keeps' none = refl
 
 -- where the first of some rules is broken nowhere
-both_none : {A : Type 0} (a b : Option A) → option_or a b ≡ None → (a ≡ None) × (b ≡ None)
-both_none None b e = (refl, e)
-both_none (Some a) b e = cc
 
 -- All before a place is judged: what is known there, however the log goes on.
 pub record IsJudged (h : Header) (starting : List StartWord) (log : List Entry) (state : Amounts) (made : ℕ) (watches : List Seen)

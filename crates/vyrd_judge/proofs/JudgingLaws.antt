@@ -4,6 +4,7 @@ use Rattle.std.specs.Prelude.{◌||◌, Result, Ok, Err, IfOk}
 use Rattle.std.proofs.Math.Logic.{∥∥₁_elim}
 use Rattle.std.proofs.Math.Bool.{Bool-set}
 use Rattle.std.proofs.lemmas.Option.{slice_get_within}
+use Rattle.std.proofs.lemmas.Option.{same_Some}
 use Rattle.vyrd_base.specs.declared.header.Header.{Header}
 use Rattle.vyrd_base.specs.declared.subject.Method.{Method}
 use Rattle.vyrd_base.specs.declared.subject.Args.{Args}
@@ -137,13 +138,10 @@ judged_current {state = state} {watches = watches} may = ∥∥₁_elim may (cur
 others_stay : (c : ℕ) (watches : List Seen) (seen : Seen) → OthersStay c watches (set watches c seen)
 others_stay c watches seen d other = slice_get-set_other watches c d seen (apart_of c d other)
 
-some_same : {a b : Seen} → Some a ≡ Some b → a ≡ b
-some_same e = cc
-
 current_set : (state : Amounts) (c : ℕ) (watches : List Seen) (seen : Seen) → c < length watches → AreCurrent state watches
     → (seen.is_open ≡ true → has_answer seen.answers (answer_in state seen.method seen.args) ≡ true) → AreCurrent state (set watches c seen)
 current_set state c watches seen low all own = λ d other here is_open. by_same c d
-    (λ same. let it : seen ≡ other = some_same (sym (slice_get-set_same watches c seen low)
+    (λ same. let it : seen ≡ other = same_Some _ _ (sym (slice_get-set_same watches c seen low)
     ∙ ap (slice_get (set watches c seen)) same ∙ here) in
     ap (λ s. has_answer s.answers (answer_in state s.method s.args)) (sym it) ∙ own (ap (λ s. s.is_open) it ∙ is_open))
     (λ apart. all d other (sym (slice_get-set_other watches c d seen (apart_of c d apart)) ∙ here) is_open)

@@ -7,6 +7,7 @@ use Rattle.std.specs.List.{cons_option}
 use Rattle.std.proofs.lemmas.Option.{slice_get_within, get_or_from_slice_get}
 use Rattle.std.proofs.Math.Logic.{∥∥₁_elim}
 use Rattle.std.proofs.Math.Bool.{Bool-set}
+use Rattle.std.proofs.lemmas.Option.{same_Some}
 use Rattle.vyrd_base.specs.declared.header.Header.{Header}
 use Rattle.vyrd_base.specs.declared.subject.Method.{Method}
 use Rattle.vyrd_base.specs.declared.subject.Args.{Args}
@@ -22,6 +23,7 @@ use Rattle.vyrd_base.specs.Commits.{returned}
 use Rattle.vyrd_base.proofs.BlockLaws.{entry, by_same, own_answer, other_answer, no_answer}
 use Rattle.vyrd_base.proofs.ShadowLaws.{all_kept, caller_kept}
 use Rattle.vyrd_base.proofs.TestLaws.{below_of, is_below, at_most_of, is_at_most, same_of, is_same, apart_of}
+use Rattle.vyrd_words.proofs.WordsLaws.{keeps_as}
 use Rattle.vyrd_judge.specs.declared.caller.Caller.{Caller}
 use Rattle.vyrd_judge.specs.declared.waiting.Event.{Event}
 use Rattle.vyrd_judge.specs.declared.waiting.Event.TheVariants.{Begins, Commits, Returns}
@@ -35,9 +37,6 @@ use Rattle.vyrd_base.proofs.CommitLaws.{Commits as Committing, alone, with_block
 use Rattle.vyrd_base.proofs.KeptLaws.{commit_kept, block_commit_runs, return_kept}
 use Rattle.vyrd_base.proofs.ListLaws.{slice_get-set_same, slice_get-set_other}
 
-some_same : {A : Type 0} {a b : A} → Some a ≡ Some b → a ≡ b
-some_same e = cc
-
 no_some : {A : Type 0} {a : A} → None ≡ Some a → ⊥
 no_some e = cc
 
@@ -45,8 +44,6 @@ apart : false ≡ true → ⊥
 apart e = cc
 
 -- what the rules say of an entry, by its kind
-named : {h : Header} {earlier : List Entry} {e : Entry} {kind : Kind} → e.kind ≡ kind → Keeps h earlier e → Keeps h earlier (entry e.caller kind)
-named {h} {earlier} {e} is keeps = subst (λ k. Keeps h earlier (entry e.caller k)) is keeps
 
 call_is_free : {h : Header} {c : ℕ} {method : Method} {args : Args} {earlier : List Entry} → Keeps h earlier (entry c (Call method args))
     → open_call c earlier ≡ None
@@ -173,7 +170,7 @@ slice_get-front (y ∷ xs) x (suc i) low = slice_get-front xs x i (omega (arith,
 -- an element of the longer list is the last or one before it
 by_place : {A P : Type 0} (xs : List A) (x : A) (i : ℕ) (y : A) → slice_get (xs ++ x ∷ []) i ≡ Some y
     → (slice_get xs i ≡ Some y → P) → (i ≡ length xs → x ≡ y → P) → P
-by_place [] x zero y here before last = last refl (some_same here)
+by_place [] x zero y here before last = last refl (same_Some _ _ here)
 by_place [] x (suc i) y here before last = absurd (no_some here)
 by_place (z ∷ xs) x zero y here before last = before here
 by_place (z ∷ xs) x (suc i) y here before last = by_place xs x i y here before (λ p q. last (ap suc p) q)
@@ -251,7 +248,7 @@ call_queued {h} {waiting} {taken} {callers} {earlier} {c} {method} {args} caller
 }
   where
     own : (d : ℕ) (k : Called) → c ≡ d → open_call d (entry c (Call method args) ∷ earlier) ≡ Some k → record { method = method; args = args } ≡ k
-    own d k same is = some_same (sym (open_call-own c (Call method args) earlier (Some (record { method = method; args = args })) refl)
+    own d k same is = same_Some _ _ (sym (open_call-own c (Call method args) earlier (Some (record { method = method; args = args })) refl)
         ∙ ap (λ x. open_call x (entry c (Call method args) ∷ earlier)) same ∙ is)
 
 -- an entry that isn't a commit waits too
@@ -383,7 +380,7 @@ observer_up {h} {old} {new} {taken} {taken'} {callers} {callers'} {earlier} c po
 
     no_own : (i : ℕ) (commit : Waiting) (k : Called) → slice_get old i ≡ Some commit → commit.event ≡ Commits k.method k.args None → commit.caller ≢ c
     no_own i commit k here event same = let u = q.unreturned i commit k here event in
-        apart (sym u.mutates ∙ ap (λ j. is_observer j.method) (some_same (sym u.opened ∙ ap (λ d. open_call d earlier) same ∙ opened)) ∙ observes)
+        apart (sym u.mutates ∙ ap (λ j. is_observer j.method) (same_Some _ _ (sym u.opened ∙ ap (λ d. open_call d earlier) same ∙ opened)) ∙ observes)
 
     all_same : (xs : List Waiting) → ((i : ℕ) (w : Waiting) → slice_get xs i ≡ Some w → replied e w ≡ w) → map (replied e) xs ≡ xs
     all_same [] so = refl
@@ -408,7 +405,7 @@ mutator_up {h} {old} {new} {taken} {taken'} {callers} {callers'} {earlier} c rep
       (subst (λ cs. HasQueued h (set old i x) taken cs (e ∷ earlier)) (sym same_callers)
       (return_queued c reply others_own others_pending others_unreturned q.called (omega (arith, q.count, length-set old i x)))));
   waiting = new_is ∙ sym (map_one (replied e) old i x low
-      (λ w at. let it : p.commit ≡ w = some_same (sym p.here ∙ at) in ap (replied e) (sym it) ∙ replied_here)
+      (λ w at. let it : p.commit ≡ w = same_Some _ _ (sym p.here ∙ at) in ap (replied e) (sym it) ∙ replied_here)
       (λ j w far at. reply_other c reply w (λ m a event own. far (only j w (record { method = m; args = a }) at event own))))
       ∙ sym (no_more (map (replied e) old))
       ∙ ap (λ b. map (replied e) old ++ cons_option (option_map (waiting_of (place_of e earlier [])) (then_some b (Returns reply))) []) (sym observing);
@@ -446,7 +443,7 @@ mutator_up {h} {old} {new} {taken} {taken'} {callers} {callers'} {earlier} c rep
 
     by_index : {P : Type 0} (j : ℕ) (w : Waiting) → slice_get (set old i x) j ≡ Some w → (slice_get old j ≡ Some w → j ≢ i → P) → (x ≡ w → P) → P
     by_index j w at other own = by_same i j
-        (λ same_index. own (some_same (sym (slice_get-set_same old i x low) ∙ ap (slice_get (set old i x)) same_index ∙ at)))
+        (λ same_index. own (same_Some _ _ (sym (slice_get-set_same old i x low) ∙ ap (slice_get (set old i x)) same_index ∙ at)))
         (λ apart_index. other (sym (slice_get-set_other old i j x (apart_of i j apart_index)) ∙ at) (λ same_index. apart_of i j apart_index (sym same_index)))
 
     replied_isnt : {m : Method} {a : Args} (w : Waiting) → x ≡ w → w.event ≡ Commits m a None → ⊥
@@ -465,7 +462,7 @@ mutator_up {h} {old} {new} {taken} {taken'} {callers} {callers'} {earlier} c rep
           commit = r.commit;
           since = r.since;
           here = slice_get-set_other old i (x'.commit - taken) x
-              (λ same_index. apart_of c d other (sym p.caller_is ∙ ap (λ w. w.caller) (some_same (sym p.here ∙ ap (slice_get old) same_index ∙ r.here)) ∙ r.caller_is))
+              (λ same_index. apart_of c d other (sym p.caller_is ∙ ap (λ w. w.caller) (same_Some _ _ (sym p.here ∙ ap (slice_get old) same_index ∙ r.here)) ∙ r.caller_is))
               ∙ r.here;
           caller_is = r.caller_is;
           event = r.event;
@@ -520,7 +517,7 @@ commit_up {h} {old} {new} {taken} {taken'} {callers} {callers'} {earlier} c posi
     queued : HasQueued h (old ++ x ∷ []) taken (set callers c y) (e ∷ earlier)
     queued = record {
       called = λ d k low_d is. let was = q.called d k low_d (sym (inside d) ∙ is) in by_same c d
-          (λ same_caller. let it : caller ≡ was.caller = some_same (sym here ∙ ap (slice_get callers) same_caller ∙ was.here) in record {
+          (λ same_caller. let it : caller ≡ was.caller = same_Some _ _ (sym here ∙ ap (slice_get callers) same_caller ∙ was.here) in record {
             caller = y;
             here = subst (λ z. slice_get (set callers c y) z ≡ Some y) same_caller (slice_get-set_same callers c y low);
             method = ap (λ z. z.method) it ∙ was.method;
@@ -534,10 +531,10 @@ commit_up {h} {old} {new} {taken} {taken'} {callers} {callers'} {earlier} c posi
           });
       pending = λ d k z low_d is committed z_at. by_same c d
           (λ same_caller.
-          let it : y ≡ z = some_same (sym (slice_get-set_same callers c y low) ∙ ap (slice_get (set callers c y)) same_caller ∙ z_at) in
+          let it : y ≡ z = same_Some _ _ (sym (slice_get-set_same callers c y low) ∙ ap (slice_get (set callers c y)) same_caller ∙ z_at) in
           let number : taken + length old ≡ z.commit = ap (λ w. w.commit) it in
           let place : z.commit - taken ≡ length old = omega (arith, number) in
-          let mine : called ≡ k = some_same (sym opened ∙ ap (λ w. open_call w earlier) same_caller ∙ sym (inside d) ∙ is) in
+          let mine : called ≡ k = same_Some _ _ (sym opened ∙ ap (λ w. open_call w earlier) same_caller ∙ sym (inside d) ∙ is) in
           record {
             commit = x;
             since = omega (arith, number);
@@ -566,10 +563,10 @@ commit_up {h} {old} {new} {taken} {taken'} {callers} {callers'} {earlier} c posi
             opened = ap (λ d. open_call d (e ∷ earlier)) (sym own) ∙ inside c ∙ opened ∙ ap Some (same_call (sym of_method) (sym of_args) (ap (λ v. v.event) is ∙ event));
             mutates = let runs = commit_opened kind commits keeps in
                 ap is_observer (sym (same_method (ap (λ v. v.event) is ∙ event)) ∙ of_method)
-                ∙ ap (λ k'. is_observer k'.method) (some_same (sym opened ∙ runs.1)) ∙ runs.2;
+                ∙ ap (λ k'. is_observer k'.method) (same_Some _ _ (sym opened ∙ runs.1)) ∙ runs.2;
             committed = ap (λ d. has_committed d (e ∷ earlier)) (sym own) ∙ committed-own c kind earlier true (commits_called kind commits);
             number = λ z z_at.
-                let it : y ≡ z = some_same (sym (slice_get-set_same callers c y low) ∙ ap (slice_get (set callers c y)) own ∙ z_at) in
+                let it : y ≡ z = same_Some _ _ (sym (slice_get-set_same callers c y low) ∙ ap (slice_get (set callers c y)) own ∙ z_at) in
                 ap (λ v. v.commit) (sym it) ∙ ap (λ n. taken + n) (sym last);
           });
       count = omega (arith, q.count, length-append old (x ∷ []));
@@ -603,7 +600,7 @@ queue_left {h} {waiting} {taken} {callers} {earlier} x xs is can q = record {
   where
     step : {d : ℕ} (k : Called) (caller : Caller) (p : IsPending waiting taken d k caller) (n : ℕ) → caller.commit - taken ≡ n → IsPending xs (taken + 1) d k caller
     step k caller p zero place =
-        absurd (can k.method k.args (ap (λ w. w.event) (some_same (sym (ap (λ ws. slice_get ws 0) is) ∙ ap (slice_get waiting) (sym place) ∙ p.here)) ∙ p.event))
+        absurd (can k.method k.args (ap (λ w. w.event) (same_Some _ _ (sym (ap (λ ws. slice_get ws 0) is) ∙ ap (slice_get waiting) (sym place) ∙ p.here)) ∙ p.event))
     step k caller p (suc n) place =
         let next : caller.commit - (taken + 1) ≡ n = omega (arith, place) in record {
           commit = p.commit;
@@ -641,21 +638,21 @@ queue_pending {h} {waiting} {taken} {callers} {e} {position} {reply} caller is h
 )
   where
     pending : (earlier : List Entry) → HasQueued h waiting taken callers earlier → (keeps : Keeps h earlier e)
-        → IsPending waiting taken e.caller (return_kept h e.caller reply earlier (named is keeps).rules).0 caller
+        → IsPending waiting taken e.caller (return_kept h e.caller reply earlier (keeps_as is keeps).rules).0 caller
     pending earlier q keeps =
-        let called = return_kept h e.caller reply earlier (named is keeps).rules in
+        let called = return_kept h e.caller reply earlier (keeps_as is keeps).rules in
         let known = q.called e.caller called.0 (caller_kept h earlier e keeps.rules) called.1 in
-        let it : caller ≡ known.caller = some_same (sym here ∙ known.here) in
-        found_commit caller here called.1 (ap is_observer (sym known.method ∙ ap (λ z. z.method) (sym it)) ∙ mutates) (named is keeps) q
+        let it : caller ≡ known.caller = same_Some _ _ (sym here ∙ known.here) in
+        found_commit caller here called.1 (ap is_observer (sym known.method ∙ ap (λ z. z.method) (sym it)) ∙ mutates) (keeps_as is keeps) q
 
 -- what was called in an execution that returns or commits
 pub returning_called : {h : Header} {earlier : List Entry} {e : Entry} {reply : ℕ} → e.kind ≡ Return reply → Keeps h earlier e
     → (called : Called) × (open_call e.caller earlier ≡ Some called)
-returning_called {h} {earlier} {e} {reply} is keeps = return_kept h e.caller reply earlier (named is keeps).rules
+returning_called {h} {earlier} {e} {reply} is keeps = return_kept h e.caller reply earlier (keeps_as is keeps).rules
 
 pub committing_called : {h : Header} {earlier : List Entry} {e : Entry} (kind : Kind) → e.kind ≡ kind → Committing kind → Keeps h earlier e
     → (called : Called) × (open_call e.caller earlier ≡ Some called) × (is_observer called.method ≡ false)
-committing_called kind is commits keeps = commit_opened kind commits (named is keeps)
+committing_called kind is commits keeps = commit_opened kind commits (keeps_as is keeps)
 
 pub known_caller : {h : Header} {waiting : List Waiting} {taken : ℕ} {callers : List Caller} {earlier : List Entry} {e : Entry} {called : Called}
     → Keeps h earlier e → open_call e.caller earlier ≡ Some called → HasQueued h waiting taken callers earlier → IsCaller callers e.caller called
@@ -663,7 +660,7 @@ known_caller {h} {earlier = earlier} {e} {called} keeps opened q = q.called e.ca
 
 -- the entry by its kind
 pub keeps_kind : {h : Header} {earlier : List Entry} {e : Entry} {kind : Kind} → e.kind ≡ kind → Keeps h earlier e → Keeps h earlier (entry e.caller kind)
-keeps_kind is keeps = named is keeps
+keeps_kind is keeps = keeps_as is keeps
 
 pub taken_kind : {h : Header} {old new : List Waiting} {taken : ℕ} {callers : List Caller} {earlier : List Entry} (e : Entry) {kind : Kind} → e.kind ≡ kind
     → HasTakenUp h old new taken callers (entry e.caller kind) earlier → HasTakenUp h old new taken callers e earlier

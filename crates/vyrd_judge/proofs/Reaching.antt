@@ -4,6 +4,8 @@ use Rattle.std.specs.Prelude.{◌==◌}
 use Rattle.std.specs.Option.{option_flatten}
 use Rattle.std.specs.List.{list_any}
 use Rattle.std.proofs.lemmas.List.Folds.{list_any-append}
+use Rattle.std.proofs.lemmas.Option.{same_Some}
+use Rattle.std.proofs.Math.Bool.{or-false}
 use Rattle.vyrd_base.specs.declared.header.Header.{Header}
 use Rattle.vyrd_base.specs.declared.subject.Method.{Method}
 use Rattle.vyrd_base.specs.declared.subject.Args.{Args}
@@ -35,10 +37,6 @@ watched_on {called = called} window is = record {
   args = is.args;
   answers = λ reply. is.answers reply ∙ ap (list_any (λ state. answer_in state called.method called.args == reply)) (sym window);
 }
-
-or_false : (b : Bool) → (b || false) ≡ b
-or_false true = refl
-or_false false = refl
 
 -- an entry that is neither a call nor a return nor a commit
 pub reached_inside : (h : Header) (states : List Amounts) (c : ℕ) (kind : Kind) (earlier later : List Entry) (state : Amounts)
@@ -101,15 +99,12 @@ pub reached_mutates : (h : Header) (states : List Amounts) (c : ℕ) (method : M
     → Reached h states (entry c (Call method args) ∷ earlier) later state watches
 reached_mutates h states c method args earlier later state watches mutates may r =
     reached_changed h states c (Call method args) earlier later state watches watches refl (λ d other. refl)
-    (λ called is. let same : record { method = method; args = args } ≡ called = some_same (sym (opened_call c method args earlier) ∙ is) in
+    (λ called is. let same : record { method = method; args = args } ≡ called = same_Some _ _ (sym (opened_call c method args earlier) ∙ is) in
     subst (λ k. has_method h k.method k.args ≡ true) same may)
-    (λ called is observes. let same : record { method = method; args = args } ≡ called = some_same (sym (opened_call c method args earlier) ∙ is) in
+    (λ called is observes. let same : record { method = method; args = args } ≡ called = same_Some _ _ (sym (opened_call c method args earlier) ∙ is) in
     absurd (apart (sym mutates ∙ ap (λ k. is_observer k.method) same ∙ observes)))
     r
   where
-    some_same : {a b : Called} → Some a ≡ Some b → a ≡ b
-    some_same e = cc
-
     apart : false ≡ true → ⊥
     apart e = cc
 
@@ -121,9 +116,9 @@ pub reached_begins : (h : Header) (states : List Amounts) (c : ℕ) (method : Me
     → Reached h states (entry c (Call method args) ∷ earlier) later state new
 reached_begins h states c method args earlier later state watches new may others here r =
     reached_changed h states c (Call method args) earlier later state watches new refl others
-    (λ called is. let same : call ≡ called = some_same (sym (opened_call c method args earlier) ∙ is) in
+    (λ called is. let same : call ≡ called = same_Some _ _ (sym (opened_call c method args earlier) ∙ is) in
     subst (λ k. has_method h k.method k.args ≡ true) same may)
-    (λ called is observes. let same : call ≡ called = some_same (sym (opened_call c method args earlier) ∙ is) in
+    (λ called is observes. let same : call ≡ called = same_Some _ _ (sym (opened_call c method args earlier) ∙ is) in
     (seen, here, subst (λ k. IsWatched states c (e ∷ earlier) k seen) same watched))
     r
   where
@@ -135,9 +130,6 @@ reached_begins h states c method args earlier later state watches new may others
 
     seen : Seen
     seen = record { is_open = true; method = method; args = args; answers = answer_in state method args ∷ [] }
-
-    some_same : {a b : Called} → Some a ≡ Some b → a ≡ b
-    some_same p = cc
 
     window : states_since_call states c (e ∷ earlier) ≡ state ∷ []
     window = window-call states c e earlier state (drop 1 (states_from state (commits_after earlier (e ∷ later)))) refl
@@ -206,7 +198,7 @@ reached_commit h states c kind earlier later state next watches new inside uncal
           ∙ ap (λ b. b || answer_in next seen.method seen.args == reply) (is.answers reply)
           ∙ ap (λ m. list_any test (states_since_call states d earlier) || answer_in next m seen.args == reply) is.method
           ∙ ap (λ a. list_any test (states_since_call states d earlier) || answer_in next called.method a == reply) is.args
-          ∙ ap (λ b. list_any test (states_since_call states d earlier) || b) (sym (or_false (test next)))
+          ∙ ap (λ b. list_any test (states_since_call states d earlier) || b) (sym (or-false (test next)))
           ∙ sym (list_any-append test (states_since_call states d earlier) (next ∷ []))
           ∙ ap (list_any test) (sym window);
     }

@@ -1,6 +1,6 @@
 //! The online judge.
 
-ghost use Rattle.std.specs.Prelude.{◌≡◌, length, take, ◌<◌, ◌≤◌, ◌+◌, ◌^◌, ◌∷◌, ◌++◌, true, false};
+ghost use Rattle.std.specs.Prelude.{◌≡◌, length, ◌<◌, ◌≤◌, ◌+◌, ◌^◌, ◌∷◌, ◌++◌, true, false};
 ghost use Rattle.std.specs.Prelude.{List, [], Option, Some, None, Ok, IfOk, OnOk, OnErr, unwrap_or};
 ghost use Rattle.std.specs.Prelude.{is_none, IfSome};
 ghost use Rattle.std.specs.Result.{is_err};

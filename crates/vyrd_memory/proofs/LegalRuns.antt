@@ -4,6 +4,7 @@ use Rattle.std.proofs.Common.{◌&&◌, List, [], ◌∷◌, Option, Some, None,
 use Rattle.std.specs.Prelude.{◌==◌, nat_lt, is_some, length}
 use Rattle.std.specs.List.{cons_option}
 use Rattle.std.proofs.lemmas.Bool.Decides.{nat_tests}
+use Rattle.std.proofs.lemmas.Option.{same_Some}
 use Rattle.vyrd_base.specs.declared.header.Header.{Header}
 use Rattle.vyrd_base.specs.declared.log.Kind.{Kind}
 use Rattle.vyrd_base.specs.declared.log.Kind.TheVariants.{Call, Return, Write, Commit, BlockOpen, BlockClose, BlockCommit}
@@ -21,7 +22,7 @@ use Rattle.vyrd_memory.specs.Soundness.{Situation, IsSound, holds, may_act, may_
 use Rattle.vyrd_memory.specs.Turns.{part_of, script_of, act_of, event_now, with_event, after_turn, after_turns, after_rounds, turns_of, is_done, RunsTo}
 use Rattle.vyrd_memory.specs.Runs.{AreSoundScripts, PlayToTheEnd}
 use Rattle.vyrd_memory.proofs.NumberLists.{all_pass}
-use Rattle.vyrd_memory.proofs.Situations.{some_same, situation_after, KeepsTo, sound_left, sound_keeps, done_is_stop, left_of_stop}
+use Rattle.vyrd_memory.proofs.Situations.{situation_after, KeepsTo, sound_left, sound_keeps, done_is_stop, left_of_stop}
 use Rattle.vyrd_memory.proofs.LegalEvents.{AreLegal, legal_history, are_answers}
 use Rattle.vyrd_memory.proofs.HeldLocks.{held_is}
 
@@ -45,31 +46,31 @@ event_may : (h : Header) (c : ℕ) (earlier : List Stamped) (s : Situation) (act
     → ((lock : ℕ) → is_lock (cells_of h) lock ≡ true → holds s lock ≡ (value_in earlier lock == c + 1))
     → event_now earlier act ≡ Some did → may_do (cells_of h) earlier c did ≡ true
 event_may h c earlier s (Load cell) did may held e =
-    subst (λ did. may_do (cells_of h) earlier c did ≡ true) (some_same (Read cell (value_in earlier cell)) did e)
+    subst (λ did. may_do (cells_of h) earlier c did ≡ true) (same_Some (Read cell (value_in earlier cell)) did e)
     (both_true (is_plain (cells_of h) cell) (value_in earlier cell == value_in earlier cell) may (same_number (value_in earlier cell)))
 event_may h c earlier s (Store cell value) did may held e =
-    subst (λ did. may_do (cells_of h) earlier c did ≡ true) (some_same (Wrote cell value) did e)
+    subst (λ did. may_do (cells_of h) earlier c did ≡ true) (same_Some (Wrote cell value) did e)
     (first_true (is_plain (cells_of h) cell && nat_lt value (2 ^ 63)) (is_some s.called) may)
 event_may h c earlier s (Take lock) did may held e = by_value (value_in earlier lock == 0) refl e
   where
     by_value : (b : Bool) → (value_in earlier lock == 0) ≡ b → cond b (Some (Took lock)) None ≡ Some did → may_do (cells_of h) earlier c did ≡ true
     by_value true free e =
-        subst (λ did. may_do (cells_of h) earlier c did ≡ true) (some_same (Took lock) did e)
+        subst (λ did. may_do (cells_of h) earlier c did ≡ true) (same_Some (Took lock) did e)
         (both_true (is_lock (cells_of h) lock) (value_in earlier lock == 0) (first_true (is_lock (cells_of h) lock) (not (holds s lock)) may) free)
     by_value false free e = cc
 event_may h c earlier s (Give lock) did may held e =
     let is : is_lock (cells_of h) lock ≡ true = first_true (is_lock (cells_of h) lock) (holds s lock) may in
-    subst (λ did. may_do (cells_of h) earlier c did ≡ true) (some_same (Gave lock) did e)
+    subst (λ did. may_do (cells_of h) earlier c did ≡ true) (same_Some (Gave lock) did e)
     (both_true (is_lock (cells_of h) lock) (value_in earlier lock == c + 1) is
     (sym (held lock is) ∙ second_true (is_lock (cells_of h) lock) (holds s lock) may))
 event_may h c earlier s (Mark kind) did may held e =
-    subst (λ did. may_do (cells_of h) earlier c did ≡ true) (some_same (Marked kind) did e) (is_mark h s kind may)
+    subst (λ did. may_do (cells_of h) earlier c did ≡ true) (same_Some (Marked kind) did e) (is_mark h s kind may)
 event_may h c earlier s Done did may held e = cc
 
 -- it is the event that the script wants
 event_plays : (earlier : List Stamped) (act : Act) (did : Did) → event_now earlier act ≡ Some did → event_of act (answer_of did) ≡ Some did
 event_plays earlier (Load cell) did e =
-    subst (λ did. event_of (Load cell) (answer_of did) ≡ Some did) (some_same (Read cell (value_in earlier cell)) did e) refl
+    subst (λ did. event_of (Load cell) (answer_of did) ≡ Some did) (same_Some (Read cell (value_in earlier cell)) did e) refl
 event_plays earlier (Store cell value) did e = e
 event_plays earlier (Take lock) did e = by_value (value_in earlier lock == 0) e
   where

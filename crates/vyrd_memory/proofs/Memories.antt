@@ -12,7 +12,7 @@ use Rattle.vyrd_base.specs.Amounts.{Amounts, IsAmounts}
 use Rattle.vyrd_base.specs.Views.{view_of_words, parts_of}
 use Rattle.vyrd_base.specs.Represented.{is_sound, state_of_words}
 use Rattle.vyrd_base.proofs.PlaceLaws.{length-mapped}
-use Rattle.vyrd_base.proofs.TestLaws.{both_true, first_true, second_true}
+use Rattle.vyrd_base.proofs.TestLaws.{both_true, first_true, second_true, then_some_true}
 use Rattle.vyrd_base.proofs.SumLaws.{IsAmounts-collected}
 use Rattle.vyrd_memory.specs.Alone.{Memory, words_in, state_in, with_cell}
 use Rattle.vyrd_memory.proofs.NumberLists.{element_below, drop-from, all_pass, pass_all}
@@ -42,10 +42,6 @@ locks_are h memory =
 
 zero_of : (n : ℕ) → is_free n ≡ true → n ≡ 0
 zero_of n e = grind (arith, nat_tests)
-
-then_some_true : {A : Type 0} (b : Bool) (x y : A) → then_some b x ≡ Some y → (b ≡ true) × (x ≡ y)
-then_some_true true x y e = (refl, cc)
-then_some_true false x y e = cc
 
 -- the words are as many as the header says
 right_length : (h : Header) (memory : Memory) → (length (words_in h memory) == plain_words h + lock_words h) ≡ true

@@ -1,5 +1,5 @@
 -- Lists over numbers in a row: their elements, their ends, and what holds of each.
-use Rattle.std.proofs.Common.{◌≡◌, ℕ, zero, suc, ◌+◌, ◌<◌, ◌≤◌, Bool, true, false, List, ◌∷◌, ◌++◌, map, refl, ap, ◌∙◌, arith}
+use Rattle.std.proofs.Common.{◌≡◌, ℕ, zero, suc, ◌+◌, ◌<◌, ◌≤◌, Bool, true, false, List, ◌++◌, map, refl, ap, ◌∙◌, arith}
 use Rattle.std.specs.Prelude.{◌≢◌, ◌==◌, slice_index, drop, flat_map}
 use Rattle.std.proofs.lemmas.Bool.Decides.{nat_tests}
 use Rattle.std.specs.List.{list_all}
@@ -50,9 +50,3 @@ flat_map_alike f g k zero same = refl
 flat_map_alike f g k (suc n) same =
     ap (λ xs. xs ++ flat_map f (numbers_from (k + 1) n)) (same k (omega arith) (omega arith))
     ∙ ap (λ xs. g k ++ xs) (flat_map_alike f g (k + 1) n (λ i from to. same i (omega arith) (omega arith)))
-
-pub map_alike : {A : Type 0} (f g : ℕ → A) (k n : ℕ) → ((i : ℕ) → k ≤ i → i < k + n → f i ≡ g i) → map f (numbers_from k n) ≡ map g (numbers_from k n)
-map_alike f g k zero same = refl
-map_alike f g k (suc n) same =
-    ap (λ x. x ∷ map f (numbers_from (k + 1) n)) (same k (omega arith) (omega arith))
-    ∙ ap (λ xs. g k ∷ xs) (map_alike f g (k + 1) n (λ i from to. same i (omega arith) (omega arith)))

@@ -6,17 +6,17 @@ use Rattle.std.specs.Option.{option_or}
 use Rattle.std.specs.List.{cons_option}
 use Rattle.std.proofs.lemmas.Bool.Decides.{nat_tests}
 use Rattle.std.proofs.lemmas.List.{length-set, get_or-set_same, get_or-set_other}
-use Rattle.std.proofs.lemmas.Option.{slice_get_within, slice_get-get_or}
+use Rattle.std.proofs.lemmas.Option.{same_Some, slice_get_within, slice_get-get_or}
 use Rattle.std.proofs.Math.Logic.{∥∥₁_elim}
 use Rattle.std.proofs.Math.Bool.{Bool-set}
 use Rattle.vyrd_base.specs.declared.header.Header.{Header}
 use Rattle.vyrd_base.specs.declared.history.Did.{Did}
 use Rattle.vyrd_base.specs.declared.history.Did.TheVariants.{Read, Wrote, Took, Gave, Marked}
 use Rattle.vyrd_base.specs.declared.history.Stamped.{Stamped}
-use Rattle.vyrd_base.specs.Places.{newest_first, newest_first_onto, numbers_from, first_answer}
+use Rattle.vyrd_base.specs.Places.{newest_first, numbers_from, first_answer}
 use Rattle.vyrd_base.specs.Layout.{plain_words, lock_words}
 use Rattle.vyrd_base.specs.Histories.{value_in, made_of, cells_of, is_plain, is_lock}
-use Rattle.vyrd_base.proofs.PlaceLaws.{newest_first-push}
+use Rattle.vyrd_base.proofs.PlaceLaws.{newest_first-push, length-newest_first, map_alike_from}
 use Rattle.vyrd_base.proofs.TestLaws.{first_true, second_true, same_number}
 use Rattle.vyrd_memory.specs.declared.act.Act.{Act}
 use Rattle.vyrd_memory.specs.declared.act.Act.TheVariants.{Load, Store, Take, Give, Mark, Done}
@@ -24,8 +24,7 @@ use Rattle.vyrd_memory.specs.Scripts.{Script, stop, step, next_act, after_answer
 use Rattle.vyrd_memory.specs.Soundness.{Situation, IsSound, IsSoundSomewhere, may_act, holds}
 use Rattle.vyrd_memory.specs.Turns.{part_of, script_of, act_of, event_now, with_event, after_turn}
 use Rattle.vyrd_memory.specs.Playing.{event_in, words_with, IsWithin, IsReady, IsPlaying, HasPlayed, scene, memory_after, total}
-use Rattle.vyrd_memory.proofs.NumberLists.{element_below, map_alike}
-use Rattle.vyrd_memory.proofs.Situations.{some_same}
+use Rattle.vyrd_memory.proofs.NumberLists.{element_below}
 
 -- the same as `IsWithin`, as a test
 within_test : ℕ → Act → Bool
@@ -100,7 +99,7 @@ set_from f g k zero i v low is same = absurd (omega (arith, low))
 set_from f g k (suc n) zero v low is same =
     let here : k + 0 ≡ k = omega arith in
     ap (λ x. x ∷ map f (numbers_from (k + 1) n)) (sym is ∙ ap g here)
-    ∙ ap (λ xs. g k ∷ xs) (map_alike f g (k + 1) n (λ j from to. same j (omega arith)))
+    ∙ ap (λ xs. g k ∷ xs) (map_alike_from f g (k + 1) n (λ j from to. same j (omega arith)))
 set_from f g k (suc n) (suc i) v low is same =
     let there : k + 1 + i ≡ k + suc i = omega arith in
     ap (λ x. x ∷ set (map f (numbers_from (k + 1) n)) i v) (same k (omega arith))
@@ -138,15 +137,15 @@ WithinMemory n (Marked kind) = Unit {0}
 
 event_within : (n : ℕ) (words : List ℕ) (act : Act) (did : Did) → IsWithin n act → event_in words act ≡ Some did → WithinMemory n did
 unfolding WithinMemory
-event_within n words (Load cell) did is e = subst (WithinMemory n) (some_same (Read cell (slice_index words cell)) did e) is
-event_within n words (Store cell value) did is e = subst (WithinMemory n) (some_same (Wrote cell value) did e) is
+event_within n words (Load cell) did is e = subst (WithinMemory n) (same_Some (Read cell (slice_index words cell)) did e) is
+event_within n words (Store cell value) did is e = subst (WithinMemory n) (same_Some (Wrote cell value) did e) is
 event_within n words (Take lock) did is e = by_value (slice_index words lock == 0) e
   where
     by_value : (b : Bool) → cond b (Some (Took lock)) None ≡ Some did → WithinMemory n did
-    by_value true e = subst (WithinMemory n) (some_same (Took lock) did e) is
+    by_value true e = subst (WithinMemory n) (same_Some (Took lock) did e) is
     by_value false e = cc
-event_within n words (Give lock) did is e = subst (WithinMemory n) (some_same (Gave lock) did e) is
-event_within n words (Mark kind) did is e = subst (WithinMemory n) (some_same (Marked kind) did e) tt
+event_within n words (Give lock) did is e = subst (WithinMemory n) (same_Some (Gave lock) did e) is
+event_within n words (Mark kind) did is e = subst (WithinMemory n) (same_Some (Marked kind) did e) tt
 event_within n words Done did is e = cc
 
 next_memory : (h : Header) (earlier : List Stamped) (number c : ℕ) (did : Did) → WithinMemory (plain_words h + lock_words h) did
@@ -202,7 +201,7 @@ slice_get-set (y ∷ xs) (suc c) (suc i) x low =
 total-set : {M : Type 0} (ahead : M → ℕ) (machines : List M) (c : ℕ) (m n : M) → slice_get machines c ≡ Some m
     → total ahead (set machines c n) + ahead m ≡ total ahead machines + ahead n
 total-set ahead [] c m n is = cc
-total-set ahead (x ∷ machines) zero m n is = let same : x ≡ m = some_same x m is in omega (arith, ap ahead same)
+total-set ahead (x ∷ machines) zero m n is = let same : x ≡ m = same_Some x m is in omega (arith, ap ahead same)
 total-set ahead (x ∷ machines) (suc c) m n is = omega (arith, total-set ahead machines c m n is)
 
 pub total_falls : {M : Type 0} (ahead : M → ℕ) (machines : List M) (c : ℕ) (m n : M) → slice_get machines c ≡ Some m → ahead n < ahead m
@@ -245,7 +244,7 @@ next_ready h header_of script machines c m n words did t = record {
 }
   where
     by_place : (i : ℕ) (x : _) (b : Bool) → cond b (Some n) (slice_get machines i) ≡ Some x → header_of x ≡ h
-    by_place i x true is = ap header_of (sym (some_same n x is)) ∙ t.header ∙ t.ready.made c m t.here
+    by_place i x true is = ap header_of (sym (same_Some n x is)) ∙ t.header ∙ t.ready.made c m t.here
     by_place i x false is = t.ready.made i x is
 
 -- the caller's part has one event more, and the others' are as before
@@ -283,7 +282,7 @@ next_playing h header_of script machines c number m n words did history t script
         → script x ≡ left_after (script_of scripts i) (part_of i (event ∷ newest_first history))
     by_place i x true e is =
         let same : i ≡ c = grind (arith, nat_tests) in
-        ap script (sym (some_same n x is)) ∙ t.script_is ∙ ap (λ s. after_answer s (answer_of did)) (playing.left c m t.here)
+        ap script (sym (same_Some n x is)) ∙ t.script_is ∙ ap (λ s. after_answer s (answer_of did)) (playing.left c m t.here)
         ∙ ap (λ part. left_after (script_of scripts c) part) (sym (part_here c number did (newest_first history)))
         ∙ ap (λ i. left_after (script_of scripts i) (part_of i (event ∷ newest_first history))) (sym same)
     by_place i x false e is =
@@ -307,13 +306,6 @@ event_is h script scripts machines words history c m playing here is =
     ap (event_now (newest_first history)) (act_is h script scripts machines words history c m playing here)
     ∙ sym (same_event h (newest_first history) (next_act (script m)) is)
     ∙ ap (λ words. event_in words (next_act (script m))) (sym playing.words_are)
-
-length-newest_first_onto : (earlier xs : List Stamped) → length (newest_first_onto earlier xs) ≡ length earlier + length xs
-length-newest_first_onto earlier [] = omega arith
-length-newest_first_onto earlier (x ∷ xs) = length-newest_first_onto (x ∷ earlier) xs ∙ omega arith
-
-pub length-newest_first : (history : List Stamped) → length (newest_first history) ≡ length history
-length-newest_first history = length-newest_first_onto [] history ∙ omega arith
 
 -- the element at a place that is within the list
 pub element_here : {M : Type 0} (machines : List M) (c : ℕ) (m : M) → c < length machines → m ≡ get_or machines c m → slice_get machines c ≡ Some m

@@ -1,6 +1,7 @@
 -- The situation of a caller after its part of a history, the newest event first. A sound script that is played keeps to what may be
 -- done.
-use Rattle.std.proofs.Common.{◌≡◌, true, List, [], ◌∷◌, Option, Some, refl, ap, sym, subst}
+use Rattle.std.proofs.Common.{◌≡◌, true, List, [], ◌∷◌, Some, refl, ap, sym, subst}
+use Rattle.std.proofs.lemmas.Option.{same_Some}
 use Rattle.vyrd_base.specs.declared.header.Header.{Header}
 use Rattle.vyrd_base.specs.declared.history.Did.{Did}
 use Rattle.vyrd_base.specs.declared.history.Did.TheVariants.{Read, Wrote, Took, Gave, Marked}
@@ -33,15 +34,12 @@ abbrev pub AreAnswers : List Did → Type 0
 AreAnswers [] = Unit {0}
 AreAnswers (did ∷ earlier) = IsAnswer (act_of_event did) (answer_of did) × AreAnswers earlier
 
-pub some_same : {A : Type 0} (x y : A) → ◌≡◌ {A = Option A} (Some x) (Some y) → x ≡ y
-some_same x y e = cc
-
 pub event_act : (act : Act) (did : Did) → event_of act (answer_of did) ≡ Some did → act ≡ act_of_event did
-event_act (Load cell) did e = ap act_of_event (some_same (Read cell (answer_of did)) did e)
-event_act (Store cell value) did e = ap act_of_event (some_same (Wrote cell value) did e)
-event_act (Take lock) did e = ap act_of_event (some_same (Took lock) did e)
-event_act (Give lock) did e = ap act_of_event (some_same (Gave lock) did e)
-event_act (Mark kind) did e = ap act_of_event (some_same (Marked kind) did e)
+event_act (Load cell) did e = ap act_of_event (same_Some (Read cell (answer_of did)) did e)
+event_act (Store cell value) did e = ap act_of_event (same_Some (Wrote cell value) did e)
+event_act (Take lock) did e = ap act_of_event (same_Some (Took lock) did e)
+event_act (Give lock) did e = ap act_of_event (same_Some (Gave lock) did e)
+event_act (Mark kind) did e = ap act_of_event (same_Some (Marked kind) did e)
 event_act Done did e = cc
 
 -- an event of a sound script may come, and what is left is sound after it

@@ -2,12 +2,13 @@
 use Rattle.std.proofs.Common.{◌≡◌, ℕ, Bool, true, false, cond, ◌&&◌, ◌||◌, List, [], ◌∷◌, ◌++◌, Option, Some, None, refl, ap, ◌∙◌, sym}
 use Rattle.std.specs.Option.{option_or, option_map, is_none}
 use Rattle.std.specs.List.{list_all}
+use Rattle.std.proofs.lemmas.Bool.{or_left}
+use Rattle.std.proofs.Math.Bool.{or-false}
 use Rattle.vyrd_base.specs.declared.history.Stamped.{Stamped}
 use Rattle.vyrd_base.specs.Places.{places_after, newest_first, first_answer}
 use Rattle.vyrd_mover.specs.Movers.{is_right_mover, is_left_mover, has_cut, uncut_at, break_of}
 use Rattle.vyrd_mover.specs.Blocks.{line_of, broken_lines}
 use Rattle.vyrd_mover.specs.Ahead.{first_not_left, break_line}
-use Rattle.vyrd_mover.proofs.TruthLaws.{left_true}
 use Rattle.vyrd_mover.proofs.CutLaws.{cuts, has_cut-cuts}
 use Rattle.vyrd_mover.proofs.Gathers.{onto_append}
 use Rattle.vyrd_mover.proofs.SeenLaws.{list_all-push}
@@ -26,7 +27,7 @@ left_cuts free [] h = refl
 left_cuts free (e ∷ es) h = go (is_left_mover free e) h
   where
     go : (b : Bool) → (b && list_all (is_left_mover free) es) ≡ true → (list_all (is_left_mover free) es || (is_right_mover free e && cuts free es)) ≡ true
-    go true h = left_true (list_all (is_left_mover free) es) _ h
+    go true h = or_left (list_all (is_left_mover free) es) _ h
     go false h = cc
 
 cuts_is_none : (free : ℕ → Bool) (es : List Stamped) → cuts free es ≡ is_none (break_line free es)
@@ -37,14 +38,10 @@ cuts_is_none free (e ∷ es) = go (is_right_mover free e) (cuts_is_none free es)
     or_rest true b h = sym (h refl)
     or_rest false b h = refl
 
-    or_nothing : (a : Bool) → (a || false) ≡ a
-    or_nothing true = refl
-    or_nothing false = refl
-
     go : (b : Bool) → cuts free es ≡ is_none (break_line free es)
         → (list_all (is_left_mover free) es || (b && cuts free es)) ≡ is_none (cond b (break_line free es) (first_not_left free es))
     go true h = or_rest (list_all (is_left_mover free) es) (cuts free es) (left_cuts free es) ∙ h
-    go false h = or_nothing (list_all (is_left_mover free) es) ∙ left_is_none free es
+    go false h = or-false (list_all (is_left_mover free) es) ∙ left_is_none free es
 
 -- whether a list that goes one event further has a cut
 cuts-push : (free : ℕ → Bool) (es : List Stamped) (e : Stamped)

@@ -1,11 +1,12 @@
 -- Cuts of a list by recursion: the first event is followed by left movers alone, or it is a right mover and the rest has a cut.
 use Rattle.std.proofs.Common.{◌≡◌, ℕ, zero, suc, ◌+◌, ◌<◌, Bool, true, false, ◌&&◌, ◌||◌, ◌⊎◌, inl, inr, List, [], ◌∷◌, length, take, drop, refl, ap, ◌∙◌, sym, arith}
 use Rattle.std.specs.List.{list_all, list_any}
+use Rattle.std.proofs.lemmas.Bool.{or_left, or_right}
 use Rattle.vyrd_base.specs.declared.history.Stamped.{Stamped}
 use Rattle.vyrd_base.specs.Places.{numbers_below}
 use Rattle.vyrd_base.proofs.TestLaws.{both_true, first_true, second_true}
 use Rattle.vyrd_mover.specs.Movers.{is_right_mover, is_left_mover, is_cut, has_cut}
-use Rattle.vyrd_mover.proofs.TruthLaws.{either_true, left_true, right_true, any_tells, tells_any}
+use Rattle.vyrd_mover.proofs.TruthLaws.{either_true, any_tells, tells_any}
 
 -- whether the list has a cut
 abbrev pub cuts : (ℕ → Bool) → List Stamped → Bool
@@ -14,13 +15,13 @@ cuts free (e ∷ later) = list_all (is_left_mover free) later || (is_right_mover
 
 cut_then : (free : ℕ → Bool) (events : List Stamped) (i : ℕ) → is_cut free events i ≡ true → cuts free events ≡ true
 cut_then free [] i h = refl
-cut_then free (e ∷ later) zero h = left_true (list_all (is_left_mover free) later) _ h
+cut_then free (e ∷ later) zero h = or_left (list_all (is_left_mover free) later) _ h
 cut_then free (e ∷ later) (suc i) h =
     let at : is_cut free (e ∷ later) (suc i) ≡ ((is_right_mover free e && list_all (is_right_mover free) (take i later))
     && list_all (is_left_mover free) (drop (i + 1) later)) =
     ap (λ n. (is_right_mover free e && list_all (is_right_mover free) (take i later)) && list_all (is_left_mover free) (drop n (e ∷ later))) (move i) in
     let here : ((is_right_mover free e && list_all (is_right_mover free) (take i later)) && list_all (is_left_mover free) (drop (i + 1) later)) ≡ true = sym at ∙ h in
-    right_true (list_all (is_left_mover free) later) _ (both_true (is_right_mover free e) _
+    or_right (list_all (is_left_mover free) later) _ (both_true (is_right_mover free e) _
     (first_true (is_right_mover free e) _ (first_true (is_right_mover free e && list_all (is_right_mover free) (take i later)) _ here))
     (cut_then free later i (both_true (list_all (is_right_mover free) (take i later)) _
     (second_true (is_right_mover free e) _ (first_true (is_right_mover free e && list_all (is_right_mover free) (take i later)) _ here))

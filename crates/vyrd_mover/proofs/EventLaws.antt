@@ -4,6 +4,7 @@ use Rattle.std.specs.Prelude.{nat_lt, codes, decimal}
 use Rattle.std.specs.List.{list_all}
 use Rattle.std.specs.Str.{bytes_eq}
 use Rattle.std.proofs.lemmas.Slice.Eq.{bytes_eq-Decides}
+use Rattle.std.proofs.lemmas.Bool.{not-true}
 use Rattle.vyrd_base.specs.declared.subject.Subject.{Subject}
 use Rattle.vyrd_base.specs.declared.log.Kind.{Kind}
 use Rattle.vyrd_base.specs.declared.log.Kind.TheVariants.{Call, Return, Write, Commit, BlockOpen, BlockClose, BlockCommit}
@@ -256,11 +257,7 @@ did_back subject number caller (Marked kind) is =
     let line = did_line caller (Marked kind) in
     ap (λ o. mark_or number o (act_from subject line number (fields_of line)))
     (entry_in-entry_line subject (record { caller = caller; kind = kind }) entry)
-    ∙ ap (λ b. cond b None (Some (stamped number caller (Marked kind)))) (no_write (is_write kind) (second_true (is_kind_of subject kind) _ kind_is))
-  where
-    no_write : (b : Bool) → not b ≡ true → b ≡ false
-    no_write true e = sym e
-    no_write false e = refl
+    ∙ ap (λ b. cond b None (Some (stamped number caller (Marked kind)))) (not-true (is_write kind) (second_true (is_kind_of subject kind) _ kind_is))
 
 pub event_in-event_line : (subject : Subject) (e : Stamped) → is_event_of subject e ≡ true → event_in subject e.number (event_line e) ≡ Some e
 event_in-event_line subject e is = did_back subject e.number e.caller e.did is

@@ -1,14 +1,15 @@
 -- Race-free cells as facts about runs over a memory.
-use Rattle.std.proofs.Common.{◌≡◌, ℕ, ◌+◌, ◌<◌, ◌≤◌, Bool, true, false, not, ◌||◌, ◌⊎◌, inl, inr, List, [], ◌∷◌, refl, ap, sym, subst, arith}
+use Rattle.std.proofs.Common.{◌≡◌, ℕ, ◌+◌, ◌<◌, ◌≤◌, true, false, not, ◌||◌, ◌⊎◌, inl, inr, List, [], ◌∷◌, refl, ap, sym, subst, arith}
 use Rattle.std.specs.Prelude.{◌==◌, nat_le}
 use Rattle.std.specs.List.{list_all, list_any}
+use Rattle.std.proofs.lemmas.Bool.{or_left, or_right, not-true}
 use Rattle.vyrd_base.specs.declared.history.Stamped.{Stamped}
 use Rattle.vyrd_base.specs.Places.{places_after, numbers_from, numbers_below}
 use Rattle.vyrd_base.specs.Histories.{Cells, is_lock, value_in}
 use Rattle.vyrd_base.proofs.TestLaws.{both_true, first_true, second_true, same_of, is_same, is_at_most, is_below, at_most_of, below_of}
 use Rattle.vyrd_mover.specs.RaceFree.{is_access_of, is_write_to, is_used_by_alone, is_unwritten, is_guarded_at, is_guarded_by, is_race_free}
 use Rattle.vyrd_mover.specs.Exchanges.{numbered_from}
-use Rattle.vyrd_mover.proofs.TruthLaws.{either_true, left_true, right_true, implied, implies, any_tells, tells_any}
+use Rattle.vyrd_mover.proofs.TruthLaws.{either_true, implied, implies, any_tells, tells_any}
 use Rattle.vyrd_mover.proofs.Running.{step, value_step}
 
 -- each read and write of the cell is the caller's
@@ -45,14 +46,10 @@ is_only cell c (e ∷ later) h =
     both_true (not (is_access_of cell e.did) || e.caller == c) _
     (implies (is_access_of cell e.did) _ (λ access. is_same e.caller c (h.0 access))) (is_only cell c later h.1)
 
-not_true : (b : Bool) → not b ≡ true → b ≡ false
-not_true true e = sym e
-not_true false e = refl
-
 unwritten_of : (cell : ℕ) (es : List Stamped) → is_unwritten es cell ≡ true → Unwritten cell es
 unwritten_of cell [] h = tt
 unwritten_of cell (e ∷ later) h = (
-  not_true (is_write_to cell e.did) (first_true (not (is_write_to cell e.did)) _ h),
+  not-true (is_write_to cell e.did) (first_true (not (is_write_to cell e.did)) _ h),
   unwritten_of cell later (second_true (not (is_write_to cell e.did)) _ h),
 )
 
@@ -110,14 +107,14 @@ free_of cells history cell e = first (either_true (list_any (is_used_by_alone hi
 pub is_free : (cells : Cells) (history : List Stamped) (cell : ℕ) → Free cells (value_in []) history cell → is_race_free cells history cell ≡ true
 unfolding is_race_free
 is_free cells history cell (alone c low h) =
-    left_true (list_any (is_used_by_alone history cell) (numbers_below cells.callers) || is_unwritten history cell) _
-    (left_true (list_any (is_used_by_alone history cell) (numbers_below cells.callers)) _
+    or_left (list_any (is_used_by_alone history cell) (numbers_below cells.callers) || is_unwritten history cell) _
+    (or_left (list_any (is_used_by_alone history cell) (numbers_below cells.callers)) _
     (tells_any (is_used_by_alone history cell) 0 cells.callers c (omega arith) (omega arith) (is_only cell c history h)))
 is_free cells history cell (unwritten h) =
-    left_true (list_any (is_used_by_alone history cell) (numbers_below cells.callers) || is_unwritten history cell) _
-    (right_true (list_any (is_used_by_alone history cell) (numbers_below cells.callers)) _ (is_never_written cell history h))
+    or_left (list_any (is_used_by_alone history cell) (numbers_below cells.callers) || is_unwritten history cell) _
+    (or_right (list_any (is_used_by_alone history cell) (numbers_below cells.callers)) _ (is_never_written cell history h))
 is_free cells history cell (guarded lock kind h) =
-    right_true (list_any (is_used_by_alone history cell) (numbers_below cells.callers) || is_unwritten history cell) _
+    or_right (list_any (is_used_by_alone history cell) (numbers_below cells.callers) || is_unwritten history cell) _
     (tells_any (is_guarded_by history cell) cells.plain cells.locks lock (at_most_of cells.plain lock (first_true _ _ kind))
     (below_of lock (cells.plain + cells.locks) (second_true (nat_le cells.plain lock) _ kind)) (is_guarded cell lock [] history h))
 

@@ -2,6 +2,7 @@
 use Rattle.std.proofs.Common.{◌≡◌, ◌≢◌, ℕ, Bool, true, false, cond, not, ◌&&◌, ◌||◌, ◌⊎◌, inl, inr, List, [], ◌∷◌, ◌++◌, Option, Some, None, refl, ap, ◌∙◌, sym, subst}
 use Rattle.std.specs.Prelude.{◌==◌}
 use Rattle.std.specs.List.{list_all, filter, cons_option}
+use Rattle.std.proofs.lemmas.Bool.{or_left, or_right}
 use Rattle.vyrd_base.specs.declared.history.Did.{Did}
 use Rattle.vyrd_base.specs.declared.history.Stamped.{Stamped}
 use Rattle.vyrd_base.specs.Places.{newest_first, newest_first_onto}
@@ -11,7 +12,7 @@ use Rattle.vyrd_mover.specs.Movers.{is_free_access, is_take, is_give, is_right_m
 use Rattle.vyrd_mover.specs.Blocks.{is_mark, events_of}
 use Rattle.vyrd_mover.specs.Exchanges.{is_movable}
 use Rattle.vyrd_mover.specs.Gathering.{done_by}
-use Rattle.vyrd_mover.proofs.TruthLaws.{either_true, left_true, right_true}
+use Rattle.vyrd_mover.proofs.TruthLaws.{either_true}
 use Rattle.vyrd_mover.proofs.Running.{Runs}
 use Rattle.vyrd_mover.proofs.Swaps.{Frees, exchange_runs, exchange_frees}
 use Rattle.vyrd_mover.proofs.CutLaws.{cuts}
@@ -105,39 +106,39 @@ others_foreign c (e ∷ later) = go (e.caller == c) refl (others_foreign c later
 -- what may be exchanged
 mark_passes : (free : ℕ → Bool) (x y : Stamped) → is_mark x.did ≡ true → is_movable free x y ≡ true
 mark_passes free x y h =
-    left_true (is_take x.did || is_give y.did || is_mark x.did || is_mark y.did || is_free_access free x.did) _
-    (left_true (is_take x.did || is_give y.did || is_mark x.did || is_mark y.did) _
-    (left_true (is_take x.did || is_give y.did || is_mark x.did) _ (right_true (is_take x.did || is_give y.did) _ h)))
+    or_left (is_take x.did || is_give y.did || is_mark x.did || is_mark y.did || is_free_access free x.did) _
+    (or_left (is_take x.did || is_give y.did || is_mark x.did || is_mark y.did) _
+    (or_left (is_take x.did || is_give y.did || is_mark x.did) _ (or_right (is_take x.did || is_give y.did) _ h)))
 
 passes_mark : (free : ℕ → Bool) (x y : Stamped) → is_mark y.did ≡ true → is_movable free x y ≡ true
 passes_mark free x y h =
-    left_true (is_take x.did || is_give y.did || is_mark x.did || is_mark y.did || is_free_access free x.did) _
-    (left_true (is_take x.did || is_give y.did || is_mark x.did || is_mark y.did) _
-    (right_true (is_take x.did || is_give y.did || is_mark x.did) _ h))
+    or_left (is_take x.did || is_give y.did || is_mark x.did || is_mark y.did || is_free_access free x.did) _
+    (or_left (is_take x.did || is_give y.did || is_mark x.did || is_mark y.did) _
+    (or_right (is_take x.did || is_give y.did || is_mark x.did) _ h))
 
 right_passes : (free : ℕ → Bool) (x y : Stamped) → is_right_mover free x ≡ true → is_movable free x y ≡ true
 right_passes free x y h = go (either_true (is_take x.did) (is_free_access free x.did) h)
   where
     go : (is_take x.did ≡ true) ⊎ (is_free_access free x.did ≡ true) → is_movable free x y ≡ true
     go (inl h) =
-        left_true (is_take x.did || is_give y.did || is_mark x.did || is_mark y.did || is_free_access free x.did) _
-        (left_true (is_take x.did || is_give y.did || is_mark x.did || is_mark y.did) _
-        (left_true (is_take x.did || is_give y.did || is_mark x.did) _
-        (left_true (is_take x.did || is_give y.did) _ (left_true (is_take x.did) _ h))))
+        or_left (is_take x.did || is_give y.did || is_mark x.did || is_mark y.did || is_free_access free x.did) _
+        (or_left (is_take x.did || is_give y.did || is_mark x.did || is_mark y.did) _
+        (or_left (is_take x.did || is_give y.did || is_mark x.did) _
+        (or_left (is_take x.did || is_give y.did) _ (or_left (is_take x.did) _ h))))
     go (inr h) =
-        left_true (is_take x.did || is_give y.did || is_mark x.did || is_mark y.did || is_free_access free x.did) _
-        (right_true (is_take x.did || is_give y.did || is_mark x.did || is_mark y.did) _ h)
+        or_left (is_take x.did || is_give y.did || is_mark x.did || is_mark y.did || is_free_access free x.did) _
+        (or_right (is_take x.did || is_give y.did || is_mark x.did || is_mark y.did) _ h)
 
 passes_left : (free : ℕ → Bool) (x y : Stamped) → is_left_mover free y ≡ true → is_movable free x y ≡ true
 passes_left free x y h = go (either_true (is_give y.did) (is_free_access free y.did) h)
   where
     go : (is_give y.did ≡ true) ⊎ (is_free_access free y.did ≡ true) → is_movable free x y ≡ true
     go (inl h) =
-        left_true (is_take x.did || is_give y.did || is_mark x.did || is_mark y.did || is_free_access free x.did) _
-        (left_true (is_take x.did || is_give y.did || is_mark x.did || is_mark y.did) _
-        (left_true (is_take x.did || is_give y.did || is_mark x.did) _
-        (left_true (is_take x.did || is_give y.did) _ (right_true (is_take x.did) _ h))))
-    go (inr h) = right_true (is_take x.did || is_give y.did || is_mark x.did || is_mark y.did || is_free_access free x.did) _ h
+        or_left (is_take x.did || is_give y.did || is_mark x.did || is_mark y.did || is_free_access free x.did) _
+        (or_left (is_take x.did || is_give y.did || is_mark x.did || is_mark y.did) _
+        (or_left (is_take x.did || is_give y.did || is_mark x.did) _
+        (or_left (is_take x.did || is_give y.did) _ (or_right (is_take x.did) _ h))))
+    go (inr h) = or_right (is_take x.did || is_give y.did || is_mark x.did || is_mark y.did || is_free_access free x.did) _ h
 
 -- a caller's mark or right mover passes what others do
 own_passes : (free : ℕ → Bool) (c : ℕ) (x : Stamped) (ys : List Stamped) → (x.caller == c) ≡ true

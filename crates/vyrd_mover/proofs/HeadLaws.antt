@@ -7,15 +7,16 @@ use Rattle.std.proofs.lemmas.List.{append_cancel_left}
 use Rattle.std.proofs.lemmas.Slice.Eq.{bytes_eq-Decides}
 use Rattle.vyrd_base.specs.declared.header.Header.{Header}
 use Rattle.vyrd_base.specs.declared.subject.Subject.{Subject}
-use Rattle.vyrd_base.specs.Limits.{is_known_version, is_sized, is_within}
+use Rattle.vyrd_base.specs.Limits.{is_within}
 use Rattle.vyrd_base.specs.Spelling.{subject_name}
 use Rattle.vyrd_base.specs.Lines.{fields_of, number_of, subject_called, header_if, header_of}
+use Rattle.vyrd_base.proofs.HeaderLaws.{size_in_32_bits, callers_in_32_bits}
 use Rattle.vyrd_base.proofs.SplitLaws.{lacks, split-join, lacks-join, number_of_decimal, bytes_same}
 use Rattle.vyrd_base.proofs.LineLaws.{is_plain_field, plain_number, plain_spaces, plain_line_feeds}
-use Rattle.vyrd_base.proofs.TestLaws.{both_true, first_true, second_true}
+use Rattle.vyrd_base.proofs.TestLaws.{both_true}
 use Rattle.vyrd_base.proofs.SubjectLaws.{plain_subject, subject_read, one_name}
 use Rattle.vyrd_text.proofs.PartLaws.{one_before_space}
-use Rattle.vyrd_text.proofs.HeaderLaws.{small_size, small_callers, made, not_made}
+use Rattle.vyrd_text.proofs.HeaderLaws.{made, not_made}
 use Rattle.vyrd_mover.specs.HistoryText.{history_header_line}
 use Rattle.vyrd_mover.specs.HistoryLines.{history_header_if, history_header_from, history_header_in}
 use Rattle.vyrd_mover.specs.HistorySpelled.{AreBoundsRead, IsFirstRead}
@@ -57,20 +58,11 @@ module _ (subject : Subject) (size callers : ℕ) (s : size < 2 ^ 64) (c : calle
       ∙ (λ i. history_header_if line (subject_read subject i) (number_of_decimal size s i) (number_of_decimal callers c i))
       ∙ ap (λ b. cond b (header_of 1 subject size callers) None) (bytes_same line)
 
-sized : (h : Header) → is_sized h.size h.callers ≡ true
-sized h = second_true (is_known_version h.version) _ h.within
-
-pub size_fits : (h : Header) → h.size < 2 ^ 32
-size_fits h = small_size h.size h.callers (sized h)
-
-pub callers_fit : (h : Header) → h.callers < 2 ^ 32
-callers_fit h = small_callers h.size h.callers (sized h)
-
 -- a header is read back from its first line
 pub header_in-first_line : (h : Header) → h.version ≡ 1 → history_header_in (history_header_line h.subject h.size h.callers) ≡ Some h
 header_in-first_line h one =
-    let s : h.size < 2 ^ 64 = let l = size_fits h in omega (arith, l) in
-    let c : h.callers < 2 ^ 64 = let l = callers_fit h in omega (arith, l) in
+    let s : h.size < 2 ^ 64 = let l = size_in_32_bits h in omega (arith, l) in
+    let c : h.callers < 2 ^ 64 = let l = callers_in_32_bits h in omega (arith, l) in
     header_known h.subject h.size h.callers s c
     ∙ made 1 h.subject h.size h.callers h one refl refl refl
 
@@ -115,7 +107,7 @@ no_first line none = by_answer (history_header_in line) refl
   where
     by_answer : (o : Option Header) → history_header_in line ≡ o → None ≡ o
     by_answer None e = refl
-    by_answer (Some h) e = absurd (none h.subject h.size h.callers (size_fits h) (callers_fit h) (header_in_sound line h e).1)
+    by_answer (Some h) e = absurd (none h.subject h.size h.callers (size_in_32_bits h) (callers_in_32_bits h) (header_in_sound line h e).1)
 
 module _ (line : List ℕ) (subject : Subject) (size callers : ℕ) (s : size < 2 ^ 32) (c : callers < 2 ^ 32)
     (is : line ≡ history_header_line subject size callers) where

@@ -8,10 +8,10 @@ use Rattle.vyrd_base.specs.declared.subject.Subject.TheVariants.{Multiset, Cache
 use Rattle.vyrd_base.specs.declared.history.Did.{Did}
 use Rattle.vyrd_base.specs.declared.history.Did.TheVariants.{Read, Wrote, Took, Gave, Marked}
 use Rattle.vyrd_base.specs.declared.history.Stamped.{Stamped}
-use Rattle.vyrd_base.specs.Limits.{is_known_version, is_sized}
 use Rattle.vyrd_base.specs.Layout.{plain_words_of, lock_words_of, plain_words, lock_words}
 use Rattle.vyrd_base.specs.Places.{places_after, newest_first, newest_first_onto}
 use Rattle.vyrd_base.specs.Histories.{Cells, may_do, is_legal_at, is_legal}
+use Rattle.vyrd_base.proofs.HeaderLaws.{sized}
 use Rattle.vyrd_base.proofs.TestLaws.{first_true, second_true, same_of, below_of, at_most_of}
 use Rattle.vyrd_mover.specs.Usage.{IsInRange}
 
@@ -59,9 +59,6 @@ small_subject Multiset size low = omega arith
 small_subject Cache size low = omega arith
 small_subject Tree size low = omega arith
 small_subject Buffers size low = omega arith
-
-sized : (h : Header) → is_sized h.size h.callers ≡ true
-sized h = second_true (is_known_version h.version) _ h.within
 
 pub few_callers : (h : Header) → h.callers ≤ 64
 few_callers h = at_most_of h.callers 64 (second_true (nat_le 1 h.size && nat_le h.size 1024 && nat_le 1 h.callers) _ (sized h))

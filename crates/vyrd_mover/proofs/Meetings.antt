@@ -2,6 +2,7 @@
 use Rattle.std.proofs.Common.{◌≡◌, ◌≢◌, ℕ, ◌+◌, Bool, true, false, cond, ◌||◌, ◌⊎◌, inl, inr, List, ◌∷◌, Some, None, refl, ap, ◌∙◌, sym, arith}
 use Rattle.std.specs.Prelude.{◌==◌, nat_le, unwrap_or}
 use Rattle.std.proofs.lemmas.Bool.Decides.{nat_tests}
+use Rattle.std.proofs.lemmas.Bool.{or_left, or_right}
 use Rattle.vyrd_base.specs.declared.history.Did.{Did}
 use Rattle.vyrd_base.specs.declared.history.Did.TheVariants.{Read, Wrote, Took, Gave, Marked}
 use Rattle.vyrd_base.specs.declared.history.Stamped.{Stamped}
@@ -9,7 +10,7 @@ use Rattle.vyrd_base.specs.Histories.{Cells, is_plain, is_lock}
 use Rattle.vyrd_base.proofs.TestLaws.{first_true, second_true, same_of, is_same}
 use Rattle.vyrd_mover.specs.RaceFree.{is_access_of, is_write_to}
 use Rattle.vyrd_mover.specs.Exchanges.{is_movable}
-use Rattle.vyrd_mover.proofs.TruthLaws.{either_true, left_true, right_true}
+use Rattle.vyrd_mover.proofs.TruthLaws.{either_true}
 use Rattle.vyrd_mover.proofs.Running.{step, may, touches, changes, step_same}
 use Rattle.vyrd_mover.proofs.FreeCells.{Free, alone, unwritten, guarded}
 
@@ -151,7 +152,7 @@ apart cells m free a b es other first second move frees =
     let clash : NoClash free a.did b.did = λ cell e ta tb w. no_clash cells m a b es cell (frees cell e) other first ta tb w in
     record {
       changed_first = λ cell ca tb. meet cells m free a.number a.caller b.caller cell a.did b.did other first second move clash
-          (changed_is_touched cell a.did ca) tb (left_true (changes cell a.did) _ ca);
+          (changed_is_touched cell a.did ca) tb (or_left (changes cell a.did) _ ca);
       changed_second = λ cell ta cb. meet cells m free a.number a.caller b.caller cell a.did b.did other first second move clash
-          ta (changed_is_touched cell b.did cb) (right_true (changes cell a.did) _ cb);
+          ta (changed_is_touched cell b.did cb) (or_right (changes cell a.did) _ cb);
     }

@@ -5,6 +5,8 @@ use Rattle.std.specs.List.{filter, list_all, list_any}
 use Rattle.std.proofs.Math.Bool.{and-false}
 use Rattle.std.proofs.lemmas.List.{get_or-set_same, get_or-set_other, get_or-replicate, length-replicate, length-set}
 use Rattle.std.proofs.lemmas.List.Folds.{list_all-append, list_all-map}
+use Rattle.std.proofs.lemmas.Bool.{or_left}
+use Rattle.std.proofs.Math.Bool.{and-true}
 use Rattle.vyrd_base.specs.declared.history.Did.{Did}
 use Rattle.vyrd_base.specs.declared.history.Did.TheVariants.{Read, Wrote, Took, Gave, Marked}
 use Rattle.vyrd_base.specs.declared.history.Stamped.{Stamped}
@@ -16,16 +18,12 @@ use Rattle.vyrd_mover.specs.declared.usage.Users.{Users}
 use Rattle.vyrd_mover.specs.declared.usage.Users.TheVariants.{Nobody, One, Many}
 use Rattle.vyrd_mover.specs.RaceFree.{is_access_of, is_write_to, is_used_by_alone, is_unwritten, is_guarded_at, is_guarded_by, is_race_free}
 use Rattle.vyrd_mover.specs.Usage.{Use, Kept, IsUse, HaveSeen, may_be_alone, is_used, is_shared, seems_free, joined, has_value, used_by, unused, with_use, kept_after}
-use Rattle.vyrd_mover.proofs.TruthLaws.{left_true, tells_any}
+use Rattle.vyrd_mover.proofs.TruthLaws.{tells_any}
 use Rattle.vyrd_mover.proofs.Running.{value_step}
 use Rattle.vyrd_mover.proofs.Meetings.{not_a_lock}
 
-pub and_true : (a : Bool) → (a && true) ≡ a
-and_true true = refl
-and_true false = refl
-
 pub list_all-push : {A : Type 0} (test : A → Bool) (xs : List A) (x : A) → list_all test (xs ++ x ∷ []) ≡ (list_all test xs && test x)
-list_all-push test xs x = list_all-append test xs (x ∷ []) ∙ ap (λ b. list_all test xs && b) (and_true (test x))
+list_all-push test xs x = list_all-append test xs (x ∷ []) ∙ ap (λ b. list_all test xs && b) (and-true (test x))
 
 -- two tests that say the same in a row of numbers
 filter_within : (f g : ℕ → Bool) (k n : ℕ) → ((x : ℕ) → k ≤ x → x < k + n → f x ≡ g x) → filter f (numbers_from k n) ≡ filter g (numbers_from k n)
@@ -54,7 +52,7 @@ guarded-push seen e cell lock =
     ap (list_all (is_guarded_at cell lock)) (places_after-append [] seen (e ∷ []))
     ∙ list_all-append (is_guarded_at cell lock) (map (with_later (e ∷ [])) (places_after [] seen)) (place_of seen e ∷ [])
     ∙ ap (λ b. b && list_all (is_guarded_at cell lock) (place_of seen e ∷ [])) (list_all-map (is_guarded_at cell lock) (with_later (e ∷ [])) (places_after [] seen))
-    ∙ ap (λ b. is_guarded_by seen cell lock && b) (and_true (is_guarded_at cell lock (place_of seen e)))
+    ∙ ap (λ b. is_guarded_by seen cell lock && b) (and-true (is_guarded_at cell lock (place_of seen e)))
 
 -- an event that doesn't use the cell
 not_used : (cells : Cells) (seen : List Stamped) (cell : ℕ) (kept : Use) (e : Stamped) → is_access_of cell e.did ≡ false → is_write_to cell e.did ≡ false
@@ -62,10 +60,10 @@ not_used : (cells : Cells) (seen : List Stamped) (cell : ℕ) (kept : Use) (e : 
 not_used cells seen cell kept e no_access no_write is =
     record {
       alone = λ c. list_all-push (λ e. not (is_access_of cell e.did) || e.caller == c) seen e
-          ∙ ap (λ b. is_used_by_alone seen cell c && (not b || e.caller == c)) no_access ∙ and_true (is_used_by_alone seen cell c) ∙ is.alone c;
+          ∙ ap (λ b. is_used_by_alone seen cell c && (not b || e.caller == c)) no_access ∙ and-true (is_used_by_alone seen cell c) ∙ is.alone c;
       user_below = is.user_below;
       unwritten = list_all-push (λ e. not (is_write_to cell e.did)) seen e ∙ ap (λ b. is_unwritten seen cell && not b) no_write
-          ∙ and_true (is_unwritten seen cell) ∙ is.unwritten;
+          ∙ and-true (is_unwritten seen cell) ∙ is.unwritten;
       unseen = λ u lock. still lock ∙ is.unseen u lock;
       guards = λ u. is.guards u ∙ filter_within _ _ cells.plain cells.locks (λ lock low high. sym (still lock));
     }
@@ -73,7 +71,7 @@ not_used cells seen cell kept e no_access no_write is =
     still : (lock : ℕ) → is_guarded_by (seen ++ e ∷ []) cell lock ≡ is_guarded_by seen cell lock
     still lock = guarded-push seen e cell lock
         ∙ ap (λ b. is_guarded_by seen cell lock && (not b || value_in (newest_first seen) lock == e.caller + 1)) no_access
-        ∙ and_true (is_guarded_by seen cell lock)
+        ∙ and-true (is_guarded_by seen cell lock)
 
 joined_alone : (users : Users) (caller c : ℕ) → may_be_alone (joined users caller) c ≡ (may_be_alone users c && caller == c)
 joined_alone Nobody caller c = refl
@@ -243,7 +241,7 @@ step_by cells seen all k c (Read cell value) have low may =
     with_access cells seen all (record { number = k; caller = c; did = Read cell value }) cell false have (λ c. refl) (λ c. false_and (cell == c))
     (λ lock kind. refl) low (below_of cell cells.plain (first_true _ _ may))
 step_by cells seen all k c (Wrote cell value) have low may =
-    with_access cells seen all (record { number = k; caller = c; did = Wrote cell value }) cell true have (λ c. refl) (λ c. sym (and_true (cell == c)))
+    with_access cells seen all (record { number = k; caller = c; did = Wrote cell value }) cell true have (λ c. refl) (λ c. sym (and-true (cell == c)))
     (λ lock kind. ap (λ b. cond b (Some value) None) (not_a_lock cells cell lock (first_true _ _ may) kind)) low (below_of cell cells.plain (first_true _ _ may))
 step_by cells seen all k c (Took lock) have low may =
     with_lock cells seen all (record { number = k; caller = c; did = Took lock }) lock (c + 1) have (λ c. refl) (λ c. refl) (λ l. refl)
@@ -305,8 +303,8 @@ seems_free_is cells seen cell kept some is = go kept.users refl
     by_caller : (user : ℕ) → user < cells.callers → may_be_alone kept.users user ≡ true
         → ((list_any (is_used_by_alone seen cell) (numbers_below cells.callers) || is_unwritten seen cell) || list_any (is_guarded_by seen cell) (numbers_from cells.plain cells.locks)) ≡ true
     by_caller user low e =
-        left_true (list_any (is_used_by_alone seen cell) (numbers_below cells.callers) || is_unwritten seen cell) _
-        (left_true (list_any (is_used_by_alone seen cell) (numbers_below cells.callers)) _
+        or_left (list_any (is_used_by_alone seen cell) (numbers_below cells.callers) || is_unwritten seen cell) _
+        (or_left (list_any (is_used_by_alone seen cell) (numbers_below cells.callers)) _
         (tells_any (is_used_by_alone seen cell) 0 cells.callers user (omega arith) (omega arith) (is.alone user ∙ e)))
 
     go : (users : Users) → kept.users ≡ users → seems_free kept ≡ is_race_free cells seen cell

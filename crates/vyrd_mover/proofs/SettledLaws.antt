@@ -11,8 +11,8 @@ use Rattle.vyrd_base.specs.declared.header.Header.{Header}
 use Rattle.vyrd_base.specs.declared.subject.Subject.{Subject}
 use Rattle.vyrd_base.specs.declared.history.Stamped.{Stamped}
 use Rattle.vyrd_base.specs.Spelling.{end_line}
-use Rattle.vyrd_base.proofs.SplitLaws.{lacks, lacks-append}
-use Rattle.vyrd_base.proofs.TestLaws.{both_true, below_of, not_below_of}
+use Rattle.vyrd_base.proofs.SplitLaws.{cut, lacks, lacks-append}
+use Rattle.vyrd_base.proofs.TestLaws.{both_true, below_of, is_below, not_below_of}
 use Rattle.vyrd_mover.specs.declared.fault.HistoryRule.{HistoryRule}
 use Rattle.vyrd_mover.specs.declared.fault.HistoryRule.TheVariants.{TooManyLines, BadHeader, BadLine, NoLineFeed}
 use Rattle.vyrd_mover.specs.HistoryText.{Recorded}
@@ -22,7 +22,7 @@ use Rattle.vyrd_mover.specs.LongHistories.{longest_history}
 use Rattle.vyrd_mover.proofs.HeadLaws.{header_in_sound}
 use Rattle.vyrd_mover.proofs.EventLaws.{event_in_sound}
 use Rattle.vyrd_mover.proofs.ShortLines.{short_event, short_first}
-use Rattle.vyrd_mover.proofs.WalkLaws.{cut, then_lines, too_many, end_found, line_found, lines_last, after_first, first_step, first_last, more_after}
+use Rattle.vyrd_mover.proofs.WalkLaws.{then_lines, too_many, end_found, line_found, lines_last, after_first, first_step, first_last, more_after}
 
 -- the first line of a text, which may be all of it
 abbrev FirstLine : List ℕ → Type 0
@@ -44,9 +44,6 @@ first_line (x ∷ text) = by_byte (x == 10) refl (first_line text)
     by_byte false e rest = one_more e rest
 
 -- a line of more than 64 bytes spells nothing
-is_long : (line : List ℕ) → 64 < length line → nat_lt 64 (length line) ≡ true
-is_long line long = grind (arith, nat_tests)
-
 long_event : (subject : Subject) (number : ℕ) (line : List ℕ) → 64 < length line → event_in subject number line ≡ None
 long_event subject number line long = by_answer (event_in subject number line) refl
   where
@@ -73,7 +70,7 @@ long_isnt_end line long e = let same = ap length e in omega (arith, long, same)
 
 long_unfinished : (n : ℕ) (bad : HistoryRule) (rest : List ℕ) → 64 < length rest → unfinished_rule n bad rest ≡ unless_too_many n bad
 long_unfinished n bad [] long = absurd (omega (arith, long))
-long_unfinished n bad (b ∷ rest) long = ap (λ t. unless_too_many n (cond t bad NoLineFeed)) (is_long (b ∷ rest) long)
+long_unfinished n bad (b ∷ rest) long = ap (λ t. unless_too_many n (cond t bad NoLineFeed)) (is_below 64 (length (b ∷ rest)) long)
 
 longer : (line more : List ℕ) → 64 < length line → 64 < length (line ++ more)
 longer line more long = omega (arith, long, length-append line more)

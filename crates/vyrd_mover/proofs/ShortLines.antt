@@ -2,7 +2,6 @@
 use Rattle.std.proofs.Common.{◌≡◌, ℕ, ◌<◌, ◌≤◌, ◌^◌, true, not, List, [], ◌∷◌, ◌++◌, map, length, arith, length-append}
 use Rattle.std.specs.Prelude.{codes, decimal, nat_lt}
 use Rattle.std.specs.List.{AllByRecursion}
-use Rattle.std.proofs.lemmas.Fmt.{length-decimal-le}
 use Rattle.vyrd_base.specs.declared.header.Header.{Header}
 use Rattle.vyrd_base.specs.declared.subject.Subject.{Subject}
 use Rattle.vyrd_base.specs.declared.history.Did.{Did}
@@ -10,19 +9,13 @@ use Rattle.vyrd_base.specs.declared.history.Did.TheVariants.{Read, Wrote, Took, 
 use Rattle.vyrd_base.specs.declared.history.Stamped.{Stamped}
 use Rattle.vyrd_base.specs.Spelling.{subject_name, end_line, is_kind_of}
 use Rattle.vyrd_base.specs.Histories.{is_write}
-use Rattle.vyrd_base.proofs.LongLines.{short_entry}
+use Rattle.vyrd_base.proofs.HeaderLaws.{size_in_32_bits, callers_in_32_bits}
+use Rattle.vyrd_base.proofs.LongLines.{short_entry, short_number, short_value}
 use Rattle.vyrd_base.proofs.TestLaws.{both_true, first_true, second_true, below_of}
 use Rattle.vyrd_base.proofs.SubjectLaws.{short_subject}
 use Rattle.vyrd_mover.specs.HistoryText.{Recorded, history_header_line, did_line, event_line, history_lines}
 use Rattle.vyrd_mover.specs.HistoryLines.{is_did_of, is_event_of}
 use Rattle.vyrd_mover.specs.HistoryLimits.{KeepsLimits}
-use Rattle.vyrd_mover.proofs.HeadLaws.{size_fits, callers_fit}
-
-short_number : (n : ℕ) → n < 2 ^ 32 → length (decimal n) ≤ 10
-short_number n h = length-decimal-le 10 n (omega arith) (omega arith) (omega arith)
-
-short_value : (n : ℕ) → n < 2 ^ 64 → length (decimal n) ≤ 20
-short_value n h = length-decimal-le 20 n (omega arith) (omega arith) (omega arith)
 
 short_pair : (caller cell value : ℕ) (word : List ℕ) → caller < 2 ^ 32 → cell < 2 ^ 32 → value < 2 ^ 64 → length word ≤ 5
     → length (decimal caller ++ 32 ∷ (word ++ 32 ∷ (decimal cell ++ 32 ∷ decimal value))) ≤ 64
@@ -62,8 +55,8 @@ pub short_first : (h : Header) → length (history_header_line h.subject h.size 
 short_first h =
     omega (
       arith,
-      short_number h.size (size_fits h),
-      short_number h.callers (callers_fit h),
+      short_number h.size (size_in_32_bits h),
+      short_number h.callers (callers_in_32_bits h),
       short_subject h.subject,
       length-append (subject_name h.subject) (32 ∷ (decimal h.size ++ 32 ∷ decimal h.callers)),
       length-append (decimal h.size) (32 ∷ decimal h.callers),

@@ -1,25 +1,27 @@
 -- The text of a history is read as that history, and what is read is the text of a history.
-use Rattle.std.proofs.Common.{◌≡◌, ℕ, suc, ◌+◌, ◌≤◌, ◌^◌, Bool, true, false, cond, not, ◌&&◌, List, [], ◌∷◌, ◌++◌, map, length}
+use Rattle.std.proofs.Common.{◌≡◌, ℕ, ◌+◌, ◌≤◌, ◌^◌, Bool, true, false, cond, not, ◌&&◌, List, [], ◌∷◌, ◌++◌, map, length}
 use Rattle.std.proofs.Common.{Option, Some, None, Ok, refl, ap, subst, sym, ◌∙◌, arith, append_assoc}
-use Rattle.std.specs.Prelude.{◌==◌, nat_lt, codes, decimal, flat_map}
+use Rattle.std.specs.Prelude.{◌==◌, nat_lt, codes, decimal}
 use Rattle.std.specs.List.{list_all, join_with_byte, AllByRecursion}
 use Rattle.std.specs.Str.{bytes_eq}
 use Rattle.std.proofs.lemmas.List.{append-nil}
 use Rattle.std.proofs.lemmas.List.Folds.{list_all-append, list_all-map}
 use Rattle.std.proofs.lemmas.Slice.Eq.{bytes_eq-Decides}
 use Rattle.std.proofs.lemmas.List.Splits.{join_with_byte-slice_split}
+use Rattle.std.proofs.lemmas.Bool.{not-true}
 use Rattle.vyrd_base.specs.declared.header.Header.{Header}
 use Rattle.vyrd_base.specs.declared.subject.Subject.{Subject}
 use Rattle.vyrd_base.specs.declared.history.Did.{Did}
 use Rattle.vyrd_base.specs.declared.history.Did.TheVariants.{Read, Wrote, Took, Gave, Marked}
 use Rattle.vyrd_base.specs.declared.history.Stamped.{Stamped}
-use Rattle.vyrd_base.specs.Spelling.{ended_line, end_line, is_kind_of}
+use Rattle.vyrd_base.specs.Spelling.{end_line, is_kind_of}
 use Rattle.vyrd_base.specs.Reading.{has_any}
-use Rattle.vyrd_base.specs.Places.{Place, places, places_after, newest_first, newest_first_onto}
+use Rattle.vyrd_base.specs.Places.{Place, places, places_after, newest_first}
 use Rattle.vyrd_base.specs.Histories.{cells_of, is_legal_at, is_legal, is_write}
-use Rattle.vyrd_base.proofs.PlaceLaws.{with_later, places_after-append}
-use Rattle.vyrd_base.proofs.SplitLaws.{lacks, all_lack, split_at, lacks-join}
-use Rattle.vyrd_base.proofs.LineLaws.{plain_number, plain_line_feeds, below_32, entry_line_whole, entry_line_isnt_end}
+use Rattle.vyrd_base.proofs.HeaderLaws.{size_in_32_bits, callers_in_32_bits}
+use Rattle.vyrd_base.proofs.PlaceLaws.{with_later, places_after-append, length-newest_first}
+use Rattle.vyrd_base.proofs.SplitLaws.{cut, join_lines, cut_lines, lacks, all_lack, lacks-join}
+use Rattle.vyrd_base.proofs.LineLaws.{spaced_isnt_end, plain_number, plain_line_feeds, below_32, entry_line_whole, entry_line_isnt_end}
 use Rattle.vyrd_base.proofs.TestLaws.{both_true, first_true, second_true, same_of, below_of, not_below_of, isnt_below}
 use Rattle.vyrd_mover.specs.declared.fault.HistoryRule.{HistoryRule}
 use Rattle.vyrd_mover.specs.declared.fault.HistoryRule.TheVariants.{TooManyLines, NotLegal, BlockMark}
@@ -27,9 +29,9 @@ use Rattle.vyrd_mover.specs.HistoryText.{Recorded, history_header_line, did_line
 use Rattle.vyrd_mover.specs.HistoryLines.{is_event_of, is_did_of, history_header_in, event_in}
 use Rattle.vyrd_mover.specs.HistoryReading.{refused, is_misplaced, next_place, broken_by, with_event, unless_broken, event_read, line_read, begun_or_bad, ended, lines_read, text_read, history_reading}
 use Rattle.vyrd_mover.specs.HistoryLimits.{KeepsLimits}
-use Rattle.vyrd_mover.proofs.HeadLaws.{IsFirst, header_in_sound, header_in-first_line, first_line_whole, size_fits, callers_fit}
+use Rattle.vyrd_mover.proofs.HeadLaws.{IsFirst, header_in_sound, header_in-first_line, first_line_whole}
 use Rattle.vyrd_mover.proofs.EventLaws.{event_in_sound, event_in-event_line}
-use Rattle.vyrd_mover.proofs.WalkLaws.{cut, then_lines, after_first}
+use Rattle.vyrd_mover.proofs.WalkLaws.{then_lines, after_first}
 
 -- a test of places that doesn't look ahead
 abbrev LooksBack : (Place Stamped → Bool) → Type 0
@@ -69,10 +71,6 @@ all_push : {A : Type 0} (P : A → Type 0) (xs : List A) (x : A) → AllByRecurs
 all_push P [] x all here = (here, tt)
 all_push P (y ∷ xs) x all here = (all.0, all_push P xs x all.1 here)
 
-length-onto : (earlier xs : List Stamped) → length (newest_first_onto earlier xs) ≡ length earlier + length xs
-length-onto earlier [] = let e : length earlier ≡ length earlier + 0 = omega arith in e
-length-onto earlier (x ∷ xs) = length-onto (x ∷ earlier) xs ∙ (let e : suc (length earlier) + length xs ≡ length earlier + suc (length xs) = omega arith in e)
-
 -- an event that breaks no rule is legal and in turn, and the other way round
 no_rule : (r : Recorded) (e : Stamped) → broken_by r e ≡ None
     → (legal_test r.header (next_place r.history e) ≡ true) × (turn_test (next_place r.history e) ≡ true)
@@ -89,11 +87,7 @@ breaks_none : (r : Recorded) (e : Stamped) → legal_test r.header (next_place r
     → broken_by r e ≡ None
 breaks_none r e legal turn =
     ap (λ a. cond (not a) (Some NotLegal) (cond (is_misplaced (next_place r.history e)) (Some BlockMark) None)) legal
-    ∙ ap (λ b. cond b (Some BlockMark) None) (not_true (is_misplaced (next_place r.history e)) turn)
-  where
-    not_true : (b : Bool) → not b ≡ true → b ≡ false
-    not_true true e = sym e
-    not_true false e = refl
+    ∙ ap (λ b. cond b (Some BlockMark) None) (not-true (is_misplaced (next_place r.history e)) turn)
 
 -- what is kept of a history while it is read
 record Keeps (r : Recorded) : Type 0 where
@@ -176,23 +170,6 @@ lines_sound r n (line ∷ next ∷ lines) v keeps e = by_limit (λ u k f. lines_
     by_limit rest true is f = cc
     by_limit rest false is f = by_end rest (not_below_of 4000000 n is) (bytes_eq line end_line) refl f
 
--- lines with a line feed after each, and nothing after the last
-join_lines : (lines : List (List ℕ)) → join_with_byte 10 (lines ++ [] ∷ []) ≡ flat_map ended_line lines
-join_lines [] = refl
-join_lines (line ∷ lines) = join_step lines ∙ ap (λ rest. line ++ 10 ∷ rest) (join_lines lines)
-    ∙ sym (append_assoc line (10 ∷ []) (flat_map ended_line lines))
-  where
-    join_step : (ls : List (List ℕ)) → join_with_byte 10 (line ∷ ls ++ [] ∷ []) ≡ line ++ 10 ∷ join_with_byte 10 (ls ++ [] ∷ [])
-    join_step [] = refl
-    join_step (l ∷ ls) = refl
-
-cut_lines : (lines : List (List ℕ)) → all_lack 10 lines ≡ true → cut (flat_map ended_line lines) ≡ lines ++ [] ∷ []
-cut_lines [] e = refl
-cut_lines (line ∷ lines) e =
-    ap cut (append_assoc line (10 ∷ []) (flat_map ended_line lines))
-    ∙ split_at 10 line (flat_map ended_line lines) (first_true _ _ e)
-    ∙ ap (λ rest. line ∷ rest) (cut_lines lines (second_true (lacks 10 line) _ e))
-
 -- all lines, and what stands after the last line feed
 abbrev all_lines : Recorded → List (List ℕ)
 all_lines r = history_header_line r.header.subject r.header.size r.header.callers ∷ map event_line r.history ++ end_line ∷ [] ∷ []
@@ -268,15 +245,7 @@ did_whole subject caller (Marked kind) low is =
 event_line_whole : (subject : Subject) (e : Stamped) → is_event_of subject e ≡ true → lacks 10 (event_line e) ≡ true
 event_line_whole subject e is = did_whole subject e.caller e.did (first_true _ _ is) (second_true (nat_lt e.caller (2 ^ 32)) _ is)
 
--- a list with a space isn't the line `end`
-spaced_isnt_end : (xs ys : List ℕ) → lacks 32 (xs ++ 32 ∷ ys) ≡ false
-spaced_isnt_end [] ys = refl
-spaced_isnt_end (x ∷ xs) ys = and_false (not (x == 32)) _ (spaced_isnt_end xs ys)
-  where
-    and_false : (a b : Bool) → b ≡ false → (a && b) ≡ false
-    and_false true b e = e
-    and_false false b e = refl
-
+-- a line with a space isn't the line `end`
 isnt_end : (caller : ℕ) (did : Did) (rest : List ℕ) → did_line caller did ≡ decimal caller ++ 32 ∷ rest → bytes_eq (did_line caller did) end_line ≡ false
 isnt_end caller did rest line = by_test (bytes_eq (did_line caller did) end_line) refl
   where
@@ -320,7 +289,7 @@ end_step r n low = ap (λ b. cond b (refused n TooManyLines) (Ok r)) (isnt_below
 legal_number : (h : Header) (past : List Stamped) (e : Stamped) → legal_test h (next_place past e) ≡ true → e.number ≡ length past
 legal_number h past e legal =
     same_of e.number (length (newest_first past)) (first_true _ _ (first_true (e.number == length (newest_first past) && nat_lt e.caller h.callers) _ legal))
-    ∙ length-onto [] past ∙ (let z : 0 + length past ≡ length past = omega arith in z)
+    ∙ length-newest_first past
 
 -- the lines of events, and `end`
 events_read : (h : Header) (past todo : List Stamped) (n : ℕ) → AllByRecursion (λ e. is_event_of h.subject e ≡ true) todo
@@ -345,8 +314,8 @@ events_lack subject (e ∷ es) all = both_true _ _ (event_line_whole subject e a
 
 all_lack_feeds : (r : Recorded) → KeepsLimits r → all_lack 10 (history_lines r) ≡ true
 all_lack_feeds r keeps =
-    both_true _ _ (first_line_whole r.header.subject r.header.size r.header.callers (let l = size_fits r.header in omega (arith, l))
-    (let l = callers_fit r.header in omega (arith, l)))
+    both_true _ _ (first_line_whole r.header.subject r.header.size r.header.callers (let l = size_in_32_bits r.header in omega (arith, l))
+    (let l = callers_in_32_bits r.header in omega (arith, l)))
     (events_lack r.header.subject r.history keeps.spelled)
 
 -- all lines are read as the history

@@ -2,20 +2,13 @@
 use Rattle.std.proofs.Common.{◌≡◌, ◌≢◌, ℕ, zero, suc, ◌+◌, ◌<◌, ◌≤◌, Bool, true, false, not, ◌||◌, ◌⊎◌, inl, inr, refl, ap, ◌∙◌, arith}
 use Rattle.std.specs.List.{list_any}
 use Rattle.std.specs.Prelude.{◌==◌}
+use Rattle.std.proofs.lemmas.Bool.{or_left, or_right}
 use Rattle.vyrd_base.proofs.TestLaws.{same_of, apart_of}
 use Rattle.vyrd_base.specs.Places.{numbers_from}
 
 pub either_true : (a b : Bool) → (a || b) ≡ true → (a ≡ true) ⊎ (b ≡ true)
 either_true true b e = inl refl
 either_true false b e = inr e
-
-pub left_true : (a b : Bool) → a ≡ true → (a || b) ≡ true
-left_true true b e = refl
-left_true false b e = cc
-
-pub right_true : (a b : Bool) → b ≡ true → (a || b) ≡ true
-right_true true b e = refl
-right_true false b e = e
 
 pub implied : (a b : Bool) → (not a || b) ≡ true → a ≡ true → b ≡ true
 implied true b e f = e
@@ -48,9 +41,9 @@ any_tells test k (suc n) e = first_or_later test k n (any_tells test (k + 1) n) 
 here_or_later : (test : ℕ → Bool) (k n x : ℕ) → k ≤ x → x < k + suc n → test x ≡ true
     → (k + 1 ≤ x → x < k + 1 + n → list_any test (numbers_from (k + 1) n) ≡ true) → (b : Bool) → (k == x) ≡ b
     → list_any test (numbers_from k (suc n)) ≡ true
-here_or_later test k n x low high e later true same = left_true (test k) _ (ap test (same_of k x same) ∙ e)
+here_or_later test k n x low high e later true same = or_left (test k) _ (ap test (same_of k x same) ∙ e)
 here_or_later test k n x low high e later false other =
-    let ne : k ≢ x = apart_of k x other in right_true (test k) _ (later (omega arith) (omega arith))
+    let ne : k ≢ x = apart_of k x other in or_right (test k) _ (later (omega arith) (omega arith))
 
 pub tells_any : (test : ℕ → Bool) (k n x : ℕ) → k ≤ x → x < k + n → test x ≡ true → list_any test (numbers_from k n) ≡ true
 tells_any test k zero x low high e = absurd (omega arith)

@@ -1,11 +1,11 @@
 -- Lines are read one after the other.
 use Rattle.std.proofs.Common.{◌≡◌, ℕ, ◌+◌, ◌<◌, ◌≤◌, Bool, true, false, cond, List, [], ◌∷◌, ◌++◌, Result, Ok, Err, refl, ap, sym, ◌∙◌}
 use Rattle.std.specs.Prelude.{◌==◌, nat_lt}
-use Rattle.std.specs.List.{slice_split, onto_first}
+use Rattle.std.specs.List.{onto_first}
 use Rattle.std.specs.Str.{bytes_eq}
 use Rattle.std.proofs.lemmas.Slice.Eq.{bytes_eq-Decides}
 use Rattle.vyrd_base.specs.Spelling.{end_line}
-use Rattle.vyrd_base.proofs.SplitLaws.{lacks, split_at, split_whole, bytes_same}
+use Rattle.vyrd_base.proofs.SplitLaws.{cut, lacks, split_at, split_whole, bytes_same}
 use Rattle.vyrd_base.proofs.TestLaws.{is_below, isnt_below}
 use Rattle.vyrd_text.proofs.AheadLaws.{parts_of}
 use Rattle.vyrd_mover.specs.declared.fault.HistoryRule.{HistoryRule}
@@ -15,10 +15,6 @@ use Rattle.vyrd_mover.specs.declared.fault.HistoryFault.TheVariants.{Refused, Me
 use Rattle.vyrd_mover.specs.HistoryText.{Recorded}
 use Rattle.vyrd_mover.specs.Refusals.{IsRefusal, IsRefusedAt}
 use Rattle.vyrd_mover.specs.HistoryReading.{Refusal, refused, line_read, first_read, unfinished_rule, unless_too_many, ended, lines_read, text_read, history_reading}
-
--- the lines of a text
-abbrev pub cut : List ℕ → List (List ℕ)
-cut text = slice_split (λ b. b == 10) text
 
 -- what is read after a line
 abbrev pub then_lines : ℕ → List (List ℕ) → Result Recorded HistoryRule → Result Recorded Refusal

@@ -1,10 +1,10 @@
 -- When an insert and an insert_pair give up, by what they have done.
-use Rattle.std.proofs.Common.{◌≡◌, ℕ, inl, inr, false, Option, Some, None, arith}
+use Rattle.std.proofs.Common.{◌≡◌, ℕ, inl, inr, false, Some, arith}
 use Rattle.vyrd_base.specs.declared.header.Header.{Header}
 use Rattle.vyrd_base.specs.declared.subject.Subject.TheVariants.{Multiset}
 use Rattle.vyrd_base.specs.Amounts.{Amounts}
 use Rattle.vyrd_memory.specs.declared.op.Variant.TheVariants.{Correct}
-use Rattle.vyrd_memory.specs.Alone.{Memory, Outcome, state_in, alone, GivesUpWhere}
+use Rattle.vyrd_memory.specs.Alone.{Memory, state_in, alone, GivesUpWhere}
 use Rattle.vyrd_memory.proofs.AloneLaws.{gives_up}
 use Rattle.vyrd_multiset.specs.Procedures.{insert, insert_pair}
 use Rattle.vyrd_multiset.specs.Room.{free_slots_for, has_room_for_both}

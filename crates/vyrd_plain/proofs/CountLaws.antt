@@ -8,7 +8,7 @@ use Rattle.vyrd_base.specs.declared.header.Header.{Header}
 use Rattle.vyrd_base.specs.declared.log.Kind.{Kind}
 use Rattle.vyrd_base.specs.declared.log.Kind.TheVariants.{Call, Return, Write, Commit, BlockOpen, BlockClose, BlockCommit}
 use Rattle.vyrd_base.specs.declared.log.Entry.{Entry}
-use Rattle.vyrd_base.specs.Places.{Place, places_after, newest_first, first_answer}
+use Rattle.vyrd_base.specs.Places.{places_after, newest_first, first_answer}
 use Rattle.vyrd_base.specs.Callers.{Called, call_or_return, by_caller}
 use Rattle.vyrd_base.specs.Subjects.{is_observer}
 use Rattle.vyrd_base.specs.Shape.{is_observing}
@@ -16,6 +16,7 @@ use Rattle.vyrd_base.specs.Verdicts.{is_return}
 use Rattle.vyrd_base.proofs.BlockLaws.{entry, by_same, own_answer}
 use Rattle.vyrd_plain.specs.Observing.{observing_after, AreObserving}
 use Rattle.vyrd_base.proofs.FrontLaws.{newest_next}
+use Rattle.vyrd_base.proofs.VerdictParts.{observer_returns}
 use Rattle.vyrd_base.proofs.StateLaws.{open_call-other, open_call-quiet}
 use Rattle.vyrd_base.proofs.ListLaws.{slice_get-set_same, slice_get-set_other}
 use Rattle.vyrd_base.proofs.TestLaws.{apart_of}
@@ -60,10 +61,6 @@ observing-next h c Commit earlier observing here so = unchanged h c Commit earli
 observing-next h c BlockOpen earlier observing here so = unchanged h c BlockOpen earlier observing refl so
 observing-next h c BlockClose earlier observing here so = unchanged h c BlockClose earlier observing refl so
 observing-next h c BlockCommit earlier observing here so = unchanged h c BlockCommit earlier observing refl so
-
--- whether an observer returns at a place
-abbrev pub observer_returns : Place Entry → Bool
-observer_returns place = is_return place.here.kind && is_observing place.here.caller place.earlier
 
 -- how many observers return from a place on
 abbrev pub observers_from : List Entry → ℕ → ℕ

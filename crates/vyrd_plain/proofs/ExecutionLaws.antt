@@ -1,7 +1,8 @@
 -- How what is kept of a caller's execution changes with one more entry.
-use Rattle.std.proofs.Common.{◌≡◌, ℕ, Bool, true, false, ◌||◌, List, [], ◌∷◌, ◌++◌, Option, Some, None, refl, ap, ◌∙◌, sym}
+use Rattle.std.proofs.Common.{◌≡◌, ℕ, ◌||◌, List, [], ◌∷◌, ◌++◌, Option, Some, None, ap, ◌∙◌, sym}
 use Rattle.std.specs.List.{list_any}
 use Rattle.std.proofs.lemmas.List.Folds.{list_any-append}
+use Rattle.std.proofs.Math.Bool.{or-false}
 use Rattle.vyrd_base.specs.declared.header.Header.{Header}
 use Rattle.vyrd_base.specs.declared.log.Entry.{Entry}
 use Rattle.vyrd_base.specs.Callers.{open_call}
@@ -24,10 +25,6 @@ execution_stays h states c e earlier later (Some x) called reply window is = rec
   answered = is.answered ∙ ap (list_any (answers x)) (sym window);
 }
 
-or_false : (b : Bool) → (b || false) ≡ b
-or_false true = refl
-or_false false = refl
-
 -- what is kept sees the state after a commit
 pub execution_sees : (h : Header) (states : List Amounts) (c : ℕ) (e : Entry) (earlier later : List Entry) (next : Amounts) (o : Option Execution)
     → open_call c (e ∷ earlier) ≡ open_call c earlier → next_reply c (e ∷ later) ≡ next_reply c later
@@ -39,7 +36,7 @@ execution_sees h states c e earlier later next (Some x) called reply window is =
   allowed = is.allowed;
   reply = is.reply ∙ reply;
   answered = ap (λ b. b || answers x next) is.answered
-      ∙ ap (λ b. list_any (answers x) (states_since_call states c earlier) || b) (sym (or_false (answers x next)))
+      ∙ ap (λ b. list_any (answers x) (states_since_call states c earlier) || b) (sym (or-false (answers x next)))
       ∙ sym (list_any-append (answers x) (states_since_call states c earlier) (next ∷ []))
       ∙ ap (list_any (answers x)) (sym window);
 }

@@ -5,6 +5,8 @@ use Rattle.std.proofs.Math.ListN.{drop_of_length-le}
 use Rattle.std.proofs.lemmas.Option.{slice_get_within, get_or_from_slice_get}
 use Rattle.std.specs.Prelude.{option_map}
 use Rattle.std.specs.Option.{option_or}
+use Rattle.std.proofs.lemmas.Option.{same_Some}
+use Rattle.vyrd_base.proofs.PlaceLaws.{length-newest_first}
 use Rattle.vyrd_base.specs.declared.header.Header.{Header}
 use Rattle.vyrd_base.specs.declared.subject.Method.{Method}
 use Rattle.vyrd_base.specs.declared.subject.Args.{Args}
@@ -14,7 +16,7 @@ use Rattle.vyrd_base.specs.declared.log.Entry.{Entry}
 use Rattle.vyrd_base.specs.declared.verdict.Why.{Why}
 use Rattle.vyrd_base.specs.declared.verdict.Verdict.{Verdict}
 use Rattle.vyrd_base.specs.declared.verdict.Verdict.TheVariants.{Violation}
-use Rattle.vyrd_base.specs.Places.{places_after, newest_first_onto, newest_first, first_answer}
+use Rattle.vyrd_base.specs.Places.{places_after, newest_first, first_answer}
 use Rattle.vyrd_base.specs.Callers.{Called, open_call}
 use Rattle.vyrd_base.specs.Shape.{broken_rule}
 use Rattle.vyrd_base.specs.Front.{first_break}
@@ -113,14 +115,11 @@ pub called_is : {h : Header} {front : List Entry} {at : ℕ} {e : Entry} {state 
 called_is {called = called} here is x at =
     let kept = running here is in
     let same : kept.0 ≡ x = cc in
-    let named : called_of kept.0 ≡ called = some_same (sym kept.2.called ∙ is) in
+    let named : called_of kept.0 ≡ called = same_Some _ _ (sym kept.2.called ∙ is) in
     ap (λ y. y.method) (sym same) ∙ ap (λ k. k.method) named
   where
     called_of : Execution → Called
     called_of y = record { method = y.method; args = y.args }
-
-    some_same : {a b : Called} → Some a ≡ Some b → a ≡ b
-    some_same e = cc
 
 -- what the entry at a place of a front leads to
 pub record Leads (h : Header) (front : List Entry) (at : ℕ) (e : Entry) (state : Amounts) (executions : List (Option Execution))
@@ -179,12 +178,8 @@ pub fault_goes : (h : Header) (front : List Entry) (at : ℕ) (e : Entry) → sl
     → fault_from h front at ≡ fault_from h front (at + 1)
 fault_goes h front at e here fault = fault_here h front at e None here fault
 
-length-newest_first_onto : (earlier xs : List Entry) → length (newest_first_onto earlier xs) ≡ length earlier + length xs
-length-newest_first_onto earlier [] = omega arith
-length-newest_first_onto earlier (x ∷ xs) = length-newest_first_onto (x ∷ earlier) xs ∙ omega arith
-
-length-newest_first : (front : List Entry) (at : ℕ) → at ≤ length front → length (newest_first (take at front)) ≡ at
-length-newest_first front at within = length-newest_first_onto [] (take at front) ∙ omega (arith, length-take at front)
+length_taken : (front : List Entry) (at : ℕ) → at ≤ length front → length (newest_first (take at front)) ≡ at
+length_taken front at within = length-newest_first (take at front) ∙ omega (arith, length-take at front)
 
 -- a place that is a fault
 pub fault_found : (h : Header) (front : List Entry) (at : ℕ) (e : Entry) (why : Why) → slice_get front at ≡ Some e
@@ -193,7 +188,7 @@ pub fault_found : (h : Header) (front : List Entry) (at : ℕ) (e : Entry) (why 
 fault_found h front at e why here fault =
     let within = slice_get_within front at e here in
     fault_here h front at e (Some why) here fault
-    ∙ ap (λ n. Some (Violation (line_of [] n) why)) (length-newest_first front at (omega arith))
+    ∙ ap (λ n. Some (Violation (line_of [] n) why)) (length_taken front at (omega arith))
     ∙ ap (λ line. Some (Violation line why)) (line_without at)
 
 -- if no later state is known, nothing later is a fault

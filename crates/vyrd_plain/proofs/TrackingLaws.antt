@@ -1,9 +1,10 @@
 -- What tracks a front up to a place tracks it up to the next one, entry by entry.
-use Rattle.std.proofs.Common.{◌≡◌, ℕ, ◌+◌, Bool, true, false, cond, ◌&&◌, ◌||◌, List, [], ◌∷◌, map, drop, set, Option, Some, None, slice_get, refl, ap, subst, ◌∙◌, sym}
+use Rattle.std.proofs.Common.{◌≡◌, ℕ, ◌+◌, true, false, cond, ◌&&◌, List, [], ◌∷◌, map, drop, set, Option, Some, None, slice_get, refl, ap, subst, ◌∙◌, sym}
 use Rattle.std.specs.Prelude.{◌==◌, option_map}
 use Rattle.std.specs.Option.{option_flatten}
 use Rattle.std.specs.List.{list_any}
 use Rattle.std.proofs.lemmas.Option.{slice_get_within, slice_get-map}
+use Rattle.std.proofs.Math.Bool.{or-false}
 use Rattle.vyrd_base.specs.declared.header.Header.{Header}
 use Rattle.vyrd_base.specs.declared.subject.Method.{Method}
 use Rattle.vyrd_base.specs.declared.subject.Args.{Args}
@@ -86,10 +87,6 @@ tracks_call h states c method args earlier later state executions x has_its_meth
         first_of [] = refl
         first_of (y ∷ ys) = refl
 
-    or_false : (b : Bool) → b ≡ (b || false)
-    or_false true = refl
-    or_false false = refl
-
     own : IsExecution h states c (e ∷ earlier) later x
     own = record {
       called = ap option_flatten_of (own_answer c call_or_return (Call method args) earlier)
@@ -97,7 +94,7 @@ tracks_call h states c method args earlier later state executions x has_its_meth
           ∙ ap (λ a. Some (record { method = x.method; args = a })) (sym has_its_args);
       allowed = ap (λ m. has_method h m x.args) has_its_method ∙ ap (has_method h method) has_its_args ∙ allowed;
       reply = reply;
-      answered = answered ∙ or_false (answers x state) ∙ ap (list_any (answers x)) (sym window);
+      answered = answered ∙ sym (or-false (answers x state)) ∙ ap (list_any (answers x)) (sym window);
     }
       where
         option_flatten_of : Option (Option Called) → Option Called

@@ -6,7 +6,7 @@ ghost use Rattle.vyrd_plain.specs.declared.execution.Execution.{Execution};
 ghost use Rattle.vyrd_base.specs.Entries.{has_method};
 ghost use Rattle.vyrd_plain.specs.Executions.{AreAllowed, seeing};
 
-use vyrd_base::{Args, Entry, Header, Kind, Method};
+use vyrd_base::{Args, Entry, Kind, Method};
 use vyrd_spec::Spec;
 
 /// An execution that has begun, with the reply that it will return.

@@ -9,14 +9,11 @@ use Rattle.vyrd_base.specs.declared.subject.Args.{Args}
 use Rattle.vyrd_base.specs.Amounts.{Amounts, IsAmounts, amount_of, with_amount, plus_amount, part_given}
 use Rattle.vyrd_base.specs.Buffers.{text_length, has_room, joined, cut_to}
 use Rattle.vyrd_base.specs.Specification.{is_present}
-use Rattle.vyrd_base.proofs.AmountLaws.{amount_of-with_amount, IsAmounts-with_amount}
+use Rattle.vyrd_base.proofs.AmountLaws.{amount_of-with_amount, IsAmounts-with_amount, no_amounts}
 use Rattle.vyrd_base.proofs.SumLaws.{amount_of-plus}
 use Rattle.vyrd_base.proofs.TestLaws.{same_of, same_number, below_of, is_below, is_at_most}
 use Rattle.vyrd_base.proofs.TextLaws.{length_at_most}
 use Rattle.vyrd_spec.specs.Touching.{touched_by, is_key, is_touched, CanChange}
-
-none : IsAmounts []
-none = record { rising = tt; some = tt }
 
 of_first : (b : Bool) → (b || false) ≡ true → b ≡ true
 of_first true e = refl
@@ -36,7 +33,7 @@ lone_amount k q e = set_amount [] k 1 q e
 
 lone_formed : (k : ℕ) → IsAmounts (lone k)
 unfolding lone
-lone_formed k = IsAmounts-with_amount [] k 1 none
+lone_formed k = IsAmounts-with_amount [] k 1 no_amounts
 
 lone_present : (k : ℕ) → is_present (lone k) k ≡ true
 lone_present k = ap (λ a. not (a == 0)) (lone_amount k k (same_number k))
@@ -113,7 +110,7 @@ touched_changes MsInsert args key e = record {
   reply = 1;
   before = [];
   after = plus_amount [] args.a 1;
-  formed = none;
+  formed = no_amounts;
   allowed = refl;
   changed = λ same. absurd (let one = set_amount [] args.a (amount_of [] args.a + 1) key (of_first _ e) in omega (arith, one, same));
 }
@@ -121,7 +118,7 @@ touched_changes MsInsertPair args key e = record {
   reply = 1;
   before = [];
   after = plus_amount (plus_amount [] args.a 1) args.b 1;
-  formed = none;
+  formed = no_amounts;
   allowed = refl;
   changed = pair_amount args.a args.b key e;
 }
@@ -143,7 +140,7 @@ touched_changes CaWrite args key e = record {
   reply = 1;
   before = with_amount [] args.a (args.c * 2 ^ 32 + args.b + 1);
   after = with_amount (with_amount [] args.a (args.c * 2 ^ 32 + args.b + 1)) args.a (args.c * 2 ^ 32 + args.b);
-  formed = IsAmounts-with_amount [] args.a (args.c * 2 ^ 32 + args.b + 1) none;
+  formed = IsAmounts-with_amount [] args.a (args.c * 2 ^ 32 + args.b + 1) no_amounts;
   allowed = refl;
   changed = λ same. absurd (omega (
     arith,
@@ -156,7 +153,7 @@ touched_changes TrInsert args key e = record {
   reply = 1;
   before = [];
   after = with_amount [] args.a (2 ^ 32 + args.b);
-  formed = none;
+  formed = no_amounts;
   allowed = refl;
   changed = λ same. absurd (let set = set_amount [] args.a (2 ^ 32 + args.b) key (of_first _ e) in omega (arith, set, same));
 }
@@ -172,7 +169,7 @@ touched_changes BuAppend args key e = record {
   reply = 1;
   before = [];
   after = with_amount [] args.a (joined 0 (args.b + 1));
-  formed = none;
+  formed = no_amounts;
   allowed = ap (λ b. then_some b (with_amount [] args.a (joined 0 (args.b + 1)))) (room_in_empty (args.b + 1));
   changed = λ same. absurd (omega (
     arith,
@@ -209,7 +206,7 @@ touched_changes BuCut args key e =
       reply = 1;
       before = before;
       after = with_amount before args.a (cut_to args.b text);
-      formed = IsAmounts-with_amount [] args.a long_text none;
+      formed = IsAmounts-with_amount [] args.a long_text no_amounts;
       allowed = refl;
       changed = λ same. cut_shorter args.b cut.0
           (ap (cut_to args.b) (sym own) ∙ sym (set_amount before args.a (cut_to args.b text) key cut.1) ∙ same

@@ -1,14 +1,13 @@
 -- What the leaves of a tree give, entry by entry and node by node.
-use Rattle.std.proofs.Common.{◌≡◌, ◌≢◌, ℕ, zero, suc, ◌+◌, ◌-◌, ◌*◌, ◌^◌, ◌<◌, ◌≤◌, min, Bool, true, false, cond, ◌&&◌, ◌||◌, List, [], ◌∷◌, ◌++◌, refl, ap, ◌∙◌, sym, subst, arith}
-use Rattle.std.specs.Prelude.{◌==◌, nat_lt, nat_le, flat_map, map, slice_index}
+use Rattle.std.proofs.Common.{◌≡◌, ◌≢◌, ℕ, suc, ◌+◌, ◌-◌, ◌*◌, ◌^◌, ◌<◌, ◌≤◌, min, Bool, true, false, cond, ◌||◌, List, [], ◌∷◌, ◌++◌, refl, ap, ◌∙◌, sym, subst, arith}
+use Rattle.std.specs.Prelude.{◌==◌, nat_lt, nat_le, flat_map, slice_index}
 use Rattle.std.specs.List.{list_all, list_any, AllByRecursion}
 use Rattle.vyrd_base.specs.Added.{added}
-use Rattle.vyrd_base.specs.Places.{numbers_from, numbers_below}
-use Rattle.vyrd_base.specs.Amounts.{Amounts, amount_of, plus_amount, collected, given}
+use Rattle.vyrd_base.specs.Amounts.{Amounts, amount_of, plus_amount, collected}
 use Rattle.vyrd_base.specs.TreeView.{level_of, count_of, bound_of, right_of, entries_of, entry_parts, node_parts, damage, chain_parts_from, chain_parts}
 use Rattle.vyrd_base.specs.Trees.{last_of, low_of, is_leaf_entry}
-use Rattle.vyrd_base.proofs.AddedLaws.{amount_of-added, added-append, added-collected}
-use Rattle.vyrd_base.proofs.SumLaws.{given_at_most}
+use Rattle.vyrd_base.proofs.AddedLaws.{added-append, added-collected}
+use Rattle.vyrd_base.proofs.PartLaws.{parts_after}
 use Rattle.vyrd_base.proofs.TestLaws.{first_true, second_true, below_of, isnt_same, isnt_at_most, is_same}
 use Rattle.vyrd_spec.specs.Bounds.{AllAmounts}
 use Rattle.vyrd_spec.specs.NodeKeys.{entry_at}
@@ -27,36 +26,6 @@ low_numbers key value sound = (
 pub entry_is : (key value : ℕ) → is_leaf_entry (key, value) ≡ true → entry_parts (key, value) ≡ (key, 2 ^ 32 + value) ∷ []
 entry_is key value sound = ap (λ b. cond b ((key, 2 ^ 32 + value) ∷ []) damage) sound
 
-one_at_most : (q k a : ℕ) → given q ((k, a) ∷ []) ≤ a
-one_at_most q k a = by_key (q == k)
-  where
-    by_key : (b : Bool) → cond b a 0 + 0 ≤ a
-    by_key true = omega arith
-    by_key false = omega arith
-
-entry_at_most : (q : ℕ) (entry : ℕ × ℕ) → given q (entry_parts entry) ≤ 2 ^ 33
-entry_at_most q (key, value) = by_value (nat_lt key (2 ^ 32)) (nat_lt value (2 ^ 32)) refl
-  where
-    by_value : (a b : Bool) → nat_lt value (2 ^ 32) ≡ b → given q (cond (a && b) ((key, 2 ^ 32 + value) ∷ []) damage) ≤ 2 ^ 33
-    by_value true true e = omega (arith, one_at_most q key (2 ^ 32 + value), below_of value (2 ^ 32) e)
-    by_value true false e = omega (arith, one_at_most q (2 ^ 33) 1)
-    by_value false b e = omega (arith, one_at_most q (2 ^ 33) 1)
-
--- the parts of the entry in this place of a node
-abbrev pub place_parts : List ℕ → ℕ → ℕ → List (ℕ × ℕ)
-place_parts words n j = entry_parts (entry_at words n j)
-
-places_from : (words : List ℕ) (n k m : ℕ) → flat_map entry_parts (map (entry_at words n) (numbers_from k m)) ≡ flat_map (place_parts words n) (numbers_from k m)
-places_from words n k zero = refl
-places_from words n k (suc m) = ap (λ xs. place_parts words n k ++ xs) (places_from words n (k + 1) m)
-
--- a node's parts, place by place
-pub node_places : (words : List ℕ) (n : ℕ) → node_parts words n ≡ flat_map (place_parts words n) (numbers_below (min (count_of words n) 4))
-node_places words n = places_from words n 0 (min (count_of words n) 4)
-
-pub places_at_most : (words : List ℕ) (n m q : ℕ) → given q (flat_map (place_parts words n) (numbers_below m)) ≤ m * 2 ^ 33
-places_at_most words n m q = given_at_most (place_parts words n) (2 ^ 33) q 0 m (λ j. entry_at_most q (entry_at words n j))
-
 -- the words of an entry, as they are read
 pub read_at : (words : List ℕ) (n j : ℕ) → entry_at words n j ≡ (slice_index words (12 * n + 4 + j), slice_index words (12 * n + 8 + j))
 read_at words n j =
@@ -69,20 +38,6 @@ pub entry_sound : (words : List ℕ) (n j : ℕ) → list_all is_leaf_entry (ent
 entry_sound words n j all low =
     ap is_leaf_entry (sym (read_at words n j))
     ∙ each_passes (λ i. is_leaf_entry (entry_at words n i)) (min (count_of words n) 4) j (sym (all_entries is_leaf_entry words n) ∙ all) low
-
--- a node adds little
-pub node_grows : (words : List ℕ) (n turn q : ℕ) (s t : Amounts) → t ≡ added s (node_parts words n)
-    → amount_of s q ≤ turn * 2 ^ 35 → amount_of t q ≤ (turn + 1) * 2 ^ 35
-node_grows words n turn q s t more few =
-    let four : min (count_of words n) 4 ≤ 4 = omega arith in
-    omega (
-      arith,
-      ap (λ x. amount_of x q) more ∙ amount_of-added (node_parts words n) s q,
-      ap (given q) (node_places words n),
-      places_at_most words n (min (count_of words n) 4) q,
-      four,
-      few,
-    )
 
 -- keys of 32 bits, each with 2^32 at least
 abbrev pub AreLeafAmounts : Amounts → Type 0
@@ -129,28 +84,19 @@ walk_begins size words values left tree none all = record {
   before = tt;
 }
 
--- what follows a node, by whether the chain ends there and whether its link goes back or past the nodes
-abbrev after_node : ℕ → List ℕ → ℕ → List ℕ → ℕ → Bool → Bool → List (ℕ × ℕ)
-after_node size words left seen n ends back = elim ends [
-  | true ↦ []
-  | false ↦ elim back [
-    | true ↦ damage
-    | false ↦ chain_parts_from size words left (n ∷ seen) (right_of words n)
-  ]
-]
-
 -- whether the link of a node goes past the nodes or back
 abbrev goes_back : ℕ → List ℕ → List ℕ → ℕ → Bool
 goes_back size words seen n = nat_le size (right_of words n) || list_any (λ m. m == right_of words n) (n ∷ seen)
 
+-- a node, and what follows it
 onward : (size : ℕ) (words : List ℕ) (values t : Amounts) (left n : ℕ) (walk : LeafWalk size words values (suc left) n) (ends back : Bool)
     → t ≡ added values (node_parts words n) → (right_of words n == 0) ≡ ends → goes_back size words walk.seen n ≡ back
-    → added t (after_node size words left walk.seen n ends back) ≡ collected (chain_parts size words)
+    → added t (parts_after size words left walk.seen n ends back) ≡ collected (chain_parts size words)
 onward size words values t left n walk ends back more is_end is_back =
-    ap (λ s. added s (after_node size words left walk.seen n ends back)) more
-    ∙ sym (added-append (node_parts words n) (after_node size words left walk.seen n ends back) values)
-    ∙ sym (ap (λ b. added values (node_parts words n ++ after_node size words left walk.seen n b (goes_back size words walk.seen n))) is_end
-    ∙ ap (λ b. added values (node_parts words n ++ after_node size words left walk.seen n ends b)) is_back)
+    ap (λ s. added s (parts_after size words left walk.seen n ends back)) more
+    ∙ sym (added-append (node_parts words n) (parts_after size words left walk.seen n ends back) values)
+    ∙ sym (ap (λ b. added values (node_parts words n ++ parts_after size words left walk.seen n b (goes_back size words walk.seen n))) is_end
+    ∙ ap (λ b. added values (node_parts words n ++ parts_after size words left walk.seen n ends b)) is_back)
     ∙ walk.rest
 
 -- at the node where the chain ends

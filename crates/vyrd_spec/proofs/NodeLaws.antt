@@ -3,6 +3,7 @@ use Rattle.std.proofs.Common.{◌≡◌, ◌≢◌, ℕ, zero, suc, ◌+◌, ◌
 use Rattle.std.specs.Prelude.{◌==◌, nat_lt, nat_le, count_by, IfSome}
 use Rattle.std.specs.List.{list_all}
 use Rattle.std.proofs.lemmas.List.Folds.{list_all-map}
+use Rattle.std.proofs.Math.Bool.{and-false}
 use Rattle.vyrd_base.specs.Places.{numbers_from, numbers_below}
 use Rattle.vyrd_base.specs.TreeView.{level_of, count_of, right_of, entries_of}
 use Rattle.vyrd_base.specs.Trees.{nodes, leads_to, left_of, is_linked, rises, has_sound_keys}
@@ -110,16 +111,12 @@ linked_on last words n one low on in_use =
     ∙ ap (λ b. b && level_of words (right_of words n) == level_of words n) (is_at_most (right_of words n) last in_use)
 
 -- a key that isn't sound, and keys that all are
-and_false : (b : Bool) → (b && false) ≡ false
-and_false true = refl
-and_false false = refl
-
 pub keys_fail : (last : ℕ) (words : List ℕ) (n j : ℕ) → j < min (count_of words n) 4 → is_sound_key last words n j ≡ false
     → false ≡ has_sound_keys last words n
 keys_fail last words n j low fails =
     sym (sound_keys_are last words n
     ∙ ap (λ b. nat_le (count_of words n) 4 && b) (one_fails (is_sound_key last words n) (min (count_of words n) 4) j low fails)
-    ∙ and_false (nat_le (count_of words n) 4))
+    ∙ and-false (nat_le (count_of words n) 4))
 
 pub keys_pass : (last : ℕ) (words : List ℕ) (n m : ℕ) → count_of words n ≤ 4 → m ≡ min (count_of words n) 4
     → list_all (is_sound_key last words n) (numbers_below m) ≡ true → true ≡ has_sound_keys last words n

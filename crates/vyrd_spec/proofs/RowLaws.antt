@@ -61,16 +61,6 @@ length_from f k (suc n) = ap suc (length_from f (k + 1) n)
 pub length_below : {A : Type 0} (f : ℕ → A) (n : ℕ) → length (map f (numbers_below n)) ≡ n
 length_below f n = length_from f 0 n
 
--- the values of two functions that are alike
-map_alike_from : {A : Type 0} (f g : ℕ → A) (k n : ℕ) → ((i : ℕ) → k ≤ i → i < k + n → f i ≡ g i) → map f (numbers_from k n) ≡ map g (numbers_from k n)
-map_alike_from f g k zero same = refl
-map_alike_from f g k (suc n) same =
-    ap (λ x. x ∷ map f (numbers_from (k + 1) n)) (same k (omega arith) (omega arith))
-    ∙ ap (λ xs. g k ∷ xs) (map_alike_from f g (k + 1) n (λ i from to. same i (omega arith) (omega arith)))
-
-pub map_alike : {A : Type 0} (f g : ℕ → A) (n : ℕ) → ((i : ℕ) → i < n → f i ≡ g i) → map f (numbers_below n) ≡ map g (numbers_below n)
-map_alike f g n same = map_alike_from f g 0 n (λ i from to. same i (omega arith))
-
 -- all pass where each does
 all_pass_from : (p : ℕ → Bool) (k n : ℕ) → ((i : ℕ) → k ≤ i → i < k + n → p i ≡ true) → list_all p (numbers_from k n) ≡ true
 all_pass_from p k zero each = refl

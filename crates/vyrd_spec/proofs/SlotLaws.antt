@@ -6,7 +6,8 @@ use Rattle.std.proofs.lemmas.List.Elements.{All-get_or}
 use Rattle.vyrd_base.specs.Places.{numbers_below}
 use Rattle.vyrd_base.specs.Amounts.{Amounts, amount_of, collected, given}
 use Rattle.vyrd_base.specs.Views.{slot_parts}
-use Rattle.vyrd_base.proofs.SumLaws.{given_at_most, given_nothing, amount_of-collected}
+use Rattle.vyrd_base.proofs.SumLaws.{given_nothing, amount_of-collected}
+use Rattle.vyrd_base.proofs.PartLaws.{slots_at_most}
 use Rattle.vyrd_base.proofs.TestLaws.{below_of, not_below_of, isnt_same}
 use Rattle.vyrd_spec.specs.Bounds.{AllAmounts, most_after}
 
@@ -17,26 +18,6 @@ small_word words i small = by_place (nat_lt i (length words)) refl
     by_place : (b : Bool) → nat_lt i (length words) ≡ b → slice_index words i < 2 ^ 63
     by_place true e = All-get_or (λ word. word < 2 ^ 63) words i 0 (below_of i (length words) e) small
     by_place false e = subst (λ word. word < 2 ^ 63) (sym (get_or_past words i 0 (not_below_of i (length words) e))) (omega arith)
-
-slot_at_most : (words : List ℕ) (q i : ℕ) → given q (slot_parts words i) ≤ 1
-slot_at_most words q i = by_state (slice_index words (2 * i) == 2)
-  where
-    by_key : (b : Bool) → cond b 1 0 + 0 ≤ 1
-    by_key true = omega arith
-    by_key false = omega arith
-
-    by_state : (b : Bool) → given q (cond b ((slice_index words (2 * i + 1), 1) ∷ []) []) ≤ 1
-    by_state true = by_key (q == slice_index words (2 * i + 1))
-    by_state false = omega arith
-
--- n slots give a value n at most
-pub slots_at_most : (words : List ℕ) (n q : ℕ) → amount_of (collected (flat_map (slot_parts words) (numbers_below n))) q ≤ n
-slots_at_most words n q =
-    omega (
-      arith,
-      amount_of-collected (flat_map (slot_parts words) (numbers_below n)) q,
-      given_at_most (slot_parts words) 1 q 0 n (slot_at_most words q),
-    )
 
 -- what a slot gives to a number that no word has
 none_of_slot : (words : List ℕ) (q i : ℕ) → q ≢ slice_index words (2 * i + 1) → given q (slot_parts words i) ≡ 0

@@ -6,45 +6,38 @@ use Rattle.std.specs.List.{list_all}
 use Rattle.std.proofs.lemmas.List.{get_or_past}
 use Rattle.vyrd_base.specs.Places.{numbers_from, numbers_below}
 use Rattle.vyrd_base.specs.Amounts.{amount_of, collected}
-use Rattle.vyrd_base.proofs.TestLaws.{first_true, second_true, below_of, not_below_of}
+use Rattle.vyrd_base.proofs.PlaceLaws.{map_alike}
+use Rattle.vyrd_base.proofs.TestLaws.{first_true, second_true, below_of, not_below_of, then_some_true, then_some_false}
 use Rattle.vyrd_spec.specs.Bounds.{AllAmounts}
 use Rattle.vyrd_spec.specs.Rows.{row_amounts, sound_row}
 use Rattle.vyrd_spec.proofs.RowAmounts.{row_amount}
-use Rattle.vyrd_spec.proofs.RowLaws.{one_fails, each_passes, passes_more, map-push, map_alike, element_below, length_below}
-
-none_then : {A : Type 0} (b : Bool) (x : A) → then_some b x ≡ None → b ≡ false
-none_then true x e = cc
-none_then false x e = refl
-
-some_then : {A : Type 0} (b : Bool) (x y : A) → then_some b x ≡ Some y → (b ≡ true) × (x ≡ y)
-some_then true x y e = (refl, cc)
-some_then false x y e = cc
+use Rattle.vyrd_spec.proofs.RowLaws.{one_fails, each_passes, passes_more, map-push, element_below, length_below}
 
 -- a part that isn't sound
 pub no_row : (p : ℕ → Bool) (f : ℕ → ℕ) (n i : ℕ) → i < n → then_some (p i) (f i) ≡ None → sound_row p f n ≡ None
-no_row p f n i low none = ap (λ b. then_some b (map f (numbers_below n))) (one_fails p n i low (none_then (p i) (f i) none))
+no_row p f n i low none = ap (λ b. then_some b (map f (numbers_below n))) (one_fails p n i low (then_some_false (p i) (f i) none))
 
 -- one more that is
 pub sound_more : (p : ℕ → Bool) (f : ℕ → ℕ) (i value : ℕ) → then_some (p i) (f i) ≡ Some value
     → list_all p (numbers_below i) ≡ true → list_all p (numbers_below (i + 1)) ≡ true
-sound_more p f i value some all = passes_more p i all (some_then (p i) (f i) value some).0
+sound_more p f i value some all = passes_more p i all (then_some_true (p i) (f i) value some).0
 
 pub shown_more : (p : ℕ → Bool) (f : ℕ → ℕ) (row new : List ℕ) (i value : ℕ) → then_some (p i) (f i) ≡ Some value
     → row ≡ map f (numbers_below i) → new ≡ row ++ value ∷ [] → new ≡ map f (numbers_below (i + 1))
 shown_more p f row new i value some all more =
     more ∙ ap (λ xs. xs ++ value ∷ []) all
-    ∙ ap (λ x. map f (numbers_below i) ++ x ∷ []) (sym (some_then (p i) (f i) value some).1)
+    ∙ ap (λ x. map f (numbers_below i) ++ x ∷ []) (sym (then_some_true (p i) (f i) value some).1)
     ∙ sym (map-push f i)
 
 -- the row, if there is one
 pub sound_where : (p : ℕ → Bool) (f : ℕ → ℕ) (n : ℕ) (row : List ℕ) → sound_row p f n ≡ Some row → list_all p (numbers_below n) ≡ true
-sound_where p f n row some = (some_then (list_all p (numbers_below n)) (map f (numbers_below n)) row some).0
+sound_where p f n row some = (then_some_true (list_all p (numbers_below n)) (map f (numbers_below n)) row some).0
 
 pub unsound_where : (p : ℕ → Bool) (f : ℕ → ℕ) (n : ℕ) → sound_row p f n ≡ None → list_all p (numbers_below n) ≡ false
-unsound_where p f n none = none_then (list_all p (numbers_below n)) (map f (numbers_below n)) none
+unsound_where p f n none = then_some_false (list_all p (numbers_below n)) (map f (numbers_below n)) none
 
 values : (p : ℕ → Bool) (f : ℕ → ℕ) (n : ℕ) (row : List ℕ) → sound_row p f n ≡ Some row → map f (numbers_below n) ≡ row
-values p f n row some = (some_then (list_all p (numbers_below n)) (map f (numbers_below n)) row some).1
+values p f n row some = (then_some_true (list_all p (numbers_below n)) (map f (numbers_below n)) row some).1
 
 pub many_in : (p : ℕ → Bool) (f : ℕ → ℕ) (n : ℕ) (row : List ℕ) → sound_row p f n ≡ Some row → length row ≡ n
 many_in p f n row some = ap length (sym (values p f n row some)) ∙ length_below f n

@@ -2,6 +2,7 @@
 use Rattle.std.proofs.Common.{◌≡◌, ℕ, zero, suc, ◌+◌, ◌-◌, ◌*◌, ◌^◌, ◌<◌, ◌≤◌, Bool, true, false, cond, not, Option, Some, None, refl, ap, ◌∙◌, sym, subst, arith}
 use Rattle.std.specs.Prelude.{◌==◌, ◌≢◌, IfSome}
 use Rattle.std.specs.Bool.{then_some}
+use Rattle.std.proofs.lemmas.Option.{same_Some}
 use Rattle.vyrd_base.specs.declared.subject.Subject.TheVariants.{Multiset, Cache, Tree, Buffers}
 use Rattle.vyrd_base.specs.declared.subject.Method.{Method}
 use Rattle.vyrd_base.specs.declared.subject.Method.TheVariants.{MsInsert, MsInsertPair, MsDelete, MsLookup, CaWrite, CaFlush, CaEvict, CaRead, TrInsert, TrDelete, TrLookup, BuAppend, BuAppendFrom, BuCut, BuLength, BuRead}
@@ -15,12 +16,9 @@ use Rattle.vyrd_base.proofs.TestLaws.{same_of, apart_of}
 use Rattle.vyrd_base.proofs.TextLaws.{joined_below, cut_below}
 use Rattle.vyrd_spec.specs.Bounds.{AllAmounts, AreTexts}
 
-some_is : (s t : Amounts) → ◌≡◌ {A = Option Amounts} (Some s) (Some t) → s ≡ t
-some_is s t e = cc
-
 holds_at : (Q : Amounts → Type 0) (o : Option Amounts) (t : Amounts) → IfSome o Q → o ≡ Some t → Q t
 holds_at Q None t h e = cc
-holds_at Q (Some s) t h e = subst Q (some_is s t e) h
+holds_at Q (Some s) t h e = subst Q (same_Some s t e) h
 
 -- what holds of each state that a reply may lead to holds of the one that it leads to
 pub by_replies : (Q : Amounts → Type 0) (reply : ℕ) (at_0 at_1 at_2 : Option Amounts) (t : Amounts)

@@ -3,6 +3,7 @@ use Rattle.std.proofs.Common.{◌≡◌, ◌≢◌, ℕ, ◌+◌, ◌<◌, ◌�
 use Rattle.std.specs.Prelude.{◌==◌, nat_lt, nat_le, count_by}
 use Rattle.std.specs.Option.{option_map_or}
 use Rattle.std.specs.List.{list_all}
+use Rattle.std.proofs.Math.Bool.{and-false}
 use Rattle.vyrd_base.specs.TreeView.{level_of, count_of, bound_of, right_of, entries_of}
 use Rattle.vyrd_base.specs.Trees.{root_of, last_of, nodes, leads_to, left_of, is_first, low_of, is_linked, is_bounded, has_sound_keys, keys_at, begins_with, is_leaf_entry, is_child_entry, has_sound_entries, is_only_first, is_sound_node, is_tree}
 use Rattle.vyrd_base.proofs.TestLaws.{first_true, second_true, at_most_of, below_of, is_below, is_at_most, is_same, isnt_same, same_of}
@@ -71,10 +72,6 @@ two_links size words low within twice = sym (tree_is size words low within ∙ b
     all : Bool
     all = list_all (is_sound_below last words (level_of words (root_of size words))) (nodes last)
 
-    and_false : (b : Bool) → (b && false) ≡ false
-    and_false true = refl
-    and_false false = refl
-
     by_all : (b : Bool) → all ≡ b → (level_of words 0 == 0 && is_first last words (root_of size words) && all) ≡ false
     by_all true e =
         let one : have_one_left last words ≡ true =
@@ -83,7 +80,7 @@ two_links size words low within twice = sym (tree_is size words low within ∙ b
         let no : false ≡ true = sym twice ∙ one in cc
     by_all false e =
         ap (λ b. level_of words 0 == 0 && is_first last words (root_of size words) && b) e
-        ∙ and_false (level_of words 0 == 0 && is_first last words (root_of size words))
+        ∙ and-false (level_of words 0 == 0 && is_first last words (root_of size words))
 
 -- a tree in words
 pub record IsTreeOf (size : ℕ) (words : List ℕ) : Type 0 where
@@ -145,11 +142,7 @@ leads_on size words n tree low on = record {
 
     bounded : (not (right == 0) && nat_lt (low_of last words n) (bound_of words n)) ≡ true
     bounded = or_second (bound_of words n == 0 && right == 0) (not (right == 0) && nat_lt (low_of last words n) (bound_of words n))
-        (tree.sound n low).bounded (ap (λ b. bound_of words n == 0 && b) away ∙ and_false (bound_of words n == 0))
-      where
-        and_false : (b : Bool) → (b && false) ≡ false
-        and_false true = refl
-        and_false false = refl
+        (tree.sound n low).bounded (ap (λ b. bound_of words n == 0 && b) away ∙ and-false (bound_of words n == 0))
 
     left : left_of last words right ≡ Some n
     left = only_found (leads_to words right) (last + 1) n

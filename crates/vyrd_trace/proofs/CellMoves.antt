@@ -15,9 +15,6 @@ use Rattle.vyrd_trace.specs.Lanes.{last_value}
 use Rattle.vyrd_trace.specs.Rule.{Ghost, IsAt, InHand, FitsCell, Knows, Kept}
 use Rattle.vyrd_trace.proofs.Stays.{St, Same, refit}
 
-pub same_some : (x y : ℕ) → Some x ≡ Some y → x ≡ y
-same_some x y e = cc
-
 -- a function that is changed at one place
 abbrev pub upd : {A : Type 0} → (ℕ → A) → ℕ → A → ℕ → A
 upd f i x j = cond (eqb j i) x (f j)

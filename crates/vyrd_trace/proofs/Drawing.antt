@@ -5,6 +5,7 @@ use Rattle.std.proofs.lemmas.List.{get_or-set_other}
 use mathlib.Core.Option.{some, none}
 use lib.ListN.{get_elem?}
 use Rattle.atomic_table.specs.Table.{step, keeps, stepped, Allows}
+use Rattle.std.proofs.lemmas.Option.{same_Some}
 use Rattle.vyrd_base.specs.declared.log.Kind.{Kind}
 use Rattle.vyrd_base.specs.declared.history.Did.{Did}
 use Rattle.vyrd_base.specs.declared.history.Did.TheVariants.{Read, Wrote, Took, Gave, Marked}
@@ -22,7 +23,7 @@ use Rattle.vyrd_trace.specs.Steps.{Sitting, drew, MayDraw}
 use Rattle.vyrd_trace.proofs.HistoryGrows.{value_after, legal-snoc, may_read, may_write, may_take, may_give, may_mark}
 use Rattle.vyrd_trace.proofs.Parts.{value-snoc, part-mine, part-other, legal_bounded, held_value}
 use Rattle.vyrd_trace.proofs.Stays.{St, turned, refit, below, changed}
-use Rattle.vyrd_trace.proofs.CellMoves.{same_some, upd, upd_here, upd_else, in_hand, moved, claims_moved, held_cell, nowhere, nowhere_rest}
+use Rattle.vyrd_trace.proofs.CellMoves.{upd, upd_here, upd_else, in_hand, moved, claims_moved, held_cell, nowhere, nowhere_rest}
 use Rattle.vyrd_trace.specs.Hands.{most_events}
 
 module _ (p : Plan) (few : p.callers ≤ 64) (short : p.limit ≤ most_events) where
@@ -118,7 +119,7 @@ module _ (p : Plan) (few : p.callers ≤ 64) (short : p.limit ≤ most_events) w
         drew_keeps s r id me.1 v did (upd g.stage by st) (upd g.claimer k0 o) st at live room (follows g.history cell.2 cell.3)
             (upd_here g.stage by st by refl) (λ c no. upd_else g.stage by st c no)
             (claims_moved p s r id v at live k0 inside st o (λ k x. let y : k0 ≡ k = subst (λ (q : Stage). IsAt q k) next x in
-            (sym y, refl)) (λ c no is. no (sym (same_some by c (sym mine_is ∙ is)))))
+            (sym y, refl)) (λ c no is. no (sym (same_Some by c (sym mine_is ∙ is)))))
             (moved p s r id v at live k0 inside st (slice_index s.words (k0 + 1)) o s.words hist (λ k _. refl) refl
             (λ k no. value-snoc g.history e k ∙ away k (last_value g.history k) no)
             (nowhere p.plain by k0 b v.stage claimed)

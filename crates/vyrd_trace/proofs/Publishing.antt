@@ -5,6 +5,7 @@ use Rattle.std.proofs.lemmas.List.{get_or-set_other}
 use mathlib.Core.Option.{some, none}
 use lib.ListN.{get_elem?}
 use Rattle.atomic_table.specs.Table.{step, keeps, stepped, Allows}
+use Rattle.std.proofs.lemmas.Option.{same_Some}
 use Rattle.vyrd_trace.specs.declared.plan.Plan.{Plan}
 use Rattle.vyrd_trace.specs.declared.record.Record.{Record}
 use Rattle.vyrd_trace.specs.declared.record.Stage.{Stage}
@@ -14,7 +15,7 @@ use Rattle.vyrd_trace.specs.Records.{acting}
 use Rattle.vyrd_trace.specs.Rule.{Ghost, IsAt, InHand, Kept}
 use Rattle.vyrd_trace.specs.Steps.{Sitting, published, Ends}
 use Rattle.vyrd_trace.proofs.Stays.{St, turned}
-use Rattle.vyrd_trace.proofs.CellMoves.{same_some, upd, upd_here, in_hand, moved, claims_moved, same_moved, nowhere_drawn, nowhere_giving}
+use Rattle.vyrd_trace.proofs.CellMoves.{upd, upd_here, in_hand, moved, claims_moved, same_moved, nowhere_drawn, nowhere_giving}
 
 module _ (p : Plan) where
   -- an action at k0 ends
@@ -36,7 +37,7 @@ module _ (p : Plan) where
         counted = get_or-set_other s.words (k0 + 1) 0 x 0 (λ z. omega arith) ∙ r.counted;
         legal = r.legal;
         short = let a = r.short by in let b = ap length mine.whole in omega arith;
-        claims = claims_moved p s r id v at live k0 inside Rest None (λ k z. absurd z) (λ c no is. no (same_some c by (sym is ∙ mine_is)));
+        claims = claims_moved p s r id v at live k0 inside Rest None (λ k z. absurd z) (λ c no is. no (same_Some c by (sym is ∙ mine_is)));
         cells = moved p s r id v at live k0 inside Rest x None (set s.words (k0 + 1) x) g.history
             (λ k no. get_or-set_other s.words (k0 + 1) (k + 1) x 0 (λ z. no (omega arith)))
             (get_or-set_same s.words (k0 + 1) x 0 (omega arith)) (λ k _. refl) elsewhere twice;

@@ -1,10 +1,10 @@
 -- The leaf of a key, and when an insert gives up.
-use Rattle.std.proofs.Common.{◌≡◌, ◌≢◌, ℕ, zero, suc, ◌+◌, ◌<◌, ◌≤◌, ◌^◌, ◌⊎◌, inl, inr, Bool, cond, Option, Some, None, ap, ◌∙◌, sym, subst, arith}
+use Rattle.std.proofs.Common.{◌≡◌, ◌≢◌, ℕ, zero, suc, ◌+◌, ◌<◌, ◌≤◌, ◌^◌, ◌⊎◌, inl, inr, Bool, cond, Some, ap, ◌∙◌, sym, subst, arith}
 use Rattle.vyrd_base.specs.declared.header.Header.{Header}
 use Rattle.vyrd_base.specs.declared.subject.Subject.TheVariants.{Tree}
 use Rattle.vyrd_base.specs.Amounts.{Amounts}
 use Rattle.vyrd_memory.specs.declared.op.Variant.TheVariants.{Correct}
-use Rattle.vyrd_memory.specs.Alone.{Memory, Outcome, state_in, alone, GivesUpWhere}
+use Rattle.vyrd_memory.specs.Alone.{Memory, state_in, alone, GivesUpWhere}
 use Rattle.vyrd_tree.specs.Procedures.{insert_entry}
 use Rattle.vyrd_tree.specs.Procedures.Walk.{is_past}
 use Rattle.vyrd_tree.specs.Cells.{count_cell}

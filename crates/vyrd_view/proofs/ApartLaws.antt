@@ -9,7 +9,7 @@ use Rattle.std.proofs.lemmas.Bool.Decides.{nat_tests}
 use Rattle.vyrd_base.specs.Amounts.{Amounts, IsAmounts, amount_of, first_difference}
 use Rattle.vyrd_base.proofs.DifferenceLaws.{first_difference_none, first_difference_some}
 use Rattle.vyrd_base.proofs.TestLaws.{same_number, same_of, apart_of, lower_isnt}
-use Rattle.vyrd_base.proofs.AmountLaws.{first_of_and, second_of_and}
+use Rattle.vyrd_base.proofs.AmountLaws.{apart_from, first_of_and, second_of_and}
 use Rattle.vyrd_view.specs.Apart.{IsLeastApart}
 
 -- the lesser key at the first place where the lists differ
@@ -47,9 +47,6 @@ amount_of-cons x xs q = ap (λ b. unwrap_or (cond b (Some x.1) (find nat_cmp q x
     by_test : (b : Bool) → unwrap_or (cond b (Some x.1) (find nat_cmp q xs)) 0 ≡ cond b x.1 (amount_of xs q)
     by_test true = refl
     by_test false = refl
-
-apart_from : (k q e : ℕ) → q ≤ k → T (is_lt (nat_cmp k e)) → (q == e) ≡ false
-apart_from k q e le h = grind (arith, nat_tests)
 
 absent_below : (xs : Amounts) (k q : ℕ) → q ≤ k → T (below_all nat_cmp k xs) → amount_of xs q ≡ 0
 absent_below [] k q le below = refl

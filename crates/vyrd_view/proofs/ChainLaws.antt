@@ -6,6 +6,7 @@ use Rattle.std.proofs.lemmas.Bool.Decides.{nat_tests}
 use Rattle.std.proofs.Math.Bool.{or-true}
 use Rattle.vyrd_base.specs.Amounts.{Amounts, collected}
 use Rattle.vyrd_base.specs.TreeView.{right_of, node_parts, damage, chain_parts_from, chain_parts}
+use Rattle.vyrd_base.proofs.PartLaws.{parts_after}
 use Rattle.vyrd_base.proofs.TestLaws.{isnt_same, is_same}
 use Rattle.vyrd_base.specs.Added.{added}
 use Rattle.vyrd_base.proofs.AddedLaws.{added-append, added-collected}
@@ -62,28 +63,19 @@ marked size n flags seen within marks q = by_test (n == q) refl
         get_or-set_other flags n q true true (other_of e) ∙ marks q
         ∙ sym (ap (λ b. nat_le size q || (b || list_any (λ m. m == q) seen)) e)
 
--- what follows a node, by whether the chain ends there and whether its link goes back or past the nodes
-abbrev after_node : ℕ → List ℕ → ℕ → List ℕ → ℕ → Bool → Bool → List (ℕ × ℕ)
-after_node size words left seen n ends back = elim ends [
-  | true ↦ []
-  | false ↦ elim back [
-    | true ↦ damage
-    | false ↦ chain_parts_from size words left (n ∷ seen) (right_of words n)
-  ]
-]
-
+-- a node, and what follows it
 onward : (size : ℕ) (words : List ℕ) (sums : Amounts) (flags : List Bool) (left n : ℕ)
     (walk : Walk size words sums flags (suc left) n) (ends back : Bool)
     → n < length flags → (right_of words n == 0) ≡ ends → get_or (set flags n true) (right_of words n) true ≡ back
-    → added (added sums (node_parts words n)) (after_node size words left walk.seen n ends back) ≡ collected (chain_parts size words)
+    → added (added sums (node_parts words n)) (parts_after size words left walk.seen n ends back) ≡ collected (chain_parts size words)
 onward size words sums flags left n walk ends back within is_end is_back =
     let marks : Marks size (set flags n true) (n ∷ walk.seen) = marked size n flags walk.seen within walk.marks in
     let right : ℕ = right_of words n in
     let test : Bool = (nat_le size right || list_any (λ m. m == right) (n ∷ walk.seen)) in
     let sums' : Amounts = added sums (node_parts words n) in
-    sym (ap (λ b. added sums' (after_node size words left walk.seen n b test)) is_end
-    ∙ ap (λ b. added sums' (after_node size words left walk.seen n ends b)) (sym (marks right) ∙ is_back))
-    ∙ sym (added-append (node_parts words n) (after_node size words left walk.seen n (right == 0) test) sums)
+    sym (ap (λ b. added sums' (parts_after size words left walk.seen n b test)) is_end
+    ∙ ap (λ b. added sums' (parts_after size words left walk.seen n ends b)) (sym (marks right) ∙ is_back))
+    ∙ sym (added-append (node_parts words n) (parts_after size words left walk.seen n (right == 0) test) sums)
     ∙ walk.rest
 
 -- at the node where the chain ends

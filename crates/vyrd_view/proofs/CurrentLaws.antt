@@ -9,7 +9,7 @@ use Rattle.vyrd_base.specs.Places.{numbers_below}
 use Rattle.vyrd_base.specs.Amounts.{amount_of, collected, given}
 use Rattle.vyrd_base.specs.Views.{Chunk, chunk_at, parts_of}
 use Rattle.vyrd_base.specs.TreeView.{right_of, node_word, count_of}
-use Rattle.vyrd_base.proofs.SumLaws.{amount_of-collected}
+use Rattle.vyrd_base.proofs.SumLaws.{amount_of-collected, nothing_given}
 use Rattle.vyrd_base.proofs.ListLaws.{zeros}
 use Rattle.vyrd_base.proofs.TestLaws.{apart_of, isnt_same, neither_true, isnt_below}
 use Rattle.vyrd_view.specs.Pairs.{is_touched, slot_pair, chunk_pair, chunk_key, chunk_amount, chunk_flaw, buffer_pair}
@@ -18,7 +18,7 @@ use Rattle.vyrd_view.specs.Firsts.{first_pairs_in, first_chunk_pair, first_buffe
 use Rattle.vyrd_view.specs.Comparing.{pairs_in, AgreeElsewhere}
 use Rattle.vyrd_view.proofs.PlacedLaws.{mapped, length_mapped, at_mapped}
 use Rattle.vyrd_view.proofs.BufferLaws.{same_buffer, empty_buffer}
-use Rattle.vyrd_view.proofs.ShowingLaws.{slots_give, chunks_give, buffers_give, nothing_given}
+use Rattle.vyrd_view.proofs.ShowingLaws.{slots_give, chunks_give, buffers_give}
 use Rattle.vyrd_view.proofs.ShowingTree.{places_give}
 use Rattle.vyrd_view.proofs.TreePairLaws.{tree_pairs}
 

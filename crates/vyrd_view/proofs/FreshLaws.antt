@@ -1,15 +1,15 @@
 -- Two sides that are empty.
-use Rattle.std.proofs.Common.{◌≡◌, ℕ, zero, suc, ◌+◌, ◌*◌, ◌%◌, ◌^◌, ◌<◌, ◌≤◌, false, cond, [], None, length, replicate, refl, ap, ◌∙◌, sym, subst, arith}
+use Rattle.std.proofs.Common.{◌≡◌, ℕ, zero, suc, ◌+◌, ◌^◌, ◌≤◌, false, cond, [], None, length, replicate, refl, ap, ◌∙◌, sym, subst, arith}
 use Rattle.std.specs.Prelude.{count_by}
 use Rattle.std.proofs.lemmas.List.{length-replicate}
 use Rattle.std.proofs.lemmas.List.Sums.{sum_by-cons}
-use Rattle.std.proofs.lemmas.Nat.{shr_below}
 use Rattle.vyrd_base.specs.Amounts.{IsAmounts, amount_of}
-use Rattle.vyrd_base.proofs.AmountLaws.{same_amounts}
+use Rattle.vyrd_base.proofs.AmountLaws.{same_amounts, no_amounts}
+use Rattle.vyrd_base.proofs.TableLaws.{places_within}
 use Rattle.vyrd_view.specs.declared.homes.Home.{Home}
 use Rattle.vyrd_view.specs.declared.sides.Sides.{Sides}
 use Rattle.vyrd_view.specs.Rests as rests
-use Rattle.vyrd_view.specs.Homes.{no_home, home_at, is_taken, is_apart, first_place, IsHomeOf}
+use Rattle.vyrd_view.specs.Homes.{no_home, home_at, is_taken, is_apart, IsHomeOf}
 use Rattle.vyrd_view.specs.Sided.{AreSettled, IsSettled, shown_at, specified_of}
 use Rattle.vyrd_view.proofs.SidedLaws.{is_settled, shown_nowhere, specified_nowhere, specified_formed}
 
@@ -21,17 +21,6 @@ all_free (suc n) (suc i) = all_free n i
 none_counted : (n : ℕ) → count_by is_apart (replicate n no_home) ≡ 0
 none_counted zero = refl
 none_counted (suc n) = omega (arith, sum_by-cons (λ (h : Home). cond (is_apart h) 1 0) no_home (replicate n no_home), none_counted n)
-
-empty_formed : IsAmounts []
-empty_formed = record { rising = tt; some = tt }
-
--- a key has its places within the table
-places_within : (shift bits q : ℕ) → shift + bits ≡ 64 → first_place shift q < 2 ^ bits
-unfolding first_place
-places_within shift bits q sum =
-    let low : (q * 11400714819323198485) % 18446744073709551616 < 18446744073709551616 = omega arith in
-    let is : 2 ^ (bits + shift) ≡ 18446744073709551616 = ap (λ n. 2 ^ n) (let e : bits + shift ≡ 64 = omega (arith, sum) in e) in
-    shr_below ((q * 11400714819323198485) % 18446744073709551616) bits shift (omega (arith, low, is))
 
 module _ (s : Sides) (bits : ℕ) (few : bits ≤ 20) (sum : s.homes.shift + bits ≡ 64) (free : s.homes.places.items ≡ replicate (2 ^ bits + 3) no_home)
     (none : s.homes.apart ≡ 0) (shown : s.rest.shown ≡ []) (specified : s.rest.specified ≡ []) (settled : rests.IsSettled s.rest) (some : 1 ≤ bits) where
@@ -52,7 +41,7 @@ module _ (s : Sides) (bits : ℕ) (few : bits ≤ 20) (sum : s.homes.shift + bit
     );
     counted = none ∙ sym (ap (count_by is_apart) free ∙ none_counted (2 ^ bits + 3));
     rest = settled;
-    formed = subst IsAmounts (sym specified) empty_formed;
+    formed = subst IsAmounts (sym specified) no_amounts;
   }
 
   pub fresh_settled : IsSettled s
@@ -65,5 +54,5 @@ module _ (s : Sides) (bits : ℕ) (few : bits ≤ 20) (sum : s.homes.shift + bit
   fresh_shown q = shown_nowhere s q (nowhere q) ∙ ap (λ a. amount_of a q) shown
 
   pub fresh_specified : specified_of s ≡ []
-  fresh_specified = same_amounts (specified_of s) [] (specified_formed s fresh) empty_formed
+  fresh_specified = same_amounts (specified_of s) [] (specified_formed s fresh) no_amounts
       (λ q. specified_nowhere s q (nowhere q) ∙ ap (λ a. amount_of a q) specified)

@@ -4,11 +4,11 @@ use Rattle.std.specs.Prelude.{◌==◌, nat_lt, count_by}
 use Rattle.std.proofs.lemmas.List.{get_or_past}
 use Rattle.std.proofs.lemmas.List.Sums.{get_or-le-sum_by}
 use Rattle.vyrd_base.specs.Amounts.{given, part_given}
+use Rattle.vyrd_base.specs.Tables.{first_place}
+use Rattle.vyrd_base.proofs.SumLaws.{own_part, other_part, nothing_given, none_gives, only_gives}
 use Rattle.vyrd_base.proofs.TestLaws.{same_of, apart_of, is_same, below_of, not_below_of}
 use Rattle.vyrd_view.specs.declared.homes.Home.{Home}
-use Rattle.vyrd_view.specs.Homes.{no_home, home_at, is_taken, is_apart, shown_pairs, specified_pairs, first_place, AreHomes, IsHomeOf, IsFoundAt, IsLeastHome}
-use Rattle.vyrd_view.proofs.PairLaws.{own_part, other_part}
-use Rattle.vyrd_view.proofs.ShowingLaws.{nothing_given}
+use Rattle.vyrd_view.specs.Homes.{no_home, home_at, is_taken, is_apart, shown_pairs, specified_pairs, AreHomes, IsHomeOf, IsFoundAt, IsLeastHome}
 
 -- where no amounts differ
 pub none_apart : (places : List Home) → count_by is_apart places ≡ 0 → (i : ℕ) → is_apart (home_at places i) ≡ false
@@ -97,19 +97,6 @@ least_moves places n k (Some m) here none some one so_far = (
         let both = some m refl in omega (arith, both.0, so_far.1 j (omega (arith, low, apart_of j n e)) apart)
 
 -- ---- what a key gives from its place alone
-
--- no pair gives to the key
-none_gives : (q : ℕ) (pairs : List (ℕ × ℕ)) → ((j : ℕ) → part_given q (get_or pairs j (0, 0)) ≡ 0) → given q pairs ≡ 0
-none_gives q [] nothing = refl
-none_gives q (p ∷ pairs) nothing = omega (arith, nothing 0, none_gives q pairs (λ j. nothing (suc j)))
-
--- one pair alone gives to it
-only_gives : (q : ℕ) (pairs : List (ℕ × ℕ)) (i : ℕ) → ((j : ℕ) → j ≢ i → part_given q (get_or pairs j (0, 0)) ≡ 0)
-    → given q pairs ≡ part_given q (get_or pairs i (0, 0))
-only_gives q [] i nothing = sym (nothing_given q 0)
-only_gives q (p ∷ pairs) zero nothing = omega (arith, none_gives q pairs (λ j. nothing (suc j) (λ e. absurd (omega (arith, e)))))
-only_gives q (p ∷ pairs) (suc i) nothing =
-    omega (arith, nothing 0 (λ e. absurd (omega (arith, e))), only_gives q pairs i (λ j other. nothing (suc j) (λ e. other (omega (arith, e)))))
 
 -- an amount of each place
 abbrev pub PairsBy : (Home → ℕ) → List Home → List (ℕ × ℕ)

@@ -1,29 +1,16 @@
 -- What pairs in places give to a key, and how that changes with one pair.
-use Rattle.std.proofs.Common.{◌≡◌, ℕ, zero, suc, ◌+◌, ◌<◌, ◌≤◌, Bool, true, false, cond, List, [], ◌∷◌, length, length-set, get_or, set, refl, ap, ◌∙◌, sym, subst, arith, get_or-set_same, get_or-set_other}
+use Rattle.std.proofs.Common.{◌≡◌, ℕ, zero, suc, ◌<◌, ◌≤◌, Bool, true, false, List, [], ◌∷◌, length, length-set, get_or, set, refl, ap, ◌∙◌, sym, subst, arith, get_or-set_same, get_or-set_other}
 use Rattle.std.specs.Prelude.{◌==◌, ◌≢◌}
-use Rattle.vyrd_base.proofs.TestLaws.{same_number, same_of, apart_of, isnt_same}
+use Rattle.vyrd_base.proofs.SumLaws.{own_part, other_part}
+use Rattle.vyrd_base.proofs.TestLaws.{same_of, apart_of}
 use Rattle.vyrd_base.specs.Amounts.{Amounts, given, part_given}
 use Rattle.vyrd_view.specs.Kept.{Kept}
-
--- one pair gives way to another
-pub given-set : (q : ℕ) (pairs : List (ℕ × ℕ)) (i : ℕ) (pair d : ℕ × ℕ) → i < length pairs
-    → given q (set pairs i pair) + part_given q (get_or pairs i d) ≡ given q pairs + part_given q pair
-given-set q [] i pair d low = absurd (omega arith)
-given-set q (p ∷ pairs) zero pair d low = omega arith
-given-set q (p ∷ pairs) (suc i) pair d low = omega (arith, given-set q pairs i pair d (omega arith))
 
 -- each pair gives at most what all give
 pub part-le-given : (q : ℕ) (pairs : List (ℕ × ℕ)) (i : ℕ) (d : ℕ × ℕ) → i < length pairs → part_given q (get_or pairs i d) ≤ given q pairs
 part-le-given q [] i d low = absurd (omega arith)
 part-le-given q (p ∷ pairs) zero d low = omega arith
 part-le-given q (p ∷ pairs) (suc i) d low = omega (arith, part-le-given q pairs i d (omega arith))
-
--- what a pair gives to its own key, and to another
-pub own_part : (k a : ℕ) → part_given k (k, a) ≡ a
-own_part k a = ap (λ b. cond b a 0) (same_number k)
-
-pub other_part : (q k a : ℕ) → q ≢ k → part_given q (k, a) ≡ 0
-other_part q k a apart = ap (λ b. cond b a 0) (isnt_same q k apart)
 
 -- what is kept, field by field
 pub all_kept : (kept : Kept) (pairs : List (ℕ × ℕ)) (specified : Amounts) (refused : Bool) → kept.pairs ≡ pairs → kept.specified ≡ specified

@@ -7,7 +7,7 @@ use Rattle.vyrd_base.specs.Amounts.{given}
 use Rattle.vyrd_base.proofs.PlaceLaws.{numbers_below-push}
 use Rattle.vyrd_base.proofs.TestLaws.{same_of, apart_of}
 use Rattle.vyrd_view.specs.Pairs.{is_touched, EachAtMost}
-use Rattle.vyrd_view.proofs.PartLaws.{part_at_most}
+use Rattle.vyrd_base.proofs.SumLaws.{part_at_most}
 
 -- pairs that give this much at most
 pub each_bounds : (most q : ℕ) (pairs : List (ℕ × ℕ)) → EachAtMost most pairs → given q pairs ≤ length pairs * most

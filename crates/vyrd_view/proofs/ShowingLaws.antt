@@ -5,20 +5,12 @@ use Rattle.vyrd_base.specs.Places.{numbers_below}
 use Rattle.vyrd_base.specs.Views.{slot_parts, chunk_at, chunk_parts, is_chunk, stored_pair, cached_pair, Chunk}
 use Rattle.vyrd_base.specs.Buffers.{buffer_at, buffer_parts}
 use Rattle.vyrd_base.specs.Amounts.{given, part_given}
-use Rattle.vyrd_base.proofs.SumLaws.{given-append}
+use Rattle.vyrd_base.proofs.SumLaws.{given-append, nothing_given}
 use Rattle.vyrd_view.specs.Pairs.{slot_pair, chunk_pair, chunk_amount, chunk_flaw, buffer_pair}
 use Rattle.vyrd_base.proofs.AddedLaws.{parts-push}
 use Rattle.vyrd_view.proofs.PlacedLaws.{mapped-push}
 use Rattle.vyrd_view.proofs.ChunkPairLaws.{pair_even, pair_odd}
 use Rattle.vyrd_view.proofs.BufferLaws.{parts_of_buffer}
-
--- nothing gives nothing
-pub nothing_given : (q k : ℕ) → part_given q (k, 0) ≡ 0
-nothing_given q k = by_key (q == k)
-  where
-    by_key : (b : Bool) → cond {A = ℕ} b 0 0 ≡ 0
-    by_key true = refl
-    by_key false = refl
 
 -- one place more
 pub given_map_push : (q : ℕ) (f : ℕ → ℕ × ℕ) (m : ℕ) → given q (map f (numbers_below (m + 1))) ≡ given q (map f (numbers_below m)) + part_given q (f m)

@@ -2,14 +2,16 @@
 use Rattle.std.proofs.Common.{◌≡◌, ℕ, zero, suc, ◌+◌, ◌*◌, ◌/◌, ◌%◌, ◌^◌, ◌<◌, ◌≤◌, min, Bool, true, false, cond, ◌&&◌, ◌||◌, List, [], ◌∷◌, ◌++◌, map, refl, ap, ◌∙◌, sym, arith}
 use Rattle.std.specs.Prelude.{◌==◌, nat_lt, nat_le, flat_map}
 use Rattle.std.specs.List.{list_any}
+use Rattle.std.proofs.Math.Bool.{or-false}
 use Rattle.vyrd_base.specs.Places.{numbers_below}
 use Rattle.vyrd_base.specs.TreeView.{node_word, count_of, right_of, node_parts, damage, chain_parts_from, chain_parts}
 use Rattle.vyrd_base.specs.Amounts.{given, part_given}
-use Rattle.vyrd_base.proofs.SumLaws.{given-append}
+use Rattle.vyrd_base.proofs.SumLaws.{given-append, nothing_given}
 use Rattle.vyrd_base.proofs.TestLaws.{same_of, apart_of, isnt_same, below_of, not_below_of, neither_true, above_of}
 use Rattle.vyrd_view.specs.Chains.{chain_nodes_from, chain_breaks_from, is_on_chain, is_broken, entry_pair, end_pair, tree_pair}
-use Rattle.vyrd_view.proofs.PartLaws.{place_parts, node_parts-places}
-use Rattle.vyrd_view.proofs.ShowingLaws.{nothing_given, given_map_push, given_flat_push}
+use Rattle.vyrd_base.proofs.PartLaws.{place_parts, node_parts-places, parts_after}
+use Rattle.vyrd_view.proofs.ShowingLaws.{given_map_push, given_flat_push}
+use Rattle.vyrd_view.proofs.WalkLaws.{nodes_after, breaks_after}
 use Rattle.vyrd_view.proofs.TreePairLaws.{tree_pair_end}
 
 -- what an entry within the count gives
@@ -112,38 +114,6 @@ mark_more q words f m (suc k) low new = by_test (m == k) refl (mark_more q words
           ap (λ b. cond (b || f k) (given q (node_parts words k)) 0) e,
         )
 
--- a node and what follows it
-abbrev parts_after : ℕ → List ℕ → ℕ → List ℕ → ℕ → Bool → Bool → List (ℕ × ℕ)
-parts_after size words left seen n ends back = elim ends [
-  | true ↦ []
-  | false ↦ elim back [
-    | true ↦ damage
-    | false ↦ chain_parts_from size words left (n ∷ seen) (right_of words n)
-  ]
-]
-
-abbrev nodes_after : ℕ → List ℕ → ℕ → List ℕ → ℕ → Bool → Bool → List ℕ
-nodes_after size words left seen n ends back = elim ends [
-  | true ↦ []
-  | false ↦ elim back [
-    | true ↦ []
-    | false ↦ chain_nodes_from size words left (n ∷ seen) (right_of words n)
-  ]
-]
-
-abbrev breaks_after : ℕ → List ℕ → ℕ → List ℕ → ℕ → Bool → Bool → Bool
-breaks_after size words left seen n ends back = elim ends [
-  | true ↦ false
-  | false ↦ elim back [
-    | true ↦ true
-    | false ↦ chain_breaks_from size words left (n ∷ seen) (right_of words n)
-  ]
-]
-
-or_none : (b : Bool) → (b || false) ≡ b
-or_none true = refl
-or_none false = refl
-
 or_swap : (a b x : Bool) → (a || (b || x)) ≡ ((b || a) || x)
 or_swap true true x = refl
 or_swap true false x = refl
@@ -178,7 +148,7 @@ module _ (q size : ℕ) (words : List ℕ) where
       omega (
         arith,
         same_marks q words (λ i. list_any (λ m. m == i) seen || ((n == i) || false)) (λ i. list_any (λ m. m == i) (n ∷ seen)) size
-            (λ i. or_swap (list_any (λ m. m == i) seen) (n == i) false ∙ or_none ((n == i) || list_any (λ m. m == i) seen)),
+            (λ i. or_swap (list_any (λ m. m == i) seen) (n == i) false ∙ or-false ((n == i) || list_any (λ m. m == i) seen)),
         one_more seen n low new,
         ends_give q,
         given-append q (node_parts words n) [],
@@ -187,7 +157,7 @@ module _ (q size : ℕ) (words : List ℕ) where
       omega (
         arith,
         same_marks q words (λ i. list_any (λ m. m == i) seen || ((n == i) || false)) (λ i. list_any (λ m. m == i) (n ∷ seen)) size
-            (λ i. or_swap (list_any (λ m. m == i) seen) (n == i) false ∙ or_none ((n == i) || list_any (λ m. m == i) seen)),
+            (λ i. or_swap (list_any (λ m. m == i) seen) (n == i) false ∙ or-false ((n == i) || list_any (λ m. m == i) seen)),
         one_more seen n low new,
         damage_gives q,
         given-append q (node_parts words n) damage,
@@ -210,7 +180,7 @@ module _ (q size : ℕ) (words : List ℕ) where
   sums zero seen n low new =
       omega (
         arith,
-        same_marks q words (λ i. list_any (λ m. m == i) seen || false) (λ i. list_any (λ m. m == i) seen) size (λ i. or_none (list_any (λ m. m == i) seen)),
+        same_marks q words (λ i. list_any (λ m. m == i) seen || false) (λ i. list_any (λ m. m == i) seen) size (λ i. or-false (list_any (λ m. m == i) seen)),
         ends_give q,
       )
   sums (suc left) seen n low new = step left seen n low new (sums left) (right_of words n == 0)

@@ -3,7 +3,8 @@ use Rattle.std.proofs.Common.{◌≡◌, ◌≢◌, ℕ, ◌+◌, ◌<◌, ◌�
 use Rattle.std.specs.Prelude.{◌==◌, nat_le, count_by}
 use Rattle.std.proofs.lemmas.List.{map-set, length-map}
 use Rattle.vyrd_base.specs.Amounts.{Amounts, IsAmounts, amount_of, with_amount, given, part_given}
-use Rattle.vyrd_base.proofs.AmountLaws.{amount_of-with_amount, IsAmounts-with_amount, same_amounts}
+use Rattle.vyrd_base.specs.Tables.{first_place, IsWithin}
+use Rattle.vyrd_base.proofs.AmountLaws.{amount_of-with_amount, IsAmounts-with_amount, amounts_are}
 use Rattle.vyrd_base.proofs.TestLaws.{same_of, apart_of, is_same, isnt_same, at_most_of, above_of}
 use Rattle.vyrd_view.specs.declared.homes.Home.{Home}
 use Rattle.vyrd_view.specs.declared.homes.Homes.{Homes}
@@ -11,11 +12,10 @@ use Rattle.vyrd_view.specs.declared.rest.Rest.{Rest}
 use Rattle.vyrd_view.specs.declared.sides.Sides.{Sides}
 use Rattle.vyrd_view.specs.Apart.{IsLeastApart}
 use Rattle.vyrd_view.specs.Rests as rests
-use Rattle.vyrd_view.specs.Homes.{no_home, home_at, is_taken, is_apart, shown_pairs, specified_pairs, first_place, IsWithin, AreHomes, IsHomeOf, IsFoundAt, IsLeastHome}
+use Rattle.vyrd_view.specs.Homes.{no_home, home_at, is_taken, is_apart, shown_pairs, specified_pairs, AreHomes, IsHomeOf, IsFoundAt, IsLeastHome}
 use Rattle.vyrd_view.specs.Sided.{AreSettled, IsSettled, shown_at, specified_of}
+use Rattle.vyrd_base.proofs.SumLaws.{given-set, other_part, nothing_given}
 use Rattle.vyrd_base.proofs.AddedLaws.{amount_of-added, IsAmounts-added}
-use Rattle.vyrd_view.proofs.PairLaws.{given-set, other_part}
-use Rattle.vyrd_view.proofs.ShowingLaws.{nothing_given}
 use Rattle.vyrd_view.proofs.HomeLaws.{PairsBy, at_map, no_home_gives, home_gives, free_amounts, apart_is_taken, somewhere, nowhere_of, nowhere_else}
 
 module _ (amount : Home → ℕ) (none : amount no_home ≡ 0) (if_free : (h : Home) → is_taken h ≡ false → amount h ≡ 0) where
@@ -147,10 +147,7 @@ specified_found s q i settled found = by_taken (is_taken (home_at s.homes.places
         ∙ ap (amount_of s.rest.specified) (sym found.1) ∙ (settled.away i within).1
         ∙ sym ((free_amounts (home_at s.homes.places.items i) e).1)
 
--- amounts that are the old ones except for a key
-amounts_are : (s t : Amounts) (q a : ℕ) → IsAmounts s → IsAmounts t → ((r : ℕ) → amount_of t r ≡ cond (r == q) a (amount_of s r)) → t ≡ with_amount s q a
-amounts_are s t q a is it each = same_amounts t (with_amount s q a) it (IsAmounts-with_amount s q a is) (λ r. each r ∙ sym (amount_of-with_amount s q a r))
-
+-- a key that has its amount already
 pub with_same_amount : (s : Sides) (q a : ℕ) → AreSettled s → a ≡ amount_of (specified_of s) q → with_amount (specified_of s) q a ≡ specified_of s
 with_same_amount s q a settled same = sym (amounts_are (specified_of s) (specified_of s) q a (specified_formed s settled) (specified_formed s settled) (λ r. by_key r (r == q) refl))
   where

@@ -3,6 +3,7 @@ use Rattle.std.proofs.Common.{◌≡◌, ℕ, suc, ◌+◌, ◌-◌, ◌<◌, Bo
 use Rattle.std.specs.Prelude.{◌==◌, ◌≢◌, nat_le}
 use Rattle.std.specs.List.{list_any}
 use Rattle.std.proofs.lemmas.List.{get_or_default}
+use Rattle.std.proofs.Math.Bool.{or-false}
 use Rattle.vyrd_base.specs.TreeView.{right_of}
 use Rattle.vyrd_base.proofs.TestLaws.{isnt_same, is_same, isnt_at_most}
 use Rattle.vyrd_view.specs.Chains.{chain_nodes_from, chain_breaks_from, is_on_chain, is_broken}
@@ -30,8 +31,8 @@ pub walks_left : (size : ℕ) (words : List ℕ) (flags : List Bool) (turn n : �
 walks_left size words flags turn n more walk =
     let one : size - turn ≡ suc (size - (turn + 1)) = omega arith in subst (λ left. Walks size words flags left n) one walk
 
--- what follows a node on the chain
-abbrev nodes_after : ℕ → List ℕ → ℕ → List ℕ → ℕ → Bool → Bool → List ℕ
+-- the nodes that follow one on the chain
+abbrev pub nodes_after : ℕ → List ℕ → ℕ → List ℕ → ℕ → Bool → Bool → List ℕ
 nodes_after size words left seen n ends back = elim ends [
   | true ↦ []
   | false ↦ elim back [
@@ -40,7 +41,8 @@ nodes_after size words left seen n ends back = elim ends [
   ]
 ]
 
-abbrev breaks_after : ℕ → List ℕ → ℕ → List ℕ → ℕ → Bool → Bool → Bool
+-- whether the chain breaks after a node
+abbrev pub breaks_after : ℕ → List ℕ → ℕ → List ℕ → ℕ → Bool → Bool → Bool
 breaks_after size words left seen n ends back = elim ends [
   | true ↦ false
   | false ↦ elim back [
@@ -78,10 +80,6 @@ module _ (size : ℕ) (words : List ℕ) (flags : List Bool) (left n : ℕ) (wal
       ∙ ap (breaks_after size words left walk.seen n ends) test_is)
       ∙ walk.breaks
 
-or_none : (b : Bool) → (b || false) ≡ b
-or_none true = refl
-or_none false = refl
-
 -- the marks of a walk whose chain has been seen
 seen_all : (size : ℕ) (words : List ℕ) (flags : List Bool) (seen : List ℕ) → length flags ≡ size → Marks size flags seen
     → ((q : ℕ) → list_any (λ m. m == q) seen ≡ list_any (λ m. m == q) (chain_nodes_from size words size [] 0))
@@ -94,7 +92,7 @@ seen_all size words flags seen count marks all n low =
 pub walk_over : (size : ℕ) (words : List ℕ) (flags : List Bool) (n : ℕ) → length flags ≡ size → Walks size words flags 0 n
     → (q : ℕ) → q < size → get_or flags q false ≡ is_on_chain size words q
 walk_over size words flags n count walk q low =
-    seen_all size words flags walk.seen count walk.marks (λ k. sym (or_none (list_any (λ m. m == k) walk.seen)) ∙ walk.nodes k) q low
+    seen_all size words flags walk.seen count walk.marks (λ k. sym (or-false (list_any (λ m. m == k) walk.seen)) ∙ walk.nodes k) q low
 
 pub unbroken_over : (size : ℕ) (words : List ℕ) (flags : List Bool) (n : ℕ) → Walks size words flags 0 n → false ≡ is_broken size words
 unfolding is_broken
@@ -106,7 +104,7 @@ walk_stops size words flags left n count walk within ends q low =
     let is_end = is_same (right_of words n) 0 ends in
     let back : Bool = get_or (set flags n true) (right_of words n) true in
     seen_all size words (set flags n true) (n ∷ walk.seen) (length-set flags n true ∙ count) (marked size n flags walk.seen within walk.marks)
-    (λ k. sym (or_none (list_any (λ m. m == k) (n ∷ walk.seen))) ∙ onward_nodes size words flags left n walk true back within is_end refl k) q low
+    (λ k. sym (or-false (list_any (λ m. m == k) (n ∷ walk.seen))) ∙ onward_nodes size words flags left n walk true back within is_end refl k) q low
 
 pub unbroken_stops : (size : ℕ) (words : List ℕ) (flags : List Bool) (left n : ℕ) → Walks size words flags (suc left) n
     → n < length flags → right_of words n ≡ 0 → false ≡ is_broken size words
@@ -119,7 +117,7 @@ pub walk_breaks_off : (size : ℕ) (words : List ℕ) (flags : List Bool) (left 
     → (q : ℕ) → q < size → get_or (set flags n true) q false ≡ is_on_chain size words q
 walk_breaks_off size words flags left n count walk within on back q low =
     seen_all size words (set flags n true) (n ∷ walk.seen) (length-set flags n true ∙ count) (marked size n flags walk.seen within walk.marks)
-    (λ k. sym (or_none (list_any (λ m. m == k) (n ∷ walk.seen)))
+    (λ k. sym (or-false (list_any (λ m. m == k) (n ∷ walk.seen)))
     ∙ onward_nodes size words flags left n walk false true within (isnt_same (right_of words n) 0 on) back k) q low
 
 pub broken_off : (size : ℕ) (words : List ℕ) (flags : List Bool) (left n : ℕ) → Walks size words flags (suc left) n

@@ -1,7 +1,8 @@
 -- Places in a table, where a key stands in one of a few places in a row.
-use Rattle.std.specs.Prelude.{◌≡◌, ◌≢◌, ℕ, Bool, true, false, ◌+◌, ◌*◌, ◌/◌, ◌%◌, ◌^◌, ◌<◌, ◌≤◌}
-use Rattle.std.specs.Prelude.{◌==◌, ◌||◌, not, List, length, map, slice_index_or, Option, Some}
-use Rattle.std.specs.Prelude.{None}
+use Rattle.std.specs.Prelude.{◌≡◌, ◌≢◌, ℕ, Bool, true, false, ◌+◌, ◌<◌, ◌≤◌, ◌==◌, ◌||◌, not}
+use Rattle.std.specs.Prelude.{List, length, map, slice_index_or, Option, Some, None}
+unfoldable pub use Rattle.vyrd_base.specs.Tables.{first_place}
+use Rattle.vyrd_base.specs.Tables.{IsWithin}
 use Rattle.vyrd_view.specs.declared.homes.Home.{Home}
 
 -- a place where no key stands
@@ -26,15 +27,6 @@ shown_pairs places = map (λ home. (home.key, home.shown)) places
 
 abbrev pub specified_pairs : List Home → List (ℕ × ℕ)
 specified_pairs places = map (λ home. (home.key, home.specified)) places
-
--- the first of the places in which a key may stand: a multiple of the golden ratio's fraction, so
--- that keys in a row lie apart
-unfoldable pub first_place : ℕ → ℕ → ℕ
-first_place shift key = (key * 11400714819323198485) % 2 ^ 64 / 2 ^ shift
-
--- whether a place is one of those in which the key may stand
-abbrev pub IsWithin : ℕ → ℕ → ℕ → Type 0
-IsWithin shift key i = (first_place shift key ≤ i) × (i < first_place shift key + 4)
 
 -- a key that has an amount stands in one of its places, and no place of its before that one has its
 -- name

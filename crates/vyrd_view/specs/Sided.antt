@@ -2,7 +2,8 @@
 use Rattle.std.specs.Prelude.{◌≡◌, ℕ, ◌+◌, ◌<◌, count_by}
 use Rattle.vyrd_base.specs.Amounts.{Amounts, IsAmounts, amount_of, given}
 use Rattle.vyrd_base.specs.Added.{added}
-use Rattle.vyrd_view.specs.Homes.{home_at, is_apart, IsWithin, shown_pairs, specified_pairs}
+use Rattle.vyrd_base.specs.Tables.{IsWithin}
+use Rattle.vyrd_view.specs.Homes.{home_at, is_apart, shown_pairs, specified_pairs}
 use Rattle.vyrd_view.specs.Homes.{AreHomes}
 use Rattle.vyrd_view.specs.Rests as rests
 use Rattle.vyrd_view.specs.declared.sides.Sides.{Sides}

@@ -4,6 +4,7 @@ use Rattle.std.proofs.lemmas.List.Sums.{sum_by-cons}
 use Rattle.std.proofs.lemmas.List.{take-append-le, drop-append-le, take-append-drop, take_more, length-take-le}
 use Rattle.std.proofs.Math.Seq.{take-length}
 use Rattle.std.proofs.Math.ListN.{length-set}
+use Rattle.std.proofs.Math.Seq.{drop-length}
 use Rattle.vyrd_base.specs.declared.header.Header.{Header}
 use Rattle.vyrd_base.specs.Layout.{plain_words}
 use Rattle.std.specs.Prelude.{◌==◌, true, false, get_or, map, All, Result, Ok, Err, OnOk}
@@ -14,16 +15,13 @@ use Rattle.std.proofs.lemmas.List.Elements.{All-nil, All-cons, All-append, All-h
 use Rattle.vyrd_base.specs.Amounts.{Amounts}
 use Rattle.vyrd_view.specs.Comparing.{Comparison, AgreeElsewhere}
 use Rattle.vyrd_base.proofs.TestLaws.{same_of, apart_of, is_same, flipped, lower_isnt, neither_true}
+use Rattle.vyrd_shadow.proofs.WriteLaws.{with_writes-append}
 use Rattle.vyrd_shadow.specs.Blocks.{with_writes, AreInRange}
 use Rattle.vyrd_shadow.proofs.KeptWrites.{length-with_writes, below_set, below_with, keys_below}
 use Rattle.vyrd_words.specs.Cuts.{first_of, split_at, since_of, with_part, first_with, written, AreCuts, AreKnown}
 use Rattle.std.specs.Prelude.{cond, ◌-◌, insert}
 use Rattle.std.proofs.Math.Seq.{take-append_seam}
 use Rattle.std.proofs.Common.{append-nil, Bool}
-
-pub with_writes-append : (words : List ℕ) (xs ys : List (ℕ × ℕ)) → with_writes words (xs ++ ys) ≡ with_writes (with_writes words xs) ys
-with_writes-append words [] ys = refl
-with_writes-append words ((w, v) ∷ xs) ys = with_writes-append (set words w v) xs ys
 
 -- in two parts
 pub with_writes-parts : (words : List ℕ) (n : ℕ) (writes : List (ℕ × ℕ))
@@ -59,21 +57,17 @@ length-since_of (k ∷ ks) ws = length-split_at ks (drop k ws)
 never_same : (n m : ℕ) → n < m → (m == n) ≡ false
 never_same n m less = flipped n m (lower_isnt n m less)
 
-drop_all : {A : Type 0} (xs : List A) → drop (length xs) xs ≡ []
-drop_all [] = refl
-drop_all (x ∷ xs) = drop_all xs
-
 -- one more commit
 split_push : (ks : List ℕ) (t : ℕ) (ws : List (ℕ × ℕ)) → sum ks + t ≡ length ws → split_at (ks ++ t ∷ []) ws ≡ split_at ks ws ++ [] ∷ []
 split_push [] t ws counted =
     let same : t ≡ length ws = omega (arith, counted) in
-    (λ i. take (same i) ws ∷ drop (same i) ws ∷ []) ∙ (λ i. take-length ws i ∷ drop_all ws i ∷ [])
+    (λ i. take (same i) ws ∷ drop (same i) ws ∷ []) ∙ (λ i. take-length ws i ∷ drop-length ws i ∷ [])
 split_push (k ∷ ks) t ws counted =
     ap (λ rest. take k ws ∷ rest) (split_push ks t (drop k ws) (omega (arith, counted, length-drop k ws, sum-cons k ks)))
 
 pub since_push : (ks : List ℕ) (t : ℕ) (ws : List (ℕ × ℕ)) → sum ks + t ≡ length ws → since_of (ks ++ t ∷ []) ws ≡ since_of ks ws ++ [] ∷ []
 since_push [] t ws counted =
-    let same : t ≡ length ws = omega (arith, counted) in (λ i. drop (same i) ws ∷ []) ∙ (λ i. drop_all ws i ∷ [])
+    let same : t ≡ length ws = omega (arith, counted) in (λ i. drop (same i) ws ∷ []) ∙ (λ i. drop-length ws i ∷ [])
 since_push (k ∷ ks) t ws counted = split_push ks t (drop k ws) (omega (arith, counted, length-drop k ws, sum-cons k ks))
 
 pub first_push : (words ks : List ℕ) (t : ℕ) (ws : List (ℕ × ℕ)) → sum ks + t ≡ length ws → first_of words (ks ++ t ∷ []) ws ≡ first_of words ks ws

@@ -5,8 +5,9 @@ use Rattle.std.specs.Option.{option_or}
 use Rattle.std.specs.List.{list_any}
 use Rattle.std.proofs.Math.Logic.{∥∥₁_elim}
 use Rattle.std.proofs.Math.Bool.{Bool-set}
-use Rattle.std.proofs.lemmas.List.Sums.{sum_by-cons}
 use Rattle.std.proofs.lemmas.List.Elements.{All-head, All-tail}
+use Rattle.std.proofs.lemmas.Option.{same_Some}
+use Rattle.vyrd_base.proofs.Lasting.{commit_count-cons}
 use Rattle.vyrd_base.specs.declared.header.Header.{Header}
 use Rattle.vyrd_base.specs.declared.log.Kind.{Kind}
 use Rattle.vyrd_base.specs.declared.log.Kind.TheVariants.{Call, Return, Write, Commit, BlockOpen, BlockClose, BlockCommit}
@@ -60,14 +61,12 @@ may_block_commit {k} {inner} {e} is may = ∥∥₁_elim may (Bool-set _ _) (λ 
     s.2.followed.blocks e.caller (caller_kept k.header s.1 e s.3.rules) ∙ block_commit_kept k.header e.caller s.1 (keeps_as is s.3).rules)
 
 -- the numbers of lone commits
-count-cons : (e : Entry) (earlier : List Entry) → commit_count (e ∷ earlier) ≡ cond (is_commit e.kind) 1 0 + commit_count earlier
-count-cons e earlier = sum_by-cons (λ x. cond (is_commit x.kind) 1 0) e earlier
 
 pub number_low : (c : ℕ) (earlier : List Entry) → inner_number c earlier ≤ commit_count earlier
 number_low c [] = omega arith
 number_low c (e ∷ earlier) =
     let rest = number_low c earlier in
-    let count = count-cons e earlier in
+    let count = commit_count-cons e earlier in
     by_test (e.caller == c) (by_kind e.kind rest) (omega (arith, rest, one (is_commit e.kind))) count
   where
     one : (b : Bool) → 0 ≤ cond b 1 0
@@ -92,11 +91,8 @@ number_low c (e ∷ earlier) =
 
 pub may_number : {k : Kept} {inner : List ℕ} {e : Entry} {commits : ℕ} (n : ℕ) → slice_get inner e.caller ≡ Some n → MayFollow k inner e commits → n ≤ commits
 may_number {k} {inner} {e} {commits} n here may = at_most_of _ _ (∥∥₁_elim may (Bool-set _ _) (λ s.
-    let is : n ≡ inner_number e.caller s.1 = some_same (sym here ∙ s.2.numbers e.caller (caller_kept k.header s.1 e s.3.rules)) in
+    let is : n ≡ inner_number e.caller s.1 = same_Some _ _ (sym here ∙ s.2.numbers e.caller (caller_kept k.header s.1 e s.3.rules)) in
     is_at_most n commits (omega (arith, is, number_low e.caller s.1, s.4))))
-  where
-    some_same : {a b : ℕ} → Some a ≡ Some b → a ≡ b
-    some_same p = cc
 
 -- numbers that an entry leaves as they are
 abbrev pub HasNumbers : ℕ → List ℕ → List Entry → Type 0
@@ -313,10 +309,7 @@ block_commit_taken k l m inner v w u starting earlier c has low inside f header 
 pub parts_since_none : (inner : List ℕ) (c number : ℕ) (earlier : List Entry) → slice_get inner c ≡ Some number → slice_get inner c ≡ Some (inner_number c earlier)
     → number ≡ 0 → 0 ≡ parts_since (commit_count earlier) (inner_number c earlier)
 parts_since_none inner c number earlier here has none =
-    ap (parts_since (commit_count earlier)) (sym none ∙ some_same (sym here ∙ has))
-  where
-    some_same : {a b : ℕ} → Some a ≡ Some b → a ≡ b
-    some_same p = cc
+    ap (parts_since (commit_count earlier)) (sym none ∙ same_Some _ _ (sym here ∙ has))
 
 pub parts_since_some : (inner : List ℕ) (c number commits : ℕ) (earlier : List Entry) → slice_get inner c ≡ Some number
     → slice_get inner c ≡ Some (inner_number c earlier) → number ≢ 0 → commits ≡ commit_count earlier
@@ -324,11 +317,8 @@ pub parts_since_some : (inner : List ℕ) (c number commits : ℕ) (earlier : Li
 parts_since_some inner c number commits earlier here has some counted =
     by_number number some (omega (arith, low, same)) ∙ (λ i. parts_since (counted i) (same i))
   where
-    some_same : {a b : ℕ} → Some a ≡ Some b → a ≡ b
-    some_same p = cc
-
     same : number ≡ inner_number c earlier
-    same = some_same (sym here ∙ has)
+    same = same_Some _ _ (sym here ∙ has)
 
     low : number ≤ commits
     low = omega (arith, same, counted, number_low c earlier)

@@ -8,17 +8,18 @@ use Rattle.std.proofs.lemmas.List.{append_cancel_left}
 use Rattle.std.proofs.lemmas.Slice.Eq.{bytes_eq-Decides}
 use Rattle.vyrd_base.specs.declared.header.Header.{Header}
 use Rattle.vyrd_base.specs.declared.subject.Subject.{Subject}
-use Rattle.vyrd_base.specs.Limits.{is_known_version, is_sized, is_within}
+use Rattle.vyrd_base.specs.Limits.{is_within}
 use Rattle.vyrd_base.specs.Spelling.{subject_name}
 use Rattle.vyrd_base.specs.Lines.{fields_of, number_of, subject_called, header_if, header_of}
+use Rattle.vyrd_base.proofs.HeaderLaws.{size_in_32_bits, callers_in_32_bits}
 use Rattle.vyrd_base.proofs.SplitLaws.{lacks, split-join, lacks-join, number_of_decimal, bytes_same}
 use Rattle.vyrd_base.proofs.LineLaws.{is_plain_field, plain_number, plain_spaces, plain_line_feeds}
-use Rattle.vyrd_base.proofs.TestLaws.{both_true, second_true}
+use Rattle.vyrd_base.proofs.TestLaws.{both_true}
 use Rattle.vyrd_base.proofs.SubjectLaws.{plain_subject, subject_read, one_name}
 use Rattle.vyrd_memory.specs.declared.op.Variant.{Variant}
 use Rattle.vyrd_memory.specs.declared.op.Variant.TheVariants.{Correct, Broken}
 use Rattle.vyrd_text.proofs.PartLaws.{one_before_space}
-use Rattle.vyrd_text.proofs.HeaderLaws.{small_size, small_callers, made, not_made}
+use Rattle.vyrd_text.proofs.HeaderLaws.{made, not_made}
 use Rattle.vyrd_work.specs.Workloads.{Workload, variant_name, work_header_line}
 use Rattle.vyrd_work.specs.WorkLines.{variant_called, begun, begun_if_spelled, begun_from, begun_in}
 use Rattle.vyrd_work.specs.Spelled.{IsVariantRead, AreBoundsRead, IsFirstRead}
@@ -82,20 +83,11 @@ module _ (subject : Subject) (size callers : ℕ) (variant : Variant) (s : size 
       ∙ (λ i. begun_if_spelled line (subject_read subject i) (number_of_decimal size s i) (number_of_decimal callers c i) (variant_read variant i))
       ∙ ap (λ b. cond b (option_map (begun variant) (header_of 1 subject size callers)) None) (bytes_same line)
 
-sized : (h : Header) → is_sized h.size h.callers ≡ true
-sized h = second_true (is_known_version h.version) _ h.within
-
-pub size_fits : (h : Header) → h.size < 2 ^ 32
-size_fits h = small_size h.size h.callers (sized h)
-
-pub callers_fit : (h : Header) → h.callers < 2 ^ 32
-callers_fit h = small_callers h.size h.callers (sized h)
-
 -- a workload's header and variant are read back from its first line
 pub begun_in-first_line : (h : Header) (variant : Variant) → h.version ≡ 1 → begun_in (work_header_line h.subject h.size h.callers variant) ≡ Some (begun variant h)
 begun_in-first_line h variant one =
-    let s : h.size < 2 ^ 64 = let l = size_fits h in omega (arith, l) in
-    let c : h.callers < 2 ^ 64 = let l = callers_fit h in omega (arith, l) in
+    let s : h.size < 2 ^ 64 = let l = size_in_32_bits h in omega (arith, l) in
+    let c : h.callers < 2 ^ 64 = let l = callers_in_32_bits h in omega (arith, l) in
     begun_known h.subject h.size h.callers variant s c
     ∙ ap (option_map (begun variant)) (made 1 h.subject h.size h.callers h one refl refl refl)
 
@@ -149,7 +141,7 @@ no_first line none = by_answer (begun_in line) refl
   where
     by_answer : (o : Option Workload) → begun_in line ≡ o → None ≡ o
     by_answer None e = refl
-    by_answer (Some w) e = absurd (none w.header.subject w.header.size w.header.callers w.variant (size_fits w.header) (callers_fit w.header)
+    by_answer (Some w) e = absurd (none w.header.subject w.header.size w.header.callers w.variant (size_in_32_bits w.header) (callers_in_32_bits w.header)
         (begun_in_sound line w e).line_is)
 
 module _ (line : List ℕ) (subject : Subject) (size callers : ℕ) (variant : Variant) (s : size < 2 ^ 32) (c : callers < 2 ^ 32)

@@ -9,6 +9,7 @@ use Rattle.std.proofs.lemmas.Bool.Decides.{nat_tests}
 use Rattle.std.proofs.lemmas.Bool.{not-false}
 use Rattle.vyrd_base.specs.declared.header.Header.{Header}
 use Rattle.vyrd_base.specs.Subjects.{arity_of, are_padded, subject_of, same_subject, are_args}
+use Rattle.vyrd_base.proofs.HeaderLaws.{callers_in_32_bits}
 use Rattle.vyrd_base.proofs.TestLaws.{both_true, first_true, second_true, above_then, above_of, not_below_of, isnt_at_most, isnt_below, neither_true}
 use Rattle.vyrd_memory.specs.declared.op.Turn.{Turn}
 use Rattle.vyrd_work.specs.declared.work.WorkOp.{WorkOp}
@@ -23,7 +24,6 @@ use Rattle.vyrd_work.specs.WorkLines.{is_item_of}
 use Rattle.vyrd_work.specs.WorkReading.{turns_in, broken_by, with_item}
 use Rattle.vyrd_work.specs.WorkLimits.{is_op_of, is_turn_of, KeepsLimits}
 use Rattle.vyrd_work.proofs.ItemLaws.{op_subject, op_small}
-use Rattle.vyrd_work.proofs.FirstLaws.{callers_fit}
 
 not_broken : (b : Bool) (rule : WorkRule) (rest : Option WorkRule) → cond b (Some rule) rest ≡ None → (b ≡ false) × (rest ≡ None)
 not_broken true rule rest e = cc
@@ -156,8 +156,8 @@ op_is_item h o fits small =
     let args : are_args h.size o.op.method o.op.args ≡ true = second_true (same_subject (subject_of o.op.method) h.subject) _ rest in
     let padded : are_padded (arity_of o.op.method) o.op.args ≡ true = first_true (are_padded (arity_of o.op.method) o.op.args) _ args in
     let same : same_subject (subject_of o.op.method) h.subject ≡ true = first_true _ _ rest in
-    both_true _ _ (small_caller h.callers o.caller (callers_fit h) (first_true _ _ fits)) (both_true _ _ (both_true _ _ same padded) small)
+    both_true _ _ (small_caller h.callers o.caller (callers_in_32_bits h) (first_true _ _ fits)) (both_true _ _ (both_true _ _ same padded) small)
 
 pub turns_are_item : (h : Header) (t : Turn) → is_turn_of h t ≡ true → is_item_of h.subject (item.Turns t) ≡ true
 turns_are_item h t fits =
-    both_true _ _ (small_caller h.callers t.caller (callers_fit h) (first_true _ _ fits)) (second_true (nat_lt t.caller h.callers) _ fits)
+    both_true _ _ (small_caller h.callers t.caller (callers_in_32_bits h) (first_true _ _ fits)) (second_true (nat_lt t.caller h.callers) _ fits)

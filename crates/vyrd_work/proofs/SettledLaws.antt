@@ -2,15 +2,16 @@
 -- few, so reading ends at a line that begins in them.
 use Rattle.std.proofs.Common.{◌≡◌, ℕ, ◌+◌, ◌*◌, ◌<◌, ◌≤◌, Bool, true, false, cond, List, [], ◌∷◌, ◌++◌, length}
 use Rattle.std.proofs.Common.{Option, Some, None, Result, Ok, Err, refl, ap, subst, sym, ◌∙◌, arith, length-append}
-use Rattle.std.specs.Prelude.{◌==◌, nat_lt}
+use Rattle.std.specs.Prelude.{◌==◌}
 use Rattle.std.specs.List.{onto_first, join_with_byte}
 use Rattle.std.specs.Str.{bytes_eq}
-use Rattle.std.proofs.lemmas.Bool.Decides.{nat_tests}
 use Rattle.std.proofs.lemmas.Slice.Eq.{bytes_eq-Decides}
 use Rattle.std.proofs.lemmas.List.Splits.{join_with_byte-slice_split}
 use Rattle.vyrd_base.specs.declared.subject.Subject.{Subject}
 use Rattle.vyrd_base.specs.Spelling.{end_line}
 use Rattle.vyrd_base.specs.Reading.{has_any}
+use Rattle.vyrd_base.proofs.TestLaws.{is_below}
+use Rattle.vyrd_base.proofs.SplitLaws.{cut}
 use Rattle.vyrd_base.proofs.LongLines.{long_isnt_end}
 use Rattle.vyrd_text.proofs.AheadLaws.{parts_of}
 use Rattle.vyrd_work.specs.declared.line.Item.{Item}
@@ -25,7 +26,7 @@ use Rattle.vyrd_work.specs.WorkLimits.{KeepsLimits}
 use Rattle.vyrd_work.specs.LongInputs.{longest_input}
 use Rattle.vyrd_work.proofs.ItemLaws.{item_in_sound}
 use Rattle.vyrd_work.proofs.FirstLaws.{IsBegun, begun_in_sound}
-use Rattle.vyrd_work.proofs.WalkLaws.{cut, then_lines}
+use Rattle.vyrd_work.proofs.WalkLaws.{then_lines}
 use Rattle.vyrd_work.proofs.LimitLaws.{limits_more}
 use Rattle.vyrd_work.proofs.ShortLines.{short_op, short_turns, short_first}
 use Rattle.vyrd_work.proofs.TextLaws.{begun_keeps}
@@ -62,11 +63,8 @@ cut_joined (x ∷ xs) ys q qs e = by_byte (cut_joined xs ys q qs e) (x == 10)
         ap (onto_first x) on ∙ ap (λ ls. onto_first x (joined ls q qs)) p.2 ∙ onto p.0 p.1 ∙ ap (λ ls. joined (onto_first x ls) q qs) (sym p.2)
 
 -- a line of more than 64 bytes says nothing
-is_long : (line : List ℕ) → 64 < length line → nat_lt 64 (length line) ≡ true
-is_long line long = grind (arith, nat_tests)
-
 long_rest : (bad : WorkRule) (rest : List ℕ) → 64 < length rest → unfinished_rule bad rest ≡ bad
-long_rest bad rest long = ap (λ b. cond b bad (cond (has_any rest) NoLineFeed NoEnd)) (is_long rest long)
+long_rest bad rest long = ap (λ b. cond b bad (cond (has_any rest) NoLineFeed NoEnd)) (is_below 64 (length rest) long)
 
 short_item : (subject : Subject) (x : Item) → is_item_of subject x ≡ true → length (item_line x) ≤ 64
 short_item subject (item.Op o) is = short_op subject o is

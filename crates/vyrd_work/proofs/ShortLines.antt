@@ -1,12 +1,12 @@
 -- No line of a workload has more than 64 bytes.
-use Rattle.std.proofs.Common.{◌≡◌, ℕ, ◌<◌, ◌≤◌, ◌^◌, true, List, [], ◌∷◌, ◌++◌, map, length, arith, length-append}
+use Rattle.std.proofs.Common.{◌≡◌, ◌≤◌, ◌^◌, true, List, [], ◌∷◌, ◌++◌, map, length, arith, length-append}
 use Rattle.std.specs.Prelude.{codes, decimal, nat_lt, nat_le}
 use Rattle.std.specs.List.{AllByRecursion}
-use Rattle.std.proofs.lemmas.Fmt.{length-decimal-le}
 use Rattle.vyrd_base.specs.declared.header.Header.{Header}
 use Rattle.vyrd_base.specs.declared.subject.Subject.{Subject}
 use Rattle.vyrd_base.specs.Spelling.{subject_name, end_line}
-use Rattle.vyrd_base.proofs.LongLines.{short_entry}
+use Rattle.vyrd_base.proofs.HeaderLaws.{size_in_32_bits, callers_in_32_bits}
+use Rattle.vyrd_base.proofs.LongLines.{short_entry, short_number}
 use Rattle.vyrd_base.proofs.TestLaws.{both_true, first_true, second_true, below_of}
 use Rattle.vyrd_base.proofs.SubjectLaws.{short_subject}
 use Rattle.vyrd_memory.specs.declared.op.Turn.{Turn}
@@ -20,11 +20,7 @@ use Rattle.vyrd_memory.specs.Arguments.{are_small}
 use Rattle.vyrd_work.specs.WorkLines.{is_item_of}
 use Rattle.vyrd_work.specs.WorkLimits.{is_op_of, is_turn_of, KeepsLimits}
 use Rattle.vyrd_work.proofs.ItemLaws.{call_of, op_caller, op_call, turn_count_fits}
-use Rattle.vyrd_work.proofs.FirstLaws.{size_fits, callers_fit}
 use Rattle.vyrd_work.proofs.LimitLaws.{op_is_item, turns_are_item}
-
-short_number : (n : ℕ) → n < 2 ^ 32 → length (decimal n) ≤ 10
-short_number n h = length-decimal-le 10 n (omega arith) (omega arith) (omega arith)
 
 -- an operation's line is shorter than that of the call in a log
 pub short_op : (subject : Subject) (o : WorkOp) → is_item_of subject (item.Op o) ≡ true → length (item_line (item.Op o)) ≤ 64
@@ -50,8 +46,8 @@ short_variant Broken = omega arith
 
 pub short_first : (h : Header) (variant : Variant) → length (work_header_line h.subject h.size h.callers variant) ≤ 64
 short_first h variant =
-    let size = short_number h.size (size_fits h) in
-    let callers = short_number h.callers (callers_fit h) in
+    let size = short_number h.size (size_in_32_bits h) in
+    let callers = short_number h.callers (callers_in_32_bits h) in
     omega (
       arith,
       size,

@@ -1,17 +1,17 @@
 -- The text of a workload is read as that workload, and what is read is the text of a workload.
 use Rattle.std.proofs.Common.{◌≡◌, ℕ, ◌+◌, ◌≤◌, Bool, true, false, cond, List, [], ◌∷◌, ◌++◌, map, length}
 use Rattle.std.proofs.Common.{Option, Some, None, Result, Ok, Err, refl, ap, subst, sym, ◌∙◌, arith, append_assoc, length-append}
-use Rattle.std.specs.Prelude.{flat_map}
 use Rattle.std.specs.List.{join_with_byte, AllByRecursion}
 use Rattle.std.specs.Str.{bytes_eq}
 use Rattle.std.proofs.lemmas.List.{append-nil}
 use Rattle.std.proofs.lemmas.Slice.Eq.{bytes_eq-Decides}
 use Rattle.std.proofs.lemmas.List.Splits.{join_with_byte-slice_split}
 use Rattle.vyrd_base.specs.declared.header.Header.{Header}
-use Rattle.vyrd_base.specs.Spelling.{ended_line, end_line}
+use Rattle.vyrd_base.specs.Spelling.{end_line}
 use Rattle.vyrd_base.specs.Reading.{has_any}
-use Rattle.vyrd_base.proofs.SplitLaws.{lacks, all_lack, split_at}
-use Rattle.vyrd_base.proofs.TestLaws.{both_true, first_true, second_true}
+use Rattle.vyrd_base.proofs.HeaderLaws.{size_in_32_bits, callers_in_32_bits}
+use Rattle.vyrd_base.proofs.SplitLaws.{cut, join_lines, cut_lines, all_lack}
+use Rattle.vyrd_base.proofs.TestLaws.{both_true}
 use Rattle.vyrd_memory.specs.declared.op.Turn.{Turn}
 use Rattle.vyrd_memory.specs.declared.op.Variant.{Variant}
 use Rattle.vyrd_work.specs.declared.work.WorkOp.{WorkOp}
@@ -26,8 +26,8 @@ use Rattle.vyrd_work.specs.WorkReading.{Refusal, refused, turns_in, broken_by, w
 use Rattle.vyrd_work.specs.WorkReading.{line_read, begun_or_bad, ended, lines_read, text_read, work_reading}
 use Rattle.vyrd_work.specs.WorkLimits.{is_op_of, is_turn_of, KeepsLimits}
 use Rattle.vyrd_work.proofs.ItemLaws.{item_in_sound, item_in-item_line, item_line_isnt_end, item_line_whole}
-use Rattle.vyrd_work.proofs.FirstLaws.{IsBegun, begun_in_sound, begun_in-first_line, first_line_whole, size_fits, callers_fit}
-use Rattle.vyrd_work.proofs.WalkLaws.{cut, then_lines}
+use Rattle.vyrd_work.proofs.FirstLaws.{IsBegun, begun_in_sound, begun_in-first_line, first_line_whole}
+use Rattle.vyrd_work.proofs.WalkLaws.{then_lines}
 use Rattle.vyrd_work.proofs.LimitLaws.{limits_more, items_more, op_unbroken, turns_unbroken, op_is_item, turns_are_item, turns_more, turns_cons}
 
 -- what lines say after the workload so far: more items and then `end`, and with them the workload keeps the limits
@@ -97,23 +97,6 @@ lines_sound w n (line ∷ next ∷ lines) v keeps e = by_end (λ u k f. lines_so
           limits = subst KeepsLimits last.1 keeps;
         }
     by_end rest false is f = by_item rest (item_in w.header.subject line) refl f
-
--- lines with a line feed after each, and nothing after the last
-join_lines : (lines : List (List ℕ)) → join_with_byte 10 (lines ++ [] ∷ []) ≡ flat_map ended_line lines
-join_lines [] = refl
-join_lines (line ∷ lines) = join_step lines ∙ ap (λ rest. line ++ 10 ∷ rest) (join_lines lines)
-    ∙ sym (append_assoc line (10 ∷ []) (flat_map ended_line lines))
-  where
-    join_step : (ls : List (List ℕ)) → join_with_byte 10 (line ∷ ls ++ [] ∷ []) ≡ line ++ 10 ∷ join_with_byte 10 (ls ++ [] ∷ [])
-    join_step [] = refl
-    join_step (l ∷ ls) = refl
-
-cut_lines : (lines : List (List ℕ)) → all_lack 10 lines ≡ true → cut (flat_map ended_line lines) ≡ lines ++ [] ∷ []
-cut_lines [] e = refl
-cut_lines (line ∷ lines) e =
-    ap cut (append_assoc line (10 ∷ []) (flat_map ended_line lines))
-    ∙ split_at 10 line (flat_map ended_line lines) (first_true _ _ e)
-    ∙ ap (λ rest. line ∷ rest) (cut_lines lines (second_true (lacks 10 line) _ e))
 
 -- all lines, and what stands after the last line feed
 abbrev all_lines : Workload → List (List ℕ)
@@ -253,8 +236,8 @@ items_lack h (o ∷ ops) turns all small rest =
 
 all_lack_feeds : (w : Workload) → KeepsLimits w → all_lack 10 (lines_of w) ≡ true
 all_lack_feeds w keeps =
-    both_true _ _ (first_line_whole w.header.subject w.header.size w.header.callers w.variant (let l = size_fits w.header in omega (arith, l))
-    (let l = callers_fit w.header in omega (arith, l)))
+    both_true _ _ (first_line_whole w.header.subject w.header.size w.header.callers w.variant (let l = size_in_32_bits w.header in omega (arith, l))
+    (let l = callers_in_32_bits w.header in omega (arith, l)))
     (items_lack w.header w.ops w.turns keeps.ops keeps.args keeps.turns)
 
 -- all lines are read as the workload

@@ -1,11 +1,11 @@
 -- Lines are read one after the other.
 use Rattle.std.proofs.Common.{◌≡◌, ℕ, ◌+◌, Bool, true, false, cond, List, [], ◌∷◌, ◌++◌, Result, Ok, Err, refl, ap, sym, ◌∙◌}
 use Rattle.std.specs.Prelude.{◌==◌}
-use Rattle.std.specs.List.{slice_split, onto_first}
+use Rattle.std.specs.List.{onto_first}
 use Rattle.std.specs.Str.{bytes_eq}
 use Rattle.std.proofs.lemmas.Slice.Eq.{bytes_eq-Decides}
 use Rattle.vyrd_base.specs.Spelling.{end_line}
-use Rattle.vyrd_base.proofs.SplitLaws.{lacks, split_at, split_whole, bytes_same}
+use Rattle.vyrd_base.proofs.SplitLaws.{cut, lacks, split_at, split_whole, bytes_same}
 use Rattle.vyrd_text.proofs.AheadLaws.{parts_of}
 use Rattle.vyrd_work.specs.declared.fault.WorkRule.{WorkRule}
 use Rattle.vyrd_work.specs.declared.fault.WorkRule.TheVariants.{AfterEnd, BadHeader, BadLine}
@@ -14,10 +14,6 @@ use Rattle.vyrd_work.specs.declared.fault.WorkFault.TheVariants.{Refused, Memory
 use Rattle.vyrd_work.specs.Workloads.{Workload}
 use Rattle.vyrd_work.specs.Refusals.{IsRefusal, IsRefusedAt}
 use Rattle.vyrd_work.specs.WorkReading.{Refusal, refused, line_read, first_read, unfinished_rule, ended, lines_read, text_read, work_reading}
-
--- the lines of a text
-abbrev pub cut : List ℕ → List (List ℕ)
-cut text = slice_split (λ b. b == 10) text
 
 -- what is read after a line
 abbrev pub then_lines : ℕ → List (List ℕ) → Result Workload WorkRule → Result Workload Refusal

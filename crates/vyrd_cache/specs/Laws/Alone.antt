@@ -3,9 +3,9 @@
 pub mod Changes
 pub mod Stores
 pub mod Pairs
-use Rattle.std.proofs.Common.{◌≡◌, ℕ, ◌+◌, ◌*◌, ◌<◌, ◌^◌, Bool, true, false, cond, Option, Some}
+use Rattle.std.proofs.Common.{◌≡◌, ℕ, ◌+◌, ◌*◌, ◌<◌, ◌^◌, Bool, true, false, cond, Some}
 use Rattle.std.proofs.Common.{None, refl, ap, ◌∙◌, sym, subst, arith}
-use Rattle.std.specs.Prelude.{◌==◌, nat_lt, IsSome}
+use Rattle.std.specs.Prelude.{◌==◌, nat_lt}
 use Rattle.vyrd_base.specs.declared.header.Header.{Header}
 use Rattle.vyrd_base.specs.declared.subject.Subject.TheVariants.{Cache}
 use Rattle.vyrd_base.specs.declared.subject.Method.{Method}
@@ -28,7 +28,7 @@ use Rattle.vyrd_memory.specs.Arguments.{are_small}
 use Rattle.vyrd_memory.specs.Scripts.{Script, step}
 use Rattle.vyrd_memory.specs.Alone.{Memory, with_cell, alone, state_after, MeetsSpecification}
 use Rattle.vyrd_memory.specs.Alone.{IsRightAlone}
-use Rattle.vyrd_memory.proofs.Memories.{Represents, represents, represented, changed_cell}
+use Rattle.vyrd_memory.proofs.Memories.{Represents, represents, changed_cell}
 use Rattle.vyrd_memory.proofs.AloneLaws.{met}
 use Rattle.vyrd_cache.specs.Cells.{state_cell, lock_of, lock}
 use Rattle.vyrd_cache.specs.Procedures.{joined, procedure_of, put_cached, put_stored, forget}

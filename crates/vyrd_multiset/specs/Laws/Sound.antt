@@ -3,8 +3,7 @@
 use Rattle.std.proofs.Common.{◌≡◌, ℕ, zero, suc, ◌+◌, ◌*◌, ◌^◌, ◌<◌, ◌≤◌, min, max, Bool, true}
 use Rattle.std.proofs.Common.{false, cond, not, List, [], ◌∷◌, Option, Some, None, refl, ap, ◌∙◌}
 use Rattle.std.proofs.Common.{sym, subst, arith}
-use Rattle.std.specs.Prelude.{◌==◌, ◌&&◌, ◌||◌, nat_lt, nat_le, is_some, filter, IsTrue}
-use Rattle.std.specs.List.{list_any}
+use Rattle.std.specs.Prelude.{◌==◌, ◌&&◌, ◌||◌, nat_lt, nat_le, is_some, IsTrue}
 use Rattle.std.proofs.lemmas.Bool.Decides.{nat_tests}
 use Rattle.vyrd_base.specs.declared.header.Header.{Header}
 use Rattle.vyrd_base.specs.declared.subject.Subject.TheVariants.{Multiset}
@@ -20,13 +19,13 @@ use Rattle.vyrd_base.specs.Limits.{is_within}
 use Rattle.vyrd_base.specs.Subjects.{subject_of, is_observer}
 use Rattle.vyrd_base.specs.Layout.{plain_words_of, lock_words_of}
 use Rattle.vyrd_base.specs.Histories.{cells_of, is_plain, is_lock}
-use Rattle.vyrd_base.proofs.TestLaws.{both_true, same_number, is_below}
+use Rattle.vyrd_base.proofs.TestLaws.{both_true, is_below}
 use Rattle.vyrd_memory.specs.declared.act.Act.TheVariants.{Load, Store, Mark}
 use Rattle.vyrd_memory.specs.declared.op.Variant.{Variant}
 use Rattle.vyrd_memory.specs.declared.op.Variant.TheVariants.{Correct, Broken}
 use Rattle.vyrd_memory.specs.Scripts.{Script, step, perform, returns, gives_up}
 use Rattle.vyrd_memory.specs.Arguments.{are_small}
-use Rattle.vyrd_memory.specs.Soundness.{Situation, IsSound, just_called, holds}
+use Rattle.vyrd_memory.specs.Soundness.{Situation, IsSound, just_called}
 use Rattle.vyrd_memory.proofs.SoundActs.{holding, in_block, store_sound, gone, held_first}
 use Rattle.vyrd_memory.proofs.SoundActs.{other_lock}
 use Rattle.vyrd_multiset.specs.Cells.{bucket_of, first_slot, state_cell, value_cell, lock_of, lock}
@@ -289,12 +288,6 @@ commit_both_sound h method first second slot_x slot_y is mutates low_first low_s
               )),
         )
 
-min_low : (a b n : ℕ) → a < n → b < n → min a b < n
-min_low a b n l m = omega arith
-
-max_low : (a b n : ℕ) → a < n → b < n → max a b < n
-max_low a b n l m = omega arith
-
 second_found_sound : (h : Header) (variant : Variant) (method : Method) (x y slot_x : ℕ)
     → h.subject ≡ Multiset → is_observer method ≡ false → slot_x < 4 * h.size → (slot : ℕ)
     → slot < 4 * h.size
@@ -303,8 +296,8 @@ second_found_sound h Correct method x y slot_x is mutates low_x slot low =
     let p : ℕ = bucket_of h x in
     let q : ℕ = bucket_of h y in
     commit_both_sound h method (min p q) (max p q) slot_x slot is mutates
-    (min_low p q h.size (bucket_low h x) (bucket_low h y))
-    (max_low p q h.size (bucket_low h x) (bucket_low h y)) low_x low
+    (omega (arith, bucket_low h x, bucket_low h y))
+    (omega (arith, bucket_low h x, bucket_low h y)) low_x low
 second_found_sound h Broken method x y slot_x is mutates low_x slot low =
     commit_both_sound h method (bucket_of h x) (bucket_of h y) slot_x slot is mutates
     (bucket_low h x) (bucket_low h y) low_x low

@@ -26,7 +26,7 @@ pub mod FullNodeSplits
 pub mod AscentKeepsState
 pub mod NewKey
 pub mod Inserted
-use Rattle.std.proofs.Common.{◌≡◌, ◌≢◌, ℕ, ◌+◌, ◌-◌, ◌<◌, ◌^◌, inl, inr, true, false, cond, not}
+use Rattle.std.proofs.Common.{◌≡◌, ℕ, ◌+◌, ◌-◌, ◌<◌, ◌^◌, inl, inr, true, cond, not}
 use Rattle.std.proofs.Common.{Option, Some, None, refl, ap, ◌∙◌, sym, subst, arith}
 use Rattle.std.specs.Prelude.{◌==◌, IsSome}
 use Rattle.std.specs.Bool.{then_some}
@@ -41,8 +41,8 @@ use Rattle.vyrd_base.specs.declared.subject.Method.TheVariants.{BuCut, BuLength,
 use Rattle.vyrd_base.specs.declared.subject.Args.{Args}
 use Rattle.vyrd_base.specs.Subjects.{subject_of, is_observer}
 use Rattle.vyrd_base.specs.Amounts.{Amounts, amount_of, with_amount}
-use Rattle.vyrd_base.specs.Specification.{is_present, next_state, answer_in}
-use Rattle.vyrd_base.proofs.TestLaws.{is_same, isnt_same}
+use Rattle.vyrd_base.specs.Specification.{next_state, answer_in}
+use Rattle.vyrd_base.proofs.TestLaws.{is_same}
 use Rattle.vyrd_memory.specs.declared.op.Op.{Op}
 use Rattle.vyrd_memory.specs.declared.op.Variant.TheVariants.{Correct}
 use Rattle.vyrd_memory.specs.Scripts.{Script}

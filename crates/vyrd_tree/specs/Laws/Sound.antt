@@ -5,7 +5,7 @@ pub mod Fits
 pub mod Walk
 use Rattle.std.proofs.Common.{◌≡◌, ℕ, zero, suc, ◌+◌, ◌^◌, ◌<◌, ◌≤◌, Bool, true, false, cond, List}
 use Rattle.std.proofs.Common.{[], ◌∷◌, length, drop, refl, arith}
-use Rattle.std.specs.Prelude.{nat_lt, nat_le, ◌||◌, Option, Some, None, remove, IsTrue}
+use Rattle.std.specs.Prelude.{nat_lt, nat_le, ◌||◌, Option, Some, None, remove}
 use Rattle.std.proofs.lemmas.Bool.Decides.{nat_tests}
 use Rattle.vyrd_base.specs.declared.header.Header.{Header}
 use Rattle.vyrd_base.specs.declared.subject.Subject.TheVariants.{Tree}
@@ -19,7 +19,6 @@ use Rattle.vyrd_base.specs.declared.subject.Method.TheVariants.{BuRead}
 use Rattle.vyrd_base.specs.declared.subject.Args.{Args}
 use Rattle.vyrd_base.specs.declared.log.Kind.{Kind}
 use Rattle.vyrd_base.specs.declared.log.Kind.TheVariants.{BlockOpen, BlockClose, BlockCommit}
-use Rattle.vyrd_base.specs.Limits.{is_within}
 use Rattle.vyrd_base.specs.Subjects.{subject_of, is_observer}
 use Rattle.vyrd_base.proofs.TestLaws.{below_of, above_of}
 use Rattle.vyrd_memory.specs.declared.act.Act.TheVariants.{Load, Store, Mark}

@@ -1,16 +1,9 @@
 use Rattle.std.proofs.Common.{◌≡◌, ◌∙◌, ap, sym, subst, OnOk, OnErr, Result, Ok, Err}
+use Rattle.std.proofs.lemmas.Result.{on_ok_weaker, on_err_weaker}
 use Rattle.vyrd_base.specs.Amounts.{amount_of, with_amount}
 use Rattle.vyrd_base.specs.Tables.{IsTable, amounts_in}
 use Rattle.vyrd_base.proofs.TableLaws.{free_amounts, rest_table, rest_amounts, amount_missing}
 use Rattle.vyrd_base.proofs.amount_table.set_anew.Goals as goal
-
-then_ok : {T E : Type 0} (r : Result T E) (P Q : Type 0) → (P → Q) → OnOk r P → OnOk r Q
-then_ok (Ok x) P Q f p = f p
-then_ok (Err e) P Q f p = p
-
-then_err : {T E : Type 0} (r : Result T E) (P Q : Type 0) → (P → Q) → OnErr r P → OnErr r Q
-then_err (Ok x) P Q f p = p
-then_err (Err e) P Q f p = f p
 
 either : {T E : Type 0} (r : Result T E) (P Q R : Type 0) → (P → R) → (Q → R) → OnOk r P → OnErr r Q → R
 either (Ok x) P Q R f g p q = f p
@@ -33,8 +26,8 @@ pub returns-clause-ok : goal.returns-clause-ok
 returns-clause-ok c =
     let places = c.args.places.now in
     let rest = c.args.rest.now in
-    then_ok c.set.result (c.set.new.self ≡ with_amount rest c.args.key c.args.amount)
-    (amounts_in places c.set.new.self ≡ with_amount (amounts_in places rest) c.args.key c.args.amount)
+    on_ok_weaker {P = c.set.new.self ≡ with_amount rest c.args.key c.args.amount}
+    {Q = amounts_in places c.set.new.self ≡ with_amount (amounts_in places rest) c.args.key c.args.amount} c.set.result
     (λ is. ap (λ r. amounts_in places r) is ∙ rest_amounts c.args.shift places rest c.args.key c.args.amount c.requires.table c.requires.missing)
     c.set.ensures.ok
 
@@ -42,5 +35,5 @@ pub returns-clause-absent : goal.returns-clause-absent
 returns-clause-absent c =
     let places = c.args.places.now in
     let rest = c.args.rest.now in
-    then_err c.set.result (amount_of rest c.args.key ≡ 0) (amount_of (amounts_in places rest) c.args.key ≡ 0)
+    on_err_weaker {P = amount_of rest c.args.key ≡ 0} {Q = amount_of (amounts_in places rest) c.args.key ≡ 0} c.set.result
     (λ none. amount_missing c.args.shift places rest c.requires.table c.args.key c.requires.missing ∙ none) c.set.ensures.absent

@@ -12,7 +12,7 @@ use Rattle.vyrd_base.specs.Views.{Chunk, chunk_at, is_chunk, cached_pair, stored
 use Rattle.vyrd_base.specs.Views.{parts_of, view_of_words}
 use Rattle.vyrd_base.specs.Represented.{is_sound, is_sound_chunk}
 use Rattle.vyrd_base.proofs.AmountLaws.{amount_of-with_amount, IsAmounts-with_amount, same_amounts}
-use Rattle.vyrd_base.proofs.SumLaws.{given_nothing, amount_of-collected, IsAmounts-collected}
+use Rattle.vyrd_base.proofs.SumLaws.{given_nothing, amount_of-collected}
 use Rattle.vyrd_base.proofs.TestLaws.{first_true, second_true, same_number, isnt_same, same_of}
 use Rattle.vyrd_base.proofs.TestLaws.{apart_of}
 use Rattle.vyrd_memory.specs.Alone.{Memory, words_in}

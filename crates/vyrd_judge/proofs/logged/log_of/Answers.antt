@@ -2,16 +2,11 @@ use Rattle.std.proofs.Common.{◌++◌, [], ◌∷◌, take, filter_map, ap, ◌
 use Rattle.std.specs.Prelude.{get_or}
 use Rattle.std.specs.List.{cons_option}
 use Rattle.std.proofs.lemmas.List.{take_all}
-use Rattle.vyrd_base.specs.declared.history.Stamped.{Stamped}
-use Rattle.vyrd_base.specs.declared.history.Did.TheVariants.{Read}
 use Rattle.vyrd_base.specs.Histories.{logged, log_of}
 use Rattle.vyrd_base.proofs.ListLaws.{filter_map_more}
+use Rattle.vyrd_judge.proofs.HistoryLaws.{past}
 use Rattle.vyrd_judge.proofs.logged.log_of.Goals.{in-Some+in_ok-push, in_default}
 use Rattle.vyrd_judge.proofs.logged.log_of.Goals as goal
-
--- what stands for the event past the end
-abbrev past : Stamped
-past = record { number = 0; caller = 0; did = Read 0 0 }
 
 pub loop-event-preserved : goal.loop-event-preserved
 loop-event-preserved c =

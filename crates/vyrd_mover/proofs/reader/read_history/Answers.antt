@@ -1,7 +1,8 @@
 use Rattle.std.proofs.Common.{Ok, ap, sym, ◌∙◌}
 use Rattle.std.proofs.lemmas.Result.{err_from_is_err_and}
+use Rattle.vyrd_base.proofs.SplitLaws.{cut}
 use Rattle.vyrd_mover.specs.HistoryReading.{refused, history_reading}
-use Rattle.vyrd_mover.proofs.WalkLaws.{cut, after_first, first_step, first_last, refusal_first}
+use Rattle.vyrd_mover.proofs.WalkLaws.{after_first, first_step, first_last, refusal_first}
 use Rattle.vyrd_mover.specs.HistoryText.{recorded_of}
 use Rattle.vyrd_mover.proofs.TextLaws.{reading_sound}
 use Rattle.vyrd_mover.proofs.reader.read_history.Goals as goal

@@ -1,7 +1,8 @@
 use Rattle.std.proofs.Common.{◌≡◌, true, false, ◌∷◌, length, ap, sym, ◌∙◌, arith, length-append}
 use Rattle.std.proofs.lemmas.Result.{on_ok_weaker, err_from_is_err_and}
+use Rattle.vyrd_base.proofs.SplitLaws.{cut}
 use Rattle.vyrd_mover.specs.HistoryReading.{refused, lines_read}
-use Rattle.vyrd_mover.proofs.WalkLaws.{cut, then_lines, too_many, end_found, line_found, lines_last, refusal_at}
+use Rattle.vyrd_mover.proofs.WalkLaws.{then_lines, too_many, end_found, line_found, lines_last, refusal_at}
 use Rattle.vyrd_mover.proofs.reader.read_lines.Goals as goal
 
 pub returns-then-number-gt-MOST_LINES-clause-err : goal.returns-then-number-gt-MOST_LINES-clause-err

@@ -1,6 +1,6 @@
 use Rattle.std.proofs.Common.{◌≡◌, ◌+◌, ◌≤◌, length}
+use Rattle.vyrd_base.proofs.SplitLaws.{cut}
 use Rattle.vyrd_mover.specs.HistoryReading.{lines_read}
-use Rattle.vyrd_mover.proofs.WalkLaws.{cut}
 use Rattle.vyrd_mover.proofs.reader.read_lines.Given as goal
 
 abbrev pub invariant-loop-line : goal.invariant-loop-line

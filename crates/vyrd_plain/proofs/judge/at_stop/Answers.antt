@@ -1,11 +1,12 @@
 use Rattle.std.proofs.Common.{◌≡◌, ℕ, ◌+◌, true, false, [], length, sym, ap, ◌∙◌, arith}
 use Rattle.std.specs.Prelude.{◌==◌, ◌≢◌}
 use Rattle.std.proofs.lemmas.Bool.Decides.{nat_tests}
+use Rattle.vyrd_base.proofs.NoStart.{start_verdict-none}
 use Rattle.vyrd_base.specs.declared.verdict.Rule.TheVariants.{CallOpen}
 use Rattle.vyrd_base.specs.declared.verdict.Stop.TheVariants.{End}
 use Rattle.vyrd_base.specs.declared.verdict.Verdict.TheVariants.{Malformed}
 use Rattle.vyrd_base.specs.Verdicts.{line_of, verdict_at, accepted}
-use Rattle.vyrd_base.proofs.VerdictParts.{sound_without, line_without, at_end_open, at_end_accepted, at_text_open, at_text_before, at_text_closed}
+use Rattle.vyrd_base.proofs.VerdictParts.{line_without, at_end_open, at_end_accepted, at_text_open, at_text_before, at_text_closed}
 use Rattle.std.proofs.lemmas.Result.{IfOk-weaker}
 use Rattle.vyrd_plain.proofs.judge.at_stop.Goals as goal
 use Rattle.vyrd_plain.proofs.judge.at_stop.Goals.{then-is_open-2+else-line-after, else-is_open-2}
@@ -19,19 +20,19 @@ other_line line n e = let from : line_of [] n ≡ n + 2 = line_without n in grin
 pub returns-in-End : goal.returns-in-End
 returns-in-End c =
     rw c.in-End.is (ap (λ line. Malformed line CallOpen) (sym (line_without (length c.args.entries.now)))
-    ∙ at_end_open c.args.header [] c.args.entries.now (sound_without c.args.header) c.requires.faultless
+    ∙ at_end_open c.args.header [] c.args.entries.now (start_verdict-none c.args.header) c.requires.faultless
     (sym c.requires.is_open ∙ c.if-is_open.true))
 
 pub returns-in-End-2 : goal.returns-in-End-2
 returns-in-End-2 c =
     rw c.in-End.is (IfOk-weaker c.accepted.result (λ v. v ≡ accepted c.args.entries.now) (λ v. v ≡ verdict_at c.args.header [] c.args.entries.now End)
-    (λ v e. e ∙ at_end_accepted c.args.header [] c.args.entries.now (sound_without c.args.header) c.requires.faultless (sym c.requires.is_open
+    (λ v e. e ∙ at_end_accepted c.args.header [] c.args.entries.now (start_verdict-none c.args.header) c.requires.faultless (sym c.requires.is_open
     ∙ c.if-is_open.false)) c.accepted.ensures)
 
 pub returns-in-Text : goal.returns-in-Text
 returns-in-Text c =
     rw c.in-Text.is (ap (λ line. Malformed line CallOpen) (sym (line_without (length c.args.entries.now)))
-    ∙ at_text_open c.args.header [] c.args.entries.now c.in-Text.line c.in-Text.rule (sound_without c.args.header) c.requires.faultless
+    ∙ at_text_open c.args.header [] c.args.entries.now c.in-Text.line c.in-Text.rule (start_verdict-none c.args.header) c.requires.faultless
     (sym c.requires.is_open ∙ c.if-is_open-2.true)
     (same_line c.in-Text.line (length c.args.entries.now) c.if-line-after.true))
 
@@ -39,8 +40,8 @@ pub returns-in-Text-2 : goal.returns-in-Text-2
 returns-in-Text-2 c = rw c.in-Text-2.is (elim c.if-is_open-2.branch [
   | then-is_open-2+else-line-after w ↦
       let same : c.in-Text.line ≡ c.in-Text-2.line = cc in
-      at_text_before c.args.header [] c.args.entries.now c.in-Text-2.line c.in-Text-2.rule (sound_without c.args.header) c.requires.faultless
+      at_text_before c.args.header [] c.args.entries.now c.in-Text-2.line c.in-Text-2.rule (start_verdict-none c.args.header) c.requires.faultless
       (other_line c.in-Text-2.line (length c.args.entries.now) (λ e. w.if-line-after.false (same ∙ e)))
-  | else-is_open-2 w ↦ at_text_closed c.args.header [] c.args.entries.now c.in-Text-2.line c.in-Text-2.rule (sound_without c.args.header)
+  | else-is_open-2 w ↦ at_text_closed c.args.header [] c.args.entries.now c.in-Text-2.line c.in-Text-2.rule (start_verdict-none c.args.header)
       c.requires.faultless (sym c.requires.is_open ∙ w.if-is_open-2.false)
 ])

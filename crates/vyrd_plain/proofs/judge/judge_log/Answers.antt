@@ -1,13 +1,14 @@
 use Rattle.std.proofs.Common.{[], sym, ap, ◌∙◌}
+use Rattle.vyrd_base.proofs.NoStart.{start_verdict-none}
 use Rattle.vyrd_base.specs.declared.verdict.Verdict.TheVariants.{Malformed}
 use Rattle.vyrd_base.specs.Verdicts.{line_of}
-use Rattle.vyrd_base.proofs.VerdictParts.{sound_without, line_without, verdict_standing, so_far_fault, so_far_break, so_far_none}
+use Rattle.vyrd_base.proofs.VerdictParts.{line_without, verdict_standing, so_far_fault, so_far_break, so_far_none}
 use Rattle.vyrd_plain.proofs.judge.judge_log.Goals as goal
 
 pub returns-in-Some : goal.returns-in-Some
 returns-in-Some g c =
     verdict_standing c.args.header [] c.args.entries.now c.args.stop c.in-Some.violation
-    (so_far_fault c.args.header [] c.args.entries.now c.split_at.result.0.now c.in-Some.violation (sound_without c.args.header)
+    (so_far_fault c.args.header [] c.args.entries.now c.split_at.result.0.now c.in-Some.violation (start_verdict-none c.args.header)
     (c.split_at.ensures.front ∙ c.in_ok-front.ensures.front)
     (sym c.in_ok-violation.ensures ∙ c.in-Some.is))
 
@@ -16,11 +17,11 @@ returns-in-Some-broken g c =
     ap (λ line. Malformed line c.in-Some-broken.rule) (sym (line_without c.in_ok-front.front.len))
     ∙ verdict_standing c.args.header [] c.args.entries.now c.args.stop (Malformed (line_of [] c.in_ok-front.front.len) c.in-Some-broken.rule)
     (so_far_break c.args.header [] c.args.entries.now c.split_at.result.0.now c.in_ok-front.front.len c.in-Some-broken.rule
-    (sound_without c.args.header) (c.split_at.ensures.front ∙ c.in_ok-front.ensures.front) c.split_at.ensures.front_len
+    (start_verdict-none c.args.header) (c.split_at.ensures.front ∙ c.in_ok-front.ensures.front) c.split_at.ensures.front_len
     (sym c.in_ok-violation.ensures ∙ c.in_default.is) (sym c.in_ok-front.ensures.broken ∙ c.in-Some-broken.is))
 
 pub at_stop-requires-clause-faultless : goal.at_stop-requires-clause-faultless
 at_stop-requires-clause-faultless g c =
-    so_far_none c.args.header [] c.args.entries.now c.split_at.result.0.now (sound_without c.args.header)
+    so_far_none c.args.header [] c.args.entries.now c.split_at.result.0.now (start_verdict-none c.args.header)
     (c.split_at.ensures.front ∙ c.in_ok-front.ensures.front)
     (sym c.in_ok-violation.ensures ∙ c.in_default.is) (sym c.in_ok-front.ensures.broken ∙ c.in_default-broken.is)

@@ -3,9 +3,10 @@ use Rattle.std.specs.Prelude.{flat_map, slice_index}
 use Rattle.vyrd_base.specs.Added.{added}
 use Rattle.vyrd_base.specs.Places.{numbers_below}
 use Rattle.vyrd_base.specs.Amounts.{amount_of}
-use Rattle.vyrd_base.specs.TreeView.{count_of, entry_parts}
+use Rattle.vyrd_base.specs.TreeView.{count_of}
 use Rattle.vyrd_base.proofs.AddedLaws.{added-push, amount_of-added}
-use Rattle.vyrd_spec.proofs.LeafLaws.{place_parts, places_at_most, node_places, read_at, entry_sound}
+use Rattle.vyrd_base.proofs.PartLaws.{place_parts, places_at_most, node_parts-places, place_is}
+use Rattle.vyrd_spec.proofs.LeafLaws.{entry_sound}
 use Rattle.vyrd_spec.proofs.leaves.add_leaf.Goals as goal
 
 pub add_entry-requires : goal.add_entry-requires
@@ -29,11 +30,11 @@ pub loop-place-preserved : goal.loop-place-preserved
 loop-place-preserved c =
     let words = c.args.words.now in
     added-push (place_parts words c.args.leaf) c.loop-place.place c.args.values.now c.loop-place.values c.add_entry.new.values c.loop-place.invariant
-    (c.in_ok-add_entry.ensures ∙ ap (λ entry. added c.loop-place.values (entry_parts entry)) (sym (read_at words c.args.leaf c.loop-place.place)))
+    (c.in_ok-add_entry.ensures ∙ ap (added c.loop-place.values) (place_is words c.args.leaf c.loop-place.place))
 
 pub returns : goal.returns
 returns c =
     let words = c.args.words.now in
     let all : c.loop-place.place ≡ min (count_of words c.args.leaf) 4 = omega arith in
     c.loop-place.invariant ∙ ap (λ m. added c.args.values.now (flat_map (place_parts words c.args.leaf) (numbers_below m))) all
-    ∙ sym (ap (added c.args.values.now) (node_places words c.args.leaf))
+    ∙ sym (ap (added c.args.values.now) (node_parts-places words c.args.leaf))

@@ -14,7 +14,7 @@ use Rattle.vyrd_base.specs.Views.{view_of_words, parts_of}
 use Rattle.vyrd_base.proofs.SumLaws.{amount_of-collected, IsAmounts-collected}
 use Rattle.vyrd_memory.specs.Alone.{Memory, words_in, state_in}
 use Rattle.vyrd_memory.proofs.Memories.{Represents, represents, represented, word_at}
-use Rattle.vyrd_memory.proofs.NumberLists.{map_alike}
+use Rattle.vyrd_base.proofs.PlaceLaws.{map_alike_from}
 use Rattle.vyrd_memory.proofs.PartSums.{collected-is}
 use Rattle.vyrd_tree.specs.Contents.{level_at, count_at, bound_at, right_at, key_at, value_at}
 use Rattle.vyrd_tree.specs.Contents.{last_in, root_in, AreEntries, AreEntriesAt, IsChild, LeadsOn}
@@ -54,7 +54,7 @@ pub entries_alike : (m m' : Memory) (n place many : ℕ)
     → (key_at m' n j ≡ key_at m n j) × (value_at m' n j ≡ value_at m n j))
     → entries_from m' n place many ≡ entries_from m n place many
 entries_alike m m' n place many same =
-    map_alike (λ j. (key_at m' n j, value_at m' n j)) (λ j. (key_at m n j, value_at m n j)) place
+    map_alike_from (λ j. (key_at m' n j, value_at m' n j)) (λ j. (key_at m n j, value_at m n j)) place
     many
     (λ j from to. let both = same j from to in
     ap (λ key. (key, value_at m' n j)) both.0 ∙ ap (λ value. (key_at m n j, value)) both.1)

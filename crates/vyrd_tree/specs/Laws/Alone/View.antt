@@ -1,15 +1,16 @@
 -- Proofs of laws that an impl in src/ names: no contract says what is defined here. What a tree in
 -- words shows: the chain from node 0 visits each leaf once, so a key has the amount that the leaf
 -- of its range gives.
-use Rattle.std.proofs.Common.{◌≡◌, ◌≢◌, ℕ, zero, suc, ◌+◌, ◌<◌, ◌≤◌, ◌⊎◌, inl, inr, Bool, true}
+use Rattle.std.proofs.Common.{◌≡◌, ◌≢◌, ℕ, zero, suc, ◌+◌, ◌<◌, ◌≤◌, ◌⊎◌, inl, inr}
 use Rattle.std.proofs.Common.{false, List, [], ◌∷◌, map, min, refl, ap, ◌∙◌, sym, arith}
 use Rattle.std.specs.Prelude.{◌==◌, ◌||◌, nat_le, flat_map}
 use Rattle.std.specs.Prelude.{slice_index}
 use Rattle.std.specs.List.{list_any}
 use Rattle.vyrd_base.specs.Places.{numbers_from}
-use Rattle.vyrd_base.specs.TreeView.{right_of, entry_parts, node_parts, damage, chain_parts_from}
+use Rattle.vyrd_base.specs.TreeView.{right_of, entry_parts, node_parts, chain_parts_from}
 use Rattle.vyrd_base.specs.TreeView.{chain_parts}
 use Rattle.vyrd_base.specs.Amounts.{given}
+use Rattle.vyrd_base.proofs.PartLaws.{parts_after}
 use Rattle.vyrd_base.proofs.SumLaws.{given-append}
 use Rattle.vyrd_base.proofs.TestLaws.{is_same, isnt_same, isnt_at_most}
 use Rattle.vyrd_memory.specs.Alone.{Memory}
@@ -69,24 +70,14 @@ next_on_chain size m low left seen n here on = record {
     rises : low n < low (right_at m n)
     rises = let above = on.above in let begins = on.begins in omega arith
 
--- what follows a node, by whether the chain ends there and whether its link goes back or past the
--- nodes
-abbrev pub chain_on : ℕ → List ℕ → ℕ → List ℕ → ℕ → Bool → Bool → List (ℕ × ℕ)
-chain_on size words left seen n ends back = elim ends [
-  | true ↦ []
-  | false ↦ elim back [
-    | true ↦ damage
-    | false ↦ chain_parts_from size words left (n ∷ seen) (right_of words n)
-  ]
-]
-
+-- what a node gives with what follows it: nothing where the chain ends
 pub step_ends : (size : ℕ) (words : List ℕ) (left : ℕ) (seen : List ℕ) (q n : ℕ)
     → right_of words n ≡ 0
     → given q (chain_parts_from size words (suc left) seen n) ≡ given q (node_parts words n)
 step_ends size words left seen q n ends =
-    given-append q (node_parts words n) (chain_on size words left seen n (right_of words n == 0)
+    given-append q (node_parts words n) (parts_after size words left seen n (right_of words n == 0)
     (nat_le size (right_of words n) || list_any (λ y. y == right_of words n) (n ∷ seen)))
-    ∙ ap (λ b. given q (node_parts words n) + given q (chain_on size words left seen n b
+    ∙ ap (λ b. given q (node_parts words n) + given q (parts_after size words left seen n b
     (nat_le size (right_of words n) || list_any (λ y. y == right_of words n) (n ∷ seen))))
     (is_same (right_of words n) 0 ends)
     ∙ plus_none (given q (node_parts words n))
@@ -94,6 +85,7 @@ step_ends size words left seen q n ends =
     plus_none : (n : ℕ) → n + 0 ≡ n
     plus_none n = omega arith
 
+-- and otherwise the rest of the chain
 pub step_on : (size : ℕ) (words : List ℕ) (left : ℕ) (seen : List ℕ) (q n : ℕ)
     → right_of words n ≢ 0
     → (nat_le size (right_of words n) || list_any (λ y. y == right_of words n) (n ∷ seen)) ≡ false
@@ -101,12 +93,12 @@ pub step_on : (size : ℕ) (words : List ℕ) (left : ℕ) (seen : List ℕ) (q 
     ≡ given q (node_parts words n) + given q
     (chain_parts_from size words left (n ∷ seen) (right_of words n))
 step_on size words left seen q n on fresh =
-    given-append q (node_parts words n) (chain_on size words left seen n (right_of words n == 0)
+    given-append q (node_parts words n) (parts_after size words left seen n (right_of words n == 0)
     (nat_le size (right_of words n) || list_any (λ y. y == right_of words n) (n ∷ seen)))
     ∙ ap (λ b. given q (node_parts words n)
-    + given q (chain_on size words left seen n b (nat_le size (right_of words n)
+    + given q (parts_after size words left seen n b (nat_le size (right_of words n)
     || list_any (λ y. y == right_of words n) (n ∷ seen)))) (isnt_same (right_of words n) 0 on)
-    ∙ ap (λ b. given q (node_parts words n) + given q (chain_on size words left seen n false b))
+    ∙ ap (λ b. given q (node_parts words n) + given q (parts_after size words left seen n false b))
     fresh
 
 fresh_link : (size : ℕ) (words : List ℕ) (low : ℕ → ℕ) (left : ℕ) (seen : List ℕ) (n : ℕ)

@@ -5,7 +5,7 @@ use Rattle.vyrd_base.specs.Amounts.{amount_of}
 use Rattle.vyrd_base.specs.TreeView.{count_of}
 use Rattle.vyrd_base.specs.Added.{added}
 use Rattle.vyrd_base.proofs.AddedLaws.{added-push, amount_of-added}
-use Rattle.vyrd_view.proofs.PartLaws.{place_parts, places_at_most, node_parts-places, place_is}
+use Rattle.vyrd_base.proofs.PartLaws.{place_parts, places_at_most, node_parts-places, place_is}
 use Rattle.vyrd_view.proofs.chain.add_node.Goals as goal
 
 pub add_entry-requires : goal.add_entry-requires

@@ -1,11 +1,11 @@
 use Rattle.std.proofs.Common.{◌≡◌, ◌*◌, length, map, get_or, ap, ◌∙◌, sym, subst, arith}
+use Rattle.std.proofs.lemmas.Result.{on_ok_weaker}
 use Rattle.vyrd_base.specs.declared.subject.Subject.TheVariants.{Multiset, Cache, Tree, Buffers}
 use Rattle.vyrd_base.specs.Places.{numbers_below}
 use Rattle.vyrd_view.specs.Kept.{Kept}
 use Rattle.vyrd_view.specs.Pairs.{slot_pair, chunk_pair, buffer_pair, HaveChunkKeys, HaveBufferKeys}
 use Rattle.vyrd_view.specs.Chains.{is_on_chain, is_broken, end_pair}
 use Rattle.vyrd_view.specs.Comparing.{IsCurrent}
-use Rattle.vyrd_view.proofs.OutcomeLaws.{then_ok}
 use Rattle.vyrd_view.proofs.ReadyLaws.{sized, word_count, slots_count, slots_ones, slots_others, slots_current, chunks_count, chunks_keys, chunks_others, buffers_count, buffers_keys, buffers_others, marks_count, tree_count, tree_most, tree_others, tree_marks, tree_end}
 use Rattle.vyrd_view.proofs.current.bring_up_to_date.Goals as goal
 
@@ -118,9 +118,8 @@ buffers_changed-requires-clause-others g c = λ b low untouched.
 pub returns-in-Multiset-clause-current : goal.returns-in-Multiset-clause-current
 returns-in-Multiset-clause-current g c =
     let is : c.args.header.subject ≡ Multiset = sym c.subject.ensures ∙ c.in-Multiset.is in
-    then_ok c.slots_changed.result
-    (c.slots_changed.new.parts ≡ record c.args.parts.now { pairs = map (slot_pair c.args.words.now) (numbers_below (length c.args.parts.now.pairs)) })
-    (IsCurrent c.args.header c.args.words.now c.slots_changed.new.parts.pairs c.args.marks.now c.args.next.now)
+    on_ok_weaker {P = c.slots_changed.new.parts ≡ record c.args.parts.now { pairs = map (slot_pair c.args.words.now) (numbers_below (length c.args.parts.now.pairs)) }}
+    {Q = IsCurrent c.args.header c.args.words.now c.slots_changed.new.parts.pairs c.args.marks.now c.args.next.now} c.slots_changed.result
     (λ now. slots_current c.args.header c.args.kept.now c.args.words.now c.args.changed.now c.args.parts.now.pairs c.args.marks.now c.args.next.now c.requires.current c.requires.elsewhere is
     c.slots_changed.new.parts.pairs (ap (λ (k : Kept). k.pairs) now))
     c.slots_changed.ensures.ok

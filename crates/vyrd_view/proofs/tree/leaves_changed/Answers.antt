@@ -1,8 +1,8 @@
 use Rattle.std.proofs.Common.{◌≡◌, ℕ, ◌+◌, ◌*◌, ◌<◌, ◌≤◌, ◌^◌, false, List, length, length-set, map, set, ap, sym, ◌∙◌, arith, get_or-set_same, get_or-set_other}
+use Rattle.std.proofs.lemmas.Result.{on_ok_weaker}
 use Rattle.vyrd_base.specs.Places.{numbers_below}
 use Rattle.vyrd_view.specs.Kept.{Kept}
 use Rattle.vyrd_view.specs.Chains.{tree_pair, end_pair, has_link, is_on_chain, is_broken}
-use Rattle.vyrd_view.proofs.OutcomeLaws.{then_ok}
 use Rattle.vyrd_view.proofs.PairLaws.{all_kept}
 use Rattle.vyrd_view.proofs.PlacedLaws.{each_bounds, each-set}
 use Rattle.vyrd_view.proofs.TreePairLaws.{tree_pairs, end_at_most}
@@ -47,9 +47,8 @@ returns-clause-ok g c =
     c.in_ok-remark.ensures.places ∙ c.in_ok-entries_changed.ensures.places ∙ c.requires.places in
     let within : 4 * size < length pairs = omega (arith, count) in
     let final : List (ℕ × ℕ) = set pairs (4 * size) pair in
-    then_ok c.replace.result
-    (c.replace.new.self ≡ record c.remark.new.parts { pairs = set pairs (4 * length c.remark.new.marks) pair })
-    (c.replace.new.self ≡ record { pairs = map (tree_pair size c.args.words.now) (numbers_below (4 * size + 1)); specified = c.args.parts.now.specified; refused = c.args.parts.now.refused })
+    on_ok_weaker {P = c.replace.new.self ≡ record c.remark.new.parts { pairs = set pairs (4 * length c.remark.new.marks) pair }}
+    {Q = c.replace.new.self ≡ record { pairs = map (tree_pair size c.args.words.now) (numbers_below (4 * size + 1)); specified = c.args.parts.now.specified; refused = c.args.parts.now.refused }} c.replace.result
     (λ now.
     let is : c.replace.new.self.pairs ≡ final = ap (λ (k : Kept). k.pairs) now ∙ ap (λ n. set pairs (4 * n) pair) same in
     all_kept c.replace.new.self (map (tree_pair size c.args.words.now) (numbers_below (4 * size + 1))) c.args.parts.now.specified c.args.parts.now.refused

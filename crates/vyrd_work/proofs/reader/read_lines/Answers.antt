@@ -1,8 +1,9 @@
 use Rattle.std.proofs.Common.{◌≡◌, true, false, ◌∷◌, length, ap, sym, ◌∙◌, arith, length-append}
 use Rattle.std.proofs.lemmas.Result.{on_ok_weaker, err_from_is_err_and}
+use Rattle.vyrd_base.proofs.SplitLaws.{cut}
 use Rattle.vyrd_work.specs.Workloads.{workload_of}
 use Rattle.vyrd_work.specs.WorkReading.{refused, lines_read}
-use Rattle.vyrd_work.proofs.WalkLaws.{cut, then_lines, end_found, line_found, lines_last, refusal_at}
+use Rattle.vyrd_work.proofs.WalkLaws.{then_lines, end_found, line_found, lines_last, refusal_at}
 use Rattle.vyrd_work.proofs.reader.read_lines.Goals as goal
 
 pub returns-then-is_word-clause-ok : goal.returns-then-is_word-clause-ok

@@ -1,6 +1,7 @@
 use Rattle.std.proofs.Common.{◌≡◌, ◌<◌, false, ap, sym, ◌∙◌, arith, get_or, set, length}
 use Rattle.vyrd_base.specs.Amounts.{given, part_given}
-use Rattle.vyrd_view.proofs.PairLaws.{given-set, part-le-given, own_part}
+use Rattle.vyrd_base.proofs.SumLaws.{given-set, own_part}
+use Rattle.vyrd_view.proofs.PairLaws.{part-le-given}
 use Rattle.vyrd_view.proofs.parts.Parts.write.Goals as goal
 
 pub change-requires-clause-enough : goal.change-requires-clause-enough

@@ -2,7 +2,8 @@ use Rattle.std.proofs.Common.{cond, Some, refl, ap, sym, subst, ◌∙◌, arith
 use Rattle.std.specs.Prelude.{◌==◌}
 use Rattle.vyrd_base.specs.Amounts.{amount_of, with_amount}
 use Rattle.vyrd_view.specs.declared.sides.Sides.{Sides}
-use Rattle.vyrd_view.specs.Homes.{home_at, IsWithin, IsFoundAt}
+use Rattle.vyrd_base.specs.Tables.{IsWithin}
+use Rattle.vyrd_view.specs.Homes.{home_at, IsFoundAt}
 use Rattle.vyrd_view.specs.Sided.{AreSettled, shown_at, specified_of}
 use Rattle.vyrd_view.proofs.HomeLaws.{others_of}
 use Rattle.vyrd_view.proofs.SidedLaws.{settled_of, is_settled, place_settles, place_shows, place_specifies}
