@@ -1,6 +1,6 @@
 -- Laws of the events that are held by their numbers.
 use Rattle.std.proofs.Common.{◌≡◌, ◌≢◌, ℕ, zero, suc, ◌+◌, ◌-◌, ◌^◌, ◌<◌, ◌≤◌, List, [], ◌∷◌, ◌++◌, length, set, get_or, take, drop, replicate, Bool, true, false, cond, ltb, Option, Some, None, refl, sym, ap, ◌∙◌, subst, arith, eq-eqb, ne_eqb}
-use Rattle.std.specs.Prelude.{◌==◌, slice_index_or, slice_set, if◌then◌else◌}
+use Rattle.std.specs.Prelude.{◌==◌, slice_index_or, slice_set, ◌||◌, is_some, if◌then◌else◌}
 use Rattle.std.proofs.lemmas.List.{take_all, get_or-set_same, get_or-set_other, get_or-drop}
 use Rattle.std.proofs.lemmas.Bool.Decides.{nat_tests}
 use mathlib.Core.Logic.{dite}
@@ -10,7 +10,7 @@ use Rattle.std.specs.Map.{lookup}
 use Rattle.std.specs.BTreeMap.{is_at}
 use Rattle.vyrd_base.specs.declared.history.Stamped.{Stamped}
 use Rattle.vyrd_base.proofs.TestLaws.{same_of}
-use Rattle.vyrd_relay.specs.Numbers.{Kept, or_else, held, AreNumbered}
+use Rattle.vyrd_relay.specs.Numbers.{Kept, or_else, held, has, AreNumbered, AreToCome}
 
 -- an empty place at the end of a list is no other than a place past the end
 pub more_places : (near : List (Option Stamped)) (n i : ℕ) → slice_index_or (near ++ replicate n None) i None ≡ slice_index_or near i None
@@ -77,3 +77,20 @@ numbered_with k after item small same all n other is = at (n == item.number) ref
     at true e q = let n_is = same_of n item.number e in let o : item ≡ other = cc in
         (sym (ap (λ (s : Stamped). s.number) o) ∙ sym n_is, subst (λ (m : ℕ). m < 2 ^ 62) (sym n_is) small)
     at false e q = all n other q
+
+-- a number that isn't held and wasn't handed out isn't among the far ones
+pub far_free : (k : Kept) (n : ℕ) → has k n ≡ false → lookup (is_at (nat_cmp n)) k.far ≡ None
+far_free k n free = by_place (ltb n k.next) (slice_index_or k.near (n - k.next) None) (lookup (is_at (nat_cmp n)) k.far) free
+  where
+    by_place : (gone : Bool) (near far : Option Stamped) → (gone || is_some (if gone then None else or_else near far)) ≡ false → far ≡ None
+    by_place true near far e = cc
+    by_place false (Some item) far e = cc
+    by_place false None (Some item) e = cc
+    by_place false None None e = refl
+
+-- the next number has gone by, and isn't among the far ones
+pub come_after : (k after : Kept) → after.next ≡ k.next + 1 → lookup (is_at (nat_cmp k.next)) after.far ≡ None
+    → ((n : ℕ) → n < k.next → lookup (is_at (nat_cmp n)) after.far ≡ lookup (is_at (nat_cmp n)) k.far) → AreToCome k → AreToCome after
+come_after k after next own same all n low = dite (ℕ_discrete n k.next)
+    (λ is. ap (λ (m : ℕ). lookup (is_at (nat_cmp m)) after.far) is ∙ own)
+    (λ apart. let before : n < k.next = omega arith in same n before ∙ all n before)

@@ -34,3 +34,7 @@ has kept number = nat_lt number kept.next || is_some (held kept number)
 abbrev pub AreNumbered : Kept → Type 0
 AreNumbered kept =
     (n : ℕ) (item : Stamped) → held kept n ≡ Some item → (item.number ≡ n) × (n < 2 ^ 62)
+
+-- No far event is held whose number was handed out.
+abbrev pub AreToCome : Kept → Type 0
+AreToCome kept = (n : ℕ) → n < kept.next → lookup (is_at (nat_cmp n)) kept.far ≡ None

@@ -30,7 +30,7 @@ pub struct Reorder {
 
 impl Model for Reorder {
     ghost use Rattle.std.specs.Prelude.{◌≤◌, ◌^◌};
-    ghost use Rattle.vyrd_relay.specs.Numbers.{Kept, AreNumbered};
+    ghost use Rattle.vyrd_relay.specs.Numbers.{Kept, AreNumbered, AreToCome};
 
     ghost Value = { Kept };
 
@@ -38,7 +38,8 @@ impl Model for Reorder {
 
     ghost invariant = { λ r.
         AreNumbered (record { next = r.next; near = r.near.items; far = r.far.entries })
-        × (r.next ≤ 2 ^ 62) };
+        × (r.next ≤ 2 ^ 62)
+        × AreToCome (record { next = r.next; near = r.near.items; far = r.far.entries }) };
 }
 
 impl Reorder {
