@@ -1,4 +1,4 @@
-mod WriteLaws
+pub mod WriteLaws
 pub mod FollowLaws
 pub mod KeptWrites
 pub mod QuietLaws

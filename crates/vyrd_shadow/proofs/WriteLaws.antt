@@ -78,9 +78,9 @@ kept_after k v xs ys nowhere = by_test (nat_lt (place k xs) (length xs)) refl
         absurd (grind (arith, some))
     by_test false e = elsewhere k v xs ys (grind (arith, nat_tests, e))
 
-pub with_both : (words : List ℕ) (xs ys : List (ℕ × ℕ)) → with_writes words (xs ++ ys) ≡ with_writes (with_writes words xs) ys
-with_both words [] ys = refl
-with_both words ((w, v) ∷ xs) ys = with_both (set words w v) xs ys
+pub with_writes-append : (words : List ℕ) (xs ys : List (ℕ × ℕ)) → with_writes words (xs ++ ys) ≡ with_writes (with_writes words xs) ys
+with_writes-append words [] ys = refl
+with_writes-append words ((w, v) ∷ xs) ys = with_writes-append (set words w v) xs ys
 
 pub in_range_front : (n : ℕ) (xs ys : List (ℕ × ℕ)) → AreInRange n (xs ++ ys) → AreInRange n xs
 in_range_front n [] ys all = tt

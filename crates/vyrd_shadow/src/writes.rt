@@ -25,13 +25,15 @@ pub(crate) struct Writes {
 }
 
 impl Model for Writes {
-    ghost use Rattle.std.specs.Prelude.{◌≡◌, ◌<◌, ◌++◌, ℕ, List, [], length};
+    ghost use Rattle.std.specs.Prelude.{◌≡◌, ◌<◌, ◌≤◌, ◌++◌, ℕ, List, [], length};
+    ghost use Rattle.vyrd_shadow.specs.declared.writes.TheConstants.{FEW};
 
     ghost Value = { List (ℕ × ℕ) };
 
     ghost view = { λ w. w.few.items ++ w.more.entries };
 
-    ghost invariant = { λ w. length w.few.items < 8 → w.more.entries ≡ [] };
+    ghost invariant = { λ w. (length w.few.items ≤ FEW)
+        × (length w.few.items < FEW → w.more.entries ≡ []) };
 }
 
 impl Writes {

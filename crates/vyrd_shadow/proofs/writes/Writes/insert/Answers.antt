@@ -21,7 +21,7 @@ returns-then-len-lt-FEW-clause-ok c =
     let few = c.self.inside.few.items in
     let more = c.self.inside.more.entries in
     let one : List (ℕ × ℕ) = (k, v) ∷ [] in
-    let none : more ≡ [] = c.self.invariant (omega (arith, c.if-len-lt-FEW.true, c.len.ensures)) in
+    let none : more ≡ [] = c.self.invariant.1 (omega (arith, c.if-len-lt-FEW.true, c.len.ensures)) in
     let nowhere : position (λ (write : ℕ × ℕ). k == write.0) few ≡ None =
     ap (position (λ (write : ℕ × ℕ). k == write.0)) (sym c.deref.ensures.value) ∙ sym c.place_of.ensures ∙ c.in_default.is in
     ap (λ xs. xs ++ more) c.in_ok-push.ensures.items ∙ ap (λ m. (few ++ one) ++ m) none ∙ append-nil (few ++ one)

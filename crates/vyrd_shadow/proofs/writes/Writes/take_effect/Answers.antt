@@ -1,7 +1,7 @@
 use Rattle.std.proofs.Common.{length, ap, sym, subst, ◌∙◌}
 use Rattle.vyrd_shadow.specs.Blocks.{with_writes, AreInRange}
 use Rattle.vyrd_shadow.proofs.KeptWrites.{length-with_writes}
-use Rattle.vyrd_shadow.proofs.WriteLaws.{with_both, in_range_front, in_range_back}
+use Rattle.vyrd_shadow.proofs.WriteLaws.{with_writes-append, in_range_front, in_range_back}
 use Rattle.vyrd_shadow.proofs.writes.Writes.take_effect.Goals as goal
 
 pub write_few-requires : goal.write_few-requires
@@ -22,4 +22,4 @@ returns c =
     let few = c.self.inside.few.items in
     let more = c.self.inside.more.entries in
     c.write_more.ensures ∙ ap (λ ws. with_writes ws more) (c.write_few.ensures ∙ ap (with_writes c.args.words.now) c.deref.ensures.value)
-    ∙ sym (with_both c.args.words.now few more) ∙ ap (with_writes c.args.words.now) c.self.view_is
+    ∙ sym (with_writes-append c.args.words.now few more) ∙ ap (with_writes c.args.words.now) c.self.view_is
