@@ -2,6 +2,8 @@
 use Rattle.std.proofs.Common.{◌≡◌, ℕ, zero, suc, ◌+◌, ◌-◌, ◌^◌, ◌<◌, ◌≤◌, Bool, true, false, cond, not, ◌||◌, List, [], ◌∷◌, length, set, Some, slice_get, refl, ap, subst, ◌∙◌, sym, arith}
 use Rattle.std.specs.Prelude.{◌==◌}
 use Rattle.std.proofs.lemmas.Option.{slice_get_within}
+use Rattle.std.proofs.lemmas.Option.{same_Some}
+use Rattle.std.proofs.Math.Bool.{or-true, or-false}
 use Rattle.vyrd_base.specs.Amounts.{Amounts, amount_of}
 use Rattle.vyrd_base.proofs.BlockLaws.{by_same}
 use Rattle.vyrd_base.specs.declared.subject.Method.TheVariants.{MsInsert, MsInsertPair, MsDelete, MsLookup, CaWrite, CaFlush, CaEvict, CaRead, TrInsert, TrDelete, TrLookup, BuAppend, BuAppendFrom, BuCut, BuLength, BuRead}
@@ -31,7 +33,7 @@ seen_one_more state i old new x y low here sees so = record {
       (λ same. (
         y,
         subst (λ j. slice_get (set new i y) j ≡ Some y) same (slice_get-set_same new i y low),
-        subst (λ s. SeesState state s y) (some_same (sym here ∙ so.above i (omega arith) ∙ ap (slice_get old) same ∙ was)) sees,
+        subst (λ s. SeesState state s y) (same_Some _ _ (sym here ∙ so.above i (omega arith) ∙ ap (slice_get old) same ∙ was)) sees,
       ))
       (λ other. let before = so.below k seen (lower k low_k other) was in (
         before.0,
@@ -41,9 +43,6 @@ seen_one_more state i old new x y low here sees so = record {
   above = λ k high. slice_get-set_other new i k y (λ same. apart (omega (arith, high, same))) ∙ so.above k (omega (arith, high));
 }
   where
-    some_same : {a b : Seen} → Some a ≡ Some b → a ≡ b
-    some_same e = cc
-
     apart : ⊥ → ⊥
     apart e = e
 
@@ -62,26 +61,19 @@ pub seen_current : (state : Amounts) (i : ℕ) (old new : List Seen) → length 
 seen_current state i old new past long so = λ c seen here open_now.
     let was = there old c (omega (arith, long, slice_get_within new c seen here)) in
     let more = so.below c was.0 (omega (arith, past, slice_get_within old c was.0 was.1)) was.1 in
-    let same : more.0 ≡ seen = some_same (sym more.1 ∙ here) in
+    let same : more.0 ≡ seen = same_Some _ _ (sym more.1 ∙ here) in
     let sees = more.2.answers (sym more.2.is_open ∙ ap (λ s. s.is_open) same ∙ open_now) in
     ap (λ s. has_answer s.answers (answer_in state s.method s.args)) (sym same)
     ∙ ap (λ m. has_answer more.0.answers (answer_in state m more.0.args)) more.2.method
     ∙ ap (λ a. has_answer more.0.answers (answer_in state was.0.method a)) more.2.args
     ∙ sees.answers (answer_in state was.0.method was.0.args)
     ∙ ap (λ b. has_answer was.0.answers (answer_in state was.0.method was.0.args) || b) (same_number (answer_in state was.0.method was.0.args))
-    ∙ or_true (has_answer was.0.answers (answer_in state was.0.method was.0.args))
+    ∙ or-true (has_answer was.0.answers (answer_in state was.0.method was.0.args))
   where
-    some_same : {a b : Seen} → Some a ≡ Some b → a ≡ b
-    some_same e = cc
-
     there : (xs : List Seen) (c : ℕ) → c < length xs → (seen : Seen) × (slice_get xs c ≡ Some seen)
     there [] c low = absurd (omega (arith, low))
     there (x ∷ xs) zero low = (x, refl)
     there (x ∷ xs) (suc c) low = there xs c (omega (arith, low))
-
-    or_true : (b : Bool) → (b || true) ≡ true
-    or_true true = refl
-    or_true false = refl
 
 -- a watch that knows the answer already needn't be told
 pub knows_already : (answer : ℕ) (seen : Seen) → has_answer seen.answers answer ≡ true → SeesAnswer answer seen seen
@@ -92,15 +84,11 @@ knows_already answer seen knows = record {
   answers = λ reply. by_reply reply (answer == reply) refl;
 }
   where
-    or_false : (b : Bool) → b ≡ (b || false)
-    or_false true = refl
-    or_false false = refl
-
     by_reply : (reply : ℕ) (b : Bool) → (answer == reply) ≡ b → has_answer seen.answers reply ≡ (has_answer seen.answers reply || answer == reply)
     by_reply reply true e =
         let it : has_answer seen.answers reply ≡ true = ap (has_answer seen.answers) (sym (same_of answer reply e)) ∙ knows in
         it ∙ sym (ap (λ b. b || answer == reply) it)
-    by_reply reply false e = or_false (has_answer seen.answers reply) ∙ ap (λ b. has_answer seen.answers reply || b) (sym e)
+    by_reply reply false e = sym (or-false (has_answer seen.answers reply)) ∙ ap (λ b. has_answer seen.answers reply || b) (sym e)
 
 -- an observer's answer is by the amount of its key
 answer_by_amount : (s t : Amounts) (method : Method) (args : Args) → amount_of t args.a ≡ amount_of s args.a → answer_in t method args ≡ answer_in s method args

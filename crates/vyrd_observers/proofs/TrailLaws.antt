@@ -1,10 +1,12 @@
 -- Trails of answers that open observers share.
-use Rattle.std.proofs.Common.{◌≡◌, ℕ, zero, suc, ◌+◌, ◌-◌, ◌<◌, ◌≤◌, Bool, true, false, cond, ◌&&◌, ◌||◌, List, [], ◌∷◌, ◌++◌, length, drop, map, set, get_or, Option, Some, None, slice_get, refl, ap, subst, ◌∙◌, sym, arith, length-drop}
+use Rattle.std.proofs.Common.{◌≡◌, ℕ, zero, suc, ◌+◌, ◌-◌, ◌*◌, ◌<◌, ◌≤◌, Bool, true, false, cond, ◌&&◌, ◌||◌, List, [], ◌∷◌, ◌++◌, length, drop, map, set, get_or, Option, Some, None, slice_get, refl, ap, subst, ◌∙◌, sym, arith, length-drop}
 use Rattle.std.specs.Prelude.{◌==◌, option_map, unwrap_or, replicate}
 use Rattle.std.specs.List.{list_any}
 use Rattle.std.proofs.lemmas.List.{drop-append-le, drop-drop, length-map, map-set, set-get_or}
 use Rattle.std.proofs.lemmas.List.Folds.{list_any-append}
 use Rattle.std.proofs.lemmas.Option.{slice_get_within, slice_get_past, slice_get-map, slice_get-get_or, unwrap_or-slice_get}
+use Rattle.std.proofs.lemmas.Option.{same_Some}
+use Rattle.std.proofs.Math.Seq.{drop-length}
 use Rattle.vyrd_base.specs.declared.header.Header.{Header}
 use Rattle.vyrd_base.specs.declared.subject.Method.{Method}
 use Rattle.vyrd_base.specs.declared.subject.Args.{Args}
@@ -17,14 +19,11 @@ use Rattle.vyrd_spec.specs.declared.touched.Touched.{Touched}
 use Rattle.vyrd_spec.specs.Touching.{is_touched}
 use Rattle.vyrd_observers.specs.declared.watch.Watch.{Watch}
 use Rattle.vyrd_base.specs.Entries.{has_method}
-use Rattle.vyrd_observers.specs.Trails.{Asked, with_answer, after_state, seen_from, seen_by, IsOn, AreOn, AreAsking, KeepsAsked, moved}
+use Rattle.vyrd_observers.specs.Trails.{Asked, with_answer, after_state, seen_from, seen_by, IsOn, AreOn, AreAsking, KeepsAsked, IsTrailOf, IsUsed, moved}
 use Rattle.vyrd_observers.specs.Watching.{Seen, unwatched, has_answer, SeesAnswer, SeesState}
 use Rattle.vyrd_base.proofs.ChangedLists.{changed_below}
 use Rattle.vyrd_observers.proofs.SeeingLaws.{SeenBelow, knows_already}
 use Rattle.vyrd_base.proofs.ListLaws.{slice_get-set_same, slice_get-set_other}
-
-some_same : {A : Type 0} {a b : A} → Some a ≡ Some b → a ≡ b
-some_same e = cc
 
 none_some : {A : Type 0} {a : A} → None ≡ Some a → ⊥
 none_some e = cc
@@ -44,7 +43,7 @@ is_pushed (z ∷ xs) y = is_pushed xs y
 
 pub all_pushed : {A : Type 0} (P : A → Type 0) (xs : List A) (y : A) → P y → ((i : ℕ) (x : A) → slice_get xs i ≡ Some x → P x)
     → (i : ℕ) (x : A) → slice_get (xs ++ y ∷ []) i ≡ Some x → P x
-all_pushed P [] y own all zero x is = subst P (some_same is) own
+all_pushed P [] y own all zero x is = subst P (same_Some _ _ is) own
 all_pushed P [] y own all (suc i) x is = absurd (none_some is)
 all_pushed P (z ∷ xs) y own all zero x is = all 0 x is
 all_pushed P (z ∷ xs) y own all (suc i) x is = all_pushed P xs y own (λ j w. all (suc j) w) i x is
@@ -54,7 +53,7 @@ pub all_changed : {A : Type 0} (P : A → Type 0) (f : A → A) → ((x : A) →
     → ((i : ℕ) (x : A) → slice_get xs i ≡ Some x → P x) → (i : ℕ) (y : A) → slice_get (changed_below f n xs) i ≡ Some y → P y
 all_changed P f step zero xs all i y is = all i y is
 all_changed P f step (suc n) [] all i y is = all i y is
-all_changed P f step (suc n) (x ∷ xs) all zero y is = subst P (some_same is) (step x (all 0 x refl))
+all_changed P f step (suc n) (x ∷ xs) all zero y is = subst P (same_Some _ _ is) (step x (all 0 x refl))
 all_changed P f step (suc n) (x ∷ xs) all (suc i) y is = all_changed P f step n xs (λ j w. all (suc j) w) i y is
 
 pub changed_there : {A : Type 0} (Q : A → A → Type 0) (f : A → A) → ((x : A) → Q x x) → ((x : A) → Q x (f x)) → (n : ℕ) (xs : List A) (i : ℕ) (x : A)
@@ -81,13 +80,13 @@ asking_pushed h trails t free all =
 pub asking_set : (h : Header) (trails : List Asked) (i : ℕ) (t : Asked) → i < length trails
     → (t.is_asked ≡ true → (has_method h t.method t.args ≡ true) × (is_observer t.method ≡ true)) → AreAsking h trails → AreAsking h (set trails i t)
 asking_set h trails i t within own all = λ j u there. by_same i j
-    (λ same. let it : t ≡ u = some_same (sym (slice_get-set_same trails i t within) ∙ ap (slice_get (set trails i t)) same ∙ there) in
+    (λ same. let it : t ≡ u = same_Some _ _ (sym (slice_get-set_same trails i t within) ∙ ap (slice_get (set trails i t)) same ∙ there) in
     subst (λ v. v.is_asked ≡ true → (has_method h v.method v.args ≡ true) × (is_observer v.method ≡ true)) it own)
     (λ other. all j u (sym (slice_get-set_other trails i j t (apart_of i j other)) ∙ there))
 
 pub keeps_set : (trails : List Asked) (i : ℕ) (t new : Asked) → slice_get trails i ≡ Some t → t.is_asked ≡ false → KeepsAsked trails (set trails i new)
 keeps_set trails i t new here free = λ j u there is_asked. by_same i j
-    (λ same. let it : t ≡ u = some_same (sym here ∙ ap (slice_get trails) same ∙ there) in
+    (λ same. let it : t ≡ u = same_Some _ _ (sym here ∙ ap (slice_get trails) same ∙ there) in
     absurd (false_true free (ap (λ v. v.is_asked) it ∙ is_asked)))
     (λ other. slice_get-set_other trails i j new (apart_of i j other) ∙ there)
 
@@ -113,16 +112,12 @@ seen_kept old new watches keeps on = map_alike (seen_by new) (seen_by old) watch
 pub on_set : (trails : List Asked) (watches : List (Option Watch)) (c : ℕ) (o : Option Watch) → c < length watches
     → ((w : Watch) → o ≡ Some w → IsOn trails w) → AreOn trails watches → AreOn trails (set watches c o)
 on_set trails watches c o within own on = λ d w here. by_same c d
-    (λ same. own w (some_same (sym (slice_get-set_same watches c o within) ∙ ap (slice_get (set watches c o)) same ∙ here)))
+    (λ same. own w (same_Some _ _ (sym (slice_get-set_same watches c o within) ∙ ap (slice_get (set watches c o)) same ∙ here)))
     (λ other. on d w (sym (slice_get-set_other watches c d o (apart_of c d other)) ∙ here))
-
-drop_whole : {A : Type 0} (xs : List A) → drop (length xs) xs ≡ []
-drop_whole [] = refl
-drop_whole (x ∷ xs) = drop_whole xs
 
 -- what an observer has seen that begins now
 pub seen_at_end : (t : Asked) → seen_from (length t.others) (Some t) ≡ record { is_open = true; method = t.method; args = t.args; answers = t.latest ∷ [] }
-seen_at_end t = ap (λ xs. record { is_open = true; method = t.method; args = t.args; answers = t.latest ∷ xs }) (drop_whole t.others)
+seen_at_end t = ap (λ xs. record { is_open = true; method = t.method; args = t.args; answers = t.latest ∷ xs }) (drop-length t.others)
 
 -- the same question, which has as many answers or more
 pub record SameQuestion (t new : Asked) : Type 0 where
@@ -183,7 +178,7 @@ length-changed f (suc n) (x ∷ xs) = ap suc (length-changed f n xs)
 pub all_mapped : {A B : Type 0} (P : B → Type 0) (f : A → B) (xs : List A) → ((i : ℕ) (x : A) → slice_get xs i ≡ Some x → P (f x))
     → (i : ℕ) (y : B) → slice_get (map f xs) i ≡ Some y → P y
 all_mapped P f [] all i y is = absurd (none_some is)
-all_mapped P f (x ∷ xs) all zero y is = subst P (some_same is) (all 0 x refl)
+all_mapped P f (x ∷ xs) all zero y is = subst P (same_Some _ _ is) (all 0 x refl)
 all_mapped P f (x ∷ xs) all (suc i) y is = all_mapped P f xs (λ j z. all (suc j) z) i y is
 
 -- a trail is changed that no observer is on
@@ -253,7 +248,7 @@ on_moved trails watches i n t here low on = λ c w there.
         → IsOn (set trails i new) (cond b (record { trail = w.trail; since = w.since - n }) w)
     by_test w true e counts was =
         let same : w.trail ≡ i = same_of w.trail i e in
-        let it : t ≡ was.asked = some_same (sym here ∙ ap (slice_get trails) (sym same) ∙ was.there) in
+        let it : t ≡ was.asked = same_Some _ _ (sym here ∙ ap (slice_get trails) (sym same) ∙ was.there) in
         record {
           asked = new;
           there = ap (slice_get (set trails i new)) same ∙ slice_get-set_same trails i new (slice_get_within trails i t here);
@@ -269,7 +264,67 @@ on_moved trails watches i n t here low on = λ c w there.
 
     by_watch : (c : ℕ) (o : Option Watch) → slice_get watches c ≡ Some o → (v : Watch) → moved i n o ≡ Some v → IsOn (set trails i new) v
     by_watch c None there v is = absurd (none_some is)
-    by_watch c (Some w) there v is = subst (IsOn (set trails i new)) (some_same is) (by_test w (w.trail == i) refl (low c w there) (on c w there))
+    by_watch c (Some w) there v is = subst (IsOn (set trails i new)) (same_Some _ _ is) (by_test w (w.trail == i) refl (low c w there) (on c w there))
+
+-- an open observer that asks this question, and of which the last state that it saw answers this, is
+-- on a trail of it
+first_same : {a b : ℕ} {xs ys : List ℕ} → a ∷ xs ≡ b ∷ ys → a ≡ b
+first_same e = cc
+
+pub trail_of_seen : (trails : List Asked) (watches : List (Option Watch)) (c : ℕ) (seen : Seen) (before : List ℕ) (method : Method) (args : Args) (answer : ℕ)
+    → AreOn trails watches → slice_get (map (seen_by trails) watches) c ≡ Some seen → seen.is_open ≡ true → seen.method ≡ method → seen.args ≡ args
+    → seen.answers ≡ answer ∷ before → (i : ℕ) × (t : Asked) × (slice_get trails i ≡ Some t) × IsTrailOf method args answer t
+trail_of_seen trails watches c seen before method args answer on here is_open same_method same_args same_answers =
+    by_place (slice_get watches c) refl (sym (slice_get-map (seen_by trails) watches c) ∙ here)
+  where
+    by_place : (o : Option (Option Watch)) → slice_get watches c ≡ o → option_map (seen_by trails) o ≡ Some seen
+        → (i : ℕ) × (t : Asked) × (slice_get trails i ≡ Some t) × IsTrailOf method args answer t
+    by_place None place is = absurd (none_some is)
+    by_place (Some None) place is = absurd (false_true (sym (ap (λ (s : Seen). s.is_open) (same_Some _ _ is))) is_open)
+    by_place (Some (Some w)) place is =
+        let was = on c w place in
+        let same : seen_from w.since (Some was.asked) ≡ seen = ap (seen_from w.since) (sym was.there) ∙ same_Some _ _ is in (
+          w.trail,
+          was.asked,
+          was.there,
+          (
+            was.is_asked,
+            ap (λ (s : Seen). s.method) same ∙ same_method,
+            ap (λ (s : Seen). s.args) same ∙ same_args,
+            first_same (ap (λ (s : Seen). s.answers) same ∙ same_answers),
+          ),
+        )
+
+-- a trail after an observer has returned that asked it
+pub unused_freed : (trails : List Asked) (watches : List (Option Watch)) (i : ℕ) (t : Asked) → i < length trails → t.is_asked ≡ false
+    → IsUsed (set trails i t) watches i
+unused_freed trails watches i t within free = λ u there is_asked.
+    let it : t ≡ u = same_Some _ _ (sym (slice_get-set_same trails i t within) ∙ there) in
+    absurd (false_true free (ap (λ v. v.is_asked) it ∙ is_asked))
+
+pub used_moved : (trails : List Asked) (watches : List (Option Watch)) (i n c : ℕ)
+    → slice_get watches c ≡ Some (Some (record { trail = i; since = n })) → IsUsed trails (map (moved i n) watches) i
+used_moved trails watches i n c here = λ t there is_asked. (
+  c,
+  record { trail = i; since = n - n },
+  slice_get-map (moved i n) watches c ∙ ap (option_map (moved i n)) here
+      ∙ ap (λ b. Some (Some (cond b (record { trail = i; since = n - n }) (record { trail = i; since = n })))) (same_number i),
+  refl,
+  omega arith,
+)
+
+pub counted_within : (trails : List Asked) (watches : List (Option Watch)) (i n c : ℕ)
+    → slice_get watches c ≡ Some (Some (record { trail = i; since = n })) → AreOn trails watches
+    → (t : Asked) → slice_get trails i ≡ Some t → n ≤ length t.others
+counted_within trails watches i n c here on = λ t there.
+    let was = on c (record { trail = i; since = n }) here in
+    let it : was.asked ≡ t = same_Some _ _ (sym was.there ∙ there) in
+    subst (λ (u : Asked). n ≤ length u.others) it was.within
+
+pub used_still : (trails : List Asked) (watches : List (Option Watch)) (i n c : ℕ)
+    → slice_get watches c ≡ Some (Some (record { trail = i; since = n }))
+    → ((t : Asked) → slice_get trails i ≡ Some t → 2 * n ≤ length t.others) → IsUsed trails watches i
+used_still trails watches i n c here low = λ t there is_asked. (c, record { trail = i; since = n }, here, refl, low t there)
 
 -- what the next state makes of what an observer has seen
 or_last : (a b l : Bool) → (a || (b || (l || false))) ≡ ((l || b) || a)
@@ -342,7 +397,7 @@ callers_see touched state trails watches on current = record {
     by_place k seen (Some None) place is = (
       unwatched,
       slice_get-map (seen_by now) watches k ∙ ap (option_map (seen_by now)) place,
-      subst (λ s. SeesState state s unwatched) (some_same is) closed,
+      subst (λ s. SeesState state s unwatched) (same_Some _ _ is) closed,
     )
     by_place k seen (Some (Some w)) place is =
         let was = on k w place in
@@ -353,7 +408,7 @@ callers_see touched state trails watches on current = record {
           seen_from w.since (Some (after_state touched state was.asked)),
           slice_get-map (seen_by now) watches k ∙ ap (option_map (seen_by now)) place ∙ ap (λ o. Some (seen_from w.since o)) there,
           subst (λ s. SeesState state s (seen_from w.since (Some (after_state touched state was.asked))))
-              (ap (seen_from w.since) (sym was.there) ∙ some_same is)
+              (ap (seen_from w.since) (sym was.there) ∙ same_Some _ _ is)
               (sees_state touched state w.since was.asked was.is_asked was.within
               (λ untouched. current k (seen_from w.since (Some was.asked)) here refl untouched)),
         )
@@ -393,7 +448,7 @@ begins_seen old new watches c i since t method args answer keeps on there same_m
 -- no caller has an open observer
 replicated : {A : Type 0} (n : ℕ) (a : A) (i : ℕ) (x : A) → slice_get (replicate n a) i ≡ Some x → a ≡ x
 replicated zero a i x is = absurd (none_some is)
-replicated (suc n) a zero x is = some_same is
+replicated (suc n) a zero x is = same_Some _ _ is
 replicated (suc n) a (suc i) x is = replicated n a i x is
 
 pub all_closed : (trails : List Asked) (watches : List (Option Watch)) (n : ℕ) → watches ≡ replicate n None

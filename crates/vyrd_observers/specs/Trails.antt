@@ -1,6 +1,6 @@
 -- What open observers ask, and how they share what the states since their calls answer.
-use Rattle.std.specs.Prelude.{◌≡◌, ◌≤◌, ◌-◌, ℕ, Bool, true, cond, ◌&&◌, ◌==◌, List, [], ◌∷◌, ◌++◌}
-use Rattle.std.specs.Prelude.{length, drop, Option, Some, None, slice_get}
+use Rattle.std.specs.Prelude.{◌≡◌, ◌≤◌, ◌-◌, ◌*◌, ℕ, Bool, true, cond, ◌&&◌, ◌==◌, List, [], ◌∷◌}
+use Rattle.std.specs.Prelude.{◌++◌, length, drop, Option, Some, None, slice_get}
 use Rattle.vyrd_base.specs.declared.header.Header.{Header}
 use Rattle.vyrd_base.specs.declared.subject.Method.{Method}
 use Rattle.vyrd_base.specs.declared.subject.Args.{Args}
@@ -61,10 +61,23 @@ abbrev pub AreAsking : Header → List Asked → Type 0
 AreAsking h trails = (i : ℕ) (t : Asked) → slice_get trails i ≡ Some t → t.is_asked ≡ true
     → (has_method h t.method t.args ≡ true) × (is_observer t.method ≡ true)
 
+-- a trail is asked, it is that of this question, and its latest answer is this
+abbrev pub IsTrailOf : Method → Args → ℕ → Asked → Type 0
+IsTrailOf method args answer t =
+    (t.is_asked ≡ true) × (t.method ≡ method) × (t.args ≡ args) × (t.latest ≡ answer)
+
 -- what is asked stays as it is
 abbrev pub KeepsAsked : List Asked → List Asked → Type 0
 KeepsAsked old new =
     (i : ℕ) (t : Asked) → slice_get old i ≡ Some t → t.is_asked ≡ true → slice_get new i ≡ Some t
+
+-- if the trail at this place is asked, some open observer is on it, and at least half of the
+-- answers before the latest one count for that observer
+abbrev pub IsUsed : List Asked → List (Option Watch) → ℕ → Type 0
+IsUsed trails watches trail =
+    (t : Asked) → slice_get trails trail ≡ Some t → t.is_asked ≡ true
+    → (c : ℕ) × (w : Watch) × (slice_get watches c ≡ Some (Some w)) × (w.trail ≡ trail)
+    × (2 * w.since ≤ length t.others)
 
 -- an observer that counts the answers of a trail, once the first n of them are dropped
 abbrev pub moved : ℕ → ℕ → Option Watch → Option Watch

@@ -24,10 +24,12 @@ unwatched = record {
   answers = [];
 }
 
--- what is kept of each caller, and the header whose methods its observers call
+-- what is kept of each caller, the header whose methods its observers call, and how many trails of
+-- answers there are
 pub record Watched : Type 0 where
   pub header : Header
   pub by_caller : List Seen
+  pub trails : ℕ
 
 -- whether one of the answers is this
 abbrev pub has_answer : List ℕ → ℕ → Bool

@@ -1,37 +1,39 @@
 //! What an observer that has returned leaves behind.
 
-ghost use Rattle.std.specs.Prelude.{◌≡◌, ◌≤◌, ◌<◌, ℕ, Option, Some, IfSome, map, length, slice_get};
+ghost use Rattle.std.specs.Prelude.{◌≡◌, ◌≤◌, ◌<◌, ◌⊎◌, ℕ, Option, Some, IfSome, map, length};
+ghost use Rattle.std.specs.Prelude.{slice_get};
 ghost use Rattle.vyrd_base.specs.declared.header.Header.{Header};
 ghost use Rattle.vyrd_observers.specs.declared.watch.Watch.{Watch};
-ghost use Rattle.vyrd_observers.specs.Trails.{Asked, AreOn, AreAsking, moved, seen_by};
+ghost use Rattle.vyrd_observers.specs.Trails.{Asked, AreOn, AreAsking, IsUsed, moved, seen_by};
 
 use crate::trail::Trail;
 use crate::watch::Watch;
 
 /// The earlier of a place in a trail and the one from which an observer counts, if it asks that
-/// trail. The answers of the trail end at the last place.
-fn earlier(first: Option<usize>, watch: Option<Watch>, trail: usize, end: usize) -> Option<usize>
-    requires within { IfSome first (λ n. n ≤ end) }
-    ensures within { IfSome result (λ n. n ≤ end) }
+/// trail.
+fn earlier(first: Option<usize>, watch: Option<Watch>, trail: usize) -> Option<usize>
     ensures before { (n : ℕ) → first ≡ Some n → (m : ℕ) × (result ≡ Some m) × (m ≤ n) }
     ensures counts { (w : Watch) → watch ≡ Some w → w.trail ≡ trail
         → (m : ℕ) × (result ≡ Some m) × (m ≤ w.since) }
+    ensures either { (m : ℕ) → result ≡ Some m
+        → (first ≡ Some m) ⊎ (watch ≡ Some (record { trail = trail; since = m })) }
 {
     match watch {
-        Some(w) if w.trail == trail => Some(w.since.min(first.unwrap_or(end))),
+        Some(w) if w.trail == trail => Some(w.since.min(first.unwrap_or(w.since))),
         _ => first,
     }
 }
 
 /// The place in a trail from which on its answers count for some open observer, if one asks it.
-fn first_that_counts(watches: &[Option<Watch>], trail: usize, end: usize) -> Option<usize>
-    ensures within { IfSome result (λ n. n ≤ end) }
+fn first_that_counts(watches: &[Option<Watch>], trail: usize) -> Option<usize>
     ensures counts { (c : ℕ) (w : Watch) → slice_get watches.now c ≡ Some (Some w) → w.trail ≡ trail
         → (n : ℕ) × (result ≡ Some n) × (n ≤ w.since) }
+    ensures asks { IfSome result (λ n. (c : ℕ)
+        × (slice_get watches.now c ≡ Some (Some (record { trail = trail; since = n })))) }
 {
     let mut first = None;
     for watch in watches {
-        first = earlier(first, *watch, trail, end);
+        first = earlier(first, *watch, trail);
     }
     first
 }
@@ -71,6 +73,7 @@ fn forget(trails: &mut [Trail], watches: &mut Vec<Option<Watch>>, trail: usize, 
         ≡ map (seen_by trails.old) watches.old.items }
     ensures on { AreOn trails.new watches.new.items }
     ensures asking { (h : Header) → AreAsking h trails.old → AreAsking h trails.new }
+    ensures moved { watches.new.items ≡ map (moved trail n) watches.old.items }
 {
     trails[trail].forget(n);
     move_all(watches, trail, n);
@@ -86,12 +89,12 @@ pub(crate) fn let_go(trails: &mut [Trail], watches: &mut Vec<Option<Watch>>, tra
         ≡ map (seen_by trails.old) watches.old.items }
     ensures on { AreOn trails.new watches.new.items }
     ensures asking { (h : Header) → AreAsking h trails.old → AreAsking h trails.new }
+    ensures used { IsUsed trails.new watches.new.items trail }
 {
-    let end = trails[trail].len();
-    match first_that_counts(watches, trail, end) {
+    match first_that_counts(watches, trail) {
         None => trails[trail].end(),
         Some(n) => {
-            if end / 2 < n {
+            if trails[trail].len() / 2 < n {
                 forget(trails, watches, trail, n);
             }
         }

@@ -4,7 +4,7 @@ ghost use Rattle.std.specs.Prelude.{◌≡◌, ◌≤◌, ◌<◌, ◌∷◌, �
 ghost use Rattle.std.specs.Prelude.{OnOk, OnErr};
 ghost use Rattle.std.specs.List.{list_any};
 ghost use Rattle.vyrd_spec.specs.Touching.{is_touched};
-ghost use Rattle.vyrd_observers.specs.Trails.{with_answer};
+ghost use Rattle.vyrd_observers.specs.Trails.{IsTrailOf, with_answer};
 ghost use Rattle.vyrd_observers.specs.Watching.{has_answer};
 
 use std::alloc::{AllocError, Global};
@@ -87,9 +87,8 @@ impl Trail {
 
     /// Whether it is asked, it is this question, and the last state answers this.
     pub fn is(&self, method: Method, args: Args, answer: u64) -> bool
-        ensures { result ≡ true
-            → (self.now.is_asked ≡ true) × (self.now.method ≡ method) × (self.now.args ≡ args)
-            × (self.now.latest ≡ answer) }
+        ensures is { result ≡ true → IsTrailOf method args answer self.now }
+        ensures all { IsTrailOf method args answer self.now → result ≡ true }
     {
         self.is_asked && self.method == method && self.args == args && self.latest == answer
     }

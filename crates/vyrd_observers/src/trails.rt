@@ -1,12 +1,13 @@
 //! The questions that observers ask.
 
-ghost use Rattle.std.specs.Prelude.{◌≡◌, ◌<◌, true, false, List, Option, Some, map, slice_get};
-ghost use Rattle.std.specs.Prelude.{IfOk, OnOk, OnErr, IfSome};
+ghost use Rattle.std.specs.Prelude.{◌≡◌, ◌+◌, ◌<◌, ◌≤◌, ℕ, true, false, List, Option, Some, map};
+ghost use Rattle.std.specs.Prelude.{slice_get, length, IfOk, OnOk, OnErr, IsOk, IfSome, IsSome};
 ghost use Rattle.vyrd_base.specs.declared.header.Header.{Header};
 ghost use Rattle.vyrd_base.specs.Subjects.{is_observer};
 ghost use Rattle.vyrd_observers.specs.declared.watch.Watch.{Watch};
 ghost use Rattle.vyrd_base.specs.Entries.{has_method};
-ghost use Rattle.vyrd_observers.specs.Trails.{Asked, AreOn, AreAsking, KeepsAsked, after_state};
+ghost use Rattle.vyrd_observers.specs.Trails.{Asked, IsTrailOf, AreOn, AreAsking, KeepsAsked};
+ghost use Rattle.vyrd_observers.specs.Trails.{after_state};
 
 use crate::trail::Trail;
 use std::alloc::{AllocError, Global};
@@ -15,8 +16,11 @@ use vyrd_spec::{Spec, Touched};
 
 /// The trail of a question that the last state answers in this way, if it is asked.
 fn find(trails: &[Trail], method: Method, args: Args, answer: u64) -> Option<usize>
-    ensures { IfSome result (λ i. (t : Asked) × (slice_get trails.now i ≡ Some t)
-        × (t.is_asked ≡ true) × (t.method ≡ method) × (t.args ≡ args) × (t.latest ≡ answer)) }
+    ensures found { IfSome result
+        (λ i. (t : Asked) × (slice_get trails.now i ≡ Some t) × IsTrailOf method args answer t) }
+    ensures none { (i : ℕ) (t : Asked) → slice_get trails.now i ≡ Some t
+        → IsTrailOf method args answer t
+        → IsSome result }
 {
     for i in 0..trails.len() {
         if trails[i].is(method, args, answer) {
@@ -28,8 +32,10 @@ fn find(trails: &[Trail], method: Method, args: Args, answer: u64) -> Option<usi
 
 /// The first trail that isn't asked.
 fn find_free(trails: &[Trail]) -> Option<usize>
-    ensures { IfSome result
+    ensures found { IfSome result
         (λ i. (t : Asked) × (slice_get trails.now i ≡ Some t) × (t.is_asked ≡ false)) }
+    ensures none { (i : ℕ) (t : Asked) → slice_get trails.now i ≡ Some t → t.is_asked ≡ false
+        → IsSome result }
 {
     for i in 0..trails.len() {
         if !trails[i].is_asked() {
@@ -45,6 +51,10 @@ fn free(alloc: Global, trails: &mut Vec<Trail>) -> Result<usize, AllocError>
         (λ i. (t : Asked) × (slice_get trails.new.items i ≡ Some t) × (t.is_asked ≡ false)) }
     ensures kept { KeepsAsked trails.old.items trails.new.items }
     ensures asking { (h : Header) → AreAsking h trails.old.items → AreAsking h trails.new.items }
+    ensures reused { (i : ℕ) (t : Asked) → slice_get trails.old.items i ≡ Some t
+        → t.is_asked ≡ false
+        → trails.new.items ≡ trails.old.items }
+    ensures one { length trails.new.items ≤ length trails.old.items + 1 }
 {
     if let Some(i) = find_free(trails) {
         return Ok(i);
@@ -56,7 +66,8 @@ fn free(alloc: Global, trails: &mut Vec<Trail>) -> Result<usize, AllocError>
 
 /// An observer asks a question, in a state that answers this. It gives its trail, whose latest
 /// answer is this. All that are asked have the last state's answer, so if the question is asked
-/// already, its trail has this answer.
+/// already, its trail has this answer. Then it is shared, and no trail changes. Otherwise a free
+/// trail is taken, and one more is made only if none is free.
 pub(crate) fn ask(
     alloc: Global,
     trails: &mut Vec<Trail>,
@@ -65,11 +76,18 @@ pub(crate) fn ask(
     answer: u64,
 ) -> Result<usize, AllocError>
     ensures asked { IfOk result (λ i. (t : Asked) × (slice_get trails.new.items i ≡ Some t)
-        × (t.is_asked ≡ true) × (t.method ≡ method) × (t.args ≡ args) × (t.latest ≡ answer)) }
+        × IsTrailOf method args answer t) }
     ensures kept { KeepsAsked trails.old.items trails.new.items }
     ensures asking { (h : Header) → has_method h method args ≡ true → is_observer method ≡ true
         → AreAsking h trails.old.items
         → AreAsking h trails.new.items }
+    ensures shared { (i : ℕ) (t : Asked) → slice_get trails.old.items i ≡ Some t
+        → IsTrailOf method args answer t
+        → IsOk result × (trails.new.items ≡ trails.old.items) }
+    ensures reused { (i : ℕ) (t : Asked) → slice_get trails.old.items i ≡ Some t
+        → t.is_asked ≡ false
+        → length trails.new.items ≡ length trails.old.items }
+    ensures one { length trails.new.items ≤ length trails.old.items + 1 }
 {
     if let Some(i) = find(trails, method, args, answer) {
         return Ok(i);
@@ -103,6 +121,7 @@ pub(crate) fn see_all<S: Spec>(
 ) -> Result<(), AllocError>
     requires asking { AreAsking (S.header_of spec.now) trails.old.items }
     requires subject { (S.header_of spec.now).subject ≡ S.subject }
+    ensures len { length trails.new.items ≡ length trails.old.items }
     ensures saw { OnOk result
         (trails.new.items ≡ map (after_state touched (S.state spec.now)) trails.old.items) }
     ensures asking { AreAsking (S.header_of spec.now) trails.new.items }

@@ -1,7 +1,7 @@
 //! What is known of the open observers of all callers.
 
-ghost use Rattle.std.specs.Prelude.{◌≡◌, ◌<◌, ◌∷◌, ℕ, [], true, false, Some, None, IfOk, OnOk};
-ghost use Rattle.std.specs.Prelude.{length, replicate, slice_get, slice_set};
+ghost use Rattle.std.specs.Prelude.{◌≡◌, ◌+◌, ◌<◌, ◌≤◌, ◌∷◌, ℕ, List, [], true, false, Some, None};
+ghost use Rattle.std.specs.Prelude.{IfOk, OnOk, length, replicate, slice_get, slice_set};
 ghost use Rattle.vyrd_base.specs.Specification.{answer_in};
 ghost use Rattle.vyrd_base.specs.Subjects.{is_observer};
 ghost use Rattle.vyrd_base.specs.Entries.{has_method};
@@ -29,14 +29,18 @@ pub struct Watches {
 }
 
 impl Model for Watches {
-    ghost use Rattle.std.specs.Prelude.{map};
+    ghost use Rattle.std.specs.Prelude.{map, length};
     ghost use Rattle.vyrd_observers.specs.Trails.{AreOn, AreAsking, seen_by};
     ghost use Rattle.vyrd_observers.specs.Watching.{Watched};
 
     ghost Value = { Watched };
 
     ghost view = { λ w.
-        record { header = w.header; by_caller = map (seen_by w.trails.items) w.by_caller.items } };
+        record {
+          header = w.header;
+          by_caller = map (seen_by w.trails.items) w.by_caller.items;
+          trails = length w.trails.items;
+        } };
 
     ghost invariant = { λ w. AreOn w.trails.items w.by_caller.items
         × AreAsking w.header w.trails.items };
@@ -49,6 +53,7 @@ impl Watches {
         ensures len { IfOk result (λ w. length w.by_caller ≡ header.callers) }
         ensures closed { IfOk result (λ w. (c : ℕ) (seen : Seen)
             → slice_get w.by_caller c ≡ Some seen → seen.is_open ≡ false) }
+        ensures trails { IfOk result (λ w. w.trails ≡ 0) }
     {
         Ok(Watches {
             alloc,
@@ -59,7 +64,8 @@ impl Watches {
     }
 
     /// An observer begins in a state that answers this. It takes time in proportion to the
-    /// different questions that are asked.
+    /// different questions that are asked. If another open observer asks the same, and the last
+    /// state that it saw answers this too, the two share a trail.
     pub fn begin(
         &mut self,
         caller: u32,
@@ -74,6 +80,12 @@ impl Watches {
             (record { is_open = true; method = method; args = args; answers = answer ∷ [] })) }
         ensures header { self.new.header ≡ self.old.header }
         ensures len { length self.new.by_caller ≡ length self.old.by_caller }
+        ensures shared { (c : ℕ) (seen : Seen) (before : List ℕ)
+            → slice_get self.old.by_caller c ≡ Some seen
+            → seen.is_open ≡ true → seen.method ≡ method → seen.args ≡ args
+            → seen.answers ≡ answer ∷ before
+            → self.new.trails ≡ self.old.trails }
+        ensures trails { self.new.trails ≤ self.old.trails + 1 }
     {
         let trail = ask(self.alloc, &mut self.trails, method, args, answer)?;
         self.by_caller[caller as usize] = Some(Watch {
@@ -92,6 +104,7 @@ impl Watches {
         ensures watches { self.new.by_caller ≡ slice_set self.old.by_caller caller unwatched }
         ensures header { self.new.header ≡ self.old.header }
         ensures len { length self.new.by_caller ≡ length self.old.by_caller }
+        ensures trails { self.new.trails ≡ self.old.trails }
     {
         match self.by_caller[caller as usize] {
             Some(watch) => {
@@ -118,6 +131,7 @@ impl Watches {
         ensures current { OnOk result (AreCurrent (S.state spec.now) self.new.by_caller) }
         ensures header { self.new.header ≡ self.old.header }
         ensures len { length self.new.by_caller ≡ length self.old.by_caller }
+        ensures trails { self.new.trails ≡ self.old.trails }
     {
         see_all(&mut self.trails, spec, touched)?;
         Ok(())

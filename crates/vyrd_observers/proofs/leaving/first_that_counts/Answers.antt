@@ -1,19 +1,25 @@
-use Rattle.std.proofs.Common.{◌≡◌, ◌+◌, ◌<◌, ℕ, false, None, slice_get, ap, sym, ◌∙◌, arith}
-use Rattle.std.specs.Prelude.{◌==◌, unwrap_or}
-use Rattle.std.proofs.lemmas.Option.{slice_get_within, unwrap_or-slice_get}
+use Rattle.std.proofs.Common.{◌≡◌, ◌+◌, ◌<◌, ℕ, false, Option, None, Some, slice_get, ⊎_elim, refl, ap, sym, ◌∙◌, arith}
+use Rattle.std.specs.Prelude.{◌==◌, unwrap_or, IfSome}
+use Rattle.std.proofs.lemmas.Option.{slice_get_within, slice_get-get_or, unwrap_or-slice_get}
 use Rattle.vyrd_base.proofs.BlockLaws.{by_same}
 use Rattle.vyrd_base.proofs.TestLaws.{apart_of}
 use Rattle.vyrd_observers.proofs.leaving.first_that_counts.Goals as goal
 
 pub loop-watch-init : goal.loop-watch-init
-loop-watch-init c = record { within = tt; counts = λ d w low here same. absurd (omega (arith, low)) }
-
-pub earlier-first-requires : goal.earlier-first-requires
-earlier-first-requires c = record { within = c.loop-watch.invariant.within }
+loop-watch-init c = record { asks = λ n is. absurd (none_some is); counts = λ d w low here same. absurd (omega (arith, low)) }
+  where
+    none_some : {n : ℕ} → None ≡ Some n → ⊥
+    none_some e = cc
 
 pub loop-watch-preserved : goal.loop-watch-preserved
 loop-watch-preserved c = record {
-  within = c.earlier-first.ensures.within;
+  asks = λ n is. ⊎_elim
+      (λ was. c.loop-watch.invariant.asks n was)
+      (λ own. (
+        c.loop-watch.watch-index,
+        slice_get-get_or c.args.watches.now c.loop-watch.watch-index None c.loop-watch-test.true ∙ ap Some own,
+      ))
+      (c.earlier-first.ensures.either n is);
   counts = λ d w low here same. by_same c.loop-watch.watch-index d
       (λ now. c.earlier-first.ensures.counts w
       (sym (unwrap_or-slice_get c.args.watches.now c.loop-watch.watch-index None) ∙ ap (λ o. unwrap_or o None) (ap (slice_get c.args.watches.now) now ∙ here))
@@ -25,8 +31,12 @@ loop-watch-preserved c = record {
     lower : (i d : ℕ) → d < i + 1 → (i == d) ≡ false → d < i
     lower i d low other = omega (arith, low, apart_of i d other)
 
-pub returns-clause-within : goal.returns-clause-within
-returns-clause-within c = c.loop-watch.invariant.within
+pub returns-clause-asks : goal.returns-clause-asks
+returns-clause-asks c = if_some c.loop-watch.first c.loop-watch.invariant.asks
+  where
+    if_some : {P : ℕ → Type 0} (o : Option ℕ) → ((n : ℕ) → o ≡ Some n → P n) → IfSome o P
+    if_some None all = tt
+    if_some (Some n) all = all n refl
 
 pub returns-clause-counts : goal.returns-clause-counts
 returns-clause-counts c = λ d w here same.

@@ -1,5 +1,7 @@
-use Rattle.std.proofs.Common.{◌≡◌, Bool, Some, None, true, false, slice_get, subst, sym, ◌∙◌}
-use Rattle.vyrd_observers.proofs.TrailLaws.{seen_without, on_without, asking_set}
+use Rattle.std.proofs.Common.{◌≡◌, List, Option, Bool, Some, None, true, false, length, slice_get, subst, ap, sym, ◌∙◌, arith}
+use Rattle.vyrd_observers.specs.declared.watch.Watch.{Watch}
+use Rattle.vyrd_observers.specs.Trails.{Asked, IsUsed}
+use Rattle.vyrd_observers.proofs.TrailLaws.{seen_without, on_without, asking_set, unused_freed, used_moved, used_still, counted_within, read_is}
 use Rattle.vyrd_observers.proofs.leaving.let_go.Goals as goal
 
 apart : {A : Type 0} {a : A} → None ≡ Some a → ⊥
@@ -21,3 +23,25 @@ returns-in-None-clause-asking c = λ h all. asking_set h c.args.trails.now c.arg
   where
     no_true : {b : Bool} → b ≡ false → b ≡ true → ⊥
     no_true is_false is_true = cc
+
+pub returns-in-None-clause-used : goal.returns-in-None-clause-used
+returns-in-None-clause-used c = unused_freed c.args.trails.now c.args.watches.now.items c.args.trail c.end.new.self c.requires.trail c.end.ensures
+
+pub forget-requires-clause-within : goal.forget-requires-clause-within
+forget-requires-clause-within c = let one = c.in-Some.ensures.asks in
+    counted_within c.args.trails.now c.args.watches.now.items c.args.trail c.in-Some.n one.0
+    (ap (λ (ws : List (Option Watch)). slice_get ws one.0) (sym c.deref.ensures.value) ∙ one.1) c.requires.on
+
+pub returns-then-len-n-clause-used : goal.returns-then-len-n-clause-used
+returns-then-len-n-clause-used c = let one = c.in-Some.ensures.asks in
+    subst (λ (ws : List (Option Watch)). IsUsed c.forget.new.trails ws c.args.trail) (sym c.forget.ensures.moved)
+    (used_moved c.forget.new.trails c.args.watches.now.items c.args.trail c.in-Some.n one.0
+    (ap (λ (ws : List (Option Watch)). slice_get ws one.0) (sym c.deref.ensures.value) ∙ one.1))
+
+pub returns-else-len-n-clause-used : goal.returns-else-len-n-clause-used
+returns-else-len-n-clause-used c = let one = c.in-Some.ensures.asks in
+    used_still c.args.trails.now c.args.watches.now.items c.args.trail c.in-Some.n one.0
+    (ap (λ (ws : List (Option Watch)). slice_get ws one.0) (sym c.deref.ensures.value) ∙ one.1)
+    (λ t there. let it = read_is c.args.trails.now c.args.trail t c.index-trails-trail-in-Some.result there c.index-trails-trail-in-Some.is
+    ∙ c.index-trails-trail-in-Some.is in
+    omega (arith, c.if-len-n.false, c.len.ensures, ap (λ (u : Asked). length u.others) it))

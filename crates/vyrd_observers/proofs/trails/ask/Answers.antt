@@ -17,10 +17,12 @@ pub returns-clause-asked : goal.returns-clause-asked
 returns-clause-asked c = let there = c.in_ok-i.ensures.free in (
   c.begin.new.self,
   slice_get-set_same c.free.new.trails.items c.in_ok-i.i c.begin.new.self (slice_get_within c.free.new.trails.items c.in_ok-i.i there.0 there.1),
-  ap (λ t. t.is_asked) c.begin.ensures,
-  ap (λ t. t.method) c.begin.ensures,
-  ap (λ t. t.args) c.begin.ensures,
-  ap (λ t. t.latest) c.begin.ensures,
+  (
+    ap (λ t. t.is_asked) c.begin.ensures,
+    ap (λ t. t.method) c.begin.ensures,
+    ap (λ t. t.args) c.begin.ensures,
+    ap (λ t. t.latest) c.begin.ensures,
+  ),
 )
 
 pub returns-clause-kept : goal.returns-clause-kept

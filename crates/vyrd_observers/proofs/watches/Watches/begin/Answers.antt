@@ -1,12 +1,12 @@
-use Rattle.std.proofs.Common.{◌≡◌, ◌<◌, ◌≤◌, Some, true, [], ◌∷◌, length, set, subst, ap, sym, ◌∙◌, arith}
+use Rattle.std.proofs.Common.{◌≡◌, ◌<◌, ◌≤◌, Some, true, [], ◌∷◌, length, set, slice_get, subst, ap, sym, ◌∙◌, arith}
 use Rattle.std.proofs.lemmas.List.{length-map}
 use Rattle.std.proofs.lemmas.Option.{slice_get_within}
 use Rattle.vyrd_base.specs.Entries.{has_method}
 use Rattle.vyrd_observers.specs.Watching.{Watched}
 use Rattle.vyrd_observers.specs.Trails.{Asked, IsOn, seen_by}
-use Rattle.vyrd_observers.specs.declared.watch.Watch.{Watch}
-use Rattle.vyrd_observers.proofs.TrailLaws.{on_kept, on_set, read_is, begins_seen}
+use Rattle.vyrd_observers.proofs.TrailLaws.{on_kept, on_set, read_is, begins_seen, trail_of_seen}
 use Rattle.vyrd_observers.proofs.watches.Watches.begin.Goals as goal
+use Rattle.std.proofs.lemmas.Option.{same_Some}
 
 pub invariant_of-self : goal.invariant_of-self
 invariant_of-self c = (
@@ -35,23 +35,32 @@ invariant_of-self-2 c =
     let on : IsOn c.ask.new.trails.items (record { trail = c.in_ok-trail.trail; since = c.len.result }) = record {
       asked = there.0;
       there = there.1;
-      is_asked = there.2;
+      is_asked = there.2.0;
       within = low;
     } in (
       on_set c.ask.new.trails.items watches c.args.caller (Some (record { trail = c.in_ok-trail.trail; since = c.len.result })) within
-          (λ w same. subst (IsOn c.ask.new.trails.items) (some_same same) on) own,
+          (λ w same. subst (IsOn c.ask.new.trails.items) (same_Some _ _ same) on) own,
       c.ask.ensures.asking c.self.inside.header (ap (λ (k : Watched). has_method k.header c.args.method c.args.args) c.self.view_is ∙ c.requires.allowed)
           c.requires.observer c.self.invariant.1,
     )
-  where
-    some_same : {a b : Watch} → Some a ≡ Some b → a ≡ b
-    some_same e = cc
 
 pub returns-clause-watches : goal.returns-clause-watches
 returns-clause-watches c =
     let there = c.in_ok-trail.ensures.asked in
     let is : there.0 ≡ c.index.result.now = read_is c.ask.new.trails.items c.in_ok-trail.trail there.0 c.index.result.now there.1 c.index.ensures in
     begins_seen c.self.inside.trails.items c.ask.new.trails.items c.self.inside.by_caller.items c.args.caller c.in_ok-trail.trail c.len.result there.0
-    c.args.method c.args.args c.args.answer c.ask.ensures.kept c.self.invariant.0 there.1 there.3 there.4 there.5
+    c.args.method c.args.args c.args.answer c.ask.ensures.kept c.self.invariant.0 there.1 there.2.1 there.2.2 there.2.3
     (c.len.ensures ∙ ap (λ (t : Asked). length t.others) (sym is))
     ∙ ap (λ (k : Watched). set k.by_caller c.args.caller (record { is_open = true; method = c.args.method; args = c.args.args; answers = c.args.answer ∷ [] })) c.self.view_is
+
+pub returns-in_err-trail-clause-shared : goal.returns-in_err-trail-clause-shared
+returns-in_err-trail-clause-shared c = λ d seen before here is_open same_method same_args same_answers.
+    let there = trail_of_seen c.self.inside.trails.items c.self.inside.by_caller.items d seen before c.args.method c.args.args c.args.answer c.self.invariant.0
+    (ap (λ (k : Watched). slice_get k.by_caller d) c.self.view_is ∙ here) is_open same_method same_args same_answers in
+    ap length (c.ask.ensures.shared there.0 there.1 there.2 there.3).1 ∙ ap (λ (k : Watched). k.trails) c.self.view_is
+
+pub returns-clause-shared : goal.returns-clause-shared
+returns-clause-shared c = λ d seen before here is_open same_method same_args same_answers.
+    let there = trail_of_seen c.self.inside.trails.items c.self.inside.by_caller.items d seen before c.args.method c.args.args c.args.answer c.self.invariant.0
+    (ap (λ (k : Watched). slice_get k.by_caller d) c.self.view_is ∙ here) is_open same_method same_args same_answers in
+    ap length (c.ask.ensures.shared there.0 there.1 there.2 there.3).1 ∙ ap (λ (k : Watched). k.trails) c.self.view_is

@@ -6,9 +6,7 @@ use Rattle.vyrd_observers.specs.Trails.{Asked, AreOn, AreAsking, seen_by, seen_f
 use Rattle.vyrd_base.proofs.ChangedLists.{written_back}
 use Rattle.vyrd_observers.proofs.TrailLaws.{on_set, read_is, watch_read, seen_there, closed_stays}
 use Rattle.vyrd_observers.proofs.watches.Watches.end.Goals as goal
-
-some_same : {A : Type 0} {a b : A} → Some a ≡ Some b → a ≡ b
-some_same e = cc
+use Rattle.std.proofs.lemmas.Option.{same_Some}
 
 none_some : {A : Type 0} {a : A} → None ≡ Some a → ⊥
 none_some e = cc
@@ -64,7 +62,7 @@ returns-in-Some-clause-answered c = λ seen there.
     (ap (λ (k : Watched). k.by_caller) c.self.view_is) c.requires.caller c.index.ensures c.in-Some.is in
     let was = c.self.invariant.0 c.args.caller w here in
     let is : was.asked ≡ c.index-in-Some.result.now = read_is trails w.trail was.asked c.index-in-Some.result.now was.there c.index-in-Some.ensures in
-    let same : seen_from w.since (slice_get trails w.trail) ≡ seen = some_same (sym (seen_there trails c.self.inside.by_caller.items c.args.caller (Some w) here)
+    let same : seen_from w.since (slice_get trails w.trail) ≡ seen = same_Some _ _ (sym (seen_there trails c.self.inside.by_caller.items c.args.caller (Some w) here)
     ∙ ap (λ (k : Watched). slice_get k.by_caller c.args.caller) c.self.view_is ∙ there) in
     c.has_answer-answered.ensures
     ∙ ap (λ (t : Asked). has_answer (t.latest ∷ drop w.since t.others) c.args.reply) (sym is)
@@ -86,7 +84,7 @@ pub returns-in-None-clause-answered : goal.returns-in-None-clause-answered
 returns-in-None-clause-answered c = λ seen there.
     let here = watch_read c.self.inside.trails.items c.self.inside.by_caller.items c.args.self.now.by_caller c.args.caller c.index.result.now None
     (ap (λ (k : Watched). k.by_caller) c.self.view_is) c.requires.caller c.index.ensures c.in-None.is in
-    let is : unwatched ≡ seen = some_same (sym (seen_there c.self.inside.trails.items c.self.inside.by_caller.items c.args.caller None here)
+    let is : unwatched ≡ seen = same_Some _ _ (sym (seen_there c.self.inside.trails.items c.self.inside.by_caller.items c.args.caller None here)
     ∙ ap (λ (k : Watched). slice_get k.by_caller c.args.caller) c.self.view_is ∙ there) in
     ap (λ (s : Seen). has_answer s.answers c.args.reply) is
 
