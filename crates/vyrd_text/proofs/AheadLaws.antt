@@ -7,15 +7,11 @@ use Rattle.vyrd_base.specs.declared.header.Header.{Header}
 use Rattle.vyrd_base.specs.declared.log.StartWord.{StartWord}
 use Rattle.vyrd_base.specs.Lines.{start_in}
 use Rattle.vyrd_base.specs.Reading.{TextFault}
-use Rattle.vyrd_base.proofs.SplitLaws.{lacks, split_at, split_whole}
+use Rattle.vyrd_base.proofs.SplitLaws.{cut, lacks, split_at, split_whole}
 use Rattle.vyrd_base.proofs.LineLaws.{start_in_sound}
 use Rattle.vyrd_base.proofs.ReadingGrows.{Longer, split_longer}
 use Rattle.vyrd_base.proofs.TestLaws.{first_true, second_true}
 use Rattle.vyrd_text.specs.Ahead.{begins_start, front_starts, after_first, starts_in_lines}
-
--- the parts between line feeds
-abbrev pub parted : List ℕ → List (List ℕ)
-parted xs = slice_split (λ b. b == 10) xs
 
 -- a text has at least one part
 pub parts_of : (xs : List ℕ) → (next : List ℕ) × (lines : List (List ℕ)) × (slice_split (λ b. b == 10) xs ≡ next ∷ lines)
@@ -28,7 +24,7 @@ parts_of xs = by_parts (slice_split (λ b. b == 10) xs) refl (split_longer (λ b
 
 -- one line more, which counts where it begins as a starting line
 pub front_step : (line more : List ℕ) → lacks 10 line ≡ true
-    → front_starts (parted (line ++ 10 ∷ more)) ≡ cond (begins_start line) (1 + front_starts (parted more)) 0
+    → front_starts (cut (line ++ 10 ∷ more)) ≡ cond (begins_start line) (1 + front_starts (cut more)) 0
 front_step line more lack =
     let p = parts_of more in
     ap front_starts (split_at 10 line more lack ∙ ap (λ ps. line ∷ ps) p.2)
@@ -36,19 +32,19 @@ front_step line more lack =
 
 -- a starting line begins with its first letter, and so it counts
 pub one_start_more : (line more : List ℕ) (s : StartWord) → lacks 10 line ≡ true → start_in line ≡ Some s
-    → front_starts (parted (line ++ 10 ∷ more)) ≡ 1 + front_starts (parted more)
+    → front_starts (cut (line ++ 10 ∷ more)) ≡ 1 + front_starts (cut more)
 one_start_more line more s lack is =
-    front_step line more lack ∙ ap (λ b. cond b (1 + front_starts (parted more)) 0) (ap begins_start (start_in_sound line s is).0)
+    front_step line more lack ∙ ap (λ b. cond b (1 + front_starts (cut more)) 0) (ap begins_start (start_in_sound line s is).0)
 
 -- an unfinished line doesn't count
-pub front_last : (text : List ℕ) → lacks 10 text ≡ true → front_starts (parted text) ≡ 0
+pub front_last : (text : List ℕ) → lacks 10 text ≡ true → front_starts (cut text) ≡ 0
 front_last text lack = ap front_starts (split_whole 10 text lack)
 
 -- the lines after the first
-pub later_step : (line more : List ℕ) → lacks 10 line ≡ true → front_starts (after_first (parted (line ++ 10 ∷ more))) ≡ front_starts (parted more)
+pub later_step : (line more : List ℕ) → lacks 10 line ≡ true → front_starts (after_first (cut (line ++ 10 ∷ more))) ≡ front_starts (cut more)
 later_step line more lack = ap (λ ps. front_starts (after_first ps)) (split_at 10 line more lack)
 
-pub later_last : (text : List ℕ) → lacks 10 text ≡ true → front_starts (after_first (parted text)) ≡ 0
+pub later_last : (text : List ℕ) → lacks 10 text ≡ true → front_starts (after_first (cut text)) ≡ 0
 later_last text lack = ap (λ ps. front_starts (after_first ps)) (split_whole 10 text lack)
 
 after_onto : (x : ℕ) (ps : List (List ℕ)) → after_first (onto_first x ps) ≡ after_first ps
@@ -56,11 +52,11 @@ after_onto x [] = refl
 after_onto x (p ∷ ps) = refl
 
 -- they are the same, whatever more stands in the first line
-after_same : (xs text : List ℕ) → lacks 10 xs ≡ true → after_first (parted (xs ++ text)) ≡ after_first (parted text)
+after_same : (xs text : List ℕ) → lacks 10 xs ≡ true → after_first (cut (xs ++ text)) ≡ after_first (cut text)
 after_same [] text lack = refl
 after_same (x ∷ xs) text lack =
-    ap (λ b. after_first (cond b ([] ∷ parted (xs ++ text)) (onto_first x (parted (xs ++ text))))) (not-true (x == 10) (first_true _ _ lack))
-    ∙ after_onto x (parted (xs ++ text)) ∙ after_same xs text (second_true _ _ lack)
+    ap (λ b. after_first (cond b ([] ∷ cut (xs ++ text)) (onto_first x (cut (xs ++ text))))) (not-true (x == 10) (first_true _ _ lack))
+    ∙ after_onto x (cut (xs ++ text)) ∙ after_same xs text (second_true _ _ lack)
 
 -- the first line counts for one at most
 front_cap : (lines : List (List ℕ)) → front_starts lines ≤ 1 + front_starts (after_first lines)
@@ -73,7 +69,7 @@ front_cap (line ∷ next ∷ lines) = by_test (begins_start line)
     by_test false = omega arith
 
 pub ahead_first : (fault : Option TextFault) (o : Option Header) (starting : Bool) (xs text : List ℕ) → o ≡ None → lacks 10 xs ≡ true
-    → starts_in_lines fault o starting (parted (xs ++ text)) ≤ front_starts (after_first (parted text))
+    → starts_in_lines fault o starting (cut (xs ++ text)) ≤ front_starts (after_first (cut text))
 ahead_first (Some f) o starting xs text e lack = omega arith
 ahead_first None None starting xs text e lack =
     let same = ap front_starts (after_same xs text lack) in
@@ -96,13 +92,13 @@ ahead_some None (Some x) h true lines e = omega arith
 ahead_some None (Some x) h false lines e = omega arith
 
 pub ahead_empty : (fault : Option TextFault) (o : Option Header) (h : Header) (starting : Bool) (xs text : List ℕ) → o ≡ Some h → xs ≡ []
-    → starts_in_lines fault o starting (parted (xs ++ text)) ≤ front_starts (parted text)
+    → starts_in_lines fault o starting (cut (xs ++ text)) ≤ front_starts (cut text)
 ahead_empty fault o h starting xs text e empty =
-    let same = ap (λ t. front_starts (parted (t ++ text))) empty in
-    omega (arith, ahead_some fault o h starting (parted (xs ++ text)) e, same)
+    let same = ap (λ t. front_starts (cut (t ++ text))) empty in
+    omega (arith, ahead_some fault o h starting (cut (xs ++ text)) e, same)
 
 pub ahead_begun : (fault : Option TextFault) (o : Option Header) (h : Header) (starting : Bool) (xs text : List ℕ) → o ≡ Some h → lacks 10 xs ≡ true
-    → starts_in_lines fault o starting (parted (xs ++ text)) ≤ 1 + front_starts (after_first (parted text))
+    → starts_in_lines fault o starting (cut (xs ++ text)) ≤ 1 + front_starts (after_first (cut text))
 ahead_begun fault o h starting xs text e lack =
     let same = ap front_starts (after_same xs text lack) in
-    omega (arith, ahead_some fault o h starting (parted (xs ++ text)) e, front_cap (parted (xs ++ text)), same)
+    omega (arith, ahead_some fault o h starting (cut (xs ++ text)) e, front_cap (cut (xs ++ text)), same)

@@ -1,10 +1,9 @@
 -- The first line has one reading.
 use Rattle.std.proofs.Common.{◌≡◌, ℕ, ◌<◌, ◌^◌, Bool, true, false, cond, ◌&&◌, List, [], ◌∷◌, ◌++◌, Option, Some, None, Err, refl, ap, sym, ◌∙◌, arith}
-use Rattle.std.specs.Prelude.{nat_lt, nat_le, codes, decimal, ok_or}
+use Rattle.std.specs.Prelude.{nat_lt, codes, decimal, ok_or}
 use Rattle.std.specs.List.{list_all}
 use Rattle.std.specs.Str.{bytes_eq}
 use Rattle.std.proofs.lemmas.List.{append_cancel_left}
-use Rattle.std.proofs.lemmas.Bool.Decides.{nat_tests}
 use Rattle.std.proofs.lemmas.Slice.Eq.{bytes_eq-Decides}
 use Rattle.std.proofs.Math.Bool.{Bool-set}
 use Rattle.vyrd_base.specs.declared.header.Header.{Header}
@@ -13,21 +12,13 @@ use Rattle.vyrd_base.specs.declared.verdict.Rule.TheVariants.{BadHeader, Unknown
 use Rattle.vyrd_base.specs.Limits.{is_sized, is_within}
 use Rattle.vyrd_base.specs.Spelling.{header_line, subject_name}
 use Rattle.vyrd_base.specs.Lines.{fields_of, number_of, subject_called, header_if, header_of, header_spelled, header_from, header_in}
+use Rattle.vyrd_base.proofs.HeaderLaws.{small_size, small_callers}
 use Rattle.vyrd_base.proofs.SplitLaws.{split-join, number_of_decimal, bytes_same}
 use Rattle.vyrd_base.proofs.LineLaws.{is_plain_field, plain_number, plain_spaces}
 use Rattle.vyrd_base.proofs.TestLaws.{both_true, first_true, second_true, below_of, is_below}
 use Rattle.vyrd_base.proofs.SubjectLaws.{one_name, plain_subject, subject_read}
 use Rattle.vyrd_text.specs.Spelled.{AreLimitsRead, AreNumbersRead}
 use Rattle.vyrd_text.proofs.PartLaws.{one_before_space}
-
-small_number : (n most : ℕ) → most < 2 ^ 32 → nat_le n most ≡ true → n < 2 ^ 32
-small_number n most m e = grind (arith, nat_tests)
-
-pub small_size : (size callers : ℕ) → is_sized size callers ≡ true → size < 2 ^ 32
-small_size size callers e = small_number size 1024 (omega arith) (second_true (nat_le 1 size) _ (first_true _ _ (first_true _ _ e)))
-
-pub small_callers : (size callers : ℕ) → is_sized size callers ≡ true → callers < 2 ^ 32
-small_callers size callers e = small_number callers 64 (omega arith) (second_true (nat_le 1 size && nat_le size 1024 && nat_le 1 callers) _ e)
 
 -- a size that no number of callers follows
 pub no_callers : (text : List ℕ) (m : ℕ) (r : List ℕ) → m < 2 ^ 64 → text ≡ decimal m ++ 32 ∷ r

@@ -14,12 +14,12 @@ use Rattle.vyrd_base.specs.Spelling.{end_line}
 use Rattle.vyrd_base.specs.Starts.{start_rule}
 use Rattle.vyrd_base.specs.Lines.{start_in, entry_in, header_in}
 use Rattle.vyrd_base.specs.Reading.{Reading, TextFault, Input, has_any, stopped, entry_before, lines_read, start_before, starts_read, body_read, header_before, ended, text_read}
-use Rattle.vyrd_base.proofs.SplitLaws.{lacks, split_at}
+use Rattle.vyrd_base.proofs.SplitLaws.{cut, lacks, split_at}
 use Rattle.vyrd_base.proofs.ReadingLaws.{no_start_line, one_start_line}
 use Rattle.vyrd_text.specs.Readers.{LineState, input_to, with_read, known, after_end, lines_on, unless_faulty, goes_on}
 use Rattle.vyrd_text.specs.Ahead.{front_starts, starts_in_lines, starts_ahead}
 use Rattle.vyrd_text.specs.Steps.{with_line, IsLineTaken}
-use Rattle.vyrd_text.proofs.AheadLaws.{parted, parts_of, one_start_more}
+use Rattle.vyrd_text.proofs.AheadLaws.{parts_of, one_start_more}
 use Rattle.vyrd_text.proofs.ReaderLaws.{fault_found, step}
 
 -- if nothing is wrong yet, lines are read on
@@ -34,10 +34,10 @@ body_on input h starting last n lines = cond starting (starts_read input h last 
 -- one line, then the others
 module _ (input : Input) (h : Header) (n : ℕ) (line more : List ℕ) (lack : lacks 10 line ≡ true) where
   -- an entry's line
-  line_step : lines_read input h.subject n (parted (line ++ 10 ∷ more))
+  line_step : lines_read input h.subject n (cut (line ++ 10 ∷ more))
       ≡ cond (nat_lt input.max_lines n) (stopped n (Some TooManyLines))
-      (cond (bytes_eq line end_line) (after_end input (n + 1) (parted more))
-      (entry_before n (entry_in h.subject line) (lines_read input h.subject (n + 1) (parted more))))
+      (cond (bytes_eq line end_line) (after_end input (n + 1) (cut more))
+      (entry_before n (entry_in h.subject line) (lines_read input h.subject (n + 1) (cut more))))
   line_step =
       let p = parts_of more in
       ap (lines_read input h.subject n) (split_at 10 line more lack ∙ ap (λ ps. line ∷ ps) p.2)
@@ -46,16 +46,16 @@ module _ (input : Input) (h : Header) (n : ℕ) (line more : List ℕ) (lack : l
 
   -- a line that spells no starting word
   no_start_step : (last : Option StartWord) → start_in line ≡ None
-      → starts_read input h last n (parted (line ++ 10 ∷ more)) ≡ lines_read input h.subject n (parted (line ++ 10 ∷ more))
+      → starts_read input h last n (cut (line ++ 10 ∷ more)) ≡ lines_read input h.subject n (cut (line ++ 10 ∷ more))
   no_start_step last none =
       let p = parts_of more in
-      let apart : parted (line ++ 10 ∷ more) ≡ line ∷ p.0 ∷ p.1 = split_at 10 line more lack ∙ ap (λ ps. line ∷ ps) p.2 in
+      let apart : cut (line ++ 10 ∷ more) ≡ line ∷ p.0 ∷ p.1 = split_at 10 line more lack ∙ ap (λ ps. line ∷ ps) p.2 in
       ap (starts_read input h last n) apart ∙ no_start_line input h last n line p.0 p.1 none ∙ ap (lines_read input h.subject n) (sym apart)
 
   -- a line that spells one
   start_step : (last : Option StartWord) (s : StartWord) → start_in line ≡ Some s
-      → starts_read input h last n (parted (line ++ 10 ∷ more)) ≡ cond (nat_lt input.max_lines n) (stopped n (Some TooManyLines))
-      (start_before n (start_rule h last s) s (starts_read input h (Some s) (n + 1) (parted more)))
+      → starts_read input h last n (cut (line ++ 10 ∷ more)) ≡ cond (nat_lt input.max_lines n) (stopped n (Some TooManyLines))
+      (start_before n (start_rule h last s) s (starts_read input h (Some s) (n + 1) (cut more)))
   start_step last s is =
       let p = parts_of more in
       ap (starts_read input h last n) (split_at 10 line more lack ∙ ap (λ ps. line ∷ ps) p.2) ∙ one_start_line input h last n line p.0 p.1 s is
@@ -64,32 +64,32 @@ module _ (input : Input) (h : Header) (n : ℕ) (line more : List ℕ) (lack : l
 
   -- if no starting word comes, it is an entry's line
   plain_step : (starting : Bool) (last : Option StartWord) → cond starting (start_in line) None ≡ None
-      → body_on input h starting last n (parted (line ++ 10 ∷ more)) ≡ lines_read input h.subject n (parted (line ++ 10 ∷ more))
+      → body_on input h starting last n (cut (line ++ 10 ∷ more)) ≡ lines_read input h.subject n (cut (line ++ 10 ∷ more))
   plain_step true last none = no_start_step last none
   plain_step false last none = refl
 
   -- a line past the limit
   past_step : (starting : Bool) (last : Option StartWord) → nat_lt input.max_lines n ≡ true
-      → body_on input h starting last n (parted (line ++ 10 ∷ more)) ≡ stopped n (Some TooManyLines)
+      → body_on input h starting last n (cut (line ++ 10 ∷ more)) ≡ stopped n (Some TooManyLines)
   past_step starting last past = by_start starting (start_in line) refl
     where
-      plain : lines_read input h.subject n (parted (line ++ 10 ∷ more)) ≡ stopped n (Some TooManyLines)
-      plain = line_step ∙ ap (λ b. cond b (stopped n (Some TooManyLines)) (cond (bytes_eq line end_line) (after_end input (n + 1) (parted more))
-          (entry_before n (entry_in h.subject line) (lines_read input h.subject (n + 1) (parted more))))) past
+      plain : lines_read input h.subject n (cut (line ++ 10 ∷ more)) ≡ stopped n (Some TooManyLines)
+      plain = line_step ∙ ap (λ b. cond b (stopped n (Some TooManyLines)) (cond (bytes_eq line end_line) (after_end input (n + 1) (cut more))
+          (entry_before n (entry_in h.subject line) (lines_read input h.subject (n + 1) (cut more))))) past
 
       by_start : (b : Bool) (o : Option StartWord) → start_in line ≡ o
-          → body_on input h b last n (parted (line ++ 10 ∷ more)) ≡ stopped n (Some TooManyLines)
+          → body_on input h b last n (cut (line ++ 10 ∷ more)) ≡ stopped n (Some TooManyLines)
       by_start false o is = plain
       by_start true None is = no_start_step last is ∙ plain
       by_start true (Some s) is = start_step last s is ∙ ap (λ b. cond b (stopped n (Some TooManyLines))
-          (start_before n (start_rule h last s) s (starts_read input h (Some s) (n + 1) (parted more)))) past
+          (start_before n (start_rule h last s) s (starts_read input h (Some s) (n + 1) (cut more)))) past
 
 -- the header's line, then the others
 header_step : (input : Input) (line more : List ℕ) → lacks 10 line ≡ true
-    → text_read input (parted (line ++ 10 ∷ more))
+    → text_read input (cut (line ++ 10 ∷ more))
     ≡ elim (header_in line) as (λ _. Reading) [
       | Ok h ↦ header_before h
-          (body_read input h (parted more))
+          (body_read input h (cut more))
       | Err rule ↦ stopped 1 (Some rule)
     ]
 header_step input line more lack =
@@ -127,15 +127,15 @@ module _ (r : LineState) (line : List ℕ) (lack : lacks 10 line ≡ true) (fine
 
   -- the line goes on as these lines
   on : (w : Bool) (more : List ℕ) → goes_on (with_line r line) w more
-      ≡ lines_on (input_to r w) r.line r.header r.starting r.last r.ended (parted (line ++ more))
-  on w more = fine_on (with_line r line) (input_to r w) (parted (line ++ more)) fine
+      ≡ lines_on (input_to r w) r.line r.header r.starting r.last r.ended (cut (line ++ more))
+  on w more = fine_on (with_line r line) (input_to r w) (cut (line ++ more)) fine
 
   module _ (no_header : r.header ≡ None) (one : r.line ≡ 1) (not_ended : r.ended ≡ false) where
     pub first_bad : (rule : Rule) → header_in line ≡ Err rule
         → IsLineTaken (with_line r line) [] [] (record r { fault = Some (record { line = r.line; rule = rule }) })
     first_bad rule bad = line_fault (record { line = r.line; rule = rule })
         (on false (10 ∷ [])
-        ∙ ap (λ o. lines_on (input_to r false) r.line o r.starting r.last r.ended (parted (line ++ 10 ∷ []))) no_header
+        ∙ ap (λ o. lines_on (input_to r false) r.line o r.starting r.last r.ended (cut (line ++ 10 ∷ []))) no_header
         ∙ header_step (input_to r false) line [] lack
         ∙ ap (λ x. elim x as (λ _. Reading) [ Ok h ↦ header_before h (body_read (input_to r false) h ([] ∷ [])) | Err y ↦ stopped 1 (Some y) ]) bad
         ∙ (λ i. record {
@@ -152,25 +152,25 @@ module _ (r : LineState) (line : List ℕ) (lack : lacks 10 line ≡ true) (fine
       max_lines = refl;
       follows = λ ss es before fol. step (with_line r line) next ss [] es [] before (10 ∷ []) refl (λ w more.
           on w (10 ∷ more)
-          ∙ ap (λ o. lines_on (input_to r w) r.line o r.starting r.last r.ended (parted (line ++ 10 ∷ more))) no_header
+          ∙ ap (λ o. lines_on (input_to r w) r.line o r.starting r.last r.ended (cut (line ++ 10 ∷ more))) no_header
           ∙ header_step (input_to r w) line more lack
           ∙ ap (λ x. elim x as (λ _. Reading) [
             | Ok g ↦ header_before g
-                (body_read (input_to r w) g (parted more))
+                (body_read (input_to r w) g (cut more))
             | Err y ↦ stopped 1 (Some y)
           ]) good
-          ∙ (λ i. lines_on (input_to r w) (sym two i) (Some h) (h.version == 2) (sym no_last i) (sym not_ended i) (parted more))
-          ∙ sym (fine_on next (input_to r w) (parted more) fine)) fol;
+          ∙ (λ i. lines_on (input_to r w) (sym two i) (Some h) (h.version == 2) (sym no_last i) (sym not_ended i) (cut more))
+          ∙ sym (fine_on next (input_to r w) (cut more) fine)) fol;
       noticed = fine_on next (input_to r false) ([] ∷ []) fine
           ∙ ap (λ b. lines_on (input_to r false) (r.line + 1) (Some h) (h.version == 2) r.last b ([] ∷ [])) not_ended
           ∙ ap (header_before h) (nothing_more r.max_lines h (h.version == 2) r.last (r.line + 1))
           ∙ (λ i. record { header = Some h; starting = []; entries = []; ended = sym not_ended i; fault = sym fine i });
       room = λ after.
-          let before : starts_ahead (with_line r line) (10 ∷ after) ≡ front_starts (parted after) =
+          let before : starts_ahead (with_line r line) (10 ∷ after) ≡ front_starts (cut after) =
           (λ i. starts_in_lines (fine i) (no_header i) r.starting (split_at 10 line after lack i)) in
-          let now : starts_ahead next after ≡ cond (h.version == 2) (front_starts (parted after)) 0 =
-          ap (λ o. starts_in_lines o (Some h) (h.version == 2) (parted after)) fine in
-          omega (arith, before, now, few (h.version == 2) (front_starts (parted after)));
+          let now : starts_ahead next after ≡ cond (h.version == 2) (front_starts (cut after)) 0 =
+          ap (λ o. starts_in_lines o (Some h) (h.version == 2) (cut after)) fine in
+          omega (arith, before, now, few (h.version == 2) (front_starts (cut after)));
     }
       where
         next : LineState
@@ -182,8 +182,8 @@ module _ (r : LineState) (line : List ℕ) (lack : lacks 10 line ≡ true) (fine
   module _ (h : Header) (has : r.header ≡ Some h) where
     -- after the header
     later : (b : Bool) → r.ended ≡ b → (w : Bool) (more : List ℕ)
-        → goes_on (with_line r line) w more ≡ lines_on (input_to r w) r.line (Some h) r.starting r.last b (parted (line ++ more))
-    later b is w more = on w more ∙ (λ i. lines_on (input_to r w) r.line (has i) r.starting r.last (is i) (parted (line ++ more)))
+        → goes_on (with_line r line) w more ≡ lines_on (input_to r w) r.line (Some h) r.starting r.last b (cut (line ++ more))
+    later b is w more = on w more ∙ (λ i. lines_on (input_to r w) r.line (has i) r.starting r.last (is i) (cut (line ++ more)))
 
     -- what is known where a rule is broken
     broken : (b : Bool) → r.ended ≡ b → (rule : Rule)
@@ -233,14 +233,14 @@ module _ (r : LineState) (line : List ℕ) (lack : lacks 10 line ≡ true) (fine
         -- where a starting word may come and the line spells one
         module _ (starting : r.starting ≡ true) (s : StartWord) (spelled : start_in line ≡ Some s) where
           start_line_on : (o : Option Rule) → start_rule h r.last s ≡ o → (w : Bool) (more : List ℕ) → goes_on (with_line r line) w (10 ∷ more)
-              ≡ header_before h (start_before r.line o s (starts_read (input_to r w) h (Some s) (r.line + 1) (parted more)))
+              ≡ header_before h (start_before r.line o s (starts_read (input_to r w) h (Some s) (r.line + 1) (cut more)))
           start_line_on o rule w more =
               later false not_ended w (10 ∷ more)
-              ∙ ap (λ b. header_before h (body_on (input_to r w) h b r.last r.line (parted (line ++ 10 ∷ more)))) starting
+              ∙ ap (λ b. header_before h (body_on (input_to r w) h b r.last r.line (cut (line ++ 10 ∷ more)))) starting
               ∙ ap (header_before h) (start_step (input_to r w) h r.line line more lack r.last s spelled)
               ∙ ap (λ b. header_before h (cond b (stopped r.line (Some TooManyLines))
-              (start_before r.line (start_rule h r.last s) s (starts_read (input_to r w) h (Some s) (r.line + 1) (parted more))))) within
-              ∙ ap (λ x. header_before h (start_before r.line x s (starts_read (input_to r w) h (Some s) (r.line + 1) (parted more)))) rule
+              (start_before r.line (start_rule h r.last s) s (starts_read (input_to r w) h (Some s) (r.line + 1) (cut more))))) within
+              ∙ ap (λ x. header_before h (start_before r.line x s (starts_read (input_to r w) h (Some s) (r.line + 1) (cut more)))) rule
 
           pub bad_start : (rule : Rule) → start_rule h r.last s ≡ Some rule
               → IsLineTaken (with_line r line) [] [] (record r { fault = Some (record { line = r.line; rule = rule }) })
@@ -253,17 +253,17 @@ module _ (r : LineState) (line : List ℕ) (lack : lacks 10 line ≡ true) (fine
             max_lines = refl;
             follows = λ ss es before fol. step (with_line r line) next ss (s ∷ []) es [] before (10 ∷ []) refl (λ w more.
                 start_line_on None is w more
-                ∙ (λ i. with_read (s ∷ []) [] (lines_on (input_to r w) (r.line + 1) (sym has i) (sym starting i) (Some s) (sym not_ended i) (parted more)))
-                ∙ ap (with_read (s ∷ []) []) (sym (fine_on next (input_to r w) (parted more) fine))) fol;
+                ∙ (λ i. with_read (s ∷ []) [] (lines_on (input_to r w) (r.line + 1) (sym has i) (sym starting i) (Some s) (sym not_ended i) (cut more)))
+                ∙ ap (with_read (s ∷ []) []) (sym (fine_on next (input_to r w) (cut more) fine))) fol;
             noticed = fine_on next (input_to r false) ([] ∷ []) fine
                 ∙ (λ i. lines_on (input_to r false) (r.line + 1) (has i) r.starting (Some s) (not_ended i) ([] ∷ []))
                 ∙ ap (header_before h) (nothing_more r.max_lines h r.starting (Some s) (r.line + 1))
                 ∙ (λ i. record { header = sym has i; starting = []; entries = []; ended = sym not_ended i; fault = sym fine i });
             room = λ after.
-                let before : starts_ahead (with_line r line) (10 ∷ after) ≡ front_starts (parted (line ++ 10 ∷ after)) =
-                (λ i. starts_in_lines (fine i) (has i) (starting i) (parted (line ++ 10 ∷ after))) in
-                let now : starts_ahead next after ≡ front_starts (parted after) =
-                (λ i. starts_in_lines (fine i) (has i) (starting i) (parted after)) in
+                let before : starts_ahead (with_line r line) (10 ∷ after) ≡ front_starts (cut (line ++ 10 ∷ after)) =
+                (λ i. starts_in_lines (fine i) (has i) (starting i) (cut (line ++ 10 ∷ after))) in
+                let now : starts_ahead next after ≡ front_starts (cut after) =
+                (λ i. starts_in_lines (fine i) (has i) (starting i) (cut after)) in
                 omega (arith, before, now, one_start_more line after s lack spelled);
           }
             where
@@ -274,23 +274,23 @@ module _ (r : LineState) (line : List ℕ) (lack : lacks 10 line ≡ true) (fine
         module _ (no_start : cond r.starting (start_in line) None ≡ None) where
           -- an entry's line
           entry_line_on : (w : Bool) (more : List ℕ) → goes_on (with_line r line) w (10 ∷ more)
-              ≡ header_before h (cond (bytes_eq line end_line) (after_end (input_to r w) (r.line + 1) (parted more))
-              (entry_before r.line (entry_in h.subject line) (lines_read (input_to r w) h.subject (r.line + 1) (parted more))))
+              ≡ header_before h (cond (bytes_eq line end_line) (after_end (input_to r w) (r.line + 1) (cut more))
+              (entry_before r.line (entry_in h.subject line) (lines_read (input_to r w) h.subject (r.line + 1) (cut more))))
           entry_line_on w more =
               later false not_ended w (10 ∷ more)
               ∙ ap (header_before h) (plain_step (input_to r w) h r.line line more lack r.starting r.last no_start
               ∙ line_step (input_to r w) h r.line line more lack)
               ∙ ap (λ b. header_before h (cond b (stopped r.line (Some TooManyLines))
-              (cond (bytes_eq line end_line) (after_end (input_to r w) (r.line + 1) (parted more))
+              (cond (bytes_eq line end_line) (after_end (input_to r w) (r.line + 1) (cut more))
               (entry_before r.line (entry_in h.subject line)
-              (lines_read (input_to r w) h.subject (r.line + 1) (parted more)))))) within
+              (lines_read (input_to r w) h.subject (r.line + 1) (cut more)))))) within
 
           -- no starting word comes after it
           none_ahead : (n : ℕ) (done : Bool) (after : List ℕ) (x : ℕ)
               → 0 + starts_ahead (record r { line = n; starting = false; ended = done; unfinished = [] }) after ≤ x
           none_ahead n done after x =
               let none : starts_ahead (record r { line = n; starting = false; ended = done; unfinished = [] }) after ≡ 0 =
-              (λ i. starts_in_lines (fine i) (has i) false (parted after)) in
+              (λ i. starts_in_lines (fine i) (has i) false (cut after)) in
               omega (arith, none)
 
           pub end_read : bytes_eq line end_line ≡ true
@@ -299,11 +299,11 @@ module _ (r : LineState) (line : List ℕ) (lack : lacks 10 line ≡ true) (fine
             max_lines = refl;
             follows = λ ss es before fol. step (with_line r line) next ss [] es [] before (10 ∷ []) refl (λ w more.
                 entry_line_on w more
-                ∙ ap (λ b. header_before h (cond b (after_end (input_to r w) (r.line + 1) (parted more))
+                ∙ ap (λ b. header_before h (cond b (after_end (input_to r w) (r.line + 1) (cut more))
                 (entry_before r.line (entry_in h.subject line)
-                (lines_read (input_to r w) h.subject (r.line + 1) (parted more))))) is_end
-                ∙ ap (λ o. lines_on (input_to r w) (r.line + 1) o false r.last true (parted more)) (sym has)
-                ∙ sym (fine_on next (input_to r w) (parted more) fine)) fol;
+                (lines_read (input_to r w) h.subject (r.line + 1) (cut more))))) is_end
+                ∙ ap (λ o. lines_on (input_to r w) (r.line + 1) o false r.last true (cut more)) (sym has)
+                ∙ sym (fine_on next (input_to r w) (cut more) fine)) fol;
             noticed = fine_on next (input_to r false) ([] ∷ []) fine
                 ∙ ap (λ o. lines_on (input_to r false) (r.line + 1) o false r.last true ([] ∷ [])) has
                 ∙ (λ i. record { header = sym has i; starting = []; entries = []; ended = true; fault = sym fine i });
@@ -316,12 +316,12 @@ module _ (r : LineState) (line : List ℕ) (lack : lacks 10 line ≡ true) (fine
           module _ (isnt_end : bytes_eq line end_line ≡ false) where
             plain_line_on : (w : Bool) (more : List ℕ) → goes_on (with_line r line) w (10 ∷ more)
                 ≡ header_before h (entry_before r.line (entry_in h.subject line)
-                (lines_read (input_to r w) h.subject (r.line + 1) (parted more)))
+                (lines_read (input_to r w) h.subject (r.line + 1) (cut more)))
             plain_line_on w more =
                 entry_line_on w more
-                ∙ ap (λ b. header_before h (cond b (after_end (input_to r w) (r.line + 1) (parted more))
+                ∙ ap (λ b. header_before h (cond b (after_end (input_to r w) (r.line + 1) (cut more))
                 (entry_before r.line (entry_in h.subject line)
-                (lines_read (input_to r w) h.subject (r.line + 1) (parted more))))) isnt_end
+                (lines_read (input_to r w) h.subject (r.line + 1) (cut more))))) isnt_end
 
             pub entry_read : (e : Entry) → entry_in h.subject line ≡ Some e
                 → IsLineTaken (with_line r line) [] (e ∷ []) (record r { line = r.line + 1; starting = false; unfinished = [] })
@@ -330,9 +330,9 @@ module _ (r : LineState) (line : List ℕ) (lack : lacks 10 line ≡ true) (fine
               follows = λ ss es before fol. step (with_line r line) next ss [] es (e ∷ []) before (10 ∷ []) refl (λ w more.
                   plain_line_on w more
                   ∙ ap (λ o. header_before h (entry_before r.line o
-                  (lines_read (input_to r w) h.subject (r.line + 1) (parted more)))) found
-                  ∙ (λ i. with_read [] (e ∷ []) (lines_on (input_to r w) (r.line + 1) (sym has i) false r.last (sym not_ended i) (parted more)))
-                  ∙ ap (with_read [] (e ∷ [])) (sym (fine_on next (input_to r w) (parted more) fine))) fol;
+                  (lines_read (input_to r w) h.subject (r.line + 1) (cut more)))) found
+                  ∙ (λ i. with_read [] (e ∷ []) (lines_on (input_to r w) (r.line + 1) (sym has i) false r.last (sym not_ended i) (cut more)))
+                  ∙ ap (with_read [] (e ∷ [])) (sym (fine_on next (input_to r w) (cut more) fine))) fol;
               noticed = fine_on next (input_to r false) ([] ∷ []) fine
                   ∙ (λ i. lines_on (input_to r false) (r.line + 1) (has i) false r.last (not_ended i) ([] ∷ []))
                   ∙ (λ i. record { header = sym has i; starting = []; entries = []; ended = sym not_ended i; fault = sym fine i });

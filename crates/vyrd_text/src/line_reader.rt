@@ -144,7 +144,9 @@ impl LineReader {
     /// How many starting words the piece can bring at most: none unless they may still come, and
     /// then no more than lines at its front look like them.
     pub(crate) fn most_starts(&self, piece: &[u8]) -> usize
-        ensures { starts_ahead self.now piece.now ≤ result }
+        ensures most { starts_ahead self.now piece.now ≤ result }
+        ensures none { IsSome self.now.header → self.now.starting ≡ false → result ≡ 0 }
+        ensures few { result ≤ length piece.now + 1 }
     {
         if self.header.is_none() {
             return count_later_starts(piece);

@@ -1,14 +1,15 @@
 use Rattle.std.proofs.Common.{◌+◌, ◌∷◌, length, cond, arith, ap, sym, ◌∙◌, length-append}
+use Rattle.vyrd_base.proofs.SplitLaws.{cut}
 use Rattle.vyrd_text.specs.Ahead.{front_starts}
-use Rattle.vyrd_text.proofs.AheadLaws.{parted, front_step, front_last}
+use Rattle.vyrd_text.proofs.AheadLaws.{front_step, front_last}
 use Rattle.vyrd_text.proofs.start.count_starts.Goals as goal
 
 pub loop-line-preserved : goal.loop-line-preserved
 loop-line-preserved c =
     let line = c.in-Some.line.now in
     let after = c.in-Some.after.now in
-    let one = front_step line after c.in-Some.ensures.0 ∙ ap (λ b. cond b (1 + front_starts (parted after)) 0) (sym c.if-not-begins_start.ensures) in
-    let whole = ap (λ t. front_starts (parted t)) c.in-Some.ensures.1 in
+    let one = front_step line after c.in-Some.ensures.0 ∙ ap (λ b. cond b (1 + front_starts (cut after)) 0) (sym c.if-not-begins_start.ensures) in
+    let whole = ap (λ t. front_starts (cut t)) c.in-Some.ensures.1 in
     let len = ap length c.in-Some.ensures.1 in
     record {
       counted = omega (arith, c.loop-line.invariant.counted, one, whole);
