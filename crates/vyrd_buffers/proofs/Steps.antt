@@ -1,13 +1,11 @@
 -- What a step needs: what holds at a place, cells that are below 2^32, and what is left after a character.
 use Rattle.std.proofs.Common.{◌≡◌, ℕ, suc, ◌+◌, ◌-◌, ◌*◌, ◌%◌, ◌^◌, ◌<◌, ◌≤◌, true, List, [], ◌∷◌, ◌++◌, refl, ap, ◌∙◌, sym, subst, arith}
-use Rattle.std.specs.Prelude.{◌&&◌, nat_lt, nat_le, drop, IsTrue}
+use Rattle.std.specs.Prelude.{◌&&◌, nat_lt, nat_le, drop}
 use Rattle.std.proofs.Math.Logic.{∥∥₁_elim}
 use Rattle.std.proofs.Math.Bool.{Bool-set}
 use Rattle.std.proofs.Math.Nat.{pow-le-pow_right, mul-le-mul}
-use Rattle.std.proofs.lemmas.Bool.Decides.{nat_tests}
 use Rattle.vyrd_base.specs.declared.header.Header.{Header}
 use Rattle.vyrd_base.specs.declared.subject.Subject.TheVariants.{Buffers}
-use Rattle.vyrd_base.specs.Limits.{is_within}
 use Rattle.vyrd_base.specs.Layout.{plain_words_of, lock_words_of}
 use Rattle.vyrd_base.proofs.TestLaws.{first_true, second_true, is_below, below_of}
 use Rattle.vyrd_memory.specs.declared.act.Act.{Act}

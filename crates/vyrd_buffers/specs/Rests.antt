@@ -27,7 +27,6 @@ use Rattle.vyrd_buffers.specs.declared.place.Joining.TheVariants as joining
 use Rattle.vyrd_buffers.specs.declared.task.Task.{Task}
 use Rattle.vyrd_buffers.specs.declared.progress.BufferProgress.{BufferProgress}
 use Rattle.vyrd_buffers.specs.Cells.{count_cell, character_cell, lock, unlock, lock_other}
-use Rattle.vyrd_buffers.specs.Cells.{unlock_other}
 use Rattle.vyrd_buffers.specs.Procedures.{commit_count, append_at, load_from, store_from}
 use Rattle.vyrd_buffers.specs.Procedures.{unlock_both}
 use Rattle.vyrd_buffers.specs.Procedures.{append_held, append_all, cut_at, read_from}

@@ -5,11 +5,8 @@ ghost use Rattle.vyrd_buffers.specs.Cells.{count_cell, character_cell, lock_of};
 
 use vyrd_base::Header;
 
-/// How many words a buffer has: the count of its characters, and its characters.
-const BUFFER_WORDS: u32 = 8;
-
-/// How many characters a buffer has room for.
-pub(crate) const ROOM: u64 = 7;
+/// How many words a buffer has, as a count of cells.
+const BUFFER_WORDS: u32 = vyrd_base::BUFFER_WORDS as u32;
 
 /// The cell of a buffer's count.
 pub(crate) fn count_cell(buffer: u32) -> u32

@@ -10,11 +10,11 @@ ghost use Rattle.vyrd_buffers.specs.Rests.{counted_for, looking_rest, appending_
 ghost use Rattle.vyrd_buffers.specs.Rests.{changing_rest, reading_rest, first_of, second_of};
 ghost use Rattle.vyrd_buffers.specs.Rests.{joined_with, counting_rest, joining_rest, rest_at};
 
-use crate::cells::{ROOM, character_cell, count_cell, lock_of};
+use crate::cells::{character_cell, count_cell, lock_of};
 use crate::held::Held;
 use crate::place::{Appending, Changing, Counting, Joining, Looking, Place, Purpose};
 use crate::text::Text;
-use vyrd_base::{Header, Kind};
+use vyrd_base::{Header, Kind, MOST_CHARACTERS};
 use vyrd_memory::{Act, Variant};
 
 /// What is played: the variant, and the numbers of the call.
@@ -95,12 +95,14 @@ impl Task {
         ensures { (h : Header) → rest_at h self result ≡ counted_for h self purpose count }
     {
         match purpose {
-            Purpose::Append if count < ROOM => Place::Append(count as u32, Appending::Open),
+            Purpose::Append if count < MOST_CHARACTERS => {
+                Place::Append(count as u32, Appending::Open)
+            }
             Purpose::Append => Place::Commit(0),
             Purpose::Cut if count <= u64::from(self.x) => Place::Commit(1),
             Purpose::Cut => Place::Change(u64::from(self.x), Changing::Open),
-            Purpose::Length => Place::Unlock(count.min(ROOM)),
-            Purpose::Read => Place::Read(Text::none_of(count.min(ROOM) as u32)),
+            Purpose::Length => Place::Unlock(count.min(MOST_CHARACTERS)),
+            Purpose::Read => Place::Read(Text::none_of(count.min(MOST_CHARACTERS) as u32)),
         }
     }
 
@@ -216,8 +218,8 @@ impl Task {
     fn counted_both(self, count: u64, more: u64) -> Place
         ensures { (h : Header) → rest_at h self result ≡ joined_with h self count more }
     {
-        let (count, more) = (count.min(ROOM), more.min(ROOM));
-        if count + more <= ROOM {
+        let (count, more) = (count.min(MOST_CHARACTERS), more.min(MOST_CHARACTERS));
+        if count + more <= MOST_CHARACTERS {
             Place::Join(Joining::Load(count as u32, Held::none_of(more as u32)))
         } else {
             Place::Join(Joining::Refuse)

@@ -4,10 +4,10 @@ ghost use Rattle.std.specs.Prelude.{◌≡◌, ◌*◌, ◌+◌, ◌<◌, ◌≤
 ghost use Rattle.std.specs.Bool.{then_some};
 ghost use Rattle.vyrd_base.specs.Buffers.{text_length, has_room, joined, cut_to};
 
-use vyrd_base::TEXT_BASE;
+use vyrd_base::{MOST_CHARACTERS, TEXT_BASE};
 
 /// How many characters a buffer has at most.
-const MOST: u32 = 7;
+const MOST: u32 = MOST_CHARACTERS as u32;
 
 /// What a character counts that has n characters before it.
 fn power(n: u32) -> u64

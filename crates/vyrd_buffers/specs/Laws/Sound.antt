@@ -1,11 +1,9 @@
 -- Proofs of laws that an impl in src/ names: no contract says what is defined here.
 -- Each procedure of string buffers is sound.
 use Rattle.std.proofs.Common.{◌≡◌, ℕ, zero, suc, ◌+◌, ◌*◌, ◌^◌, ◌<◌, ◌≤◌, min, max, Bool, true}
-use Rattle.std.proofs.Common.{false, cond, not, List, [], ◌∷◌, ◌++◌, filter, length, refl, ap, ◌∙◌}
+use Rattle.std.proofs.Common.{false, cond, not, List, [], ◌∷◌, ◌++◌, length, refl, ap, ◌∙◌}
 use Rattle.std.proofs.Common.{sym, subst, arith}
-use Rattle.std.specs.Prelude.{◌==◌, ◌&&◌, ◌||◌, nat_lt, nat_le, Some, is_some}
-use Rattle.std.specs.List.{list_any}
-use Rattle.std.proofs.lemmas.Bool.Decides.{nat_tests}
+use Rattle.std.specs.Prelude.{◌==◌, ◌&&◌, ◌||◌, nat_lt, nat_le, is_some}
 use Rattle.std.proofs.lemmas.List.{length_push}
 use Rattle.vyrd_base.specs.declared.header.Header.{Header}
 use Rattle.vyrd_base.specs.declared.subject.Subject.TheVariants.{Buffers}
@@ -22,12 +20,12 @@ use Rattle.vyrd_base.specs.Layout.{plain_words_of, lock_words_of}
 use Rattle.vyrd_base.specs.Histories.{cells_of, is_plain, is_lock}
 use Rattle.vyrd_base.proofs.TestLaws.{both_true, first_true, second_true, same_number, is_below}
 use Rattle.vyrd_base.proofs.TestLaws.{below_of, is_at_most, at_most_of, above_of}
-use Rattle.vyrd_memory.specs.declared.act.Act.TheVariants.{Load, Store, Mark}
+use Rattle.vyrd_memory.specs.declared.act.Act.TheVariants.{Load, Mark}
 use Rattle.vyrd_memory.specs.declared.op.Variant.{Variant}
 use Rattle.vyrd_memory.specs.declared.op.Variant.TheVariants.{Correct, Broken}
 use Rattle.vyrd_memory.specs.Arguments.{are_small}
 use Rattle.vyrd_memory.specs.Scripts.{Script, step, perform, returns}
-use Rattle.vyrd_memory.specs.Soundness.{Situation, IsSound, just_called, holds}
+use Rattle.vyrd_memory.specs.Soundness.{Situation, IsSound, just_called}
 use Rattle.vyrd_memory.proofs.Small.{small_b}
 use Rattle.vyrd_memory.proofs.SoundActs.{holding, in_block, store_sound, either, gone, held_first}
 use Rattle.vyrd_memory.proofs.SoundActs.{other_lock}
@@ -293,18 +291,12 @@ under_both h first second b s is low_first low_second low_b low_s =
         (λ count more. sound_append_all h locks first second b s (min count 7) (min more 7) is low_b
         low_s sound)
 
-min_low : (a b n : ℕ) → a < n → b < n → min a b < n
-min_low a b n l m = omega arith
-
-max_low : (a b n : ℕ) → a < n → b < n → max a b < n
-max_low a b n l m = omega arith
-
 sound_append_from : (h : Header) (variant : Variant) (b s : ℕ) → h.subject ≡ Buffers → b < h.size
     → s < h.size
     → IsSound h (just_called BuAppendFrom) (append_from h variant b s)
 sound_append_from h Correct b s is low_b low_s =
-    under_both h (min b s) (max b s) b s is (min_low b s h.size low_b low_s)
-    (max_low b s h.size low_b low_s) low_b low_s
+    under_both h (min b s) (max b s) b s is (omega (arith, low_b, low_s))
+    (omega (arith, low_b, low_s)) low_b low_s
 sound_append_from h Broken b s is low_b low_s =
     looked h s BuAppendFrom (λ more. unlock h s (alone more)) is low_s (λ more small.
     given h s BuAppendFrom false (alone more) is low_s (looked h b BuAppendFrom

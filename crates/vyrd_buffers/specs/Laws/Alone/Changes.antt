@@ -13,7 +13,7 @@ use Rattle.vyrd_base.specs.Represented.{is_sound}
 use Rattle.vyrd_base.specs.Buffers.{Buffer, text_of, buffer_at, are_characters, is_buffer}
 use Rattle.vyrd_base.specs.Buffers.{buffer_parts}
 use Rattle.vyrd_base.proofs.AmountLaws.{amount_of-with_amount, IsAmounts-with_amount, same_amounts}
-use Rattle.vyrd_base.proofs.SumLaws.{given_nothing, amount_of-collected, IsAmounts-collected}
+use Rattle.vyrd_base.proofs.SumLaws.{given_nothing, amount_of-collected}
 use Rattle.vyrd_base.proofs.TestLaws.{first_true, same_number, isnt_same, same_of, apart_of}
 use Rattle.vyrd_base.proofs.TestLaws.{at_most_of}
 use Rattle.vyrd_base.proofs.TextLaws.{text_same, characters_same}

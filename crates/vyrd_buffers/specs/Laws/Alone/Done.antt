@@ -1,8 +1,8 @@
 -- Proofs of laws that an impl in src/ names: no contract says what is defined here.
 -- What an operation has done when it is over, and what the specification says of that.
 use Rattle.std.proofs.Common.{◌≡◌, ℕ, ◌+◌, ◌*◌, ◌<◌, ◌≤◌, true, false, cond, not, List, length}
-use Rattle.std.proofs.Common.{Option, Some, None, refl, ap, ◌∙◌, sym, subst, arith}
-use Rattle.std.specs.Prelude.{◌==◌, slice_index, IsSome}
+use Rattle.std.proofs.Common.{Some, None, ap, ◌∙◌, sym, subst, arith}
+use Rattle.std.specs.Prelude.{◌==◌, slice_index}
 use Rattle.std.specs.Bool.{then_some}
 use Rattle.vyrd_base.specs.declared.header.Header.{Header}
 use Rattle.vyrd_base.specs.declared.subject.Subject.TheVariants.{Buffers}
@@ -15,7 +15,7 @@ use Rattle.vyrd_base.proofs.TestLaws.{same_number}
 use Rattle.vyrd_memory.specs.declared.op.Op.{Op}
 use Rattle.vyrd_memory.specs.Scripts.{Script}
 use Rattle.vyrd_memory.specs.Alone.{Memory, with_cell, alone, state_after, MeetsSpecification}
-use Rattle.vyrd_memory.proofs.Memories.{Represents, represented, other_cell}
+use Rattle.vyrd_memory.proofs.Memories.{Represents, other_cell}
 use Rattle.vyrd_memory.proofs.AloneLaws.{given_back, met}
 use Rattle.vyrd_buffers.specs.Cells.{count_cell, lock_of}
 use Rattle.vyrd_buffers.specs.Contents.{buffer_of, shown}
