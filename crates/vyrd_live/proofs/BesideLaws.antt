@@ -11,23 +11,23 @@ use Rattle.vyrd_live.specs.declared.watch.Watch.{Watch}
 use Rattle.vyrd_live.specs.Taken.{in_order_below}
 use Rattle.vyrd_live.specs.Beside.{HasWatched, IsClosing}
 
--- nothing yet of a lane's rest
-pub rest_none : (taken lane : List Stamped) (place : ℕ) → taken ++ take (place - place) (drop place lane) ≡ taken
-rest_none taken lane place = let none : place - place ≡ 0 = omega arith in
-    ap (λ (i : ℕ). taken ++ take i (drop place lane)) none ∙ append-nil taken
+-- nothing yet of a history's rest
+pub rest_none : (taken history : List Stamped) (next place : ℕ) → place ≡ next → taken ++ take (place - next) (drop next history) ≡ taken
+rest_none taken history next place same = let none : place - next ≡ 0 = omega (arith, same) in
+    ap (λ (i : ℕ). taken ++ take i (drop next history)) none ∙ append-nil taken
 
--- one event more of a lane's rest
-pub rest_more : (taken lane : List Stamped) (place at : ℕ) (d : Stamped) → place ≤ at → at < length lane
-    → (taken ++ take (at - place) (drop place lane)) ++ get_or lane at d ∷ [] ≡ taken ++ take ((at + 1) - place) (drop place lane)
-rest_more taken lane place at d from to =
-    let l = length-drop place lane in
-    let here : get_or (drop place lane) (at - place) d ≡ get_or lane at d = get_or-drop place lane (at - place) d
-    ∙ ap (λ (i : ℕ). get_or lane i d) (omega arith) in
-    let more = take_more (drop place lane) (at - place) d (omega (arith, l)) in
-    let n : (at - place) + 1 ≡ (at + 1) - place = omega arith in
-    append_assoc taken (take (at - place) (drop place lane)) (get_or lane at d ∷ [])
-    ∙ ap (λ (xs : List Stamped). taken ++ xs) (ap (λ (e : Stamped). take (at - place) (drop place lane) ++ e ∷ []) (sym here) ∙ sym more
-    ∙ ap (λ (i : ℕ). take i (drop place lane)) n)
+-- one event more of a history's rest
+pub rest_more : (taken history : List Stamped) (next place : ℕ) (d : Stamped) → next ≤ place → place < length history
+    → (taken ++ take (place - next) (drop next history)) ++ get_or history place d ∷ [] ≡ taken ++ take ((place + 1) - next) (drop next history)
+rest_more taken history next place d from to =
+    let l = length-drop next history in
+    let here : get_or (drop next history) (place - next) d ≡ get_or history place d = get_or-drop next history (place - next) d
+    ∙ ap (λ (i : ℕ). get_or history i d) (omega arith) in
+    let more = take_more (drop next history) (place - next) d (omega (arith, l)) in
+    let n : (place - next) + 1 ≡ (place + 1) - next = omega arith in
+    append_assoc taken (take (place - next) (drop next history)) (get_or history place d ∷ [])
+    ∙ ap (λ (xs : List Stamped). taken ++ xs) (ap (λ (e : Stamped). take (place - next) (drop next history) ++ e ∷ []) (sym here) ∙ sym more
+    ∙ ap (λ (i : ℕ). take i (drop next history)) n)
 
 -- the verdict at the end, if there is one
 pub closes : (h : Header) (before after : Watch) (taken history : List Stamped) (r : Option Verdict) → before.stands ≡ true → HasWatched h before taken

@@ -1,7 +1,6 @@
 //! The verifier beside the workers.
 
-ghost use Rattle.std.specs.Prelude.{◌≡◌, ◌<◌, ◌≤◌, ◌-◌, true, false, List, [], ◌∷◌, ◌++◌, length};
-ghost use Rattle.std.specs.Prelude.{take, drop, IfOk, IfSome, IfNone};
+ghost use Rattle.std.specs.Prelude.{◌≡◌, true, List, [], ◌∷◌, ◌++◌, drop, IfOk, IfSome};
 ghost use Rattle.std.specs.List.{All};
 ghost use Rattle.vyrd_base.specs.declared.header.Header.{Header};
 ghost use Rattle.vyrd_base.specs.declared.history.Stamped.{Stamped};
@@ -166,41 +165,20 @@ impl Watch {
         if !self.stands {
             return None;
         }
-        if !self.take_rest(history) {
-            return None;
-        }
+        self.take_rest(history);
         self.closing()
     }
 
-    /// Takes in the events of a history from the least number on that wasn't taken in, and answers
-    /// whether it came to the end.
-    fn take_rest(&mut self, history: &[Stamped]) -> bool
-        ensures { (h : Header) (taken : List Stamped) → result ≡ true → HasWatched h self.old taken
+    /// Takes in the events of a history from the place on whose number is the least that wasn't
+    /// taken in.
+    fn take_rest(&mut self, history: &[Stamped])
+        ensures { (h : Header) (taken : List Stamped) → HasWatched h self.old taken
             → HasWatched h self.new (taken ++ drop self.old.verifier.kept.next history.now) }
     {
-        let place = self.verifier.next() as usize;
-        if place >= history.len() {
-            return true;
+        let next = self.verifier.next() as usize;
+        for place in next..history.len() {
+            self.take_in(history[place]);
         }
-        self.take_run(history, place) == history.len()
-    }
-
-    /// Takes in the event at this place of a lane or of a history, and those after it as long as
-    /// their numbers follow each other. It answers where it stopped.
-    fn take_run(&mut self, lane: &[Stamped], place: usize) -> usize
-        requires { place < length lane.now }
-        ensures end { (place < result) × (result ≤ length lane.now) }
-        ensures watched { (h : Header) (taken : List Stamped) → HasWatched h self.old taken
-            → HasWatched h self.new (taken ++ take (result - place) (drop place lane.now)) }
-    {
-        self.take_in(lane[place]);
-        for at in place + 1..lane.len() {
-            if lane[at].number != lane[at - 1].number.saturating_add(1) {
-                return at;
-            }
-            self.take_in(lane[at]);
-        }
-        lane.len()
     }
 
     /// The verdict about all that was taken in, if the verifier stands.

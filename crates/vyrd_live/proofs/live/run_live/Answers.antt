@@ -7,6 +7,7 @@ use Rattle.std.specs.Prelude.{IfSome}
 use Rattle.vyrd_memory.specs.Bounds.{bounds_of}
 use Rattle.vyrd_work.specs.Workloads.{workload_of}
 use Rattle.vyrd_work.specs.WorkScripts.{ops_of, work_scripts}
+use Rattle.vyrd_every.specs.Schedules.{most_few_events}
 use Rattle.vyrd_every.proofs.Workloads.{schedule_accepted, few_events}
 use Rattle.vyrd_live.proofs.live.run_live.Goals as goal
 
@@ -15,7 +16,7 @@ returns-in-Some-clause-never_spent g c = λ is enough.
     let w = workload_of c.args.work.now in
     let long : c.args.limit < bounds_of w.header (ops_of c.in-Some.caller w.ops) =
     subst (λ spent. IfSome spent (λ caller. c.args.limit < bounds_of w.header (ops_of caller w.ops))) c.in-Some.is c.in-Ok.ensures.long in
-    let few : bounds_of w.header (ops_of c.in-Some.caller w.ops) ≤ 6400000 = few_events w c.in-Some.caller c.requires.limits is in
+    let few : bounds_of w.header (ops_of c.in-Some.caller w.ops) ≤ most_few_events = few_events w c.in-Some.caller c.requires.limits is in
     absurd (omega (arith, long, few, enough))
 
 pub returns-in-Ok-judged-clause-every_schedule : goal.returns-in-Ok-judged-clause-every_schedule

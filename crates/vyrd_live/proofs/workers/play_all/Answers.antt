@@ -1,6 +1,6 @@
 -- The hands that come back are all hands, what they leave is what their workers did, and the verdict beside them is that of the
 -- history's log.
-use Rattle.std.proofs.Common.{◌≡◌, [], ℕ, ◌<◌, length, sym, ap, ◌∙◌, subst, List, Option, rules, arith}
+use Rattle.std.proofs.Common.{◌≡◌, [], ℕ, ◌<◌, length, sym, ap, ◌∙◌, subst, List, rules, arith}
 use Rattle.std.specs.Prelude.{IfSome}
 use Rattle.std.specs.List.{All}
 use Rattle.std.proofs.lemmas.List.{get_or-map, length-map}

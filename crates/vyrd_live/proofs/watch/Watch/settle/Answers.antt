@@ -7,7 +7,6 @@ use Rattle.vyrd_relay.specs.declared.known.Lane.{Lane}
 use Rattle.vyrd_relay.specs.Knowledge.{HasBeginning}
 use Rattle.vyrd_relay.specs.Ends.{ReceiverView, lane_sent}
 use Rattle.vyrd_live.specs.declared.outbox.Outbox.{Outbox}
-use Rattle.vyrd_live.specs.Beside.{lanes_sent}
 use Rattle.vyrd_live.proofs.watch.Watch.settle.Goals as goal
 
 pub loop-outbox-init : goal.loop-outbox-init

@@ -1,17 +1,27 @@
--- All that is left is one run.
-use Rattle.std.proofs.Common.{◌≡◌, ◌-◌, List, ◌++◌, length, take, drop, ap, ◌∙◌, subst, arith, length-drop}
+use Rattle.std.proofs.Common.{◌-◌, List, ◌++◌, drop, sym, subst, arith, length-drop}
 use Rattle.std.proofs.lemmas.List.{take_all}
 use Rattle.vyrd_base.specs.declared.history.Stamped.{Stamped}
-use Rattle.vyrd_base.proofs.TestLaws.{same_of}
 use Rattle.vyrd_live.specs.Beside.{StandsAt}
+use Rattle.vyrd_live.proofs.BesideLaws.{rest_none, rest_more}
 use Rattle.vyrd_live.proofs.watch.Watch.take_rest.Goals as goal
 
+pub loop-place-init : goal.loop-place-init
+loop-place-init c = λ h taken before now.
+    subst (λ (xs : List Stamped). StandsAt h c.args.self.now.verifier xs)
+    (sym (rest_none taken c.args.history.now c.args.self.now.verifier.kept.next c.next-next.result c.next-next.ensures)) (before now)
+
+pub loop-place-preserved : goal.loop-place-preserved
+loop-place-preserved c = λ h taken before now.
+    subst (λ (xs : List Stamped). StandsAt h c.take_in.new.self.verifier xs)
+    (rest_more taken c.args.history.now c.args.self.now.verifier.kept.next c.loop-place.place _
+    (omega (arith, c.loop-place.auto.place, c.next-next.ensures)) c.loop-place-test.true)
+    (c.take_in.ensures.watched h _ (c.loop-place.invariant h taken before) now)
+
 pub returns : goal.returns
-returns c = λ h taken is before stands.
+returns c = λ h taken before now.
     let history = c.args.history.now in
-    let place = c.next-place.result in
-    let end : c.take_run.result ≡ length history = same_of c.take_run.result (length history) is in
-    let l = length-drop place history in
-    let rest : take (c.take_run.result - place) (drop place history) ≡ drop c.args.self.now.verifier.kept.next history
-    = take_all (c.take_run.result - place) (drop place history) (omega (arith, end, l)) ∙ ap (λ n. drop n history) c.next-place.ensures in
-    subst (λ (xs : List Stamped). StandsAt h c.take_run.new.self.verifier (taken ++ xs)) rest (c.take_run.ensures.watched h taken before stands)
+    let next = c.args.self.now.verifier.kept.next in
+    let l = length-drop next history in
+    subst (λ (xs : List Stamped). StandsAt h c.loop-place.self.verifier (taken ++ xs))
+    (take_all (c.loop-place.place - next) (drop next history) (omega (arith, l, c.loop-place-test.false)))
+    (c.loop-place.invariant h taken before now)
