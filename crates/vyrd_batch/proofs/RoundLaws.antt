@@ -1,6 +1,6 @@
 -- A batch that is cut after some of its logs: it says these logs, and then what its rest says.
 use Rattle.std.proofs.Common.{◌≡◌, ℕ, zero, suc, ◌+◌, ◌-◌, ◌<◌, ◌≤◌, Bool, true, false, cond, List, [], ◌∷◌, ◌++◌, length, map, take, drop, Option, Some, None, Result, Ok, Err, refl, ap, ◌∙◌, sym, subst, arith, append_assoc, append-nil, length-append, length-take, inl, inr}
-use Rattle.std.specs.Prelude.{◌⊎◌, get_or}
+use Rattle.std.specs.Prelude.{◌⊎◌, get_or, is_some}
 use Rattle.std.specs.Str.{bytes_eq}
 use Rattle.std.proofs.lemmas.List.{take-append-drop, drop-append-le, take-append-le, drop-drop, map-append, length-map}
 use Rattle.std.proofs.lemmas.Slice.Eq.{bytes_eq-Decides}
@@ -11,7 +11,7 @@ use Rattle.vyrd_check.specs.Checking.{most_lines}
 use Rattle.vyrd_batch.specs.declared.span.Span.{Span}
 use Rattle.vyrd_batch.specs.Batches.{most_logs, logs_end_within, first_word, log_word, last_line, Cut, first_line, log_at, span_before, logs_from, batch_reading, bytes_of, logs_of, batch_logs, LiesWithin}
 use Rattle.vyrd_batch.specs.BatchAnswers.{verdicts_of}
-use Rattle.vyrd_batch.specs.Rounds.{logs_before, logs_on, IsCut, IsNoLog, AreJudged}
+use Rattle.vyrd_batch.specs.Rounds.{logs_before, logs_on, IsCut, IsNoLog, AreJudged, AreJudgedTo}
 use Rattle.vyrd_batch.proofs.LineFacts.{size_within, is_log}
 use Rattle.vyrd_batch.proofs.LogFacts.{all_more, at_line, logs_end, logs_full, reading_at, behind_first_line}
 use Rattle.vyrd_batch.proofs.TextLaws.{StandsAt, stands_at, log_bytes, next_bytes, one_line_word, cut_is}
@@ -195,60 +195,46 @@ cut_rest bytes rest next place taken span found is behind =
     let count : taken + (span.past - (place + taken)) ≡ span.past - place = omega (arith, s.first_is, s.past_is) in
     behind ∙ ap (drop (span.past - (place + taken))) is ∙ drop-drop (span.past - (place + taken)) taken bytes ∙ ap (λ n. drop n bytes) count
 
-pub judged_none : (verdicts : List Verdict) → verdicts ≡ [] → AreJudged [] verdicts 0 []
-judged_none verdicts none = record {
-  front = [];
-  logs = [];
-  input_is = refl;
-  place_is = refl;
-  verdicts_are = none;
-  none = λ e. refl;
-  goes_on = λ some. absurd (omega (arith, some));
-}
-
 -- more bytes come
-pub judged_more : (input rest more : List ℕ) (verdicts : List Verdict) (place : ℕ) → AreJudged input verdicts place rest
-    → AreJudged (input ++ more) verdicts place (rest ++ more)
-judged_more input rest more verdicts place j = record {
+pub judged_more : (input rest more : List ℕ) (verdicts : List Verdict) (place : Option ℕ) → AreJudgedTo place input verdicts rest
+    → AreJudgedTo place (input ++ more) verdicts (rest ++ more)
+judged_more input rest more verdicts None j = (ap (λ all. all ++ more) j.0, j.1)
+judged_more input rest more verdicts (Some place) j = record {
   front = j.front;
   logs = j.logs;
   input_is = ap (λ all. all ++ more) j.input_is ∙ append_assoc j.front rest more;
   place_is = j.place_is;
   verdicts_are = j.verdicts_are;
-  none = j.none;
-  goes_on = λ some later.
-      ap (λ bytes. batch_logs (j.front ++ bytes)) (append_assoc rest more later) ∙ j.goes_on some (more ++ later)
+  goes_on = λ later.
+      ap (λ bytes. batch_logs (j.front ++ bytes)) (append_assoc rest more later) ∙ j.goes_on (more ++ later)
       ∙ ap (λ bytes. logs_before j.logs (logs_on (j.front ++ bytes) (length j.logs) place bytes)) (sym (append_assoc rest more later));
 }
 
-none_long : (xs : List ℕ) → length xs ≡ 0 → xs ≡ []
-none_long [] e = refl
-none_long (x ∷ xs) e = absurd (omega (arith, e))
-
-unbegun_is : (input bytes : List ℕ) (verdicts : List Verdict) → AreJudged input verdicts 0 bytes → input ≡ bytes
-unbegun_is input bytes verdicts j = j.input_is ∙ ap (λ front. front ++ bytes) (none_long j.front j.place_is)
+-- the first line wasn't read yet
+pub none_there : (place : Option ℕ) → is_some place ≡ false → place ≡ None
+none_there None none = refl
+none_there (Some n) none = cc
 
 -- the first line was read
-pub judged_begun : (input bytes rest : List ℕ) (verdicts : List Verdict) → AreJudged input verdicts 0 bytes → bytes ≡ ended_line first_word ++ rest
+pub judged_begun : (input bytes rest : List ℕ) (verdicts : List Verdict) → AreJudgedTo None input verdicts bytes → bytes ≡ ended_line first_word ++ rest
     → AreJudged input verdicts 6 rest
 judged_begun input bytes rest verdicts j is = record {
   front = ended_line first_word;
   logs = [];
-  input_is = unbegun_is input bytes verdicts j ∙ is;
+  input_is = j.0 ∙ is;
   place_is = refl;
-  verdicts_are = j.verdicts_are ∙ ap verdicts_of (j.none refl);
-  none = λ e. refl;
-  goes_on = λ some more.
+  verdicts_are = j.1;
+  goes_on = λ more.
       let whole = ended_line first_word ++ (rest ++ more) in
       let read : batch_reading whole ≡ logs_from most_logs 0 6 (rest ++ more) = behind_first_line whole first_word (rest ++ more) refl refl refl in
       ap (logs_of whole) read ∙ none_first (logs_on whole 0 6 (rest ++ more));
 }
 
 -- more logs were judged
-pub judged_logs : (input bytes : List ℕ) (old new : List Verdict) (place taken : ℕ) (spans : List Span) → 0 < place → AreJudged input old place bytes
+pub judged_logs : (input bytes : List ℕ) (old new : List Verdict) (place taken : ℕ) (spans : List Span) → AreJudged input old place bytes
     → IsCut bytes (length old) place spans taken → new ≡ old ++ verdicts_of (map (bytes_of bytes) spans)
     → AreJudged input new (place + taken) (drop taken bytes)
-judged_logs input bytes old new place taken spans begun j cut grown = record {
+judged_logs input bytes old new place taken spans j cut grown = record {
   front = j.front ++ take taken bytes;
   logs = logs;
   input_is = j.input_is ∙ ap (λ bytes. j.front ++ bytes) (sym (take-append-drop taken bytes))
@@ -256,12 +242,11 @@ judged_logs input bytes old new place taken spans begun j cut grown = record {
   place_is = moved_len j.front bytes place taken j.place_is cut.within;
   verdicts_are = grown ∙ ap (λ verdicts. verdicts ++ verdicts_of here) j.verdicts_are
       ∙ sym (map-append (λ log. text_verdict most_lines log) j.logs here);
-  none = λ e. absurd (omega (arith, e));
-  goes_on = λ some more.
+  goes_on = λ more.
       let whole = j.front ++ (bytes ++ more) in
       let same : (j.front ++ take taken bytes) ++ (drop taken bytes ++ more) ≡ whole = moved j.front bytes more taken in
       let behind = logs_on whole (length old + length spans) (place + taken) (drop taken bytes ++ more) in
-      ap batch_logs same ∙ j.goes_on begun more
+      ap batch_logs same ∙ j.goes_on more
       ∙ ap (logs_before j.logs) (ap (λ n. logs_on whole n place (bytes ++ more)) (sym count) ∙ cut.goes_on j.front more j.place_is)
       ∙ logs_joined j.logs here behind
       ∙ (λ i. logs_before logs (logs_on (sym same i) (all i) (place + taken) (drop taken bytes ++ more)));
@@ -283,11 +268,11 @@ judged_logs input bytes old new place taken spans begun j cut grown = record {
 whole_is : (input rest : List ℕ) (verdicts : List Verdict) (place : ℕ) (j : AreJudged input verdicts place rest) → input ≡ j.front ++ (rest ++ [])
 whole_is input rest verdicts place j = j.input_is ∙ ap (λ rest. j.front ++ rest) (sym (append-nil rest))
 
-pub judged_all : (input rest : List ℕ) (verdicts : List Verdict) (place : ℕ) → 0 < place → AreJudged input verdicts place rest → rest ≡ last_line
+pub judged_all : (input rest : List ℕ) (verdicts : List Verdict) (place : ℕ) → AreJudged input verdicts place rest → rest ≡ last_line
     → (logs : List (List ℕ)) × (batch_logs input ≡ Ok logs) × (verdicts ≡ verdicts_of logs)
-judged_all input rest verdicts place begun j is = (
+judged_all input rest verdicts place j is = (
   j.logs,
-  ap batch_logs (whole_is input rest verdicts place j) ∙ j.goes_on begun []
+  ap batch_logs (whole_is input rest verdicts place j) ∙ j.goes_on []
       ∙ ap (λ r. logs_before j.logs (logs_of (j.front ++ (rest ++ [])) r))
       (logs_end (most_logs - length j.logs) (length j.logs) place (rest ++ []) (append-nil rest ∙ is))
       ∙ ap Ok (append-nil j.logs),
@@ -299,14 +284,14 @@ refused_from zero n place rest apart why = logs_full n place rest apart
 refused_from (suc k) n place rest apart (inl none) = absurd (omega (arith, none))
 refused_from (suc k) n place rest apart (inr none) = at_line k n place rest None apart none
 
-pub judged_refused : (input rest : List ℕ) (verdicts : List Verdict) (place : ℕ) → 0 < place → AreJudged input verdicts place rest
+pub judged_refused : (input rest : List ℕ) (verdicts : List Verdict) (place : ℕ) → AreJudged input verdicts place rest
     → (rest ≡ last_line → ⊥) → IsNoLog (length verdicts) place rest → batch_logs input ≡ Err (length verdicts)
-judged_refused input rest verdicts place begun j apart why =
+judged_refused input rest verdicts place j apart why =
     let n = length j.logs in
     let whole = j.front ++ (rest ++ []) in
     let same : rest ++ [] ≡ rest = append-nil rest in
     let full : (most_logs - n ≡ zero) ⊎ (log_at place rest ≡ None) = no_more why in
-    ap batch_logs (whole_is input rest verdicts place j) ∙ j.goes_on begun []
+    ap batch_logs (whole_is input rest verdicts place j) ∙ j.goes_on []
     ∙ ap (λ bytes. logs_before j.logs (logs_of whole (logs_from (most_logs - n) n place bytes))) same
     ∙ ap (λ r. logs_before j.logs (logs_of whole r)) (refused_from (most_logs - n) n place rest apart full)
     ∙ ap Err (sym count)
@@ -319,10 +304,10 @@ judged_refused input rest verdicts place begun j apart why =
     no_more (inr e) = inr e
 
 -- there is no first line
-pub judged_unbegun : (input bytes : List ℕ) (verdicts : List Verdict) → AreJudged input verdicts 0 bytes
+pub judged_unbegun : (input bytes : List ℕ) → input ≡ bytes
     → ((more : List ℕ) → bytes ≡ ended_line first_word ++ more → ⊥) → batch_logs input ≡ Err 0
-judged_unbegun input bytes verdicts j apart =
-    ap batch_logs (unbegun_is input bytes verdicts j) ∙ ap (logs_of bytes) (by_cut (first_line bytes) refl)
+judged_unbegun input bytes is apart =
+    ap batch_logs is ∙ ap (logs_of bytes) (by_cut (first_line bytes) refl)
   where
     by_word : (cut : Cut) → bytes ≡ cut.line ++ 10 ∷ cut.rest → (t : Bool) → bytes_eq cut.line first_word ≡ t
         → cond t (logs_from most_logs 0 (length cut.line + 1) cut.rest) (Err 0) ≡ Err 0

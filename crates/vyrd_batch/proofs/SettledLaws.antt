@@ -1,5 +1,6 @@
 -- Long inputs are settled.
 use Rattle.std.proofs.Common.{◌≡◌, ℕ, zero, suc, ◌+◌, ◌-◌, ◌<◌, ◌≤◌, Bool, true, false, cond, ◌&&◌, List, [], ◌∷◌, ◌++◌, length, drop, Option, Some, None, Result, Ok, Err, refl, ap, ◌∙◌, sym, arith, length-append, length-drop}
+use Rattle.std.proofs.lemmas.Option.{same_Some}
 use Rattle.std.specs.Prelude.{◌==◌, nat_le, option_map}
 use Rattle.std.specs.Str.{bytes_eq}
 use Rattle.std.proofs.lemmas.List.{drop-append-le}
@@ -15,22 +16,19 @@ pub record IsLonger (bytes more : List ℕ) (o all : Option Cut) : Type 0 where
   pub same : (cut : Cut) → o ≡ Some cut → all ≡ Some (record { line = cut.line; rest = cut.rest ++ more })
   pub other : o ≡ None → (cut : Cut) → all ≡ Some cut → length bytes ≤ length cut.line
 
-same_cut : (a b : Cut) → ◌≡◌ {A = Option Cut} (Some a) (Some b) → a ≡ b
-same_cut a b e = cc
-
 next_byte : (b : ℕ) (bytes more : List ℕ) (o all : Option Cut) → IsLonger bytes more o all
     → IsLonger (b ∷ bytes) more (option_map (longer b) o) (option_map (longer b) all)
 next_byte b bytes more None None is = record { same = λ cut e. cc; other = λ e cut f. cc }
 next_byte b bytes more None (Some whole) is = record {
   same = λ cut e. cc;
   other = λ e cut f.
-      let grown : longer b whole ≡ cut = same_cut (longer b whole) cut f in
+      let grown : longer b whole ≡ cut = same_Some (longer b whole) cut f in
       let len : length (longer b whole).line ≡ length cut.line = ap (λ c. length c.line) grown in
       omega (arith, is.other refl whole refl, len);
 }
 next_byte b bytes more (Some cut) all is = record {
   same = λ next e.
-      let grown : longer b cut ≡ next = same_cut (longer b cut) next e in
+      let grown : longer b cut ≡ next = same_Some (longer b cut) next e in
       ap (option_map (longer b)) (is.same cut refl) ∙ ap (λ c. Some (record { line = c.line; rest = c.rest ++ more })) grown;
   other = λ e next f. cc;
 }
@@ -44,7 +42,7 @@ first_longer (b ∷ bytes) more = by_test (b == 10) (first_longer bytes more)
         (cond t (Some (record { line = []; rest = bytes ++ more })) (option_map (longer b) (first_line (bytes ++ more))))
     by_test true is = record {
       same = λ cut e.
-          let at : record { line = []; rest = bytes } ≡ cut = same_cut (record { line = []; rest = bytes }) cut e in
+          let at : record { line = []; rest = bytes } ≡ cut = same_Some (record { line = []; rest = bytes }) cut e in
           ap (λ c. Some (record { line = c.line; rest = c.rest ++ more })) at;
       other = λ e cut f. cc;
     }
@@ -59,13 +57,13 @@ cut_len (b ∷ bytes) cut e = by_test (b == 10) (first_line bytes) (cut_len byte
         → cond t (Some (record { line = []; rest = bytes })) (option_map (longer b) o) ≡ Some cut
         → length (b ∷ bytes) ≡ length cut.line + 1 + length cut.rest
     by_test true o inner e =
-        let at : record { line = []; rest = bytes } ≡ cut = same_cut (record { line = []; rest = bytes }) cut e in
+        let at : record { line = []; rest = bytes } ≡ cut = same_Some (record { line = []; rest = bytes }) cut e in
         let line : 0 ≡ length cut.line = ap (λ c. length c.line) at in
         let rest : length bytes ≡ length cut.rest = ap (λ c. length c.rest) at in
         omega (arith, line, rest)
     by_test false None inner e = cc
     by_test false (Some one) inner e =
-        let at : longer b one ≡ cut = same_cut (longer b one) cut e in
+        let at : longer b one ≡ cut = same_Some (longer b one) cut e in
         let line : length one.line + 1 ≡ length cut.line = omega (arith, ap (λ c. length c.line) at) in
         let rest : length one.rest ≡ length cut.rest = ap (λ c. length c.rest) at in
         omega (arith, inner one refl, line, rest)
@@ -75,9 +73,6 @@ pub record IsNear (place len : ℕ) (span : Span) : Type 0 where
   pub later : place ≤ span.past
   pub near : span.past ≤ logs_end_within
   pub within : span.past ≤ place + len
-
-same_span : (a b : Span) → ◌≡◌ {A = Option Span} (Some a) (Some b) → a ≡ b
-same_span a b e = cc
 
 span_near : (place first : ℕ) (rest : List ℕ) (o : Option ℕ) (span : Span) → place ≤ first → span_of first rest o ≡ Some span
     → IsNear place (first - place + length rest) span
@@ -89,7 +84,7 @@ span_near place first rest (Some size) span low e = by_test (nat_le size (length
     by_test true is e =
         let fits : size ≤ length rest = at_most_of size (length rest) (first_true _ _ is) in
         let near : first + size ≤ logs_end_within = at_most_of (first + size) logs_end_within (second_true (nat_le size (length rest)) _ is) in
-        let past : first + size ≡ span.past = ap (λ s. s.past) (same_span (record { first = first; past = first + size }) span e) in
+        let past : first + size ≡ span.past = ap (λ s. s.past) (same_Some (record { first = first; past = first + size }) span e) in
         record { later = omega arith; near = omega arith; within = omega arith }
     by_test false is e = cc
 

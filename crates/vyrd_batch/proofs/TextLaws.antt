@@ -1,5 +1,6 @@
 -- What is read as a batch is the text of one, and is read as its logs.
 use Rattle.std.proofs.Common.{◌≡◌, ℕ, zero, suc, ◌+◌, ◌-◌, ◌≤◌, Bool, true, false, cond, ◌&&◌, List, [], ◌∷◌, ◌++◌, length, map, take, drop, Option, Some, None, Result, Ok, Err, refl, ap, ◌∙◌, sym, subst, arith, append_assoc, length-append, length-take}
+use Rattle.std.proofs.lemmas.Option.{same_Some}
 use Rattle.std.specs.Prelude.{◌==◌, nat_le, decimal, codes, option_map, flat_map, get_or}
 use Rattle.std.specs.Str.{bytes_eq}
 use Rattle.std.specs.List.{AllByRecursion}
@@ -16,14 +17,8 @@ use Rattle.vyrd_batch.specs.Batches.{most_logs, most_bytes, logs_end_within, fir
 use Rattle.vyrd_batch.proofs.LineFacts.{size_within, is_log}
 use Rattle.vyrd_batch.proofs.LogFacts.{logs_end, at_line, behind_first_line}
 
-same_cut : (a b : Cut) → ◌≡◌ {A = Option Cut} (Some a) (Some b) → a ≡ b
-same_cut a b e = cc
-
 same_size : (a b : ℕ) → ◌≡◌ {A = Option ℕ} (Some a) (Some b) → a ≡ b
 same_size a b e = cc
-
-same_span : (a b : Span) → ◌≡◌ {A = Option Span} (Some a) (Some b) → a ≡ b
-same_span a b e = cc
 
 -- bytes that were cut
 pub cut_is : (bytes : List ℕ) (cut : Cut) → first_line bytes ≡ Some cut → bytes ≡ cut.line ++ 10 ∷ cut.rest
@@ -34,10 +29,10 @@ cut_is (b ∷ bytes) cut e = by_test (b == 10) refl (first_line bytes) (cut_is b
         → cond t (Some (record { line = []; rest = bytes })) (option_map (longer b) o) ≡ Some cut
         → b ∷ bytes ≡ cut.line ++ 10 ∷ cut.rest
     by_test true is o inner e =
-        ap (λ x. x ∷ bytes) (same_of b 10 is) ∙ ap (λ c. c.line ++ 10 ∷ c.rest) (same_cut (record { line = []; rest = bytes }) cut e)
+        ap (λ x. x ∷ bytes) (same_of b 10 is) ∙ ap (λ c. c.line ++ 10 ∷ c.rest) (same_Some (record { line = []; rest = bytes }) cut e)
     by_test false is None inner e = cc
     by_test false is (Some one) inner e =
-        ap (λ bytes. b ∷ bytes) (inner one refl) ∙ ap (λ c. c.line ++ 10 ∷ c.rest) (same_cut (longer b one) cut e)
+        ap (λ bytes. b ∷ bytes) (inner one refl) ∙ ap (λ c. c.line ++ 10 ∷ c.rest) (same_Some (longer b one) cut e)
 
 -- a line that says a size
 pub record SaysSize (line : List ℕ) (size : ℕ) : Type 0 where
@@ -88,7 +83,7 @@ stands_at place bytes span e = by_cut (first_line bytes) (cut_is bytes) e
                 → cond t (Some (record { first = first; past = first + size })) None ≡ Some span → StandsAt place bytes span
             by_test true t e =
                 let said = says size refl in
-                let at : record { first = first; past = first + size } ≡ span = same_span (record { first = first; past = first + size }) span e in
+                let at : record { first = first; past = first + size } ≡ span = same_Some (record { first = first; past = first + size }) span e in
                 let begins : first ≡ span.first = ap (λ s. s.first) at in
                 let ends : first + size ≡ span.past = ap (λ s. s.past) at in
                 let len : length cut.line ≡ length (log_word size) = ap length said.is in

@@ -1,11 +1,10 @@
 -- A batch whose first logs are judged, while its rest is still to come.
-use Rattle.std.specs.Prelude.{◌≡◌, ◌⊎◌, ◌<◌, ◌≤◌, ◌-◌, ◌+◌, ℕ, List, [], ◌++◌, length, map, drop}
-use Rattle.std.specs.Prelude.{None, Result, Ok, Err}
+use Rattle.std.specs.Prelude.{◌≡◌, ◌⊎◌, ◌≤◌, ◌-◌, ◌+◌, ℕ, List, [], ◌++◌, length, map, drop}
+use Rattle.std.specs.Prelude.{Option, None, Some, Result, Ok, Err}
 use Rattle.std.specs.List.{AllByRecursion}
 use Rattle.vyrd_base.specs.declared.verdict.Verdict.{Verdict}
 use Rattle.vyrd_base.specs.Spelling.{ended_line}
 use Rattle.vyrd_batch.specs.declared.span.Span.{Span}
-use Rattle.vyrd_batch.specs.declared.rounds.BatchJudge.{BatchJudge}
 use Rattle.vyrd_batch.specs.Batches.{most_logs, logs_end_within, first_word, log_at, logs_from}
 use Rattle.vyrd_batch.specs.Batches.{bytes_of, logs_of, batch_logs, LiesWithin}
 use Rattle.vyrd_batch.specs.BatchAnswers.{verdicts_of}
@@ -36,9 +35,14 @@ pub record IsCut (bytes : List ℕ) (log place : ℕ) (spans : List Span) (taken
 abbrev pub IsNoLog : (log place : ℕ) → List ℕ → Type 0
 IsNoLog log place bytes = (log ≡ most_logs) ⊎ (log_at place bytes ≡ None)
 
+-- What contracts see of a batch that is judged while it is read: the verdicts about its first logs,
+-- and the place where the bytes begin that aren't judged, once the first line was read.
+pub record BatchView : Type 0 where
+  pub verdicts : List Verdict
+  pub place : Option ℕ
+
 -- These are the verdicts about the first logs of an input, and `rest` are its bytes from a place
--- on, after these logs. The place is 0 until the first line was read. However the input goes on,
--- its logs are these and then those of the rest.
+-- on, after these logs. However the input goes on, its logs are these and then those of the rest.
 pub record AreJudged (input : List ℕ) (verdicts : List Verdict) (place : ℕ)
     (rest : List ℕ) : Type 0 where
   pub front : List ℕ
@@ -46,16 +50,24 @@ pub record AreJudged (input : List ℕ) (verdicts : List Verdict) (place : ℕ)
   pub input_is : input ≡ front ++ rest
   pub place_is : length front ≡ place
   pub verdicts_are : verdicts ≡ verdicts_of logs
-  pub none : place ≡ 0 → logs ≡ []
-  pub goes_on : 0 < place → (more : List ℕ)
-      → batch_logs (front ++ (rest ++ more))
+  pub goes_on : (more : List ℕ) → batch_logs (front ++ (rest ++ more))
       ≡ logs_before logs (logs_on (front ++ (rest ++ more)) (length logs) place (rest ++ more))
 
--- the first logs of an input are judged, and these bytes of it are left
-abbrev pub IsJudged : List ℕ → BatchJudge → List ℕ → Type 0
-IsJudged input batch rest = AreJudged input batch.verdicts.items batch.place rest
+-- The verdicts up to a place, if the first line was read. Otherwise there is no verdict, and the
+-- whole input is left.
+abbrev pub AreJudgedTo : Option ℕ → List ℕ → List Verdict → List ℕ → Type 0
+AreJudgedTo None input verdicts rest = (input ≡ rest) × (verdicts ≡ [])
+AreJudgedTo (Some place) input verdicts rest = AreJudged input verdicts place rest
 
--- In what is left nothing more can be judged: there is no first line, or no log.
-pub record IsSpent (batch : BatchJudge) (rest : List ℕ) : Type 0 where
-  pub unbegun : batch.place ≡ 0 → (more : List ℕ) → rest ≡ ended_line first_word ++ more → ⊥
-  pub stuck : 0 < batch.place → IsNoLog (length batch.verdicts.items) batch.place rest
+-- the first logs of an input are judged, and these bytes of it are left
+abbrev pub IsJudged : List ℕ → BatchView → List ℕ → Type 0
+IsJudged input batch rest = AreJudgedTo batch.place input batch.verdicts rest
+
+-- no first line, or no log after that many
+abbrev pub IsNothingMore : Option ℕ → (log : ℕ) → List ℕ → Type 0
+IsNothingMore None log rest = (more : List ℕ) → rest ≡ ended_line first_word ++ more → ⊥
+IsNothingMore (Some place) log rest = IsNoLog log place rest
+
+-- in what is left nothing more can be judged
+abbrev pub IsSpent : BatchView → List ℕ → Type 0
+IsSpent batch rest = IsNothingMore batch.place (length batch.verdicts) rest

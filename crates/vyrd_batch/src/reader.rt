@@ -71,7 +71,7 @@ fn read_logs(alloc: Global, first: usize, bytes: &[u8]) -> Result<Vec<Span>, Bat
 
 /// The logs that some bytes begin with.
 pub(crate) struct Whole {
-    /// If their bytes stand, counted from the first of these bytes.
+    /// Where their bytes stand, counted from the first of these bytes.
     pub(crate) spans: Vec<Span>,
     /// How many bytes they take, their lines included.
     pub(crate) taken: usize,

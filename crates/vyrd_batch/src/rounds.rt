@@ -1,12 +1,12 @@
 //! A batch that is judged while it is read.
 
 ghost use Rattle.std.specs.Prelude.{◌≡◌, ◌≤◌, ◌++◌, length, drop, OnOk, OnErr};
-ghost use Rattle.vyrd_batch.specs.Batches.{most_logs, logs_end_within};
 
 use crate::fault::BatchFault;
 use crate::judging::judge_batch;
 use crate::reader::whole_logs;
 use std::alloc::{AllocError, Global};
+use std::marker::Model;
 use std::thread::Threads;
 use vyrd_base::Verdict;
 use vyrd_text::{after, is_word};
@@ -23,10 +23,21 @@ const FIRST_LINE: usize = 6;
 pub struct BatchJudge {
     alloc: Global,
     verdicts: Vec<Verdict>,
-    /// Where the bytes begin that aren't judged, counted from 0; 0 until the first line was read.
-    place: usize,
-    ghost few: { length verdicts.items ≤ most_logs },
-    ghost near: { place ≤ logs_end_within },
+    /// Where the bytes begin that aren't judged, counted from 0, once the first line was read.
+    place: Option<usize>,
+}
+
+impl Model for BatchJudge {
+    ghost use Rattle.std.specs.Prelude.{◌≤◌, length, IfSome};
+    ghost use Rattle.vyrd_batch.specs.Batches.{most_logs, logs_end_within};
+    ghost use Rattle.vyrd_batch.specs.Rounds.{BatchView};
+
+    ghost Value = { BatchView };
+
+    ghost view = { λ b. record { verdicts = b.verdicts.items; place = b.place } };
+
+    ghost invariant = { λ b. (length b.verdicts.items ≤ most_logs)
+        × IfSome b.place (λ place. place ≤ logs_end_within) };
 }
 
 impl Drop for BatchJudge {
@@ -41,8 +52,8 @@ impl Drop for BatchJudge {
 }
 
 impl BatchJudge {
-    ghost use Rattle.std.specs.Prelude.{◌<◌, ℕ, List, [], Ok, Err, IfOk, MatchOption};
-    ghost use Rattle.vyrd_batch.specs.Batches.{batch_logs};
+    ghost use Rattle.std.specs.Prelude.{ℕ, List, [], Ok, Err, None, Some, IfOk};
+    ghost use Rattle.vyrd_batch.specs.Batches.{batch_logs, most_logs};
     ghost use Rattle.vyrd_batch.specs.BatchAnswers.{verdicts_of};
     ghost use Rattle.vyrd_batch.specs.Rounds.{IsJudged, IsSpent};
     ghost use Rattle.vyrd_batch.specs.declared.fault.BatchFault.TheVariants.{Refused};
@@ -54,13 +65,13 @@ impl BatchJudge {
         BatchJudge {
             alloc,
             verdicts: Vec::new(alloc),
-            place: 0,
+            place: None,
         }
     }
 
     /// The verdicts about the logs that were judged, in their order.
     pub fn verdicts(&self) -> &[Verdict]
-        ensures items { result.now ≡ self.now.verdicts.items }
+        ensures items { result.now ≡ self.now.verdicts }
         ensures few { length result.now ≤ most_logs }
     {
         &self.verdicts
@@ -79,11 +90,12 @@ impl BatchJudge {
             → OnOk result (IsJudged input self.new bytes.new.items) }
         ensures spent { OnOk result (IsSpent self.new bytes.new.items) }
     {
-        let Some(first) = self.begin(bytes) else {
+        let first = self.begin(bytes);
+        let Some(place) = self.place else {
             return Ok(());
         };
         let (_, behind) = bytes.split_at(first);
-        let taken = self.judge_logs(rt, behind)?;
+        let taken = self.judge_logs(rt, place, behind)?;
         take_away(first + taken, bytes);
         Ok(())
     }
@@ -99,7 +111,7 @@ impl BatchJudge {
     ) -> Result<(), BatchFault>
         ensures verdicts { (input : List ℕ) → IsJudged input self.old bytes.old.items
             → OnOk result ((logs : List (List ℕ)) × (batch_logs input ≡ Ok logs)
-            × (self.new.verdicts.items ≡ verdicts_of logs)) }
+            × (self.new.verdicts ≡ verdicts_of logs)) }
         ensures refused { (input : List ℕ) (log : ℕ) → IsJudged input self.old bytes.old.items
             → result ≡ Err (Refused log)
             → batch_logs input ≡ Err log }
@@ -113,14 +125,14 @@ impl BatchJudge {
         requires { IsSpent self.now bytes.now }
         ensures verdicts { (input : List ℕ) → IsJudged input self.now bytes.now
             → OnOk result ((logs : List (List ℕ)) × (batch_logs input ≡ Ok logs)
-            × (self.now.verdicts.items ≡ verdicts_of logs)) }
+            × (self.now.verdicts ≡ verdicts_of logs)) }
         ensures refused { (input : List ℕ) (log : ℕ) → IsJudged input self.now bytes.now
             → result ≡ Err (Refused log)
             → batch_logs input ≡ Err log }
     {
-        if self.place == 0 {
+        let Some(_) = self.place else {
             return Err(BatchFault::Refused { log: 0 });
-        }
+        };
         if !is_word(bytes, b"end\n") {
             let log = self.verdicts.len() as u64;
             return Err(BatchFault::Refused { log });
@@ -128,37 +140,41 @@ impl BatchJudge {
         Ok(())
     }
 
-    /// Reads the first line, if that wasn't done. The answer is how many bytes it takes here; None
-    /// if it isn't there.
-    fn begin(&mut self, bytes: &[u8]) -> Option<usize>
-        ensures spent { MatchOption result (IsSpent self.new bytes.now)
-            (λ first. 0 < self.new.place) }
-        ensures within { MatchOption result (self.new ≡ self.old)
-            (λ first. first ≤ length bytes.now) }
+    /// Reads the first line, if it is there and wasn't read. The answer is how many bytes it takes
+    /// here.
+    fn begin(&mut self, bytes: &[u8]) -> usize
+        ensures within { result ≤ length bytes.now }
         ensures judged { (input : List ℕ) → IsJudged input self.old bytes.now
-            → MatchOption result (IsJudged input self.new bytes.now)
-            (λ first. IsJudged input self.new (drop first bytes.now)) }
+            → IsJudged input self.new (drop result bytes.now) }
+        ensures spent { self.new.place ≡ None → (result ≡ 0) × IsSpent self.new bytes.now }
     {
-        if self.place > 0 {
-            return Some(0);
+        if self.place.is_some() {
+            return 0;
         }
-        after(bytes, b"batch\n")?;
-        self.place = FIRST_LINE;
-        Some(FIRST_LINE)
+        let Some(_) = after(bytes, b"batch\n") else {
+            return 0;
+        };
+        self.place = Some(FIRST_LINE);
+        FIRST_LINE
     }
 
-    /// Judges the logs that are whole. The answer is how many bytes they take.
-    fn judge_logs<R: Threads + Sync>(&mut self, rt: &R, bytes: &[u8]) -> Result<usize, AllocError>
-        requires { 0 < self.old.place }
+    /// Judges the logs that are whole from this place on. The answer is how many bytes they take.
+    fn judge_logs<R: Threads + Sync>(
+        &mut self,
+        rt: &R,
+        place: usize,
+        bytes: &[u8],
+    ) -> Result<usize, AllocError>
+        requires { self.old.place ≡ Some place }
         ensures within { IfOk result (λ taken. taken ≤ length bytes.now) }
         ensures judged { (input : List ℕ) → IsJudged input self.old bytes.now
             → IfOk result (λ taken. IsJudged input self.new (drop taken bytes.now)) }
         ensures spent { IfOk result (λ taken. IsSpent self.new (drop taken bytes.now)) }
     {
-        let found = whole_logs(self.alloc, self.verdicts.len(), self.place, bytes)?;
+        let found = whole_logs(self.alloc, self.verdicts.len(), place, bytes)?;
         let verdicts = judge_batch(rt, self.alloc, bytes, &found.spans)?;
         append(&verdicts, &mut self.verdicts)?;
-        self.place += found.taken;
+        self.place = Some(place + found.taken);
         Ok(found.taken)
     }
 }

@@ -7,8 +7,7 @@ use Rattle.vyrd_batch.specs.Batches.{batch_logs}
 use Rattle.vyrd_batch.specs.BatchAnswers.{verdicts_of, batch_text, batch_status}
 use Rattle.vyrd_batch.specs.LongBatches.{longest_batch_input}
 use Rattle.vyrd_batch.proofs.SettledLaws.{logs_are_settled}
-use Rattle.vyrd_batch.specs.declared.rounds.BatchJudge.{BatchJudge}
-use Rattle.vyrd_batch.specs.Rounds.{IsJudged}
+use Rattle.vyrd_batch.specs.Rounds.{BatchView, IsJudged}
 use Rattle.vyrd_batch.proofs.RoundLaws.{judged_more}
 use Rattle.vyrd_program.specs.Inputs.{IsInputRead, IsMoreRead, IsFewTaken}
 use Rattle.vyrd_program.specs.declared.answer.Answer.{Answer}
@@ -26,7 +25,7 @@ logs_are_input before (Some left) bytes is =
     by_end (inr long) = sym (logs_are_settled bytes left (omega (arith, long)))
 
 -- nothing is read yet
-pub reading_none : (before : Option (List ℕ)) (judge : BatchJudge) (rest : List ℕ) → rest ≡ [] → IsJudged [] judge []
+pub reading_none : (before : Option (List ℕ)) (judge : BatchView) (rest : List ℕ) → rest ≡ [] → IsJudged [] judge []
     → IsReading before before judge rest 0
 reading_none before judge rest none fresh = record {
   taken = [];
@@ -36,17 +35,17 @@ reading_none before judge rest none fresh = record {
 }
 
 -- one more read
-pub reading_more : (before between after : Option (List ℕ)) (judge : BatchJudge) (old new : List ℕ) (count n most : ℕ)
+pub reading_more : (before between after : Option (List ℕ)) (judge : BatchView) (old new : List ℕ) (count n most : ℕ)
     → IsReading before between judge old count → IsMoreRead most between after old new n → IsReading before after judge new (count + n)
 reading_more before between after judge old new count n most r m = record {
   taken = r.taken ++ m.piece;
   told = taken_more before between after r.taken m.piece r.told m.told;
-  judged = subst (IsJudged (r.taken ++ m.piece) judge) (sym m.grown) (judged_more r.taken old m.piece judge.verdicts.items judge.place r.judged);
+  judged = subst (IsJudged (r.taken ++ m.piece) judge) (sym m.grown) (judged_more r.taken old m.piece judge.verdicts judge.place r.judged);
   many = omega (arith, length-append r.taken m.piece, r.many, m.many);
 }
 
 -- one more round
-pub reading_judged : (before now : Option (List ℕ)) (old new : BatchJudge) (bytes rest : List ℕ) (count : ℕ) → IsReading before now old bytes count
+pub reading_judged : (before now : Option (List ℕ)) (old new : BatchView) (bytes rest : List ℕ) (count : ℕ) → IsReading before now old bytes count
     → ((input : List ℕ) → IsJudged input old bytes → IsJudged input new rest) → IsReading before now new rest count
 reading_judged before now old new bytes rest count r judged = record {
   taken = r.taken;
@@ -55,12 +54,12 @@ reading_judged before now old new bytes rest count r judged = record {
   many = r.many;
 }
 
-pub few_read : (before now : Option (List ℕ)) (judge : BatchJudge) (rest : List ℕ) (count : ℕ) → IsReading before now judge rest count
+pub few_read : (before now : Option (List ℕ)) (judge : BatchView) (rest : List ℕ) (count : ℕ) → IsReading before now judge rest count
     → count ≤ longest_batch_input → IsFewTaken longest_batch_input before now
 few_read before now judge rest count r few = (r.taken, r.told, omega (arith, r.many, few))
 
 -- the input is read
-pub all_read : (before now : Option (List ℕ)) (judge : BatchJudge) (rest : List ℕ) (count : ℕ) → IsReading before now judge rest count
+pub all_read : (before now : Option (List ℕ)) (judge : BatchView) (rest : List ℕ) (count : ℕ) → IsReading before now judge rest count
     → IsAtEnd now ⊎ (count ≡ longest_batch_input) → count ≤ longest_batch_input → IsBatchRead before now judge rest
 all_read before now judge rest count r enough few = record {
   taken = r.taken;

@@ -3,14 +3,12 @@
 use Rattle.std.specs.Prelude.{◌≡◌, ◌≤◌, ◌⊎◌, ℕ, List, length, Option, Result, Ok, Err, IfSome}
 use Rattle.vyrd_batch.specs.Batches.{batch_logs}
 use Rattle.vyrd_batch.specs.BatchAnswers.{verdicts_of, batch_text, batch_status, refused_line}
-use Rattle.vyrd_batch.specs.declared.rounds.BatchJudge.{BatchJudge}
 use Rattle.vyrd_batch.specs.LongBatches.{longest_batch_input}
-use Rattle.vyrd_batch.specs.Rounds.{IsJudged}
+use Rattle.vyrd_batch.specs.Rounds.{BatchView, IsJudged}
 use Rattle.vyrd_program.specs.Inputs.{IsInputRead, IsTaken}
-use Rattle.vyrd_program.specs.Outputs.{Appends, AppendsFront}
 
 -- The first `count` bytes of an input were read, and its first logs judged. These bytes are left.
-pub record IsReading (before now : Option (List ℕ)) (judge : BatchJudge) (rest : List ℕ)
+pub record IsReading (before now : Option (List ℕ)) (judge : BatchView) (rest : List ℕ)
     (count : ℕ) : Type 0 where
   pub taken : List ℕ
   pub told : IsTaken before taken now
@@ -18,7 +16,7 @@ pub record IsReading (before now : Option (List ℕ)) (judge : BatchJudge) (rest
   pub many : length taken ≡ count
 
 -- An input was read as far as it is, and its first logs judged. These bytes are left.
-pub record IsBatchRead (before after : Option (List ℕ)) (judge : BatchJudge)
+pub record IsBatchRead (before after : Option (List ℕ)) (judge : BatchView)
     (rest : List ℕ) : Type 0 where
   pub taken : List ℕ
   pub read : IsInputRead longest_batch_input before after taken

@@ -1,13 +1,14 @@
-use Rattle.std.proofs.Common.{◌≡◌, drop, ap, subst, sym, arith}
-use Rattle.vyrd_batch.specs.Rounds.{AreJudged}
-use Rattle.vyrd_batch.proofs.RoundLaws.{judged_begun}
+use Rattle.std.proofs.Common.{◌≡◌, ◌∙◌, drop, None, ap, subst, sym}
+use Rattle.vyrd_batch.specs.Rounds.{AreJudged, AreJudgedTo, IsJudged}
+use Rattle.vyrd_batch.proofs.RoundLaws.{none_there, judged_begun}
 use Rattle.vyrd_batch.proofs.rounds.BatchJudge.begin.Goals as goal
 
 pub returns-clause-judged : goal.returns-clause-judged
 returns-clause-judged c = λ input j.
-    let verdicts = c.args.self.now.verdicts.items in
+    let s = c.self.inside in
+    let verdicts = s.verdicts.items in
     let bytes = c.args.bytes.now in
-    let rest = c.in_ok-after.field-0.now in
-    let zero : c.args.self.now.place ≡ 0 = omega (arith, c.if-self-gt0.false) in
-    subst (AreJudged input verdicts 6) (sym (ap (drop 6) c.in_ok-after.ensures))
-    (judged_begun input bytes rest verdicts (subst (λ place. AreJudged input verdicts place bytes) zero j) c.in_ok-after.ensures)
+    let none : s.place ≡ None = none_there s.place (sym c.is_some.ensures ∙ c.if-is_some.false) in
+    let before : AreJudgedTo s.place input verdicts bytes = subst (λ b. IsJudged input b bytes) (sym c.self.view_is) j in
+    subst (AreJudged input verdicts 6) (sym (ap (drop 6) c.in-Some.ensures))
+    (judged_begun input bytes c.in-Some.field-0.now verdicts (subst (λ place. AreJudgedTo place input verdicts bytes) none before) c.in-Some.ensures)

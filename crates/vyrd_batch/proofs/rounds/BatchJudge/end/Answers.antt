@@ -1,24 +1,34 @@
-use Rattle.std.proofs.Common.{◌≡◌, ◌<◌, true, false, Err, refl, ap, subst, ◌∙◌, arith}
-use Rattle.vyrd_batch.specs.Rounds.{AreJudged}
+use Rattle.std.proofs.Common.{◌≡◌, true, false, Err, length, refl, ap, subst, sym, ◌∙◌, arith}
+use Rattle.vyrd_batch.specs.Rounds.{AreJudgedTo, IsJudged, IsNothingMore, IsSpent}
 use Rattle.vyrd_batch.proofs.RoundLaws.{judged_all, judged_refused, judged_unbegun}
 use Rattle.vyrd_batch.proofs.rounds.BatchJudge.end.Goals as goal
 
-pub returns-then-self-eq0-clause-refused : goal.returns-then-self-eq0-clause-refused
-returns-then-self-eq0-clause-refused c = λ input log j is.
-    let verdicts = c.args.self.now.verdicts.items in
+pub returns-in_default-clause-refused : goal.returns-in_default-clause-refused
+returns-in_default-clause-refused c = λ input log j is.
+    let s = c.self.inside in
     let bytes = c.args.bytes.now in
-    let zero : c.args.self.now.place ≡ 0 = omega (arith, c.if-self-eq0.true) in
+    let judged : AreJudgedTo s.place input s.verdicts.items bytes = subst (λ b. IsJudged input b bytes) (sym c.self.view_is) j in
+    let spent : IsNothingMore s.place (length s.verdicts.items) bytes = subst (λ b. IsSpent b bytes) (sym c.self.view_is) c.requires in
     let same : 0 ≡ log = cc in
-    judged_unbegun input bytes verdicts (subst (λ place. AreJudged input verdicts place bytes) zero j) (c.requires.unbegun zero) ∙ ap Err same
+    judged_unbegun input bytes (subst (λ place. AreJudgedTo place input s.verdicts.items bytes) c.in_default.is judged).0
+    (subst (λ place. IsNothingMore place (length s.verdicts.items) bytes) c.in_default.is spent) ∙ ap Err same
 
 pub returns-then-not-is_word-clause-refused : goal.returns-then-not-is_word-clause-refused
 returns-then-not-is_word-clause-refused c = λ input log j is.
-    let begun : 0 < c.args.self.now.place = omega (arith, c.if-self-eq0.false) in
+    let s = c.self.inside in
+    let bytes = c.args.bytes.now in
+    let place = c.in-Some.field-0 in
+    let judged : AreJudgedTo s.place input s.verdicts.items bytes = subst (λ b. IsJudged input b bytes) (sym c.self.view_is) j in
+    let spent : IsNothingMore s.place (length s.verdicts.items) bytes = subst (λ b. IsSpent b bytes) (sym c.self.view_is) c.requires in
     let same : c.len-log.result ≡ log = cc in
-    judged_refused input c.args.bytes.now c.args.self.now.verdicts.items c.args.self.now.place begun j
-    (λ e. let x : false ≡ true = c.if-not-is_word.ensures.1 e in cc) (c.requires.stuck begun) ∙ ap Err (omega (arith, c.len-log.ensures, same))
+    judged_refused input bytes s.verdicts.items place (subst (λ place. AreJudgedTo place input s.verdicts.items bytes) c.in-Some.is judged)
+    (λ e. let x : false ≡ true = c.if-not-is_word.ensures.1 e in cc)
+    (subst (λ place. IsNothingMore place (length s.verdicts.items) bytes) c.in-Some.is spent) ∙ ap Err (omega (arith, c.len-log.ensures, same))
 
 pub returns-clause-verdicts : goal.returns-clause-verdicts
 returns-clause-verdicts c = λ input j.
-    judged_all input c.args.bytes.now c.args.self.now.verdicts.items c.args.self.now.place (omega (arith, c.if-self-eq0.false)) j
-    (c.if-not-is_word.ensures.0 refl)
+    let s = c.self.inside in
+    let bytes = c.args.bytes.now in
+    let judged : AreJudgedTo s.place input s.verdicts.items bytes = subst (λ b. IsJudged input b bytes) (sym c.self.view_is) j in
+    rw (← c.self.view_is) (judged_all input bytes s.verdicts.items c.in-Some.field-0
+    (subst (λ place. AreJudgedTo place input s.verdicts.items bytes) c.in-Some.is judged) (c.if-not-is_word.ensures.0 refl))
