@@ -1,5 +1,6 @@
 -- Single acts do right, if what follows them does.
-use Rattle.std.proofs.Common.{◌≡◌, ℕ, ◌<◌, inl, inr, Bool, true, false, List, [], ◌∷◌, Option, Some, None, refl, ap, ◌∙◌, sym, subst}
+use Rattle.std.proofs.Common.{◌≡◌, ℕ, ◌<◌, inl, inr, Bool, true, false, List, [], ◌∷◌, Some, None, refl, ap, ◌∙◌, sym, subst}
+use Rattle.std.proofs.lemmas.Option.{same_Some}
 use Rattle.std.specs.Prelude.{◌==◌, ◌||◌}
 use Rattle.std.specs.List.{list_any}
 use Rattle.vyrd_base.specs.declared.log.Kind.TheVariants.{Return, Commit, BlockOpen, BlockClose, BlockCommit}
@@ -94,11 +95,8 @@ returns_right S k shown committed called reply none answer = (
 pub mutates : (k : Locals) (called : Called) (reply : ℕ) → k.called ≡ Some called → is_observer called.method ≡ false
     → (c : Called) → k.called ≡ Some c → is_observer c.method ≡ true → k.answered ≡ Some reply
 mutates k called reply is mutator c is' observes =
-    let same : called ≡ c = some_same called c (sym is ∙ is') in
+    let same : called ≡ c = same_Some called c (sym is ∙ is') in
     absurd (never mutator (subst (λ x. is_observer x.method ≡ true) (sym same) observes))
-  where
-    some_same : (x y : Called) → ◌≡◌ {A = Option Called} (Some x) (Some y) → x ≡ y
-    some_same x y e = cc
 
 -- a commit outside a block
 pub lone_commit_right : (S : Structure) (locks : List ℕ) (k : Locals) (shown : Memory) (called : Called) (later : Script)

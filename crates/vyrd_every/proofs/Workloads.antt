@@ -34,7 +34,7 @@ use Rattle.vyrd_work.specs.WorkLimits.{KeepsLimits}
 use Rattle.vyrd_work.specs.WorkScripts.{procedure_in, ops_of, work_script, work_scripts}
 use Rattle.vyrd_work.proofs.ScriptLaws.{ops_are_few, ops_are_callable}
 use Rattle.vyrd_work.proofs.SoundScripts.{script_at, scripts_sound}
-use Rattle.vyrd_every.specs.Schedules.{IsCorrect, has_few_events, IsCorrectWithFewEvents, IsSchedule}
+use Rattle.vyrd_every.specs.Schedules.{IsCorrect, has_few_events, most_few_events, most_cache_events, IsCorrectWithFewEvents, IsSchedule}
 use Rattle.vyrd_every.specs.Structures.{Structure}
 use Rattle.vyrd_every.specs.Locals.{empty_locals}
 use Rattle.vyrd_every.specs.RightScripts.{DoesRight, IsRight, AreRight}
@@ -193,20 +193,20 @@ buffers_sum : (h : Header) (ops : List Op) → h.subject ≡ Buffers → bounds_
 buffers_sum h [] is = refl
 buffers_sum h (op ∷ ops) is = omega (arith, ap (λ s. bound_in s h.size op.method) is, buffers_sum h ops is)
 
-pub few_multiset_events : (w : Workload) (c : ℕ) → KeepsLimits w → w.header.subject ≡ Multiset → bounds_of w.header (ops_of c w.ops) ≤ 6400000
+pub few_multiset_events : (w : Workload) (c : ℕ) → KeepsLimits w → w.header.subject ≡ Multiset → bounds_of w.header (ops_of c w.ops) ≤ most_few_events
 few_multiset_events w c limits is = omega (arith, multiset_sum w.header (ops_of c w.ops) is, ops_are_few w c limits)
 
-pub few_cache_events : (w : Workload) (c : ℕ) → KeepsLimits w → w.header.subject ≡ Cache → bounds_of w.header (ops_of c w.ops) ≤ 3200000
+pub few_cache_events : (w : Workload) (c : ℕ) → KeepsLimits w → w.header.subject ≡ Cache → bounds_of w.header (ops_of c w.ops) ≤ most_cache_events
 few_cache_events w c limits is = omega (arith, cache_sum w.header (ops_of c w.ops) is, ops_are_few w c limits)
 
-pub few_buffer_events : (w : Workload) (c : ℕ) → KeepsLimits w → w.header.subject ≡ Buffers → bounds_of w.header (ops_of c w.ops) ≤ 6400000
+pub few_buffer_events : (w : Workload) (c : ℕ) → KeepsLimits w → w.header.subject ≡ Buffers → bounds_of w.header (ops_of c w.ops) ≤ most_few_events
 few_buffer_events w c limits is = omega (arith, buffers_sum w.header (ops_of c w.ops) is, ops_are_few w c limits)
 
 -- so 6,400,000 are enough for each of them
-pub few_events : (w : Workload) (c : ℕ) → KeepsLimits w → IsCorrectWithFewEvents w → bounds_of w.header (ops_of c w.ops) ≤ 6400000
+pub few_events : (w : Workload) (c : ℕ) → KeepsLimits w → IsCorrectWithFewEvents w → bounds_of w.header (ops_of c w.ops) ≤ most_few_events
 few_events w c limits is = by_subject w.header.subject refl is.few
   where
-    by_subject : (s : Subject) → w.header.subject ≡ s → has_few_events s ≡ true → bounds_of w.header (ops_of c w.ops) ≤ 6400000
+    by_subject : (s : Subject) → w.header.subject ≡ s → has_few_events s ≡ true → bounds_of w.header (ops_of c w.ops) ≤ most_few_events
     by_subject Multiset e few = few_multiset_events w c limits e
     by_subject Cache e few = let fewer = few_cache_events w c limits e in omega (arith, fewer)
     by_subject Tree e few = cc

@@ -1,5 +1,5 @@
 -- A schedule of a workload, and the workloads whose every schedule is accepted.
-use Rattle.std.specs.Prelude.{◌≡◌, Bool, true, false, List, [], None}
+use Rattle.std.specs.Prelude.{◌≡◌, ℕ, Bool, true, false, List, [], None}
 use Rattle.std.specs.List.{AllByRecursion}
 use Rattle.vyrd_base.specs.declared.subject.Subject.{Subject}
 use Rattle.vyrd_base.specs.declared.subject.Subject.TheVariants.{Multiset, Cache, Tree, Buffers}
@@ -33,6 +33,14 @@ has_few_events Multiset = true
 has_few_events Cache = true
 has_few_events Tree = false
 has_few_events Buffers = true
+
+-- The most events of a caller of such a structure: 200,000 operations with 32 events each, which
+-- are those of a multiset or of string buffers. An operation of a cache has half as many.
+abbrev pub most_few_events : ℕ
+most_few_events = 6400000
+
+abbrev pub most_cache_events : ℕ
+most_cache_events = 3200000
 
 -- the structure is one of those, in its correct variant
 pub record IsCorrectWithFewEvents (w : Workload) : Type 0 where

@@ -15,6 +15,7 @@ ghost use Rattle.vyrd_work.specs.Workloads.{Workload};
 ghost use Rattle.vyrd_work.specs.WorkLimits.{KeepsLimits};
 ghost use Rattle.vyrd_work.specs.WorkScripts.{ops_of, work_scripts};
 ghost use Rattle.vyrd_every.specs.Schedules.{HasNoFault, IsCorrect, IsSchedule};
+ghost use Rattle.vyrd_every.specs.Schedules.{most_cache_events, most_few_events};
 
 /// The log of every schedule of a correct structure is well formed, and no execution is open at its
 /// end.
@@ -55,9 +56,9 @@ pub fn turns_arent_stuck()
 /// and those of a caller of the cache half as many. A tree's walk is longer if the tree is larger.
 pub fn bounds_are_few()
     ensures of_multiset { (w : Workload) (c : ℕ) → KeepsLimits w → w.header.subject ≡ Multiset →
-        bounds_of w.header (ops_of c w.ops) ≤ 6400000 }
+        bounds_of w.header (ops_of c w.ops) ≤ most_few_events }
     ensures of_cache { (w : Workload) (c : ℕ) → KeepsLimits w → w.header.subject ≡ Cache →
-        bounds_of w.header (ops_of c w.ops) ≤ 3200000 }
+        bounds_of w.header (ops_of c w.ops) ≤ most_cache_events }
     ensures of_buffers { (w : Workload) (c : ℕ) → KeepsLimits w → w.header.subject ≡ Buffers →
-        bounds_of w.header (ops_of c w.ops) ≤ 6400000 }
+        bounds_of w.header (ops_of c w.ops) ≤ most_few_events }
 {}

@@ -11,7 +11,7 @@ ghost use Rattle.vyrd_memory.specs.Runs.{PlayToTheEnd};
 ghost use Rattle.vyrd_work.specs.Workloads.{workload_of};
 ghost use Rattle.vyrd_work.specs.WorkLimits.{KeepsLimits};
 ghost use Rattle.vyrd_work.specs.WorkScripts.{ops_of, work_scripts};
-ghost use Rattle.vyrd_every.specs.Schedules.{IsCorrect, IsCorrectWithFewEvents};
+ghost use Rattle.vyrd_every.specs.Schedules.{IsCorrect, IsCorrectWithFewEvents, most_few_events};
 ghost use Rattle.vyrd_live.specs.declared.run.LiveFault.TheVariants.{Memory};
 ghost use Rattle.vyrd_live.specs.Workers.{IsWorkerOf, HavePlayed};
 ghost use Rattle.vyrd_live.specs.LiveRuns.{AllHadRoom, IsCause, IsTooLow};
@@ -72,8 +72,8 @@ pub fn run_live<R: Threads + Wait + Sync, G: Gate>(
     ensures too_low { IfErr result (IsTooLow (workload_of work.now) limit) }
     ensures every_schedule { IsCorrect (workload_of work.now) →
         IfOk result (λ run. run.verdict ≡ accepted (log_of run.history.items)) }
-    ensures never_spent { IsCorrectWithFewEvents (workload_of work.now) → 6400000 ≤ limit →
-        IfErr result (λ fault. fault ≡ Memory) }
+    ensures never_spent { IsCorrectWithFewEvents (workload_of work.now) →
+        most_few_events ≤ limit → IfErr result (λ fault. fault ≡ Memory) }
 {
     let Ok(played) = play::<R, G, AnyMachine>(rt, alloc, work, limit, gate) else {
         return Err(LiveFault::Memory);

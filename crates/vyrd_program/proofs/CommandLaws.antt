@@ -1,5 +1,5 @@
 -- From what is made ready for words of a form to what is written. `said` is the form of the words, if they have one.
-use Rattle.std.proofs.Common.{◌≡◌, ℕ, ◌≤◌, List, [], length, Bool, true, false, Option, Some, None, refl, ap, ◌∙◌, sym, subst, arith, inl, inr}
+use Rattle.std.proofs.Common.{◌≡◌, ℕ, ◌≤◌, List, [], length, true, false, Option, Some, None, refl, ap, ◌∙◌, sym, subst, arith, inl, inr}
 use Rattle.std.specs.Prelude.{◌≢◌, ◌⊎◌}
 use Rattle.vyrd_check.specs.Checking.{most_lines}
 use Rattle.vyrd_live.specs.declared.run.Run.{Run}

@@ -4,6 +4,7 @@ use Rattle.std.specs.Prelude.{IfSome}
 use Rattle.vyrd_base.specs.declared.log.Entry.{Entry}
 use Rattle.vyrd_base.specs.Histories.{log_of}
 use Rattle.vyrd_base.specs.Verdicts.{accepted}
+use Rattle.vyrd_memory.specs.Bounds.{most_ops}
 use Rattle.vyrd_work.specs.Workloads.{Workload}
 use Rattle.vyrd_work.specs.WorkLimits.{KeepsLimits}
 use Rattle.vyrd_work.specs.WorkReading.{Refusal, work_reading}
@@ -91,7 +92,7 @@ generated_is : (n : ℕ) → IsCorrect (generated n)
 unfolding generated
 generated_is n = refl
 
-pub gen_is_accepted : (n status : ℕ) (text : List ℕ) (run : Option Run) → n ≤ 200000 → IsGenAnswer n status text run → status ≡ 0
+pub gen_is_accepted : (n status : ℕ) (text : List ℕ) (run : Option Run) → n ≤ most_ops → IsGenAnswer n status text run → status ≡ 0
 gen_is_accepted n status text None few answer = absurd (not_stuck (generated n) (generated_keeps n few) (generated_is n) answer.2)
 gen_is_accepted n status text (Some run) few answer =
     answer.0 ∙ turned_accepted (generated n) run (generated_keeps n few) (generated_is n) answer.2

@@ -1,6 +1,7 @@
 -- What is written about a correct structure accepts it. `said` is the form of the words, and `own` the status that was made ready.
-use Rattle.std.proofs.Common.{◌≡◌, ℕ, ◌≤◌, List, Option, Some, ◌∙◌, sym, subst, inl, inr}
+use Rattle.std.proofs.Common.{◌≡◌, ℕ, ◌≤◌, List, Option, Some, ◌∙◌, sym, subst, inr}
 use Rattle.std.specs.Prelude.{◌⊎◌}
+use Rattle.vyrd_memory.specs.Bounds.{most_ops}
 use Rattle.vyrd_live.specs.declared.run.Run.{Run}
 use Rattle.vyrd_live.specs.declared.run.Overrun.{Overrun}
 use Rattle.vyrd_program.specs.declared.form.Form.{Form}
@@ -55,7 +56,7 @@ run_has_room said form show input status own text run spent is known_is ready gi
 pub gen_written : (said : Option Form) (form : Form) (n : ℕ) (input : Option (List ℕ)) (status own : ℕ) (text : List ℕ) (run : Option Run)
     (spent : Option Overrun) → said ≡ Some form → said ≡ Some (asked.Gen n)
     → (IsAnswerStatus (Some form) own → IsAnswer (Some form) input own text run spent)
-    → (status ≡ 5) ⊎ (status ≡ own) → n ≤ 200000 → IsGenStatus status → status ≡ 0
+    → (status ≡ 5) ⊎ (status ≡ own) → n ≤ most_ops → IsGenStatus status → status ≡ 0
 gen_written said form n input status own text run spent is known_is ready given few answered =
     let same = gen_given status own answered given in
     same ∙ gen_is_accepted n own text run few

@@ -5,6 +5,7 @@ use Rattle.std.specs.Option.{option_and_then}
 use Rattle.std.specs.Str.{bytes_eq}
 use Rattle.std.specs.Borrow.{Bor}
 use Rattle.vyrd_base.specs.Lines.{number_of}
+use Rattle.vyrd_memory.specs.Bounds.{most_ops}
 use Rattle.vyrd_program.specs.declared.show.Show.{Show}
 use Rattle.vyrd_program.specs.declared.show.Show.TheVariants.{Verdict, Log, History}
 use Rattle.vyrd_program.specs.declared.form.Form.{Form}
@@ -21,7 +22,7 @@ one_word word = if bytes_eq word (codes "check") then Some Check
 -- whether a word is the one spelling of a number from 1 to 200,000
 abbrev pub is_count : List ℕ → Bool
 is_count word = bytes_eq (decimal (number_of word)) word && nat_le 1 (number_of word)
-    && nat_le (number_of word) 200000
+    && nat_le (number_of word) most_ops
 
 -- what an option asks for: `--log` or `--history`
 abbrev pub shown_by : List ℕ → Option Show

@@ -2,6 +2,7 @@
 
 ghost use Rattle.std.specs.Prelude.{◌≡◌, ◌≢◌, ◌≤◌, ◌⊎◌, ℕ, true, false, [], Some, None, IfSome};
 ghost use Rattle.vyrd_base.specs.Devices.{HasRisen};
+ghost use Rattle.vyrd_memory.specs.Bounds.{most_ops};
 ghost use Rattle.vyrd_program.specs.declared.form.Form.TheVariants.{Check, Gen};
 ghost use Rattle.vyrd_program.specs.Commands.{IsStatus, IsAnswerStatus, IsAnswer, reads, IsEnough};
 ghost use Rattle.vyrd_program.specs.Commands.{IsNoFurther};
@@ -31,7 +32,7 @@ pub(crate) fn carry_out<R: Threads + Wait + Sync, S: Source, G: Gate>(
 ) -> Answer
     requires other { form ≢ Check }
     requires some { (n : ℕ) → form ≡ Gen n → 1 ≤ n }
-    requires few { (n : ℕ) → form ≡ Gen n → n ≤ 200000 }
+    requires few { (n : ℕ) → form ≡ Gen n → n ≤ most_ops }
     ensures statuses { IsStatus (Some form) result.status }
     ensures unwritten { result.status ≢ 5 }
     ensures answer { IsAnswerStatus (Some form) result.status

@@ -2,6 +2,7 @@
 
 ghost use Rattle.std.specs.Prelude.{◌≡◌, ◌≤◌, ℕ, List, decimal, if◌then◌else◌, Some, None};
 ghost use Rattle.vyrd_base.specs.Lines.{number_of};
+ghost use Rattle.vyrd_memory.specs.Bounds.{most_ops};
 ghost use Rattle.vyrd_program.specs.declared.form.Form.TheVariants.{Gen};
 ghost use Rattle.vyrd_program.specs.Forms.{form_said, one_word, shown_by, shown_form, two_words};
 ghost use Rattle.vyrd_program.specs.Forms.{is_count};
@@ -35,7 +36,7 @@ pub enum Form {
 pub fn form_of(words: &[&str]) -> Option<Form>
     ensures form { result ≡ form_said words.now }
     ensures some { (n : ℕ) → result ≡ Some (Gen n) → 1 ≤ n }
-    ensures few { (n : ℕ) → result ≡ Some (Gen n) → n ≤ 200000 }
+    ensures few { (n : ℕ) → result ≡ Some (Gen n) → n ≤ most_ops }
 {
     match words {
         [word] => one_word(word),

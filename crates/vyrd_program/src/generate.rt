@@ -1,6 +1,7 @@
 //! What `gen` answers.
 
 ghost use Rattle.std.specs.Prelude.{◌≡◌, ◌≤◌, ◌⊎◌, [], None, IfOk, IfSome};
+ghost use Rattle.vyrd_memory.specs.Bounds.{most_ops};
 ghost use Rattle.vyrd_program.specs.Generated.{IsGenAnswer, IsGenStatus};
 ghost use Rattle.vyrd_program.specs.Steps.{NamesOnlyRaces};
 
@@ -15,7 +16,7 @@ use vyrd_work::{AnyMachine, generate};
 /// memory.
 pub fn answer_generated(alloc: Global, count: u32) -> Answer
     requires some { 1 ≤ count }
-    requires few { count ≤ 200000 }
+    requires few { count ≤ most_ops }
     ensures statuses { IsGenStatus result.status ⊎ (result.status ≡ 6) }
     ensures answer { IsGenStatus result.status
         → IsGenAnswer count result.status result.text.items result.run }
@@ -32,7 +33,7 @@ pub fn answer_generated(alloc: Global, count: u32) -> Answer
 /// The same, with an error if there is no memory.
 fn try_answer(alloc: Global, count: u32) -> Result<Answer, AllocError>
     requires some { 1 ≤ count }
-    requires few { count ≤ 200000 }
+    requires few { count ≤ most_ops }
     ensures answer { IfOk result
         (λ answer. IsGenAnswer count answer.status answer.text.items answer.run) }
     ensures races { IfOk result (λ answer. IfSome answer.run NamesOnlyRaces) }

@@ -1,5 +1,6 @@
 -- An ascent does right, where a new root does.
 use Rattle.std.proofs.Common.{◌≡◌, ◌≢◌, ℕ, ◌+◌, ◌<◌, ◌≤◌, ◌⊎◌, inr, Bool, true, false, List, [], ◌∷◌, ◌++◌, Option, Some, None, length, refl, ap, ◌∙◌, sym, subst, arith}
+use Rattle.std.proofs.lemmas.Option.{same_Some}
 use Rattle.std.specs.Prelude.{◌||◌}
 use Rattle.std.specs.List.{AllByRecursion as Each}
 use Rattle.vyrd_base.specs.declared.header.Header.{Header}
@@ -383,7 +384,7 @@ full_above h args k g m level key node n next ab full rounds =
                 within = λ inside goes same. cc;
                 taken = λ v mine. cc;
                 hung = λ v mine. subst (λ v. ((with_node c u new_key).linked v ≡ true) × Hangs (with_node c u new_key) end v × ((k.hanging ≡ Some v) ⊎ (c.linked v ≡ false)))
-                    (some_same u v mine) (w.hangs.0, w.hangs.1, inr (unseen_c.fresh u refl).0);
+                    (same_Some u v mine) (w.hangs.0, w.hangs.1, inr (unseen_c.fresh u refl).0);
                 leads = λ state shows.
                     split_state h.size c z end n u (front ++ (key, node) ∷ back) r'.tree is_c.linked (unseen_c.fresh u refl).0 (unseen_c.fresh u refl).1 sp ha
                     state state shows.formed shows (λ leaf q over. absurd (let e = is_c.level_is in omega (arith, leaf, e))) (λ q v linked leaf off over. refl);
@@ -419,9 +420,6 @@ full_above h args k g m level key node n next ab full rounds =
 
                 end : Memory
                 end = written (split_writes n u (level_at y n) (bound_at y n) (right_at y n) (length front) (front ++ (key, node) ∷ back)) z
-
-                some_same : (p q : ℕ) → ◌≡◌ {A = Option ℕ} (Some p) (Some q) → p ≡ q
-                some_same p q e = cc
 
                 inside : Situation
                 inside = holding (lock_of h n ∷ []) TrInsert true true
@@ -477,7 +475,7 @@ full_above h args k g m level key node n next ab full rounds =
                     (written (split_writes n u (level_at y n) (bound_at y n) (right_at y n) (length front) (front ++ (key, node) ∷ back)) z)
                 unseen_after = record {
                   fresh = λ v mine. cc;
-                  hanging = λ v mine. subst (λ v. ((with_node c u new_key).linked v ≡ true) × Hangs (with_node c u new_key) end v) (some_same u v mine) w.hangs;
+                  hanging = λ v mine. subst (λ v. ((with_node c u new_key).linked v ≡ true) × Hangs (with_node c u new_key) end v) (same_Some u v mine) w.hangs;
                   quiet = refl;
                 }
 

@@ -1,6 +1,6 @@
 -- What an insert does in the leaf of its key: another value for a key that is there, or an entry if
 -- there is room. What it does in a full leaf is taken from elsewhere.
-use Rattle.std.proofs.Common.{◌≡◌, ◌≢◌, ℕ, zero, suc, ◌+◌, ◌*◌, ◌<◌, ◌≤◌, ◌^◌, ◌⊎◌, inl, inr, Bool, true, false, cond, not, List, [], ◌∷◌, ◌++◌, Option, Some, None, length, refl, ap, ◌∙◌, sym, subst, arith}
+use Rattle.std.proofs.Common.{◌≡◌, ◌≢◌, ℕ, ◌+◌, ◌*◌, ◌<◌, ◌≤◌, ◌^◌, ◌⊎◌, inl, inr, Bool, true, false, cond, not, List, [], ◌∷◌, ◌++◌, Option, Some, None, length, refl, ap, ◌∙◌, sym, subst, arith}
 use Rattle.std.specs.Prelude.{nat_lt}
 use Rattle.std.specs.Bool.{then_some}
 use Rattle.std.specs.List.{AllByRecursion as Each}
@@ -14,7 +14,7 @@ use Rattle.vyrd_base.proofs.TestLaws.{is_below, isnt_below}
 use Rattle.vyrd_memory.specs.declared.act.Act.TheVariants.{Store, Mark}
 use Rattle.vyrd_memory.specs.declared.op.Variant.TheVariants.{Correct}
 use Rattle.vyrd_memory.specs.Alone.{Memory, with_cell}
-use Rattle.vyrd_memory.proofs.Memories.{changed_cell, other_cell}
+use Rattle.vyrd_memory.proofs.Memories.{other_cell}
 use Rattle.vyrd_memory.specs.Scripts.{Script, perform, returns, gives_up}
 use Rattle.vyrd_memory.specs.Soundness.{Situation}
 use Rattle.vyrd_memory.proofs.AloneLaws.{is_there, isnt_there}
@@ -25,7 +25,7 @@ use Rattle.vyrd_tree.specs.Procedures.Ascent.{ascend}
 use Rattle.vyrd_tree.specs.Procedures.{changes_nothing, place_of, replace_value, insert_new, insert_in, insert_entry}
 use Rattle.vyrd_tree.specs.Laws.Sound.Acts.{holding}
 use Rattle.vyrd_tree.specs.Laws.Alone.Counts.{le_or}
-use Rattle.vyrd_tree.specs.Contents.{level_at, count_at, bound_at, key_at, value_at, IsLeafEntry}
+use Rattle.vyrd_tree.specs.Contents.{level_at, count_at, bound_at, IsLeafEntry}
 use Rattle.vyrd_tree.specs.Contents.{entries_at, entries_from, Entries, gives}
 use Rattle.vyrd_tree.specs.Laws.Alone.Entries.{gives-append, gives_none, gives_one, entry_gives_it}
 use Rattle.vyrd_tree.specs.Laws.Alone.Entries.{entry_gives_none, between, IsBetween, found_around}
@@ -34,7 +34,7 @@ use Rattle.vyrd_tree.specs.Laws.Alone.EntriesStaySound.{length_join, entries_add
 use Rattle.vyrd_tree.specs.Laws.Alone.EntriesStaySound.{entries_replaced, gives_around}
 use Rattle.vyrd_tree.specs.Laws.Alone.EntriesStaySound.{with_entry_is, place_below_is}
 use Rattle.vyrd_tree.specs.Laws.Alone.Tested.{length-entries}
-use Rattle.vyrd_tree.specs.Laws.Alone.Changes.{entries_alike, Rewritten}
+use Rattle.vyrd_tree.specs.Laws.Alone.Changes.{Rewritten}
 use Rattle.vyrd_tree.specs.Laws.Alone.WalkArrives.{loaded_at}
 use Rattle.vyrd_tree.specs.Laws.Alone.Inserted.{value_stored}
 use Rattle.vyrd_every.specs.Locals.{written}

@@ -1,6 +1,7 @@
 -- What the operations of the tree do in the leaf of their key: lookups, deletes, and the commits of others that split no node.
 use Rattle.std.proofs.Common.{◌≡◌, ◌≢◌, ℕ, suc, ◌+◌, ◌-◌, ◌<◌, ◌≤◌, ◌^◌, ◌⊎◌, inl, inr, Bool, true, false, cond, not, List, [], ◌∷◌, ◌++◌, Option, Some, None, length, refl, ap, ◌∙◌, sym, subst, arith}
-use Rattle.std.specs.Prelude.{◌==◌, ◌||◌, drop, remove}
+use Rattle.std.proofs.lemmas.Option.{same_Some}
+use Rattle.std.specs.Prelude.{◌||◌, drop, remove}
 use Rattle.std.specs.Bool.{then_some}
 use Rattle.std.specs.List.{AllByRecursion as Each}
 use Rattle.vyrd_base.specs.declared.header.Header.{Header}
@@ -11,7 +12,7 @@ use Rattle.vyrd_base.specs.declared.log.Kind.TheVariants.{BlockOpen, BlockCommit
 use Rattle.vyrd_base.specs.Callers.{Called}
 use Rattle.vyrd_base.specs.Subjects.{is_observer}
 use Rattle.vyrd_base.specs.Amounts.{Amounts, amount_of, with_amount}
-use Rattle.vyrd_base.specs.Specification.{is_present, next_state, answer_in}
+use Rattle.vyrd_base.specs.Specification.{next_state, answer_in}
 use Rattle.vyrd_base.proofs.AmountLaws.{amount_of-with_amount, IsAmounts-with_amount}
 use Rattle.vyrd_base.proofs.TestLaws.{isnt_same}
 use Rattle.vyrd_memory.specs.declared.act.Act.TheVariants.{Store, Mark}
@@ -147,11 +148,8 @@ tree_returns h k g m committed called reply tree unseen bare answer = (
 pub tree_mutates : (k : TreeLocals) (called : Called) (reply : ℕ) → k.called ≡ Some called → is_observer called.method ≡ false
     → (c : Called) → k.called ≡ Some c → is_observer c.method ≡ true → k.answered ≡ Some reply
 tree_mutates k called reply is mutator c is' observes =
-    let same : called ≡ c = some_same called c (sym is ∙ is') in
+    let same : called ≡ c = same_Some called c (sym is ∙ is') in
     absurd (never mutator (subst (λ x. is_observer x.method ≡ true) (sym same) observes))
-  where
-    some_same : (x y : Called) → ◌≡◌ {A = Option Called} (Some x) (Some y) → x ≡ y
-    some_same x y e = cc
 
 -- with the leaf's lock held: commit, unlock it, and return 0
 pub nothing_right : (h : Header) (called : Called) (k : TreeLocals) (g : Shape) (m : Memory) (n : ℕ) → IsLinked h.size g m

@@ -1,5 +1,6 @@
 -- No lock is held by two callers.
 use Rattle.std.proofs.Common.{◌≡◌, ℕ, ◌+◌, Bool, true, false, cond, not, ◌||◌, List, [], ◌∷◌, refl, ◌∙◌, sym, subst, arith}
+use Rattle.std.proofs.lemmas.Bool.{or_right}
 use Rattle.std.specs.Prelude.{◌==◌, filter}
 use Rattle.std.specs.List.{list_any}
 use Rattle.std.proofs.lemmas.Bool.Decides.{nat_tests}
@@ -25,14 +26,10 @@ any_kept p q (x ∷ xs) e = by_test (any_kept p q xs) (q x) e
     more true y z f e = refl
     more false y z f e = f e
 
-    or_true : (a z : Bool) → z ≡ true → (a || z) ≡ true
-    or_true true z e = refl
-    or_true false z e = e
-
     by_test : (list_any p (filter q xs) ≡ true → list_any p xs ≡ true) → (b : Bool) → list_any p (cond b (x ∷ filter q xs) (filter q xs)) ≡ true
         → (p x || list_any p xs) ≡ true
     by_test later true f = more (p x) (list_any p (filter q xs)) (list_any p xs) later f
-    by_test later false f = or_true (p x) (list_any p xs) (later f)
+    by_test later false f = or_right (p x) (list_any p xs) (later f)
 
 -- what is held is a lock
 only_locks : (h : Header) (part : List Did) (lock : ℕ) → KeepsTo h part → holds (situation_after part) lock ≡ true → is_lock (cells_of h) lock ≡ true

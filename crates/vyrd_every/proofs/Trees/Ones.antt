@@ -3,7 +3,8 @@ use Rattle.std.proofs.Common.{◌≡◌, ◌≢◌, ℕ, ◌<◌, ◌≤◌, ◌
 use Rattle.std.specs.Prelude.{◌==◌, ◌&&◌, ◌||◌, is_some, is_none, unwrap_or}
 use Rattle.std.specs.Option.{option_or}
 use Rattle.std.specs.List.{cons_option}
-use Rattle.std.proofs.lemmas.Bool.{not-true}
+use Rattle.std.proofs.lemmas.Bool.{not-true, or_right}
+use Rattle.std.proofs.Math.Bool.{or-true}
 use Rattle.vyrd_base.specs.declared.header.Header.{Header}
 use Rattle.vyrd_base.specs.declared.log.Kind.TheVariants.{Call, Return, Write, Commit, BlockOpen, BlockClose, BlockCommit}
 use Rattle.vyrd_base.specs.declared.log.Entry.{Entry}
@@ -15,7 +16,7 @@ use Rattle.vyrd_base.specs.Callers.{by_caller, write_or_open, has_block, holds_w
 use Rattle.vyrd_base.specs.Words.{block_writes}
 use Rattle.vyrd_base.specs.Histories.{logged}
 use Rattle.vyrd_base.proofs.BlockLaws.{entry, wrote, wrote_is, own_block, own_wrote}
-use Rattle.vyrd_base.proofs.TestLaws.{first_true, second_true, same_of, same_number}
+use Rattle.vyrd_base.proofs.TestLaws.{second_true, same_of, same_number}
 use Rattle.vyrd_memory.specs.declared.act.Act.{Act}
 use Rattle.vyrd_memory.specs.declared.act.Act.TheVariants.{Load, Store, Take, Give, Mark, Done}
 use Rattle.vyrd_memory.specs.Alone.{Memory, with_cell}
@@ -123,11 +124,7 @@ pub alone_after : (h : Header) (s : Situation) (k : TreeLocals) (g : Shape) (m :
 alone_after h s k g m (Load cell) rest next g' does may out = does.alone out
 alone_after h s k g m (Store cell value) rest next g' does may out = does.alone out
 alone_after h s k g m (Take lock) rest next g' does may out =
-    let both = does.alone out in (or_true (lock == root_lock h) (holds s (root_lock h)) both.0, both.1)
-  where
-    or_true : (x y : Bool) → y ≡ true → (x || y) ≡ true
-    or_true true y f = refl
-    or_true false y f = f
+    let both = does.alone out in (or_right (lock == root_lock h) (holds s (root_lock h)) both.0, both.1)
 alone_after h s k g m (Give lock) rest next g' does may out = absurd (never does.reaches (does.alone out).1)
 alone_after h s k g m Done rest next g' does may out = absurd does.reaches
 alone_after h s k g m (Mark (Call method args)) rest next g' does may out =
@@ -189,11 +186,7 @@ store_holds h s k g m cell value rest next g' does tree inside = by_out next.out
 
             not_root : (r : Bool) → (cell == root_cell h) ≡ r → r ≡ false
             not_root false f = refl
-            not_root true f = absurd (never e (does.out ∙ ap (λ b. k.out || (b && cell == root_cell h)) inside ∙ ap (λ r. k.out || r) f ∙ or_true k.out))
-              where
-                or_true : (b : Bool) → (b || true) ≡ true
-                or_true true = refl
-                or_true false = refl
+            not_root true f = absurd (never e (does.out ∙ ap (λ b. k.out || (b && cell == root_cell h)) inside ∙ ap (λ r. k.out || r) f ∙ or-true k.out))
 
             same : seen_after h s k m (Store cell value) ≡ m
             same =
@@ -245,11 +238,7 @@ tree_covers h c (Read cell value) s k g m rest next g' log a b may does tree pen
 tree_covers h c (Took lock) s k g m rest next g' log a b may does tree pending covers w e =
     let inside = sym a.in_block ∙ (holds_parts (has_block c log) (wrote c w log) e).0 in
     earlier_holds h c s k g m (Take lock) rest next g' log w does may pending a.in_block inside inside
-    (λ other held. or_true (lock == other) (holds s other) held) (λ o e f. refl) (λ out. does.out ∙ ap (λ b. b || false) out) e (covers w e)
-  where
-    or_true : (x y : Bool) → y ≡ true → (x || y) ≡ true
-    or_true true y f = refl
-    or_true false y f = f
+    (λ other held. or_right (lock == other) (holds s other) held) (λ o e f. refl) (λ out. does.out ∙ ap (λ b. b || false) out) e (covers w e)
 tree_covers h c (Gave lock) s k g m rest next g' log a b may does tree pending covers w e =
     absurd (never (a.in_block ∙ does.reaches) (holds_parts (has_block c log) (wrote c w log) e).0)
 tree_covers h c (Wrote cell value) s k g m rest next g' log a b may does tree pending covers w e =
@@ -266,13 +255,9 @@ tree_covers h c (Wrote cell value) s k g m rest next g' log a b may does tree pe
         ap (λ b. cond b (cond (cell == root_cell h) (written ((cell, value) ∷ k.pending) m) m) (with_cell m cell value)) inside
         ∙ by_root (cell == root_cell h) refl
       where
-        or_true : (b : Bool) → (b || true) ≡ true
-        or_true true = refl
-        or_true false = refl
-
         by_root : (r : Bool) → (cell == root_cell h) ≡ r → cond (cell == root_cell h) (written ((cell, value) ∷ k.pending) m) m ≡ m
         by_root false e = ap (λ r. cond r (written ((cell, value) ∷ k.pending) m) m) e
-        by_root true e = absurd (never g (does.out ∙ ap (λ b. k.out || (b && cell == root_cell h)) inside ∙ ap (λ r. k.out || r) e ∙ or_true k.out))
+        by_root true e = absurd (never g (does.out ∙ ap (λ b. k.out || (b && cell == root_cell h)) inside ∙ ap (λ r. k.out || r) e ∙ or-true k.out))
 
     by_place : has_block c log ≡ true → (t : Bool) → (cell == w) ≡ t
         → unwrap_or (option_or (cond t (Some true) None) (first_answer (by_caller c (write_or_open w)) log)) false ≡ true

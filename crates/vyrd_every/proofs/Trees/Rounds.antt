@@ -6,7 +6,7 @@ use Rattle.vyrd_base.specs.declared.header.Header.{Header}
 use Rattle.vyrd_base.specs.declared.subject.Method.TheVariants.{TrInsert}
 use Rattle.vyrd_base.specs.declared.subject.Args.{Args}
 use Rattle.vyrd_base.specs.declared.log.Kind.TheVariants.{BlockClose}
-use Rattle.vyrd_base.proofs.TestLaws.{same_number, is_below, isnt_below}
+use Rattle.vyrd_base.proofs.TestLaws.{is_at_most, same_number, is_below, isnt_below}
 use Rattle.vyrd_memory.specs.declared.act.Act.TheVariants.{Load}
 use Rattle.vyrd_memory.specs.declared.op.Variant.TheVariants.{Correct}
 use Rattle.vyrd_memory.specs.Alone.{Memory}
@@ -30,9 +30,6 @@ use Rattle.vyrd_every.proofs.Trees.Walks.{Onward, walk_right}
 use Rattle.vyrd_every.proofs.Trees.Kept.{linked_low}
 use Rattle.vyrd_every.proofs.Trees.Fulls.{Ascending}
 use Rattle.vyrd_every.proofs.Trees.Ascents.{insert_of, ended_right, still_ascending, Above, room_right, RoundsRight, full_above}
-
-is_le : (a b : ℕ) → a ≤ b → nat_le a b ≡ true
-is_le a b le = grind (arith, nat_tests)
 
 isnt_le : (a b : ℕ) → b < a → nat_le a b ≡ false
 isnt_le a b lt = grind (arith, nat_tests)
@@ -135,7 +132,7 @@ round_right h args next growth rounds = record { right = begin }
                 root_level = ap (level_at z) is ∙ top_is
 
                 by_level : (top ≤ level) ⊎ (level < top) → Goal (nat_le top level)
-                by_level (inl low) = subst Goal (sym (is_le top level low))
+                by_level (inl low) = subst Goal (sym (is_at_most top level low))
                     (growth.right k c z level key node root tree unseen up is
                     (let high = tree.highest node (unseen.hanging node up.hanging).0 in let at = up.level_is in omega (arith, low, root_level, top_is, high, at)) calm)
                 by_level (inr above) = subst Goal (sym (isnt_le top level above))

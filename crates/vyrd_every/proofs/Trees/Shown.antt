@@ -2,6 +2,7 @@
 use Rattle.std.proofs.Common.{◌≡◌, ◌≢◌, ℕ, zero, suc, ◌+◌, ◌*◌, ◌<◌, ◌⊎◌, inl, inr, Bool, true, false, List, [], ◌∷◌, ◌++◌, map, min, refl, ap, ◌∙◌, sym, subst, arith}
 use Rattle.std.specs.Prelude.{◌==◌, ◌&&◌, ◌||◌, nat_le, flat_map, slice_index, is_some}
 use Rattle.std.specs.List.{list_any}
+use Rattle.vyrd_base.proofs.PlaceLaws.{map_alike_from}
 use Rattle.vyrd_base.specs.declared.header.Header.{Header}
 use Rattle.vyrd_base.specs.declared.subject.Subject.TheVariants.{Tree}
 use Rattle.vyrd_base.specs.declared.log.Entry.{Entry}
@@ -22,7 +23,7 @@ use Rattle.vyrd_memory.specs.Runs.{AreSoundScripts}
 use Rattle.vyrd_memory.proofs.Situations.{situation_after}
 use Rattle.vyrd_memory.proofs.Agreements.{agrees}
 use Rattle.vyrd_memory.proofs.LegalRuns.{IsRun}
-use Rattle.vyrd_memory.proofs.NumberLists.{element_below, map_alike}
+use Rattle.vyrd_memory.proofs.NumberLists.{element_below}
 use Rattle.vyrd_memory.proofs.PartSums.{collected-is}
 use Rattle.vyrd_tree.specs.Cells.{root_cell}
 use Rattle.vyrd_tree.specs.Laws.Alone.Counts.{zero_or}
@@ -50,7 +51,7 @@ same_parts : (words others : List ℕ) (n : ℕ) → ((i : ℕ) → i < 12 → s
     → node_parts others n ≡ node_parts words n
 same_parts words others n same =
     ap (λ many. flat_map entry_parts (map (λ j. (node_word others n (4 + j), node_word others n (8 + j))) (numbers_from 0 (min many 4)))) (same 1 (omega arith))
-    ∙ ap (flat_map entry_parts) (map_alike (λ j. (node_word others n (4 + j), node_word others n (8 + j)))
+    ∙ ap (flat_map entry_parts) (map_alike_from (λ j. (node_word others n (4 + j), node_word others n (8 + j)))
     (λ j. (node_word words n (4 + j), node_word words n (8 + j))) 0 (min (slice_index words (12 * n + 1)) 4)
     (λ j from to. let small : j < 4 = few j (slice_index words (12 * n + 1)) to in
     ap (λ key. (key, node_word others n (8 + j))) (same (4 + j) (omega (arith, small)))

@@ -6,7 +6,7 @@ use Rattle.std.proofs.lemmas.Bool.Decides.{nat_tests}
 use Rattle.vyrd_base.specs.declared.header.Header.{Header}
 use Rattle.vyrd_base.specs.declared.subject.Method.{Method}
 use Rattle.vyrd_base.specs.Amounts.{Amounts}
-use Rattle.vyrd_base.proofs.TestLaws.{same_of, same_number, isnt_same}
+use Rattle.vyrd_base.proofs.TestLaws.{is_at_most, same_of, same_number, isnt_same}
 use Rattle.vyrd_memory.specs.declared.act.Act.TheVariants.{Load, Store}
 use Rattle.vyrd_memory.specs.Alone.{Memory, with_cell}
 use Rattle.vyrd_memory.proofs.Memories.{changed_cell, other_cell}
@@ -129,9 +129,6 @@ rely_fresh h s k u ws g g' m m' none r = record {
     some_isnt : (n : ℕ) → ◌≡◌ {A = Option ℕ} None (Some n) → ⊥
     some_isnt n e = cc
 
-is_le : (a b : ℕ) → a ≤ b → nat_le a b ≡ true
-is_le a b le = grind (arith, nat_tests)
-
 isnt_le : (a b : ℕ) → b < a → nat_le a b ≡ false
 isnt_le a b le = grind (arith, nat_tests)
 
@@ -212,7 +209,7 @@ unused_right h method committed lock k g m none found below tree unseen bare at_
         Goal full = TreeRight h both k c z (cond full (unlock_used h none) (perform (Store (used_cell h) (used + 1)) (unlock_used h (found (used + 1)))))
 
         by_room : (h.size ≤ used + 1) ⊎ (used + 1 < h.size) → Goal (nat_le h.size (used + 1))
-        by_room (inl full) = subst Goal (sym (is_le h.size (used + 1) full))
+        by_room (inl full) = subst Goal (sym (is_at_most h.size (used + 1) full))
             (give k none c z r.tree unseen' (λ d w r'. at_none d w (tree_rely_more h s k g c d m z w r r')))
         by_room (inr room) = subst Goal (sym (isnt_le h.size (used + 1) room)) (
           taken,

@@ -1,6 +1,6 @@
 -- What the linked nodes show: the chain from node 0 visits each leaf once, so a key has the amount that the leaf of its range
 -- gives.
-use Rattle.std.proofs.Common.{◌≡◌, ◌≢◌, ℕ, zero, suc, ◌+◌, ◌*◌, ◌<◌, ◌≤◌, ◌⊎◌, inl, inr, Bool, true, false, List, [], ◌∷◌, map, min, refl, ap, ◌∙◌, sym, subst, arith}
+use Rattle.std.proofs.Common.{◌≡◌, ◌≢◌, ℕ, zero, suc, ◌+◌, ◌*◌, ◌<◌, ◌≤◌, ◌⊎◌, inl, inr, true, false, List, [], ◌∷◌, map, min, refl, ap, ◌∙◌, sym, subst, arith}
 use Rattle.std.specs.Prelude.{◌==◌, ◌||◌, nat_le, flat_map}
 use Rattle.std.specs.Prelude.{slice_index}
 use Rattle.std.specs.List.{list_any}
@@ -12,9 +12,8 @@ use Rattle.vyrd_base.specs.Layout.{plain_words, plain_words_of}
 use Rattle.vyrd_base.specs.Amounts.{Amounts, amount_of, collected, given}
 use Rattle.vyrd_base.specs.FirstVersion.{old_effects, old_value_after, old_words_after}
 use Rattle.vyrd_base.specs.Views.{view_of_words, parts_of}
-use Rattle.vyrd_base.specs.TreeView.{right_of, entry_parts, node_parts, damage, chain_parts_from, chain_parts}
-use Rattle.vyrd_base.proofs.SumLaws.{given-append}
-use Rattle.vyrd_base.proofs.TestLaws.{is_same, isnt_same, isnt_at_most}
+use Rattle.vyrd_base.specs.TreeView.{right_of, entry_parts, node_parts, chain_parts_from, chain_parts}
+use Rattle.vyrd_base.proofs.TestLaws.{isnt_same, isnt_at_most}
 use Rattle.vyrd_memory.specs.Alone.{Memory}
 use Rattle.vyrd_memory.proofs.NumberLists.{element_below}
 use Rattle.vyrd_memory.proofs.PartSums.{collected-is}
@@ -23,7 +22,7 @@ use Rattle.vyrd_tree.specs.Contents.{level_at, count_at, bound_at, Below, right_
 use Rattle.vyrd_tree.specs.Contents.{value_at, last_in, InRange, entries_at, Covers, gives}
 use Rattle.vyrd_tree.specs.Laws.Alone.Order.{after_of, after_falls, after_few}
 use Rattle.vyrd_tree.specs.Laws.Alone.Entries.{gives_none, each_more}
-use Rattle.vyrd_tree.specs.Laws.Alone.View.{chain_on, step_ends, step_on}
+use Rattle.vyrd_tree.specs.Laws.Alone.View.{step_ends, step_on}
 use Rattle.vyrd_every.specs.Structures.{shown_by}
 use Rattle.vyrd_every.specs.Trees.Shapes.{Shape, LeadsRight, IsLinked}
 use Rattle.vyrd_every.specs.Trees.States.{ShowsState}

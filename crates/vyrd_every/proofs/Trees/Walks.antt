@@ -13,7 +13,7 @@ use Rattle.vyrd_memory.specs.Scripts.{Script, step}
 use Rattle.vyrd_memory.specs.Soundness.{Situation, holds}
 use Rattle.vyrd_tree.specs.Cells.{level_cell, count_cell, bound_cell, right_cell, value_cell, lock_of, unlock_node}
 use Rattle.vyrd_tree.specs.Procedures.Walk.{Arrived, load_keys, load_values, is_past, child_place}
-use Rattle.vyrd_tree.specs.Procedures.Walk.{descend, arrive, pass_on, visit_node, walk_from}
+use Rattle.vyrd_tree.specs.Procedures.Walk.{pass_on, visit_node, walk_from}
 use Rattle.vyrd_tree.specs.Laws.Sound.Acts.{holding}
 use Rattle.vyrd_tree.specs.Laws.Alone.Counts.{passing, passing_less, passing_most, zero_or, le_or}
 use Rattle.vyrd_tree.specs.Contents.{level_at, count_at, bound_at, right_at, key_at, value_at}

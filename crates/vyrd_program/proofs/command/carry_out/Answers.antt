@@ -1,6 +1,5 @@
 -- What is answered to words of a form is what the form's own call answers.
-use Rattle.std.proofs.Common.{◌≡◌, sym, subst, refl, Some, false}
-use Rattle.vyrd_program.specs.declared.form.Form.{Form}
+use Rattle.std.proofs.Common.{sym, subst, refl, Some}
 use Rattle.vyrd_program.specs.declared.form.Form.TheVariants as asked
 use Rattle.vyrd_program.specs.Commands.{IsStatus, IsAnswerStatus, IsAnswer, IsEnough, IsNoFurther}
 use Rattle.vyrd_program.proofs.CommandLaws.{read_status, made_status, reads_on, plays_on, plays_live_on}

@@ -1,6 +1,5 @@
 -- What the call does under the form that the words have is what it does for the words.
 use Rattle.std.proofs.Common.{◌≡◌, ap, ◌∙◌, sym, subst, Some, false}
-use Rattle.vyrd_program.specs.declared.form.Form.{Form}
 use Rattle.vyrd_program.specs.declared.form.Form.TheVariants as asked
 use Rattle.vyrd_program.specs.Forms.{form_said}
 use Rattle.vyrd_program.specs.Commands.{reads, IsEnough, IsNoFurther}
