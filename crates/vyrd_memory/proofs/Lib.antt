@@ -8,6 +8,7 @@ pub mod Small
 mod BoundSums
 mod PlayLaws
 mod PlayedLaws
+mod ShownLaws
 mod RunLaws
 pub mod Situations
 pub mod LegalEvents

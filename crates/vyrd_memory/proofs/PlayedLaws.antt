@@ -1,13 +1,14 @@
 -- Turns that have been played, one after the other.
-use Rattle.std.proofs.Common.{◌≡◌, ℕ, zero, suc, ◌+◌, ◌<◌, List, [], ◌∷◌, ◌++◌, replicate, take, refl, ap, ◌∙◌, sym, arith, append-nil}
+use Rattle.std.proofs.Common.{◌≡◌, ℕ, zero, suc, ◌+◌, ◌<◌, ◌≤◌, List, [], ◌∷◌, ◌++◌, replicate, take, Option, Some, None, refl, ap, ◌∙◌, sym, arith, append-nil}
 use Rattle.std.specs.Prelude.{length, get_or}
 use Rattle.vyrd_base.specs.declared.header.Header.{Header}
 use Rattle.vyrd_base.specs.declared.history.Stamped.{Stamped}
 use Rattle.vyrd_base.specs.Places.{newest_first, numbers_below}
-use Rattle.vyrd_base.proofs.PlaceLaws.{numbers_below-push}
+use Rattle.vyrd_base.specs.declared.history.Did.{Did}
+use Rattle.vyrd_base.proofs.PlaceLaws.{numbers_below-push, length-newest_first}
 use Rattle.vyrd_memory.specs.declared.op.Turn.{Turn}
 use Rattle.vyrd_memory.specs.Scripts.{Script}
-use Rattle.vyrd_memory.specs.Turns.{after_turn, after_turns, turns_of}
+use Rattle.vyrd_memory.specs.Turns.{act_of, event_now, with_event, after_turn, after_turns, turns_of}
 use Rattle.vyrd_memory.specs.Playing.{HasPlayed, HaveComeToRest, Scene, rounds_over}
 
 pub after_turns-append : (scripts : List Script) (xs ys : List ℕ) (earlier : List Stamped)
@@ -71,15 +72,47 @@ one_round_more h header_of script a b c rounds first second =
     (rounds_over (length a.machines) (rounds + 1)) a b c first second
     (rounds_more (length a.machines) rounds ∙ ap (λ n. rounds_over (length a.machines) rounds ++ numbers_below n) (sym first.count))
 
+-- a history only grows, by one event in a turn at most
+turn_grows : (scripts : List Script) (c : ℕ) (earlier : List Stamped) → length earlier ≤ length (after_turn scripts c earlier)
+turn_grows scripts c earlier = by_event (event_now earlier (act_of scripts c earlier))
+  where
+    by_event : (o : Option Did) → length earlier ≤ length (with_event c earlier o)
+    by_event None = omega arith
+    by_event (Some did) = omega arith
+
+pub turns_grow : (scripts : List Script) (callers : List ℕ) (earlier : List Stamped) → length earlier ≤ length (after_turns scripts callers earlier)
+turns_grow scripts [] earlier = omega arith
+turns_grow scripts (c ∷ callers) earlier = omega (arith, turn_grows scripts c earlier, turns_grow scripts callers (after_turn scripts c earlier))
+
+-- turns after which the history is as long as before have no event
+unmoved : (scripts : List Script) (callers : List ℕ) (earlier : List Stamped) → length (after_turns scripts callers earlier) ≡ length earlier
+    → after_turns scripts callers earlier ≡ earlier
+unmoved scripts [] earlier same = refl
+unmoved scripts (c ∷ callers) earlier same = by_event (event_now earlier (act_of scripts c earlier)) refl (unmoved scripts callers earlier)
+  where
+    by_event : (o : Option Did) → event_now earlier (act_of scripts c earlier) ≡ o
+        → (length (after_turns scripts callers earlier) ≡ length earlier → after_turns scripts callers earlier ≡ earlier)
+        → after_turns scripts (c ∷ callers) earlier ≡ earlier
+    by_event None e others =
+        let here : after_turn scripts c earlier ≡ earlier = ap (with_event c earlier) e in
+        ap (after_turns scripts callers) here ∙ others (ap (λ xs. length (after_turns scripts callers xs)) (sym here) ∙ same)
+    by_event (Some did) e others =
+        let longer : length (after_turn scripts c earlier) ≡ suc (length earlier) = ap (λ o. length (with_event c earlier o)) e in
+        absurd (omega (arith, turns_grow scripts callers (after_turn scripts c earlier), longer, same))
+
 -- a round without an event is the last
 pub come_to_rest : {M : Type 0} (h : Header) (header_of : M → Header) (script : M → Script) (a b c : Scene M) (rounds : ℕ)
     → HasPlayed h header_of script (rounds_over (length a.machines) rounds) a b → HasPlayed h header_of script (numbers_below (length b.machines)) b c
-    → c.history ≡ b.history → HaveComeToRest h header_of script a c
+    → length c.history ≡ length b.history → HaveComeToRest h header_of script a c
 come_to_rest h header_of script a b c rounds first second same = record {
   rounds = rounds + 1;
   played = one_round_more h header_of script a b c rounds first second;
   still = λ scripts is.
+      let callers = numbers_below (length b.machines) in
+      let played = second.history scripts (first.plays scripts is) in
+      let kept : length (after_turns scripts callers (newest_first b.history)) ≡ length (newest_first b.history) =
+      ap length (sym played) ∙ length-newest_first c.history ∙ same ∙ sym (length-newest_first b.history) in
       ap (λ n. after_turns scripts (numbers_below n) (newest_first c.history)) (sym first.count)
-      ∙ ap (λ history. after_turns scripts (numbers_below (length b.machines)) (newest_first history)) same
-      ∙ sym (second.history scripts (first.plays scripts is));
+      ∙ ap (after_turns scripts callers) (played ∙ unmoved scripts callers (newest_first b.history) kept)
+      ∙ sym played;
 }

@@ -1,5 +1,5 @@
 -- The whole run by turns: how it begins, and where it ends.
-use Rattle.std.proofs.Common.{◌≡◌, ℕ, zero, suc, ◌+◌, ◌<◌, ◌≤◌, ◌^◌, Bool, true, false, cond, not, ◌&&◌, ◌||◌, List, [], ◌∷◌, map, replicate, Option, Some, None}
+use Rattle.std.proofs.Common.{◌≡◌, ℕ, zero, suc, ◌+◌, ◌<◌, ◌^◌, Bool, true, false, cond, not, ◌&&◌, ◌||◌, List, [], ◌∷◌, map, replicate, Option, Some, None}
 use Rattle.std.proofs.Common.{option_map, refl, ap, ◌∙◌, sym, subst, arith}
 use Rattle.std.specs.Prelude.{◌==◌, length, slice_get, slice_index, All}
 use Rattle.std.specs.List.{list_all}
@@ -22,7 +22,7 @@ use Rattle.vyrd_memory.specs.Turns.{script_of, part_of, act_of, event_now, with_
 use Rattle.vyrd_memory.specs.Turns.{is_held_up, are_stuck, RunsTo, GetsStuck}
 use Rattle.vyrd_memory.specs.Playing.{IsReady, IsPlaying, HasPlayed, HaveComeToRest, Scene, memory_after, rounds_over}
 use Rattle.vyrd_memory.proofs.PlayLaws.{act_is}
-use Rattle.vyrd_memory.proofs.PlayedLaws.{after_turns-append}
+use Rattle.vyrd_memory.proofs.PlayedLaws.{after_turns-append, turns_grow}
 
 -- rounds as turns
 rounds_are : (scripts : List Script) (rounds : ℕ) (earlier : List Stamped)
@@ -50,18 +50,6 @@ done_is h script scripts machines words history playing =
     (λ i m is. let e : 0 + i ≡ i = omega arith in ap is_done (sym (act_is h script scripts machines words history i m playing is))
     ∙ ap (λ i. is_done (act_of scripts i (newest_first history))) (sym e))
     ∙ ap (λ n. list_all (λ c. is_done (act_of scripts c (newest_first history))) (numbers_below n)) playing.count
-
--- a history only grows
-turn_grows : (scripts : List Script) (c : ℕ) (earlier : List Stamped) → length earlier ≤ length (after_turn scripts c earlier)
-turn_grows scripts c earlier = by_event (event_now earlier (act_of scripts c earlier))
-  where
-    by_event : (o : Option Did) → length earlier ≤ length (with_event c earlier o)
-    by_event None = omega arith
-    by_event (Some did) = omega arith
-
-turns_grow : (scripts : List Script) (callers : List ℕ) (earlier : List Stamped) → length earlier ≤ length (after_turns scripts callers earlier)
-turns_grow scripts [] earlier = omega arith
-turns_grow scripts (c ∷ callers) earlier = omega (arith, turn_grows scripts c earlier, turns_grow scripts callers (after_turn scripts c earlier))
 
 -- turns that leave the history as it is have no event
 no_event : (scripts : List Script) (c : ℕ) (callers : List ℕ) (earlier : List Stamped) → after_turns scripts (c ∷ callers) earlier ≡ earlier

@@ -19,6 +19,11 @@ most_ops = 200000
 abbrev pub most_op_events : ℕ
 most_op_events = 279208
 
+-- the most events that a caller may have before it: those of all its operations, and of the one
+-- under way
+abbrev pub most_ahead : ℕ
+most_ahead = (most_ops + 1) * most_op_events
+
 -- A walk through a tree of n nodes visits each node once at most. An insert walks once, and once
 -- more in each of the 16 rounds in which the tree may grow upwards.
 abbrev pub tree_bound : ℕ → Method → ℕ

@@ -7,6 +7,7 @@ pub mod Turns
 pub mod Underway
 pub mod Players
 pub mod Playing
+pub mod Showing
 pub mod Runs
 pub mod LaneRules
 pub mod Visits

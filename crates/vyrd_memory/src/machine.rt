@@ -9,7 +9,7 @@ ghost use Rattle.vyrd_memory.specs.declared.act.Act.TheVariants.{Mark, Done};
 ghost use Rattle.vyrd_memory.specs.Scripts.{Script, stop, next_act, after_answer, is_between};
 ghost use Rattle.vyrd_memory.specs.Scripts.{IsAnswer};
 ghost use Rattle.vyrd_memory.specs.Soundness.{IsSoundSomewhere};
-ghost use Rattle.vyrd_memory.specs.Bounds.{bound_of, EndsWithin, SumsUp, is_return};
+ghost use Rattle.vyrd_memory.specs.Bounds.{bound_of, EndsWithin, SumsUp, is_return, most_ahead};
 
 use crate::act::Act;
 
@@ -83,6 +83,9 @@ pub trait Machine: Drop {
     // After its return no operation is under way.
     ghost rests: { (m : Self) → is_return (next_act (script m)) ≡ true
         → is_between (after_answer (script m) 0) ≡ true };
+
+    // What is ahead is limited, as the operations are.
+    ghost few: { (m : Self) → ahead m ≤ most_ahead };
 
     // At the end there is nothing ahead.
     ghost done: { (m : Self) → script m ≡ stop → ahead m ≡ 0 };

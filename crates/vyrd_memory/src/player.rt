@@ -112,7 +112,7 @@ impl<P: Progress> Machine for Player<P> {
     ghost use Rattle.vyrd_memory.specs.Laws.Player.{callable_method, callable_args, callable_small};
     ghost use Rattle.vyrd_memory.specs.Laws.Player.{player_sound, player_in_time, player_bound};
     ghost use Rattle.vyrd_memory.specs.Laws.Player.{player_sums, player_within, player_rests};
-    ghost use Rattle.vyrd_memory.specs.Laws.Player.{player_done};
+    ghost use Rattle.vyrd_memory.specs.Laws.Player.{player_done, player_few};
 
     ghost header_of = { λ m. m.underway.header };
 
@@ -167,6 +167,8 @@ impl<P: Progress> Machine for Player<P> {
     ghost rests = { λ m. player_rests m.underway.header m.underway.left (P.rest m.underway.header)
         m.underway.progress (P.procedure m.underway.header m.variant) (drop m.begun m.ops.items)
         m.underway.goes_on };
+
+    ghost few = { λ m. player_few m.underway.left m.later m.underway.small m.small };
 
     ghost done = { λ m. player_done m.underway.header m.underway.left m.later
         (P.rest m.underway.header) m.underway.progress (P.procedure m.underway.header m.variant)

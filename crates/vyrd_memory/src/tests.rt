@@ -5,7 +5,7 @@ ghost use Rattle.std.specs.Prelude.{◌≡◌, ◌<◌, ◌≤◌, All, IfSome, 
 ghost use Rattle.vyrd_memory.specs.Visits.{visited, visit, listed, ahead_after};
 ghost use Rattle.vyrd_memory.specs.Laws.Visits.{visit_is_sound, visit_ends, visit_bound};
 ghost use Rattle.vyrd_memory.specs.Laws.Visits.{visit_sums, visit_is_ahead, visit_rests};
-ghost use Rattle.vyrd_memory.specs.Laws.Visits.{visit_done};
+ghost use Rattle.vyrd_memory.specs.Laws.Visits.{visit_done, visit_few};
 
 use crate::{Act, Machine, Ran, StepFault, Turn, run_turns};
 use std::alloc::Global;
@@ -89,6 +89,8 @@ impl Machine for Visitor {
     ghost op_is_ahead = { λ m. visit_is_ahead m.done };
 
     ghost rests = { λ m. visit_rests m.crosses m.done };
+
+    ghost few = { λ m. visit_few m.done };
 
     ghost done = { λ m. visit_done m.crosses m.done };
 }

@@ -1,17 +1,20 @@
 //! The run by turns: machines over plain memory, one event at a time.
 
-ghost use Rattle.std.specs.Prelude.{◌≡◌, ◌<◌, ◌≤◌, ◌+◌, true, false, IfOk, MatchOption, Ok, Err};
-ghost use Rattle.std.specs.Prelude.{All, [], ◌∷◌, length, vec_len, map, replicate, Some};
+ghost use Rattle.std.specs.Prelude.{◌≡◌, ◌<◌, ◌≤◌, ◌+◌, ◌^◌, true, false, IfOk, MatchOption, Ok, Err};
+ghost use Rattle.std.specs.Prelude.{All, [], ◌∷◌, ℕ, List, length, vec_len, map, replicate, Some};
 ghost use Rattle.std.specs.List.{list_all};
 ghost use Rattle.vyrd_base.specs.Places.{newest_first, numbers_below};
 ghost use Rattle.vyrd_base.specs.Layout.{plain_words, lock_words};
 ghost use Rattle.vyrd_memory.specs.declared.turns.StepFault.TheVariants.{Stuck};
 ghost use Rattle.vyrd_memory.specs.Scripts.{next_act, answer_of};
 ghost use Rattle.vyrd_memory.specs.Turns.{turns_of, is_done, RunsTo, GetsStuck};
+ghost use Rattle.vyrd_base.specs.declared.history.Stamped.{Stamped};
 ghost use Rattle.vyrd_memory.specs.Playing.{event_in, words_after_event, IsWithin, IsReady};
-ghost use Rattle.vyrd_memory.specs.Playing.{HasPlayed, HaveComeToRest, scene, memory_after, total};
+ghost use Rattle.vyrd_memory.specs.Playing.{memory_after, total};
+ghost use Rattle.vyrd_memory.specs.Showing.{HasShown, ComesToRest, HasRun, stage};
 
 use crate::act::Act;
+use crate::event_sink::EventSink;
 use crate::machine::Machine;
 use crate::op::Turn;
 use std::alloc::{AllocError, Global};
@@ -79,32 +82,35 @@ fn perform(words: &mut Vec<u64>, caller: u32, act: Act) -> Option<Did>
 }
 
 /// A turn of a caller. `false` says that there was no event.
-fn turn<M: Machine>(
+fn turn<M: Machine, S: EventSink>(
     header: &Header,
     machines: &mut [M],
     caller: u32,
     words: &mut Vec<u64>,
-    history: &mut Vec<Stamped>,
+    sink: &mut S,
 ) -> Result<bool, AllocError>
     requires caller { caller < length machines.old }
     requires ready { IsReady header.now M.header_of machines.old words.old.items }
-    ensures played { IfOk result (λ moved. HasPlayed header.now M.header_of M.script (caller ∷ [])
-        (scene machines.old words.old.items history.old.items)
-        (scene machines.new words.new.items history.new.items)) }
-    ensures still { result ≡ Ok false → history.new.items ≡ history.old.items }
+    requires few { S.count sink.old + total M.ahead machines.old ≤ 2 ^ 62 }
+    ensures shown { IfOk result (λ _. HasShown header.now M.header_of M.script S.has_taken
+        (caller ∷ []) (stage machines.old words.old.items sink.old)
+        (stage machines.new words.new.items sink.new)) }
+    ensures still { result ≡ Ok false → S.count sink.new ≡ S.count sink.old }
     ensures falls { result ≡ Ok true → total M.ahead machines.new < total M.ahead machines.old }
-    ensures rests { result ≡ Ok false → total M.ahead machines.new ≤ total M.ahead machines.old }
+    ensures few { IfOk result (λ _. S.count sink.new + total M.ahead machines.new
+        ≤ S.count sink.old + total M.ahead machines.old) }
+    ensures rests { IfOk result (λ _. total M.ahead machines.new ≤ total M.ahead machines.old) }
 {
     let machine = &mut machines[caller as usize];
     let Some(did) = perform(words, caller, machine.wants()) else {
         return Ok(false);
     };
-    history.push(Stamped {
-        number: history.len() as u64,
+    machine.took(answer(did));
+    sink.take(Stamped {
+        number: sink.taken(),
         caller,
         did,
     })?;
-    machine.took(answer(did));
     Ok(true)
 }
 
@@ -119,23 +125,26 @@ fn answer(did: Did) -> u64
 }
 
 /// A round over all callers. `false` says that there was no event.
-fn round<M: Machine>(
+fn round<M: Machine, S: EventSink>(
     header: &Header,
     machines: &mut [M],
     words: &mut Vec<u64>,
-    history: &mut Vec<Stamped>,
+    sink: &mut S,
 ) -> Result<bool, AllocError>
-    requires few { length machines.old ≤ 64 }
+    requires callers { length machines.old ≤ 64 }
     requires ready { IsReady header.now M.header_of machines.old words.old.items }
-    ensures played { IfOk result (λ moved. HasPlayed header.now M.header_of M.script
-        (numbers_below (length machines.old)) (scene machines.old words.old.items history.old.items)
-        (scene machines.new words.new.items history.new.items)) }
-    ensures still { result ≡ Ok false → history.new.items ≡ history.old.items }
+    requires few { S.count sink.old + total M.ahead machines.old ≤ 2 ^ 62 }
+    ensures shown { IfOk result (λ _. HasShown header.now M.header_of M.script S.has_taken
+        (numbers_below (length machines.old)) (stage machines.old words.old.items sink.old)
+        (stage machines.new words.new.items sink.new)) }
+    ensures still { result ≡ Ok false → S.count sink.new ≡ S.count sink.old }
     ensures falls { result ≡ Ok true → total M.ahead machines.new < total M.ahead machines.old }
+    ensures few { IfOk result (λ _. S.count sink.new + total M.ahead machines.new
+        ≤ S.count sink.old + total M.ahead machines.old) }
 {
     let mut moved = false;
     for caller in 0..machines.len() {
-        if turn(header, machines, caller as u32, words, history)? {
+        if turn(header, machines, caller as u32, words, sink)? {
             moved = true;
         }
     }
@@ -143,60 +152,68 @@ fn round<M: Machine>(
 }
 
 /// That many turns of a caller.
-fn repeat<M: Machine>(
+fn repeat<M: Machine, S: EventSink>(
     header: &Header,
     machines: &mut [M],
     turns: &Turn,
     words: &mut Vec<u64>,
-    history: &mut Vec<Stamped>,
+    sink: &mut S,
 ) -> Result<(), AllocError>
     requires caller { turns.now.caller < length machines.old }
     requires ready { IsReady header.now M.header_of machines.old words.old.items }
-    ensures played { IfOk result (λ u. HasPlayed header.now M.header_of M.script
+    requires few { S.count sink.old + total M.ahead machines.old ≤ 2 ^ 62 }
+    ensures shown { IfOk result (λ _. HasShown header.now M.header_of M.script S.has_taken
         (replicate turns.now.count turns.now.caller)
-        (scene machines.old words.old.items history.old.items)
-        (scene machines.new words.new.items history.new.items)) }
+        (stage machines.old words.old.items sink.old)
+        (stage machines.new words.new.items sink.new)) }
+    ensures few { IfOk result (λ _. S.count sink.new + total M.ahead machines.new
+        ≤ S.count sink.old + total M.ahead machines.old) }
 {
     for _time in 0..turns.count {
-        turn(header, machines, turns.caller, words, history)?;
+        turn(header, machines, turns.caller, words, sink)?;
     }
     Ok(())
 }
 
 /// All turns, one after the other.
-fn repeat_all<M: Machine>(
+fn repeat_all<M: Machine, S: EventSink>(
     header: &Header,
     machines: &mut [M],
     turns: &[Turn],
     words: &mut Vec<u64>,
-    history: &mut Vec<Stamped>,
+    sink: &mut S,
 ) -> Result<(), AllocError>
     requires callers { All (λ turn. turn.caller < length machines.old) turns.now }
     requires ready { IsReady header.now M.header_of machines.old words.old.items }
-    ensures played { IfOk result (λ u. HasPlayed header.now M.header_of M.script
-        (turns_of turns.now) (scene machines.old words.old.items history.old.items)
-        (scene machines.new words.new.items history.new.items)) }
+    requires few { S.count sink.old + total M.ahead machines.old ≤ 2 ^ 62 }
+    ensures shown { IfOk result (λ _. HasShown header.now M.header_of M.script S.has_taken
+        (turns_of turns.now) (stage machines.old words.old.items sink.old)
+        (stage machines.new words.new.items sink.new)) }
+    ensures few { IfOk result (λ _. S.count sink.new + total M.ahead machines.new
+        ≤ S.count sink.old + total M.ahead machines.old) }
 {
     for turn in turns {
-        repeat(header, machines, turn, words, history)?;
+        repeat(header, machines, turn, words, sink)?;
     }
     Ok(())
 }
 
 /// Rounds over all callers, until one has no event.
-fn play_rounds<M: Machine>(
+fn play_rounds<M: Machine, S: EventSink>(
     header: &Header,
     machines: &mut [M],
     words: &mut Vec<u64>,
-    history: &mut Vec<Stamped>,
+    sink: &mut S,
 ) -> Result<(), AllocError>
-    requires few { length machines.old ≤ 64 }
+    requires callers { length machines.old ≤ 64 }
     requires ready { IsReady header.now M.header_of machines.old words.old.items }
-    ensures rest { IfOk result (λ u. HaveComeToRest header.now M.header_of M.script
-        (scene machines.old words.old.items history.old.items)
-        (scene machines.new words.new.items history.new.items)) }
+    requires few { S.count sink.old + total M.ahead machines.old ≤ 2 ^ 62 }
+    ensures rest { IfOk result (λ _. (history : List Stamped) → S.has_taken sink.old history
+        → ComesToRest header.now M.header_of M.script S.has_taken
+        (stage machines.old words.old.items sink.old)
+        (stage machines.new words.new.items sink.new) history) }
 {
-    while round(header, machines, words, history)? {}
+    while round(header, machines, words, sink)? {}
     Ok(())
 }
 
@@ -222,26 +239,27 @@ fn zeros(alloc: Global, header: &Header) -> Result<Vec<u64>, AllocError>
 }
 
 /// Plays all turns and then rounds. There is nothing if the machines get stuck.
-fn play<M: Machine>(
+fn play<M: Machine, S: EventSink>(
     alloc: Global,
     header: &Header,
     machines: &mut [M],
     turns: &[Turn],
-) -> Result<Option<Ran>, AllocError>
+    sink: &mut S,
+) -> Result<Option<Vec<u64>>, AllocError>
     requires count { length machines.old ≡ header.now.callers }
     requires header { All (λ m. M.header_of m ≡ header.now) machines.old }
     requires turns { All (λ turn. turn.caller < header.now.callers) turns.now }
-    ensures runs { IfOk result (λ ran. MatchOption ran
+    requires none { S.has_taken sink.old [] }
+    ensures runs { IfOk result (λ words. MatchOption words
         (GetsStuck (map M.script machines.old) turns.now)
-        (λ r. RunsTo (map M.script machines.old) turns.now r.history.items
-        × (r.words.items ≡ memory_after header.now (newest_first r.history.items)))) }
+        (λ w. HasRun (map M.script machines.old) turns.now header.now S.has_taken sink.new
+        w.items)) }
 {
     let mut words = zeros(alloc, header)?;
-    let mut history = Vec::new(alloc);
-    repeat_all(header, machines, turns, &mut words, &mut history)?;
-    play_rounds(header, machines, &mut words, &mut history)?;
+    repeat_all(header, machines, turns, &mut words, sink)?;
+    play_rounds(header, machines, &mut words, sink)?;
     if are_done(machines) {
-        Ok(Some(Ran { history, words }))
+        Ok(Some(words))
     } else {
         Ok(None)
     }
@@ -251,8 +269,34 @@ fn play<M: Machine>(
 /// given, and then rounds over all callers, until all machines are done. Machine i is that of
 /// caller i. A turn of a machine that is done, or that wants a lock which is held, has no event.
 ///
-/// The answer is a function of the machines' scripts and the turns. It takes time and memory for
-/// each event.
+/// The sink, which has taken nothing, takes each event as it is made; no event is kept beside it.
+/// The answer is the memory at the end: the plain words, and then the locks. The events are a
+/// function of the machines' scripts and the turns. After an error the sink has taken some of the
+/// first of them, and nothing is known of a sink that there was no memory for.
+pub fn show_turns<M: Machine, S: EventSink>(
+    alloc: Global,
+    header: Header,
+    machines: &mut [M],
+    turns: &[Turn],
+    sink: &mut S,
+) -> Result<Vec<u64>, StepFault>
+    requires count { length machines.old ≡ header.callers }
+    requires header { All (λ m. M.header_of m ≡ header) machines.old }
+    requires turns { All (λ turn. turn.caller < header.callers) turns.now }
+    requires none { S.has_taken sink.old [] }
+    ensures run { IfOk result (λ words. HasRun (map M.script machines.old) turns.now header
+        S.has_taken sink.new words.items) }
+    ensures stuck { result ≡ Err Stuck → GetsStuck (map M.script machines.old) turns.now }
+{
+    match play(alloc, &header, machines, turns, sink) {
+        Ok(Some(words)) => Ok(words),
+        Ok(None) => Err(StepFault::Stuck),
+        Err(AllocError) => Err(StepFault::Memory),
+    }
+}
+
+/// Plays machines as [`show_turns`] does, and hands their history out whole. It takes time and
+/// memory for each event.
 pub fn run_turns<M: Machine>(
     alloc: Global,
     header: Header,
@@ -268,9 +312,7 @@ pub fn run_turns<M: Machine>(
         (λ ran. ran.words.items ≡ memory_after header (newest_first ran.history.items)) }
     ensures stuck { result ≡ Err Stuck → GetsStuck (map M.script machines.old) turns.now }
 {
-    match play(alloc, &header, machines, turns) {
-        Ok(Some(ran)) => Ok(ran),
-        Ok(None) => Err(StepFault::Stuck),
-        Err(AllocError) => Err(StepFault::Memory),
-    }
+    let mut history = Vec::new(alloc);
+    let words = show_turns(alloc, header, machines, turns, &mut history)?;
+    Ok(Ran { history, words })
 }

@@ -157,6 +157,13 @@ impl<M: Machine, C: Machine, T: Machine, B: Machine> Machine for MachineOf<M, C,
       | of.Buffers m ↦ B.rests m
     ] };
 
+    ghost few = { elim [
+      | of.Multiset m ↦ M.few m
+      | of.Cache m ↦ C.few m
+      | of.Tree m ↦ T.few m
+      | of.Buffers m ↦ B.few m
+    ] };
+
     ghost done = { elim [
       | of.Multiset m ↦ M.done m
       | of.Cache m ↦ C.done m

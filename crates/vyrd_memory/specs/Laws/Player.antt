@@ -1,6 +1,6 @@
 -- Proofs of laws that an impl in src/ names: no contract says what is defined here.
 -- What a player's script is: the operation under way, followed by the operations to come.
-use Rattle.std.proofs.Common.{◌≡◌, ℕ, ◌+◌, ◌-◌, ◌≤◌, Bool, true, false, not, ◌&&◌, List, [], ◌∷◌}
+use Rattle.std.proofs.Common.{◌≡◌, ℕ, ◌+◌, ◌-◌, ◌*◌, ◌≤◌, Bool, true, false, not, ◌&&◌, List, [], ◌∷◌}
 use Rattle.std.proofs.Common.{Option, Some, None, refl, ap, ◌∙◌, sym, subst, arith}
 use Rattle.std.specs.Prelude.{◌≢◌, IfSome, is_some, is_none, if◌then◌else◌}
 use Rattle.std.specs.Option.{option_map_or}
@@ -29,7 +29,8 @@ use Rattle.vyrd_memory.specs.Scripts.{operations, is_between, is_call_or_done, I
 use Rattle.vyrd_memory.specs.Soundness.{Situation, IsSound, IsSoundSomewhere, at_rest, just_called}
 use Rattle.vyrd_memory.specs.Soundness.{after_act}
 use Rattle.vyrd_memory.specs.Bounds.{EndsByReturn, EndsWithin, SumsUp, bound_taken, is_return}
-use Rattle.vyrd_memory.specs.Bounds.{bound_of, bound_in, bounds_of}
+use Rattle.vyrd_memory.specs.Bounds.{bound_of, bound_in, bounds_of, most_ops, most_op_events}
+use Rattle.vyrd_memory.specs.Bounds.{most_ahead}
 use Rattle.vyrd_memory.specs.Underway.{IsUnderway}
 use Rattle.vyrd_memory.specs.Laws.Underway.{no_call, still_called, stop_of, underway_goes_on}
 use Rattle.vyrd_memory.specs.Laws.Underway.{underway_isnt_between, underway_over}
@@ -320,6 +321,11 @@ pub player_within : {P : Type 0} (h : Header) (n later : ℕ) (progress : Option
     → (if is_some progress then n else first_bound h ops) ≤ n + later
 player_within h n later None ops sum = omega (arith, sum, first_bound-within h ops)
 player_within h n later (Some p) ops sum = omega arith
+
+-- what is ahead is limited
+pub player_few : (n later : ℕ) → n ≤ most_op_events → later ≤ most_ops * most_op_events
+    → n + later ≤ most_ahead
+player_few n later first others = omega (arith, first, others)
 
 -- after the return of an operation the next one begins, or none is left
 operations-rests : (body : Op → Script) (ops : List Op)

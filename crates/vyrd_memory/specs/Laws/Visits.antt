@@ -17,7 +17,7 @@ use Rattle.vyrd_memory.specs.Scripts.{stop, next_act, after_answer, is_call_or_d
 use Rattle.vyrd_memory.specs.Scripts.{IsAnswer}
 use Rattle.vyrd_memory.specs.Soundness.{Situation, IsSound, IsSoundSomewhere, at_rest, after_act}
 use Rattle.vyrd_memory.specs.Soundness.{is_nil}
-use Rattle.vyrd_memory.specs.Bounds.{bound_of, EndsWithin, SumsUp, bound_taken, is_return}
+use Rattle.vyrd_memory.specs.Bounds.{bound_of, EndsWithin, SumsUp, bound_taken, is_return, most_ahead}
 use Rattle.vyrd_memory.specs.Visits.{visited, listed, rest_of_visit, visit, ahead_after}
 
 zero_is_answer : (act : Act) → IsAnswer act 0
@@ -166,6 +166,10 @@ over_later : (acts : List Act) (n : ℕ) → listed (drop n acts) ≡ stop → l
 over_later [] n e = omega arith
 over_later (act ∷ acts) zero e = cc
 over_later (act ∷ acts) (suc n) e = let low : length acts ≤ n = over_later acts n e in omega arith
+
+pub visit_few : (n : ℕ) → ahead_after n ≤ most_ahead
+visit_few zero = omega arith
+visit_few (suc n) = omega arith
 
 pub visit_done : (crosses : Bool) (n : ℕ) → listed (drop n (visit crosses)) ≡ stop
     → ahead_after n ≡ 0

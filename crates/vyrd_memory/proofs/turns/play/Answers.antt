@@ -1,28 +1,50 @@
-use Rattle.std.proofs.Common.{◌∙◌, sym}
-use Rattle.vyrd_memory.specs.Playing.{scene}
-use Rattle.vyrd_memory.proofs.RunLaws.{ready_start, playing_start, runs_to, gets_stuck}
+use Rattle.std.proofs.Common.{◌≡◌, ℕ, ◌+◌, ◌≤◌, ◌^◌, List, ◌∙◌, [], refl, sym, arith, rules}
+use Rattle.std.specs.Prelude.{length}
+use Rattle.vyrd_memory.specs.Bounds.{most_ahead}
+use Rattle.vyrd_memory.specs.Playing.{total}
+use Rattle.vyrd_memory.specs.Showing.{stage}
+use Rattle.vyrd_memory.proofs.RunLaws.{ready_start, playing_start}
+use Rattle.vyrd_memory.proofs.ShownLaws.{has_run, is_stuck, total_few}
 use Rattle.vyrd_memory.proofs.turns.play.Goals as goal
 
 pub repeat_all-requires-clause-ready : goal.repeat_all-requires-clause-ready
 repeat_all-requires-clause-ready g c =
     ready_start c.args.header.now g.M.Machine.header_of c.args.machines.now c.in_ok-words.words.items c.requires.header c.in_ok-words.ensures
 
+-- what all machines have ahead
+few : {M : Type 0} (ahead : M → ℕ) (machines : List M) (count : ℕ) → ((m : M) → ahead m ≤ most_ahead) → length machines ≤ 64
+    → count ≡ 0 → count + total ahead machines ≤ 2 ^ 62
+few ahead machines count each low none = omega (arith, total_few ahead each machines, low, none)
+
+pub repeat_all-requires-clause-few : goal.repeat_all-requires-clause-few
+repeat_all-requires-clause-few g c =
+    let low : length c.args.machines.now ≤ 64 = search rules in
+    few g.M.Machine.ahead c.args.machines.now (g.S.EventSink.count c.args.sink.now) g.met.M.Machine.few low
+    (g.met.S.EventSink.counted c.args.sink.now [] c.requires.none)
+
+pub play_rounds-requires-clause-few : goal.play_rounds-requires-clause-few
+play_rounds-requires-clause-few g c =
+    let low : length c.args.machines.now ≤ 64 = search rules in
+    let before = few g.M.Machine.ahead c.args.machines.now (g.S.EventSink.count c.args.sink.now) g.met.M.Machine.few low
+      (g.met.S.EventSink.counted c.args.sink.now [] c.requires.none) in
+    omega (arith, before, c.in_ok-repeat_all.ensures.few)
+
 pub returns-then-are_done : goal.returns-then-are_done
 returns-then-are_done g c = record {
-  runs = runs_to c.args.header.now g.M.Machine.header_of g.M.Machine.script c.args.turns.now
-      (scene c.args.machines.now c.in_ok-words.words.items c.new-history.result.items)
-      (scene c.repeat_all.new.machines c.repeat_all.new.words.items c.repeat_all.new.history.items)
-      (scene c.play_rounds.new.machines c.play_rounds.new.words.items c.play_rounds.new.history.items)
-      (playing_start c.args.header.now g.M.Machine.script c.args.machines.now c.in_ok-words.words.items c.new-history.result.items c.new-history.ensures.items c.in_ok-words.ensures)
-      c.new-history.ensures.items c.in_ok-repeat_all.ensures.played c.in_ok-play_rounds.ensures.rest (sym c.are_done.ensures ∙ c.if-are_done.true);
+  runs = has_run c.args.header.now g.M.Machine.header_of g.M.Machine.script g.S.EventSink.has_taken c.args.turns.now
+      (stage c.args.machines.now c.in_ok-words.words.items c.args.sink.now)
+      (stage c.repeat_all.new.machines c.repeat_all.new.words.items c.repeat_all.new.sink)
+      (stage c.play_rounds.new.machines c.play_rounds.new.words.items c.play_rounds.new.sink)
+      (playing_start c.args.header.now g.M.Machine.script c.args.machines.now c.in_ok-words.words.items [] refl c.in_ok-words.ensures)
+      c.requires.none c.in_ok-repeat_all.ensures.shown c.in_ok-play_rounds.ensures.rest (sym c.are_done.ensures ∙ c.if-are_done.true);
 }
 
 pub returns-else-are_done : goal.returns-else-are_done
 returns-else-are_done g c = record {
-  runs = gets_stuck c.args.header.now g.M.Machine.header_of g.M.Machine.script c.args.turns.now
-      (scene c.args.machines.now c.in_ok-words.words.items c.new-history.result.items)
-      (scene c.repeat_all.new.machines c.repeat_all.new.words.items c.repeat_all.new.history.items)
-      (scene c.play_rounds.new.machines c.play_rounds.new.words.items c.play_rounds.new.history.items)
-      (playing_start c.args.header.now g.M.Machine.script c.args.machines.now c.in_ok-words.words.items c.new-history.result.items c.new-history.ensures.items c.in_ok-words.ensures)
-      c.new-history.ensures.items c.in_ok-repeat_all.ensures.played c.in_ok-play_rounds.ensures.rest (sym c.are_done.ensures ∙ c.if-are_done.false);
+  runs = is_stuck c.args.header.now g.M.Machine.header_of g.M.Machine.script g.S.EventSink.has_taken c.args.turns.now
+      (stage c.args.machines.now c.in_ok-words.words.items c.args.sink.now)
+      (stage c.repeat_all.new.machines c.repeat_all.new.words.items c.repeat_all.new.sink)
+      (stage c.play_rounds.new.machines c.play_rounds.new.words.items c.play_rounds.new.sink)
+      (playing_start c.args.header.now g.M.Machine.script c.args.machines.now c.in_ok-words.words.items [] refl c.in_ok-words.ensures)
+      c.requires.none c.in_ok-repeat_all.ensures.shown c.in_ok-play_rounds.ensures.rest (sym c.are_done.ensures ∙ c.if-are_done.false);
 }

@@ -1,23 +1,40 @@
-use Rattle.std.proofs.Common.{◌+◌, ap, Ok}
-use Rattle.vyrd_memory.specs.Playing.{scene}
-use Rattle.vyrd_memory.proofs.PlayedLaws.{one_round_more, come_to_rest}
+use Rattle.std.proofs.Common.{◌+◌, refl, ap, arith, Ok}
+use Rattle.vyrd_memory.specs.Showing.{stage}
+use Rattle.vyrd_memory.proofs.ShownLaws.{one_round_more, rest_shown}
 use Rattle.vyrd_memory.proofs.turns.play_rounds.Goals as goal
 
+pub loop-init : goal.loop-init
+loop-init g c = record {
+  rounds = 0;
+  shown = record {
+    ready = c.requires.ready;
+    count = refl;
+    shown = λ history taken. record {
+      later = history;
+      taken = taken;
+      played = record { ready = c.requires.ready; count = refl; plays = λ scripts is. is; history = λ scripts is. refl };
+    };
+  };
+  few = omega arith;
+}
+
 pub loop-preserved : goal.loop-preserved
-loop-preserved g c = (
-  c.loop.invariant.0 + 1,
-  one_round_more c.args.header.now g.M.Machine.header_of g.M.Machine.script
-      (scene c.args.machines.now c.args.words.now.items c.args.history.now.items)
-      (scene c.loop.machines c.loop.words.items c.loop.history.items)
-      (scene c.round.new.machines c.round.new.words.items c.round.new.history.items)
-      c.loop.invariant.0 c.loop.invariant.1 c.in_ok-round.ensures.played,
-)
+loop-preserved g c = record {
+  rounds = c.loop.invariant.rounds + 1;
+  shown = one_round_more c.args.header.now g.M.Machine.header_of g.M.Machine.script g.S.EventSink.has_taken
+      (stage c.args.machines.now c.args.words.now.items c.args.sink.now)
+      (stage c.loop.machines c.loop.words.items c.loop.sink)
+      (stage c.round.new.machines c.round.new.words.items c.round.new.sink)
+      c.loop.invariant.rounds c.loop.invariant.shown c.in_ok-round.ensures.shown;
+  few = omega (arith, c.loop.invariant.few, c.in_ok-round.ensures.few);
+}
 
 pub returns : goal.returns
 returns g c = record {
-  rest = come_to_rest c.args.header.now g.M.Machine.header_of g.M.Machine.script
-      (scene c.args.machines.now c.args.words.now.items c.args.history.now.items)
-      (scene c.loop.machines c.loop.words.items c.loop.history.items)
-      (scene c.round.new.machines c.round.new.words.items c.round.new.history.items)
-      c.loop.invariant.0 c.loop.invariant.1 c.in_ok-round.ensures.played (c.in_ok-round.ensures.still (ap Ok c.if-branch.false));
+  rest = rest_shown c.args.header.now g.M.Machine.header_of g.M.Machine.script g.S.EventSink.has_taken
+      g.S.EventSink.count g.met.S.EventSink.counted
+      (stage c.args.machines.now c.args.words.now.items c.args.sink.now)
+      (stage c.loop.machines c.loop.words.items c.loop.sink)
+      (stage c.round.new.machines c.round.new.words.items c.round.new.sink)
+      c.loop.invariant.rounds c.loop.invariant.shown c.in_ok-round.ensures.shown (c.in_ok-round.ensures.still (ap Ok c.if-branch.false));
 }

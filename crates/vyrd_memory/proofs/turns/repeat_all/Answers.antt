@@ -1,9 +1,10 @@
-use Rattle.std.proofs.Common.{◌+◌, take, replicate}
+use Rattle.std.proofs.Common.{◌+◌, take, replicate, arith}
 use Rattle.std.specs.Prelude.{get_or}
 use Rattle.vyrd_memory.specs.declared.op.Turn.{Turn}
 use Rattle.vyrd_memory.specs.Turns.{turns_of}
-use Rattle.vyrd_memory.specs.Playing.{scene}
-use Rattle.vyrd_memory.proofs.PlayedLaws.{played_more, turns_more}
+use Rattle.vyrd_memory.specs.Showing.{stage}
+use Rattle.vyrd_memory.proofs.PlayedLaws.{turns_more}
+use Rattle.vyrd_memory.proofs.ShownLaws.{shown_more}
 use Rattle.vyrd_memory.proofs.turns.repeat_all.Goals as goal
 
 -- what stands for the turn past the end
@@ -13,10 +14,14 @@ past = record { caller = 0; count = 0 }
 pub loop-turn-preserved : goal.loop-turn-preserved
 loop-turn-preserved g c =
     let here = get_or c.args.turns.now c.loop-turn.turn-index past in
-    played_more c.args.header.now g.M.Machine.header_of g.M.Machine.script
-    (turns_of (take c.loop-turn.turn-index c.args.turns.now)) (replicate here.count here.caller)
-    (turns_of (take (c.loop-turn.turn-index + 1) c.args.turns.now))
-    (scene c.args.machines.now c.args.words.now.items c.args.history.now.items)
-    (scene c.loop-turn.machines c.loop-turn.words.items c.loop-turn.history.items)
-    (scene c.repeat.new.machines c.repeat.new.words.items c.repeat.new.history.items)
-    c.loop-turn.invariant c.in_ok-repeat.ensures.played (turns_more c.args.turns.now c.loop-turn.turn-index past c.loop-turn-test.true)
+    record {
+      shown = shown_more c.args.header.now g.M.Machine.header_of g.M.Machine.script g.S.EventSink.has_taken
+          (turns_of (take c.loop-turn.turn-index c.args.turns.now)) (replicate here.count here.caller)
+          (turns_of (take (c.loop-turn.turn-index + 1) c.args.turns.now))
+          (stage c.args.machines.now c.args.words.now.items c.args.sink.now)
+          (stage c.loop-turn.machines c.loop-turn.words.items c.loop-turn.sink)
+          (stage c.repeat.new.machines c.repeat.new.words.items c.repeat.new.sink)
+          c.loop-turn.invariant.shown c.in_ok-repeat.ensures.shown
+          (turns_more c.args.turns.now c.loop-turn.turn-index past c.loop-turn-test.true);
+      few = omega (arith, c.loop-turn.invariant.few, c.in_ok-repeat.ensures.few);
+    }

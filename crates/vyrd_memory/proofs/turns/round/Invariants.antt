@@ -1,14 +1,17 @@
-use Rattle.std.proofs.Common.{◌≡◌, ◌<◌, ◌≤◌, true, false}
+use Rattle.std.proofs.Common.{◌≡◌, ◌+◌, ◌<◌, ◌≤◌, true, false}
 use Rattle.vyrd_base.specs.Places.{numbers_below}
-use Rattle.vyrd_memory.specs.Playing.{HasPlayed, scene, total}
+use Rattle.vyrd_memory.specs.Playing.{total}
+use Rattle.vyrd_memory.specs.Showing.{HasShown, stage}
 use Rattle.vyrd_memory.proofs.turns.round.Given as goal
 
 -- the callers before this one have had their turns
 abbrev pub invariant-loop-caller : goal.invariant-loop-caller
 invariant-loop-caller g l = record {
-  played : HasPlayed l.header g.M.Machine.header_of g.M.Machine.script (numbers_below l.caller)
-      (scene l.initial.machines l.initial.words.items l.initial.history.items) (scene l.machines l.words.items l.history.items);
-  still : l.moved ≡ false → l.history.items ≡ l.initial.history.items;
+  shown : HasShown l.header g.M.Machine.header_of g.M.Machine.script g.S.EventSink.has_taken (numbers_below l.caller)
+      (stage l.initial.machines l.initial.words.items l.initial.sink) (stage l.machines l.words.items l.sink);
+  still : l.moved ≡ false → g.S.EventSink.count l.sink ≡ g.S.EventSink.count l.initial.sink;
+  few : g.S.EventSink.count l.sink + total g.M.Machine.ahead l.machines
+      ≤ g.S.EventSink.count l.initial.sink + total g.M.Machine.ahead l.initial.machines;
   rests : total g.M.Machine.ahead l.machines ≤ total g.M.Machine.ahead l.initial.machines;
   falls : l.moved ≡ true → total g.M.Machine.ahead l.machines < total g.M.Machine.ahead l.initial.machines;
 }

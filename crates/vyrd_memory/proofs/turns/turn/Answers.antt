@@ -1,11 +1,12 @@
-use Rattle.std.proofs.Common.{◌≡◌, ◌<◌, ◌++◌, [], ◌∷◌, ◌∙◌, sym, ap, subst, Some, rules, Vec, Global}
-use Rattle.std.specs.Prelude.{slice_get, length, vec_len}
-use Rattle.std.proofs.lemmas.List.{set-get_or}
+use Rattle.std.proofs.Common.{◌≡◌, ◌<◌, ◌++◌, vec_len, List, [], ◌∷◌, ◌∙◌, sym, ap, subst, Some, rules, arith}
+use Rattle.std.specs.Prelude.{slice_get, get_or, length, set}
+use Rattle.std.proofs.lemmas.List.{set-get_or, length-set}
 use Rattle.vyrd_base.specs.declared.history.Stamped.{Stamped}
 use Rattle.vyrd_memory.specs.Scripts.{next_act, after_answer}
-use Rattle.vyrd_memory.specs.Playing.{HasPlayed, scene, event_in, words_with, words_after_event, IsWithin}
-use Rattle.vyrd_memory.proofs.PlayLaws.{IsTurn, element_here, machine_within, turn_played, no_turn_played, total_falls}
+use Rattle.vyrd_memory.specs.Playing.{HasPlayed, scene, event_in, words_with, words_after_event, IsWithin, IsReady, total}
+use Rattle.vyrd_memory.proofs.PlayLaws.{IsTurn, element_here, machine_within, turn_played, no_turn_played, next_ready, total_falls}
 use Rattle.vyrd_memory.proofs.turns.turn.Given as given
+use Rattle.vyrd_memory.proofs.turns.turn.Goals.{In_default, In_ok-take}
 use Rattle.vyrd_memory.proofs.turns.turn.Goals as goal
 
 pub perform-requires : goal.perform-requires
@@ -18,8 +19,12 @@ perform-requires g c =
     (machine_within c.args.header.now g.M.Machine.header_of g.M.Machine.script c.args.machines.now c.args.caller m c.args.words.now.items c.wants.result c.requires.ready here (g.met.M.Machine.is_sound m)
     (c.wants.ensures ∙ ap (λ m. next_act (g.M.Machine.script m)) (sym c.index-machines-caller.is)))
 
-pub returns-in_default-clause-played : goal.returns-in_default-clause-played
-returns-in_default-clause-played g c =
+-- a turn that has no event
+unmoved : (g : given.Over) (c : In_default g) (history : List Stamped)
+    → HasPlayed c.args.header.now g.M.Machine.header_of g.M.Machine.script (c.args.caller ∷ [])
+    (scene c.args.machines.now c.args.words.now.items history)
+    (scene (set c.args.machines.now c.args.caller (get_or c.args.machines.now c.args.caller c.index-machines-caller.result)) c.perform.new.words.items history)
+unmoved g c history =
     let m = c.index-machines-caller.result in
     let here : slice_get c.args.machines.now c.args.caller
     ≡ Some m = element_here c.args.machines.now c.args.caller m c.requires.caller c.index-machines-caller.is in
@@ -27,13 +32,22 @@ returns-in_default-clause-played g c =
     let none = ap (event_in c.args.words.now.items) (sym act) ∙ sym c.perform.ensures.event ∙ c.in_default.is in
     let words = c.perform.ensures.words ∙ ap (words_after_event c.args.words.now.items c.args.caller) c.in_default.is in
     subst (λ machines. HasPlayed c.args.header.now g.M.Machine.header_of g.M.Machine.script (c.args.caller ∷ [])
-    (scene c.args.machines.now c.args.words.now.items c.args.history.now.items)
-    (scene machines c.perform.new.words.items c.args.history.now.items)) (sym (set-get_or c.args.machines.now c.args.caller m))
-    (no_turn_played c.args.header.now g.M.Machine.header_of g.M.Machine.script c.args.machines.now c.args.caller m c.args.words.now.items c.perform.new.words.items c.args.history.now.items
+    (scene c.args.machines.now c.args.words.now.items history)
+    (scene machines c.perform.new.words.items history)) (sym (set-get_or c.args.machines.now c.args.caller m))
+    (no_turn_played c.args.header.now g.M.Machine.header_of g.M.Machine.script c.args.machines.now c.args.caller m c.args.words.now.items c.perform.new.words.items history
     c.requires.ready here (g.met.M.Machine.is_sound m) none words)
 
+pub returns-in_default-clause-shown : goal.returns-in_default-clause-shown
+returns-in_default-clause-shown g c =
+    let at_rest = unmoved g c [] in
+    record {
+      ready = at_rest.ready;
+      count = at_rest.count;
+      shown = λ history taken. record { later = history; taken = taken; played = unmoved g c history };
+    }
+
 -- the turn that has been made
-turn_of : (g : given.Over) (c : goal.After-took g)
+turn_of : (g : given.Over) (c : In_ok-take g)
     → IsTurn c.args.header.now g.M.Machine.header_of g.M.Machine.script c.args.machines.now c.args.caller c.index-machines-caller.result c.took.new.self c.args.words.now.items c.in-Some.did
 turn_of g c = record {
   ready = c.requires.ready;
@@ -48,29 +62,56 @@ turn_of g c = record {
       ∙ ap (after_answer (g.M.Machine.script c.index-machines-caller.result)) c.answer.ensures;
 }
 
-words_are : (g : given.Over) (c : goal.After-took g) → c.perform.new.words.items ≡ words_with c.args.words.now.items c.args.caller c.in-Some.did
+words_are : (g : given.Over) (c : In_ok-take g) → c.perform.new.words.items ≡ words_with c.args.words.now.items c.args.caller c.in-Some.did
 words_are g c = c.perform.ensures.words ∙ ap (words_after_event c.args.words.now.items c.args.caller) c.in-Some.is
 
-items_of : (v : Vec Stamped Global) → vec_len v ≡ length v.items
-items_of v = search rules
+-- the machine has less ahead now
+ahead_falls : (g : given.Over) (c : In_ok-take g)
+    → total g.M.Machine.ahead (set c.args.machines.now c.args.caller c.took.new.self) < total g.M.Machine.ahead c.args.machines.now
+ahead_falls g c =
+    total_falls g.M.Machine.ahead c.args.machines.now c.args.caller c.index-machines-caller.result c.took.new.self
+    (element_here c.args.machines.now c.args.caller c.index-machines-caller.result c.requires.caller c.index-machines-caller.is)
+    (subst (λ m. g.M.Machine.ahead c.took.new.self < g.M.Machine.ahead m) (sym c.index-machines-caller.is) c.took.ensures.falls)
 
-history_is : (g : given.Over) (c : goal.After-took g)
-    → c.push.new.self.items ≡ c.args.history.now.items ++ record {
-      number = length c.args.history.now.items;
-      caller = c.args.caller;
-      did = c.in-Some.did;
-    } ∷ []
-history_is g c = c.in_ok-push.ensures.items
-    ∙ ap (λ k. c.args.history.now.items ++ record { number = k; caller = c.args.caller; did = c.in-Some.did } ∷ []) (c.len.ensures
-    ∙ items_of c.args.history.now)
+-- the event that the sink takes
+abbrev event_of : (g : given.Over) (c : In_ok-take g) → Stamped
+event_of g c = record { number = c.taken.result; caller = c.args.caller; did = c.in-Some.did }
 
-pub returns-clause-played : goal.returns-clause-played
-returns-clause-played g c =
+played : (g : given.Over) (c : In_ok-take g) (history : List Stamped) → g.S.EventSink.count c.args.sink.now ≡ length history
+    → HasPlayed c.args.header.now g.M.Machine.header_of g.M.Machine.script (c.args.caller ∷ [])
+    (scene c.args.machines.now c.args.words.now.items history)
+    (scene (set c.args.machines.now c.args.caller c.took.new.self) c.perform.new.words.items (history ++ event_of g c ∷ []))
+played g c history counted =
     turn_played c.args.header.now g.M.Machine.header_of g.M.Machine.script c.args.machines.now c.args.caller c.index-machines-caller.result c.took.new.self c.args.words.now.items c.perform.new.words.items
-    c.in-Some.did c.args.history.now.items c.push.new.self.items (turn_of g c) (words_are g c) (history_is g c)
+    c.in-Some.did history (history ++ event_of g c ∷ []) (turn_of g c) (words_are g c)
+    (ap (λ k. history ++ record { number = k; caller = c.args.caller; did = c.in-Some.did } ∷ []) (c.taken.ensures ∙ counted))
+
+pub returns-clause-shown : goal.returns-clause-shown
+returns-clause-shown g c =
+    let t = turn_of g c in
+    record {
+      ready = subst (IsReady c.args.header.now g.M.Machine.header_of (set c.args.machines.now c.args.caller c.took.new.self)) (sym (words_are g c))
+          (next_ready c.args.header.now g.M.Machine.header_of g.M.Machine.script c.args.machines.now c.args.caller c.index-machines-caller.result c.took.new.self c.args.words.now.items c.in-Some.did t);
+      count = length-set c.args.machines.now c.args.caller c.took.new.self;
+      shown = λ history taken. record {
+        later = history ++ event_of g c ∷ [];
+        taken = c.in_ok-take.ensures.taken history taken;
+        played = played g c history (g.met.S.EventSink.counted c.args.sink.now history taken);
+      };
+    }
+
+pub take-requires-clause-few : goal.take-requires-clause-few
+take-requires-clause-few g c =
+    let falls = total_falls g.M.Machine.ahead c.args.machines.now c.args.caller c.index-machines-caller.result c.took.new.self
+      (element_here c.args.machines.now c.args.caller c.index-machines-caller.result c.requires.caller c.index-machines-caller.is)
+      (subst (λ m. g.M.Machine.ahead c.took.new.self < g.M.Machine.ahead m) (sym c.index-machines-caller.is) c.took.ensures.falls) in
+    omega (arith, c.requires.few, falls)
 
 pub returns-clause-falls : goal.returns-clause-falls
-returns-clause-falls g c = λ e.
-    let t = turn_of g c in
-    total_falls g.M.Machine.ahead c.args.machines.now c.args.caller c.index-machines-caller.result c.took.new.self t.here
-    (subst (λ m. g.M.Machine.ahead c.took.new.self < g.M.Machine.ahead m) (sym c.index-machines-caller.is) c.took.ensures.falls)
+returns-clause-falls g c = λ e. ahead_falls g c
+
+pub returns-clause-few : goal.returns-clause-few
+returns-clause-few g c = omega (arith, c.in_ok-take.ensures.count, ahead_falls g c)
+
+pub returns-clause-rests : goal.returns-clause-rests
+returns-clause-rests g c = omega (arith, ahead_falls g c)
