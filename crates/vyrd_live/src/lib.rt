@@ -2,7 +2,7 @@
 //! memory, and those by turns.
 //!
 //! The central call is [`run_live`]; [`run_by_turns`] is the same without threads, over plain
-//! memory. In a live run each caller's machine is played by a worker with a thread of its own, and
+//! memory, and [`show_by_turns`] shows the events of such a run to a sink in place of keeping them. In a live run each caller's machine is played by a worker with a thread of its own, and
 //! what the workers leave is one legal history in which each caller's part plays the caller's
 //! script. A [`Run`] has this history, the memory at the end and the verdict about the history's
 //! log. [`judged`] adds the verdict to a history of any run.
@@ -30,7 +30,7 @@ mod watch;
 mod worker;
 mod workers;
 
-pub use by_turns::run_by_turns;
+pub use by_turns::{run_by_turns, show_by_turns};
 pub use judging::judged;
 pub use live::run_live;
 pub use run::{LiveFault, Overrun, Run};

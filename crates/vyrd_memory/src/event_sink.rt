@@ -10,6 +10,12 @@ use vyrd_base::Stamped;
 /// What takes the events of a run one by one, in their order, and keeps of them what it needs: a
 /// vector keeps them all, and a judge none.
 pub trait EventSink {
+    /// What of it no event changes.
+    type Fixed;
+
+    // What of it no event changes.
+    ghost fixed: { Self → Self.Fixed };
+
     // How many events it has taken.
     ghost count: { Self → ℕ };
 
@@ -25,6 +31,7 @@ pub trait EventSink {
     fn take(&mut self, event: Stamped) -> Result<(), AllocError>
         requires number { event.number ≡ count self.old }
         requires few { count self.old < 2 ^ 62 }
+        ensures fixed { OnOk result (fixed self.new ≡ fixed self.old) }
         ensures count { OnOk result (count self.new ≡ count self.old + 1) }
         ensures taken { (history : List Stamped) → has_taken self.old history
             → OnOk result (has_taken self.new (history ++ event ∷ [])) };
@@ -35,6 +42,10 @@ pub trait EventSink {
 }
 
 impl EventSink for Vec<Stamped> {
+    type Fixed = ();
+
+    ghost fixed = { λ v. tt };
+
     ghost count = { λ v. length v.items };
 
     ghost has_taken = { λ v history. v.items ≡ history };

@@ -99,6 +99,7 @@ fn turn<M: Machine, S: EventSink>(
     ensures falls { result ≡ Ok true → total M.ahead machines.new < total M.ahead machines.old }
     ensures few { IfOk result (λ _. S.count sink.new + total M.ahead machines.new
         ≤ S.count sink.old + total M.ahead machines.old) }
+    ensures fixed { IfOk result (λ _. S.fixed sink.new ≡ S.fixed sink.old) }
     ensures rests { IfOk result (λ _. total M.ahead machines.new ≤ total M.ahead machines.old) }
 {
     let machine = &mut machines[caller as usize];
@@ -141,6 +142,7 @@ fn round<M: Machine, S: EventSink>(
     ensures falls { result ≡ Ok true → total M.ahead machines.new < total M.ahead machines.old }
     ensures few { IfOk result (λ _. S.count sink.new + total M.ahead machines.new
         ≤ S.count sink.old + total M.ahead machines.old) }
+    ensures fixed { IfOk result (λ _. S.fixed sink.new ≡ S.fixed sink.old) }
 {
     let mut moved = false;
     for caller in 0..machines.len() {
@@ -168,6 +170,7 @@ fn repeat<M: Machine, S: EventSink>(
         (stage machines.new words.new.items sink.new)) }
     ensures few { IfOk result (λ _. S.count sink.new + total M.ahead machines.new
         ≤ S.count sink.old + total M.ahead machines.old) }
+    ensures fixed { IfOk result (λ _. S.fixed sink.new ≡ S.fixed sink.old) }
 {
     for _time in 0..turns.count {
         turn(header, machines, turns.caller, words, sink)?;
@@ -191,6 +194,7 @@ fn repeat_all<M: Machine, S: EventSink>(
         (stage machines.new words.new.items sink.new)) }
     ensures few { IfOk result (λ _. S.count sink.new + total M.ahead machines.new
         ≤ S.count sink.old + total M.ahead machines.old) }
+    ensures fixed { IfOk result (λ _. S.fixed sink.new ≡ S.fixed sink.old) }
 {
     for turn in turns {
         repeat(header, machines, turn, words, sink)?;
@@ -212,6 +216,7 @@ fn play_rounds<M: Machine, S: EventSink>(
         → ComesToRest header.now M.header_of M.script S.has_taken
         (stage machines.old words.old.items sink.old)
         (stage machines.new words.new.items sink.new) history) }
+    ensures fixed { IfOk result (λ _. S.fixed sink.new ≡ S.fixed sink.old) }
 {
     while round(header, machines, words, sink)? {}
     Ok(())
@@ -254,6 +259,7 @@ fn play<M: Machine, S: EventSink>(
         (GetsStuck (map M.script machines.old) turns.now)
         (λ w. HasRun (map M.script machines.old) turns.now header.now S.has_taken sink.new
         w.items)) }
+    ensures fixed { IfOk result (λ _. S.fixed sink.new ≡ S.fixed sink.old) }
 {
     let mut words = zeros(alloc, header)?;
     repeat_all(header, machines, turns, &mut words, sink)?;
@@ -286,6 +292,7 @@ pub fn show_turns<M: Machine, S: EventSink>(
     requires none { S.has_taken sink.old [] }
     ensures run { IfOk result (λ words. HasRun (map M.script machines.old) turns.now header
         S.has_taken sink.new words.items) }
+    ensures fixed { IfOk result (λ _. S.fixed sink.new ≡ S.fixed sink.old) }
     ensures stuck { result ≡ Err Stuck → GetsStuck (map M.script machines.old) turns.now }
 {
     match play(alloc, &header, machines, turns, sink) {

@@ -38,4 +38,4 @@ pub use check::check_blocks;
 pub use fault::{HistoryFault, HistoryRule, write_history_refusal};
 pub use past::Past;
 pub use reader::read_history;
-pub use writer::write_history;
+pub use writer::{write_event, write_history, write_history_header};

@@ -9,7 +9,7 @@ ghost use Rattle.vyrd_mover.specs.Writable.{is_padded_did};
 
 use std::alloc::AllocError;
 use vyrd_base::{Did, Entry, Header, Stamped};
-use vyrd_text::{LineBuffer, name_of_subject, write_line};
+use vyrd_text::{LineBuffer, name_of_subject, write_entry};
 
 /// Appends the text of the history. A refusal leaves `out` unchanged.
 ///
@@ -37,18 +37,17 @@ pub fn write_history(
 
 /// Appends the text of the history, or a beginning of it if memory runs out.
 fn append_history(header: Header, history: &[Stamped], out: &mut Vec<u8>) -> Result<(), AllocError>
-    requires { AllByRecursion (λ e. is_padded_did e.did ≡ true) history.now }
     ensures ok { OnOk result (out.new.items
         ≡ out.old.items ++ history_text (record { header = header; history = history.now })) }
     ensures err { OnErr result (take (length out.old.items) out.new.items ≡ out.old.items) }
 {
-    append_header(header, out)?;
+    write_history_header(header, out)?;
     append_events(history, out)?;
     out.extend_from_slice(b"end\n")
 }
 
-/// Appends the header's line. A refusal leaves `out` unchanged.
-fn append_header(header: Header, out: &mut Vec<u8>) -> Result<(), AllocError>
+/// Appends the line of a history's header. A refusal leaves `out` unchanged.
+pub fn write_history_header(header: Header, out: &mut Vec<u8>) -> Result<(), AllocError>
     ensures ok { OnOk result (out.new.items ≡ out.old.items
         ++ ended_line (history_header_line header.subject header.size header.callers)) }
     ensures err { OnErr result (out.new.items ≡ out.old.items) }
@@ -66,22 +65,23 @@ fn append_header(header: Header, out: &mut Vec<u8>) -> Result<(), AllocError>
 
 /// Appends the events' lines, or a beginning of them if memory runs out.
 fn append_events(history: &[Stamped], out: &mut Vec<u8>) -> Result<(), AllocError>
-    requires { AllByRecursion (λ e. is_padded_did e.did ≡ true) history.now }
     ensures ok { OnOk result
         (out.new.items ≡ out.old.items ++ flat_map (λ e. ended_line (event_line e)) history.now) }
     ensures err { OnErr result (take (length out.old.items) out.new.items ≡ out.old.items) }
 {
     for event in history {
-        append_event(*event, out)?;
+        write_event(*event, out)?;
     }
     Ok(())
 }
 
-/// Appends the event's line, or a beginning of it if memory runs out.
-fn append_event(event: Stamped, out: &mut Vec<u8>) -> Result<(), AllocError>
-    requires { is_padded_did event.did ≡ true }
+/// Appends the event's line with its line feed. A refusal leaves `out` unchanged.
+///
+/// After the header's line this is how a history is written event by event. Arguments that the
+/// method of a call doesn't have aren't written.
+pub fn write_event(event: Stamped, out: &mut Vec<u8>) -> Result<(), AllocError>
     ensures ok { OnOk result (out.new.items ≡ out.old.items ++ ended_line (event_line event)) }
-    ensures err { OnErr result (take (length out.old.items) out.new.items ≡ out.old.items) }
+    ensures err { OnErr result (out.new.items ≡ out.old.items) }
 {
     let caller = event.caller;
     match event.did {
@@ -89,10 +89,7 @@ fn append_event(event: Stamped, out: &mut Vec<u8>) -> Result<(), AllocError>
         Did::Wrote(cell, value) => append_access(caller, b" wrote ", cell, value, out),
         Did::Took(lock) => append_lock(caller, b" took ", lock, out),
         Did::Gave(lock) => append_lock(caller, b" gave ", lock, out),
-        Did::Marked(kind) => {
-            write_line(&Entry { caller, kind }, out)?;
-            out.extend_from_slice(b"\n")
-        }
+        Did::Marked(kind) => write_entry(&Entry { caller, kind }, out),
     }
 }
 

@@ -9,7 +9,7 @@ use Rattle.vyrd_program.specs.declared.form.Form.TheVariants as asked
 use Rattle.vyrd_program.specs.Outputs.{Appends, AppendsFront, usage_line}
 use Rattle.vyrd_program.specs.Checks.{IsAnswered, IsAnsweredInPart, IsSettled, HasRoomForAnswer}
 use Rattle.vyrd_program.specs.Commands.{IsStatus, IsAnswerStatus, IsAnswer, HasAnswered, HasAnsweredInPart, HasRoom, reads, IsEnough}
-use Rattle.vyrd_program.specs.HandedOut.{HandsOut, HandsOutNothing, IsUnplayed, plays, plays_live}
+use Rattle.vyrd_program.specs.HandedOut.{HandsOut, HandsOutNothing, IsUnplayed, plays_live}
 
 -- no form has an answer of status 3, 4, 5 or 6
 answer_outside : (form : Form) (n : ℕ) → IsAnswerStatus (Some form) n → (n ≤ 2) ⊎ (7 ≤ n)
@@ -130,13 +130,12 @@ enough_taken said form before after status own is given enough answered =
 -- what is handed out of what was made ready
 pub written_out : (said : Option Form) (form : Form) (status own : ℕ) (run own_run : Option Run) (spent own_spent : Option Overrun)
     → said ≡ Some form → run ≡ own_run → spent ≡ own_spent → (status ≡ 5) ⊎ (status ≡ own) → IsStatus (Some form) own
-    → ((own ≡ 4) ⊎ (own ≡ 6) → HandsOutNothing own_run own_spent) → (plays (Some form) ≡ false → HandsOutNothing own_run own_spent)
-    → (plays_live (Some form) ≡ false → own_spent ≡ None) → HandsOut said status run spent
-written_out said form status own run own_run spent own_spent is same_run same_spent given status_is unplayed no_workload no_limit =
+    → ((own ≡ 4) ⊎ (own ≡ 6) → HandsOutNothing own_run own_spent) → (plays_live (Some form) ≡ false → HandsOutNothing own_run own_spent)
+    → HandsOut said status run spent
+written_out said form status own run own_run spent own_spent is same_run same_spent given status_is unplayed not_live =
     subst (λ said. HandsOut said status run spent) (sym is) (record {
       unplayed = λ why. same (by_status given why);
-      no_workload = λ none. same (no_workload none);
-      no_limit = λ none. same_spent ∙ no_limit none;
+      not_live = λ none. same (not_live none);
     })
   where
     same : HandsOutNothing own_run own_spent → HandsOutNothing run spent
@@ -154,8 +153,7 @@ pub hands_out_nothing : (said : Option Form) (status : ℕ) (run : Option Run) (
     → HandsOut said status run spent
 hands_out_nothing said status run spent nothing = record {
   unplayed = λ why. nothing;
-  no_workload = λ none. nothing;
-  no_limit = λ none. nothing.no_overrun;
+  not_live = λ none. nothing;
 }
 
 -- What is true of a form that is known isn't false of the form.
@@ -164,9 +162,6 @@ differ e = cc
 
 pub reads_on : (form known : Form) → form ≡ known → reads (Some known) ≡ true → reads (Some form) ≡ false → ⊥
 reads_on form known is does isnt = differ (sym does ∙ sym (ap (λ form. reads (Some form)) is) ∙ isnt)
-
-pub plays_on : (form known : Form) → form ≡ known → plays (Some known) ≡ true → plays (Some form) ≡ false → ⊥
-plays_on form known is does isnt = differ (sym does ∙ sym (ap (λ form. plays (Some form)) is) ∙ isnt)
 
 pub plays_live_on : (form known : Form) → form ≡ known → plays_live (Some known) ≡ true → plays_live (Some form) ≡ false → ⊥
 plays_live_on form known is does isnt = differ (sym does ∙ sym (ap (λ form. plays_live (Some form)) is) ∙ isnt)

@@ -2,6 +2,8 @@
 use Rattle.std.proofs.Common.{◌≡◌, ℕ, ◌≤◌, ◌⊎◌, inl, inr, List, Option, Some, None, Result, Ok, refl, ap, ◌∙◌, subst, arith}
 use Rattle.std.specs.Prelude.{IfSome}
 use Rattle.vyrd_base.specs.declared.log.Entry.{Entry}
+use Rattle.vyrd_base.specs.declared.history.Stamped.{Stamped}
+use Rattle.vyrd_base.specs.declared.verdict.Verdict.{Verdict}
 use Rattle.vyrd_base.specs.Histories.{log_of}
 use Rattle.vyrd_base.specs.Verdicts.{accepted}
 use Rattle.vyrd_memory.specs.Bounds.{most_ops}
@@ -17,25 +19,28 @@ use Rattle.vyrd_live.specs.declared.run.Run.{Run}
 use Rattle.vyrd_live.specs.declared.run.Overrun.{Overrun}
 use Rattle.vyrd_program.specs.declared.show.Show.{Show}
 use Rattle.vyrd_program.specs.Outputs.{status_of}
-use Rattle.vyrd_live.specs.TurnRuns.{IsRunByTurns}
-use Rattle.vyrd_live.proofs.TurnLaws.{turns_accepted}
-use Rattle.vyrd_program.specs.Steps.{AnswersInput, IsStepAnswer, IsStepStatus}
+use Rattle.vyrd_program.specs.Steps.{AnswersInput, IsStepAnswer, IsStepStatus, IsTurnedTo}
 use Rattle.vyrd_program.specs.Runs.{AnswersRun, IsRunAnswer, IsRunStatus, IsLiveRun, IsPlayedAnswer}
 use Rattle.vyrd_program.specs.CorrectInputs.{SaysCorrect, SaysFewEvents}
 use Rattle.vyrd_program.specs.Generated.{IsGenAnswer, IsGenStatus}
+use Rattle.vyrd_program.proofs.StepLaws.{turned_is_legal, turned_plays}
 
 accepted_status : (entries : List Entry) → status_of (accepted entries) ≡ 0
 unfolding accepted
 accepted_status entries = refl
 
-turned_accepted : (w : Workload) (run : Run) → KeepsLimits w → IsCorrect w → IsRunByTurns w run → status_of run.verdict ≡ 0
-turned_accepted w run limits is by_turns =
-    ap status_of (turns_accepted w run limits is by_turns) ∙ accepted_status (log_of run.history.items)
+turned_accepted : (w : Workload) (history : List Stamped) (v : Verdict) → KeepsLimits w → IsCorrect w → IsTurnedTo w history v → status_of v ≡ 0
+turned_accepted w history v limits is turned =
+    ap status_of (turned.verdict_is ∙ schedule_accepted w history limits is (record {
+      legal = turned_is_legal w history limits turned.runs;
+      parts = turned_plays w history limits turned.runs;
+    }))
+    ∙ accepted_status (log_of history)
 
-step_accepted : (show : Show) (w : Workload) (status : ℕ) (text : List ℕ) (run : Option Run) → KeepsLimits w → IsCorrect w
-    → IsStepAnswer show (Ok w) status text run → status ≡ 0
-step_accepted show w status text None limits is answer = absurd (not_stuck w limits is answer.2)
-step_accepted show w status text (Some run) limits is answer = answer.0 ∙ turned_accepted w run limits is answer.2
+step_accepted : (show : Show) (w : Workload) (status : ℕ) (text : List ℕ) → KeepsLimits w → IsCorrect w
+    → IsStepAnswer show (Ok w) status text → status ≡ 0
+step_accepted show w status text limits is (inl told) = told.status_is ∙ turned_accepted w told.history told.verdict limits is told.turned
+step_accepted show w status text limits is (inr stuck) = absurd (not_stuck w limits is stuck.stuck)
 
 live_accepted : (w : Workload) (run : Run) → KeepsLimits w → IsCorrect w → IsLiveRun w run → status_of run.verdict ≡ 0
 live_accepted w run limits is lived =
@@ -68,11 +73,11 @@ read_of : (input : Option (List ℕ)) (bytes : List ℕ) (work said : Result Wor
     → IfSome input (λ bytes. work ≡ work_reading bytes) → work ≡ said
 read_of input bytes work said told reading read = subst (λ input. IfSome input (λ bytes. work ≡ work_reading bytes)) told read ∙ reading
 
-pub step_is_accepted : (show : Show) (input : Option (List ℕ)) (status : ℕ) (text : List ℕ) (run : Option Run) → SaysCorrect input
-    → AnswersInput show input status text run → status ≡ 0
-step_is_accepted show input status text run says answers =
-    step_accepted show says.work status text run (reading_sound says.bytes says.work says.read).limits says.correct
-    (subst (λ work. IsStepAnswer show work status text run) (read_of input says.bytes answers.work (Ok says.work) says.told says.read answers.read) answers.answer)
+pub step_is_accepted : (show : Show) (input : Option (List ℕ)) (status : ℕ) (text : List ℕ) → SaysCorrect input
+    → AnswersInput show input status text → status ≡ 0
+step_is_accepted show input status text says answers =
+    step_accepted show says.work status text (reading_sound says.bytes says.work says.read).limits says.correct
+    (subst (λ work. IsStepAnswer show work status text) (read_of input says.bytes answers.work (Ok says.work) says.told says.read answers.read) answers.answer)
 
 pub run_is_accepted : (show : Show) (input : Option (List ℕ)) (status : ℕ) (text : List ℕ) (run : Option Run) (spent : Option Overrun) → SaysCorrect input
     → AnswersRun show input status text run spent → (status ≡ 0) ⊎ (status ≡ 9)
@@ -92,10 +97,10 @@ generated_is : (n : ℕ) → IsCorrect (generated n)
 unfolding generated
 generated_is n = refl
 
-pub gen_is_accepted : (n status : ℕ) (text : List ℕ) (run : Option Run) → n ≤ most_ops → IsGenAnswer n status text run → status ≡ 0
-gen_is_accepted n status text None few answer = absurd (not_stuck (generated n) (generated_keeps n few) (generated_is n) answer.2)
-gen_is_accepted n status text (Some run) few answer =
-    answer.0 ∙ turned_accepted (generated n) run (generated_keeps n few) (generated_is n) answer.2
+pub gen_is_accepted : (n status : ℕ) (text : List ℕ) → n ≤ most_ops → IsGenAnswer n status text → status ≡ 0
+gen_is_accepted n status text few (inl counted) =
+    counted.status_is ∙ turned_accepted (generated n) counted.history counted.verdict (generated_keeps n few) (generated_is n) counted.turned
+gen_is_accepted n status text few (inr stuck) = absurd (not_stuck (generated n) (generated_keeps n few) (generated_is n) stuck.stuck)
 
 -- the status of an answer that was given
 pub step_given : (status own : ℕ) → IsStepStatus status → (status ≡ 5) ⊎ (status ≡ own) → status ≡ own

@@ -31,7 +31,7 @@ pub step_written : (said : Option Form) (form : Form) (show : Show) (input : Opt
     → (status ≡ 5) ⊎ (status ≡ own) → SaysCorrect input → IsStepStatus status → status ≡ 0
 step_written said form show input status own text run spent is known_is ready given says answered =
     let same = step_given status own answered given in
-    same ∙ step_is_accepted show input own text run says
+    same ∙ step_is_accepted show input own text says
     (known_answer said form (asked.Step show) input own text run spent is known_is ready (subst IsStepStatus same answered))
 
 pub run_written : (said : Option Form) (form : Form) (show : Show) (input : Option (List ℕ)) (status own : ℕ) (text : List ℕ) (run : Option Run)
@@ -59,5 +59,5 @@ pub gen_written : (said : Option Form) (form : Form) (n : ℕ) (input : Option (
     → (status ≡ 5) ⊎ (status ≡ own) → n ≤ most_ops → IsGenStatus status → status ≡ 0
 gen_written said form n input status own text run spent is known_is ready given few answered =
     let same = gen_given status own answered given in
-    same ∙ gen_is_accepted n own text run few
+    same ∙ gen_is_accepted n own text few
     (known_answer said form (asked.Gen n) input own text run spent is known_is ready (subst IsGenStatus same answered))

@@ -6,7 +6,9 @@ pub mod CheckLaws
 pub mod BehindLaws
 pub mod WriteLaws
 pub mod FormLaws
+pub mod AccountLaws
 pub mod StepLaws
+pub mod TellingLaws
 pub mod EveryLaws
 pub mod EveryWritten
 pub mod MoversLaws

@@ -13,10 +13,12 @@ use Rattle.vyrd_base.specs.declared.history.Stamped.{Stamped}
 use Rattle.vyrd_base.specs.Subjects.{same_subject, subject_of, are_args, are_padded, are_ranged, arity_of}
 use Rattle.vyrd_base.specs.Devices.{IsAtEnd}
 use Rattle.vyrd_base.specs.Histories.{cells_of, is_legal, logged, log_of}
+use Rattle.vyrd_base.specs.declared.verdict.Verdict.{Verdict}
 use Rattle.vyrd_base.specs.Verdicts.{verdict}
 use Rattle.vyrd_base.proofs.TestLaws.{both_true, first_true, second_true}
 use Rattle.vyrd_text.specs.Written.{is_padded, is_of_subject, is_writable}
 use Rattle.vyrd_mover.specs.Writable.{is_padded_did}
+use Rattle.vyrd_memory.specs.Turns.{RunsTo}
 use Rattle.vyrd_memory.specs.Runs.{is_call_of, PlayToTheEnd}
 use Rattle.vyrd_memory.proofs.LegalRuns.{run_is_legal, run_plays}
 use Rattle.vyrd_memory.proofs.RaceLaws.{only_races}
@@ -28,27 +30,33 @@ use Rattle.vyrd_work.specs.WorkScripts.{work_scripts}
 use Rattle.vyrd_work.specs.LongInputs.{longest_input}
 use Rattle.vyrd_work.proofs.SoundScripts.{scripts_sound}
 use Rattle.vyrd_work.proofs.SettledLaws.{reading_settled}
-use Rattle.vyrd_live.specs.declared.run.Run.{Run}
 use Rattle.vyrd_program.specs.Inputs.{IsInputRead}
-use Rattle.vyrd_live.specs.TurnRuns.{IsRunByTurns}
-use Rattle.vyrd_program.specs.Steps.{NamesOnlyRaces}
+use Rattle.vyrd_program.specs.Steps.{NamesOnlyRaces, IsTurnedTo}
 
 -- the history of a run by turns is legal, and each script is played to its end in it
-legal_run : (w : Workload) (run : Run) → KeepsLimits w → IsRunByTurns w run → is_legal (cells_of w.header) run.history.items ≡ true
-legal_run w run limits is = run_is_legal w.header (work_scripts w) w.turns run.history.items (scripts_sound w limits) is.history
+pub turned_is_legal : (w : Workload) (history : List Stamped) → KeepsLimits w → RunsTo (work_scripts w) w.turns history
+    → is_legal (cells_of w.header) history ≡ true
+turned_is_legal w history limits runs = run_is_legal w.header (work_scripts w) w.turns history (scripts_sound w limits) runs
 
-played_run : (w : Workload) (run : Run) → KeepsLimits w → IsRunByTurns w run → PlayToTheEnd (work_scripts w) run.history.items
-played_run w run limits is = run_plays w.header (work_scripts w) w.turns run.history.items (scripts_sound w limits) is.history
+pub turned_plays : (w : Workload) (history : List Stamped) → KeepsLimits w → RunsTo (work_scripts w) w.turns history
+    → PlayToTheEnd (work_scripts w) history
+turned_plays w history limits runs = run_plays w.header (work_scripts w) w.turns history (scripts_sound w limits) runs
 
 -- a verdict about a legal history of played scripts names no rule except that of races
-pub names_only_races : (w : Workload) (run : Run) → KeepsLimits w → is_legal (cells_of w.header) run.history.items ≡ true
-    → PlayToTheEnd (work_scripts w) run.history.items
-    → run.verdict ≡ verdict w.header [] (log_of run.history.items) → NamesOnlyRaces run
-names_only_races w run limits legal played is = λ line rule e.
-    only_races w.header (work_scripts w) run.history.items (scripts_sound w limits) legal played line rule (sym is ∙ e)
+pub names_only_races : (w : Workload) (history : List Stamped) (v : Verdict) → KeepsLimits w → is_legal (cells_of w.header) history ≡ true
+    → PlayToTheEnd (work_scripts w) history → v ≡ verdict w.header [] (log_of history) → NamesOnlyRaces v
+names_only_races w history v limits legal played is = λ line rule e.
+    only_races w.header (work_scripts w) history (scripts_sound w limits) legal played line rule (sym is ∙ e)
 
-pub run_names_only_races : (w : Workload) (run : Run) → KeepsLimits w → IsRunByTurns w run → NamesOnlyRaces run
-run_names_only_races w run limits is = names_only_races w run limits (legal_run w run limits is) (played_run w run limits is) is.verdict_is
+-- what is known of a run by turns that ends
+pub is_turned : (w : Workload) (history : List Stamped) → KeepsLimits w → RunsTo (work_scripts w) w.turns history
+    → IsTurnedTo w history (verdict w.header [] (log_of history))
+is_turned w history limits runs = record {
+  runs = runs;
+  verdict_is = refl;
+  races = names_only_races w history (verdict w.header [] (log_of history)) limits (turned_is_legal w history limits runs)
+      (turned_plays w history limits runs) refl;
+}
 
 -- a call of the header can be written
 call_is_writable : (h : Header) (e : Entry) → is_call_of h e.kind ≡ true → is_writable h.subject e ≡ true
@@ -74,15 +82,11 @@ all_writable h [] fit = tt
 all_writable h (e ∷ entries) fit = (call_is_writable h e fit.0, all_writable h entries fit.1)
 
 -- the log of such a history can be written
-pub log_is_writable : (w : Workload) (run : Run) → KeepsLimits w → is_legal (cells_of w.header) run.history.items ≡ true
-    → PlayToTheEnd (work_scripts w) run.history.items
-    → AllByRecursion (λ e. is_writable w.header.subject e ≡ true) (log_of run.history.items)
-log_is_writable w run limits legal played =
-    all_writable w.header (log_of run.history.items) (calls_fit w.header (work_scripts w) run.history.items (scripts_sound w limits) legal played)
-
-pub run_is_writable : (w : Workload) (run : Run) → KeepsLimits w → IsRunByTurns w run
-    → AllByRecursion (λ e. is_writable w.header.subject e ≡ true) (log_of run.history.items)
-run_is_writable w run limits is = log_is_writable w run limits (legal_run w run limits is) (played_run w run limits is)
+pub log_is_writable : (w : Workload) (history : List Stamped) → KeepsLimits w → is_legal (cells_of w.header) history ≡ true
+    → PlayToTheEnd (work_scripts w) history
+    → AllByRecursion (λ e. is_writable w.header.subject e ≡ true) (log_of history)
+log_is_writable w history limits legal played =
+    all_writable w.header (log_of history) (calls_fit w.header (work_scripts w) history (scripts_sound w limits) legal played)
 
 -- what was read of an input says what the whole input says
 pub reading_is_input : (before after : Option (List ℕ)) (bytes : List ℕ) → IsInputRead longest_input before after bytes

@@ -35,10 +35,10 @@ abbrev pub IsAnswer : Option Form → Option (List ℕ) → ℕ → List ℕ →
 IsAnswer None input status text run spent = text ≡ usage_line
 IsAnswer (Some asked.Check) input status text run spent = IsJudged most_lines input status text
 IsAnswer (Some (asked.Step show)) input status text run spent =
-    AnswersInput show input status text run
+    AnswersInput show input status text
 IsAnswer (Some (asked.Run show)) input status text run spent =
     AnswersRun show input status text run spent
-IsAnswer (Some (asked.Gen n)) input status text run spent = IsGenAnswer n status text run
+IsAnswer (Some (asked.Gen n)) input status text run spent = IsGenAnswer n status text
 IsAnswer (Some asked.Movers) input status text run spent = AnswersMovers input status text
 IsAnswer (Some asked.Batch) input status text run spent = AnswersBatch input status text
 

@@ -1,5 +1,5 @@
--- What is handed out beside the status: a run that came to its end, or one that the limit of events
--- ended.
+-- What is handed out beside the status: a live run that came to its end, or one that the limit of
+-- events ended. A run by turns isn't: the workload alone says what its history is.
 use Rattle.std.specs.Prelude.{◌≡◌, ◌⊎◌, ℕ, Bool, true, false, Option, Some, None}
 use Rattle.vyrd_live.specs.declared.run.Run.{Run}
 use Rattle.vyrd_live.specs.declared.run.Overrun.{Overrun}
@@ -16,17 +16,7 @@ pub record HandsOutNothing (run : Option Run) (spent : Option Overrun) : Type 0 
 abbrev pub IsUnplayed : ℕ → Type 0
 IsUnplayed status = (status ≡ 3) ⊎ (status ≡ 4) ⊎ (status ≡ 6)
 
--- whether a workload is played
-abbrev pub plays : Option Form → Bool
-plays None = false
-plays (Some asked.Check) = false
-plays (Some (asked.Step show)) = true
-plays (Some (asked.Run show)) = true
-plays (Some (asked.Gen n)) = true
-plays (Some asked.Movers) = false
-plays (Some asked.Batch) = false
-
--- whether it is played on threads, under a limit of events
+-- whether a workload is played on threads, under a limit of events
 abbrev pub plays_live : Option Form → Bool
 plays_live None = false
 plays_live (Some asked.Check) = false
@@ -36,11 +26,9 @@ plays_live (Some (asked.Gen n)) = false
 plays_live (Some asked.Movers) = false
 plays_live (Some asked.Batch) = false
 
--- What a call with this form and this status hands out: nothing in those statuses, nothing if the
--- form plays no workload, and a run that the limit of events ended only where the form plays it
--- live.
+-- What a call with this form and this status hands out: nothing in those statuses, and nothing
+-- unless the form plays a workload live.
 pub record HandsOut (form : Option Form) (status : ℕ) (run : Option Run)
     (spent : Option Overrun) : Type 0 where
   pub unplayed : IsUnplayed status → HandsOutNothing run spent
-  pub no_workload : plays form ≡ false → HandsOutNothing run spent
-  pub no_limit : plays_live form ≡ false → spent ≡ None
+  pub not_live : plays_live form ≡ false → HandsOutNothing run spent

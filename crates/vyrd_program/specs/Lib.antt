@@ -3,6 +3,7 @@ pub mod Outputs
 pub mod Forms
 pub mod Progress
 pub mod Checks
+pub mod Accounts
 pub mod Steps
 pub mod Runs
 pub mod Generated

@@ -42,7 +42,8 @@ spent_line caller = ended_line (codes "events spent by caller " ++ decimal calle
 -- the bounds of that caller's operations.
 abbrev pub IsPlayedAnswer : Show → Workload → ℕ → List ℕ → Option Run → Option Overrun → Type 0
 IsPlayedAnswer show w status text (Some run) None =
-    (status ≡ status_of run.verdict) × (text ≡ run_text show w.header run) × IsLiveRun w run
+    (status ≡ status_of run.verdict)
+    × (text ≡ run_text show w.header run.history.items run.verdict) × IsLiveRun w run
 IsPlayedAnswer show w status text None (Some spent) =
     (status ≡ 9) × (text ≡ spent_line spent.caller)
     × (is_legal (cells_of w.header) spent.history.items ≡ true)

@@ -34,8 +34,8 @@ pub const HISTORY_REFUSED: u8 = 10;
 /// The batch is refused.
 pub const BATCH_REFUSED: u8 = 11;
 
-/// A status, the text that is written with it, and the run that it is about: one that came to its
-/// end, or one that the limit of events ended.
+/// A status, the text that is written with it, and the live run that it is about: one that came to
+/// its end, or one that the limit of events ended.
 #[derive(Debug, Drop)]
 pub struct Answer {
     pub status: u8,

@@ -6,7 +6,7 @@ ghost use Rattle.vyrd_memory.specs.Bounds.{most_ops};
 ghost use Rattle.vyrd_program.specs.declared.form.Form.TheVariants.{Check, Gen};
 ghost use Rattle.vyrd_program.specs.Commands.{IsStatus, IsAnswerStatus, IsAnswer, reads, IsEnough};
 ghost use Rattle.vyrd_program.specs.Commands.{IsNoFurther};
-ghost use Rattle.vyrd_program.specs.HandedOut.{HandsOutNothing, plays, plays_live};
+ghost use Rattle.vyrd_program.specs.HandedOut.{HandsOutNothing, plays_live};
 ghost use Rattle.vyrd_program.specs.Steps.{NamesOnlyRaces};
 
 use crate::answer::Answer;
@@ -42,12 +42,11 @@ pub(crate) fn carry_out<R: Threads + Wait + Sync, S: Source, G: Gate>(
         → IsEnough (Some form) (S.rest source.old) (S.rest source.new) }
     ensures no_further { IsNoFurther (Some form) (S.rest source.old) (S.rest source.new) }
     ensures untouched { reads (Some form) ≡ false → source.new ≡ source.old }
-    ensures races { IfSome result.run NamesOnlyRaces }
+    ensures races { IfSome result.run (λ run. NamesOnlyRaces run.verdict) }
     ensures silent { (result.status ≡ 4) ⊎ (result.status ≡ 6) → result.text.items ≡ [] }
     ensures unplayed { (result.status ≡ 4) ⊎ (result.status ≡ 6)
         → HandsOutNothing result.run result.spent }
-    ensures no_workload { plays (Some form) ≡ false → HandsOutNothing result.run result.spent }
-    ensures no_limit { plays_live (Some form) ≡ false → result.spent ≡ None }
+    ensures not_live { plays_live (Some form) ≡ false → HandsOutNothing result.run result.spent }
     ensures cause { result.status ≡ 4 → HasRisen (S.faults source.old) (S.faults source.new) }
     ensures stopped { result.status ≡ 4 → S.rest source.new ≡ S.left_off source.new }
     ensures failures_alone { (S.faults source.new ≡ S.faults source.old) ⊎ (result.status ≡ 4) }

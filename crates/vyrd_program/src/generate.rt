@@ -1,14 +1,15 @@
 //! What `gen` answers.
 
-ghost use Rattle.std.specs.Prelude.{◌≡◌, ◌≤◌, ◌⊎◌, [], None, IfOk, IfSome};
+ghost use Rattle.std.specs.Prelude.{◌≡◌, ◌≤◌, ◌⊎◌, [], None, IfOk};
 ghost use Rattle.vyrd_memory.specs.Bounds.{most_ops};
 ghost use Rattle.vyrd_program.specs.Generated.{IsGenAnswer, IsGenStatus};
-ghost use Rattle.vyrd_program.specs.Steps.{NamesOnlyRaces};
 
+use crate::account::Account;
 use crate::answer::{Answer, MEMORY};
+use crate::show::Show;
 use crate::telling::{generated, stuck};
 use std::alloc::{AllocError, Global};
-use vyrd_live::run_by_turns;
+use vyrd_live::show_by_turns;
 use vyrd_work::{AnyMachine, generate};
 
 /// The answer to this many operations, from 1 to 200,000: the verdict about the run by turns of the
@@ -19,9 +20,9 @@ pub fn answer_generated(alloc: Global, count: u32) -> Answer
     requires few { count ≤ most_ops }
     ensures statuses { IsGenStatus result.status ⊎ (result.status ≡ 6) }
     ensures answer { IsGenStatus result.status
-        → IsGenAnswer count result.status result.text.items result.run }
-    ensures races { IfSome result.run NamesOnlyRaces }
-    ensures silent { result.status ≡ 6 → (result.text.items ≡ []) × (result.run ≡ None) }
+        → IsGenAnswer count result.status result.text.items }
+    ensures silent { result.status ≡ 6 → result.text.items ≡ [] }
+    ensures run { result.run ≡ None }
     ensures spent { result.spent ≡ None }
 {
     match try_answer(alloc, count) {
@@ -34,14 +35,14 @@ pub fn answer_generated(alloc: Global, count: u32) -> Answer
 fn try_answer(alloc: Global, count: u32) -> Result<Answer, AllocError>
     requires some { 1 ≤ count }
     requires few { count ≤ most_ops }
-    ensures answer { IfOk result
-        (λ answer. IsGenAnswer count answer.status answer.text.items answer.run) }
-    ensures races { IfOk result (λ answer. IfSome answer.run NamesOnlyRaces) }
+    ensures answer { IfOk result (λ answer. IsGenAnswer count answer.status answer.text.items) }
+    ensures run { IfOk result (λ answer. answer.run ≡ None) }
     ensures spent { IfOk result (λ answer. answer.spent ≡ None) }
 {
     let work = generate(alloc, count)?;
-    match run_by_turns::<AnyMachine>(alloc, &work)? {
-        Some(run) => generated(alloc, count, run),
+    let mut account = Account::new(alloc, work.header, Show::Verdict)?;
+    match show_by_turns::<AnyMachine, Account>(alloc, work, &mut account)? {
+        Some(_) => generated(alloc, count, account),
         None => stuck(alloc),
     }
 }

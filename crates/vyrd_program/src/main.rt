@@ -6,6 +6,7 @@
 //! is none. `main` makes the real source and sink.
 #![tactic(auto)]
 
+mod account;
 mod answer;
 mod batch;
 #[cfg(test)]

@@ -84,7 +84,7 @@ fn write_of_a_log_that_fails(rt: HostRuntime) -> Result<(), Fail> {
     let work = b"work multiset 1 1 correct\nop 0 lookup 5\nend\n";
     let mut source = MemorySource::new(alloc, work, 16, &[])?;
     let mut sink = MemorySink::new(alloc, ROOM, 5, &[3])?;
-    let words = ["step", "--log"];
+    let words = ["run", "--log"];
     let ended = vyrd(&rt, alloc, &words, &mut source, &mut sink, &OpenGate);
     assert_eq!(rt; (ended.status, sink.taken()), (5, b"vyrd 1 mul".as_slice()));
     assert!(rt; ended.run.is_some());
@@ -98,11 +98,13 @@ fn the_same_operations_twice(rt: HostRuntime) -> Result<(), Fail> {
     let mut source = MemorySource::new(alloc, b"", 1, &[])?;
     let mut first = MemorySink::new(alloc, ROOM, ROOM, &[])?;
     let mut second = MemorySink::new(alloc, ROOM, ROOM, &[])?;
-    let ended = vyrd(&rt, alloc, &words, &mut source, &mut first, &OpenGate);
+    let once = vyrd(&rt, alloc, &words, &mut source, &mut first, &OpenGate);
     let again = vyrd(&rt, alloc, &words, &mut source, &mut second, &OpenGate);
-    assert_eq!(rt; (ended.status, again.status), (0, 0));
+    assert_eq!(rt; (once.status, again.status), (0, 0));
     assert_eq!(rt; first.taken(), second.taken());
-    let judged = match ended.run.map(|run| run.verdict) {
+    let work = generate(alloc, 2000)?;
+    let run = run_by_turns::<AnyMachine>(alloc, &work)?;
+    let judged = match run.map(|run| run.verdict) {
         Some(
             Verdict::Accepted {
                 commits,

@@ -45,7 +45,7 @@ pub struct Ended {
     /// batch that is refused. Of a history's blocks 0 says that all are reducible, and 1 that one
     /// isn't.
     pub status: u8,
-    /// The run that the answer is about, under `step`, `run` and `gen`, if it came to its end.
+    /// The live run that the answer is about, under `run`, if it came to its end.
     pub run: Option<vyrd_live::Run>,
     /// The live run that the limit of events ended, under `run`.
     pub spent: Option<Overrun>,
@@ -106,8 +106,9 @@ pub fn vyrd<R: Threads + Wait + Sync, S: Source, K: Sink, G: Gate>(
     ensures every_gen { (n : ℕ) → form_said words.now ≡ Some (Gen n) → IsGenStatus result.status
         → result.status ≡ 0 }
 
-    // Whatever was played: if the verdict names a rule, it is that of raced blocks.
-    ensures only_races { IfSome result.run NamesOnlyRaces }
+    // Whatever was played live: if the verdict names a rule, it is that of raced blocks. Of a run by
+    // turns the answer says so.
+    ensures only_races { IfSome result.run (λ run. NamesOnlyRaces run.verdict) }
 
     // 3: the words are none of the forms.
     ensures usage_form { result.status ≡ 3 → form_said words.now ≡ None }
@@ -130,8 +131,7 @@ pub fn vyrd<R: Threads + Wait + Sync, S: Source, K: Sink, G: Gate>(
     // 6: there was no memory, and nothing was written.
     ensures memory { result.status ≡ 6 → K.taken sink.new ≡ K.taken sink.old }
 
-    // There is no run without a workload that was played, and none that the limit of events ended
-    // but a live one.
+    // No run is handed out but a live one.
     ensures handed_out { HandsOut (form_said words.now) result.status result.run result.spent }
 
     // If no count of faults has risen, neither a read nor a write has failed.

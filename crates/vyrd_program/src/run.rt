@@ -39,7 +39,7 @@ pub fn run<R: Threads + Wait + Sync, S: Source, G: Gate>(
     ensures answers { IsRunStatus result.status
         → AnswersRun show (S.rest source.old) result.status result.text.items result.run
         result.spent }
-    ensures races { IfSome result.run NamesOnlyRaces }
+    ensures races { IfSome result.run (λ run. NamesOnlyRaces run.verdict) }
     ensures consumed { IsRunStatus result.status
         → IsInputTaken longest_input (S.rest source.old) (S.rest source.new) }
     ensures few { IsFewTaken longest_input (S.rest source.old) (S.rest source.new) }
@@ -71,7 +71,8 @@ fn answer_to<R: Threads + Wait + Sync, G: Gate>(
 ) -> Result<Answer, AllocError>
     ensures answer { IfOk result (λ answer. IsRunAnswer show (work_reading bytes.now) answer.status
         answer.text.items answer.run answer.spent) }
-    ensures races { IfOk result (λ answer. IfSome answer.run NamesOnlyRaces) }
+    ensures races { IfOk result
+        (λ answer. IfSome answer.run (λ run. NamesOnlyRaces run.verdict)) }
 {
     match read_work(alloc, bytes) {
         Ok(work) => play(rt, alloc, show, &work, gate),
@@ -91,7 +92,8 @@ fn play<R: Threads + Wait + Sync, G: Gate>(
     requires { KeepsLimits (workload_of work.now) }
     ensures answer { IfOk result (λ answer. IsPlayedAnswer show (workload_of work.now) answer.status
         answer.text.items answer.run answer.spent) }
-    ensures races { IfOk result (λ answer. IfSome answer.run NamesOnlyRaces) }
+    ensures races { IfOk result
+        (λ answer. IfSome answer.run (λ run. NamesOnlyRaces run.verdict)) }
 {
     match run_live(rt, alloc, work, MOST_EVENTS, gate) {
         Ok(run) => tell(alloc, show, work.header, run),

@@ -1,22 +1,24 @@
 //! What `step` answers.
 
-ghost use Rattle.std.specs.Prelude.{◌≡◌, ◌≤◌, ◌⊎◌, true, [], None, IfOk, IfSome};
+ghost use Rattle.std.specs.Prelude.{◌≡◌, ◌≤◌, ◌⊎◌, true, [], None, Ok, IfOk};
 ghost use Rattle.vyrd_base.specs.Devices.{HasRisen};
+ghost use Rattle.vyrd_work.specs.Workloads.{workload_of};
+ghost use Rattle.vyrd_work.specs.WorkLimits.{KeepsLimits};
 ghost use Rattle.vyrd_work.specs.WorkReading.{work_reading};
 ghost use Rattle.vyrd_work.specs.LongInputs.{longest_input};
 ghost use Rattle.vyrd_program.specs.Inputs.{IsInputTaken, IsFewTaken};
 ghost use Rattle.vyrd_program.specs.Steps.{AnswersInput, IsStepAnswer, IsStepStatus};
-ghost use Rattle.vyrd_program.specs.Steps.{NamesOnlyRaces};
 
+use crate::account::Account;
 use crate::answer::{Answer, MEMORY, READ_FAULT};
 use crate::read_input::{LONGEST_WORK, read_input};
 use crate::read_log::ReadFault;
 use crate::show::Show;
-use crate::telling::{refuse, stuck, tell};
+use crate::telling::{refuse, stuck, told_of};
 use std::alloc::{AllocError, Global};
 use vyrd_base::Source;
-use vyrd_live::run_by_turns;
-use vyrd_work::{AnyMachine, WorkFault, read_work};
+use vyrd_live::show_by_turns;
+use vyrd_work::{AnyMachine, Work, WorkFault, read_work};
 
 /// The answer to a workload: what is to be shown of its run by turns, with the status of the
 /// verdict about it; or that it is refused, or gets stuck; or nothing if a read failed or there is
@@ -24,13 +26,12 @@ use vyrd_work::{AnyMachine, WorkFault, read_work};
 pub fn step<S: Source>(alloc: Global, show: Show, source: &mut S) -> Answer
     ensures statuses { IsStepStatus result.status ⊎ (result.status ≡ 4) ⊎ (result.status ≡ 6) }
     ensures answers { IsStepStatus result.status
-        → AnswersInput show (S.rest source.old) result.status result.text.items result.run }
-    ensures races { IfSome result.run NamesOnlyRaces }
+        → AnswersInput show (S.rest source.old) result.status result.text.items }
     ensures consumed { IsStepStatus result.status
         → IsInputTaken longest_input (S.rest source.old) (S.rest source.new) }
     ensures few { IsFewTaken longest_input (S.rest source.old) (S.rest source.new) }
-    ensures silent { result.status ≡ 4 ⊎ result.status ≡ 6
-        → (result.text.items ≡ []) × (result.run ≡ None) }
+    ensures silent { result.status ≡ 4 ⊎ result.status ≡ 6 → result.text.items ≡ [] }
+    ensures run { result.run ≡ None }
     ensures spent { result.spent ≡ None }
     ensures cause { result.status ≡ 4 → HasRisen (S.faults source.old) (S.faults source.new) }
     ensures stopped { result.status ≡ 4 → S.rest source.new ≡ S.left_off source.new }
@@ -39,7 +40,7 @@ pub fn step<S: Source>(alloc: Global, show: Show, source: &mut S) -> Answer
     ensures sure { S.is_sure source.old ≡ true → S.faults source.new ≡ S.faults source.old }
 {
     match read_input(alloc, LONGEST_WORK, source) {
-        Ok(bytes) => match answer_to(alloc, show, &bytes) {
+        Ok(bytes) => match answer_to(alloc, show, bytes) {
             Ok(answer) => answer,
             Err(_) => Answer::silent(alloc, MEMORY),
         },
@@ -48,19 +49,33 @@ pub fn step<S: Source>(alloc: Global, show: Show, source: &mut S) -> Answer
     }
 }
 
-/// The answer to the bytes of a workload.
-fn answer_to(alloc: Global, show: Show, bytes: &[u8]) -> Result<Answer, AllocError>
-    ensures answer { IfOk result (λ answer. IsStepAnswer show (work_reading bytes.now) answer.status
-        answer.text.items answer.run) }
-    ensures races { IfOk result (λ answer. IfSome answer.run NamesOnlyRaces) }
+/// The answer to the bytes of a workload, which aren't kept while it is played.
+fn answer_to(alloc: Global, show: Show, bytes: Vec<u8>) -> Result<Answer, AllocError>
+    ensures answer { IfOk result (λ answer. IsStepAnswer show (work_reading bytes.items)
+        answer.status answer.text.items) }
+    ensures run { IfOk result (λ answer. answer.run ≡ None) }
     ensures spent { IfOk result (λ answer. answer.spent ≡ None) }
 {
-    match read_work(alloc, bytes) {
-        Ok(work) => match run_by_turns::<AnyMachine>(alloc, &work)? {
-            Some(run) => tell(alloc, show, work.header, run),
-            None => stuck(alloc),
-        },
+    let read = read_work(alloc, &bytes);
+    drop(bytes);
+    match read {
+        Ok(work) => play(alloc, show, work),
         Err(WorkFault::Refused { line, rule }) => refuse(alloc, line, rule),
         Err(WorkFault::Memory) => Err(AllocError),
+    }
+}
+
+/// The answer to a workload that keeps its limits.
+fn play(alloc: Global, show: Show, work: Work) -> Result<Answer, AllocError>
+    requires { KeepsLimits (workload_of work) }
+    ensures answer { IfOk result (λ answer. IsStepAnswer show (Ok (workload_of work))
+        answer.status answer.text.items) }
+    ensures run { IfOk result (λ answer. answer.run ≡ None) }
+    ensures spent { IfOk result (λ answer. answer.spent ≡ None) }
+{
+    let mut account = Account::new(alloc, work.header, show)?;
+    match show_by_turns::<AnyMachine, Account>(alloc, work, &mut account)? {
+        Some(_) => told_of(account),
+        None => stuck(alloc),
     }
 }

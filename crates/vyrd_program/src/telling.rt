@@ -1,16 +1,20 @@
 //! The texts of the answers to a workload.
 
-ghost use Rattle.std.specs.Prelude.{◌≡◌, ◌++◌, true, length, Some, None, IfOk};
+ghost use Rattle.std.specs.Prelude.{◌≡◌, ◌++◌, [], true, List, length, Some, None, IfOk};
 ghost use Rattle.std.specs.List.{AllByRecursion};
+ghost use Rattle.vyrd_base.specs.declared.history.Stamped.{Stamped};
 ghost use Rattle.vyrd_base.specs.Histories.{log_of};
+ghost use Rattle.vyrd_base.specs.Verdicts.{verdict};
 ghost use Rattle.vyrd_base.specs.VerdictText.{verdict_text};
 ghost use Rattle.vyrd_text.specs.Written.{is_writable};
 ghost use Rattle.vyrd_work.specs.Refusals.{refusal_text};
+ghost use Rattle.vyrd_program.specs.Accounts.{HasTaken};
 ghost use Rattle.vyrd_program.specs.Outputs.{status_of};
 ghost use Rattle.vyrd_program.specs.Steps.{run_text, stuck_line};
 ghost use Rattle.vyrd_program.specs.Runs.{spent_line};
 ghost use Rattle.vyrd_program.specs.Generated.{generated_line};
 
+use crate::account::{Account, Told};
 use crate::answer::{Answer, REFUSED, SPENT, STUCK, status_of};
 use crate::show::Show;
 use std::alloc::{AllocError, Global};
@@ -21,12 +25,13 @@ use vyrd_mover::write_history;
 use vyrd_text::{LineBuffer, write_log, write_verdict};
 use vyrd_work::{WorkRule, write_refusal};
 
-/// What is to be shown of a run, with the status of its verdict.
+/// What is to be shown of a live run, with the status of its verdict.
 pub fn tell(alloc: Global, show: Show, header: Header, run: Run) -> Result<Answer, AllocError>
     requires { AllByRecursion (λ e. is_writable header.subject e ≡ true)
         (log_of run.history.items) }
     ensures status { IfOk result (λ answer. answer.status ≡ status_of run.verdict) }
-    ensures text { IfOk result (λ answer. answer.text.items ≡ run_text show header run) }
+    ensures text { IfOk result (λ answer. answer.text.items
+        ≡ run_text show header run.history.items run.verdict) }
     ensures run { IfOk result (λ answer. answer.run ≡ Some run) }
     ensures spent { IfOk result (λ answer. answer.spent ≡ None) }
 {
@@ -38,7 +43,8 @@ pub fn tell(alloc: Global, show: Show, header: Header, run: Run) -> Result<Answe
 fn shown(alloc: Global, show: Show, header: Header, run: &Run) -> Result<Vec<u8>, AllocError>
     requires { AllByRecursion (λ e. is_writable header.subject e ≡ true)
         (log_of run.now.history.items) }
-    ensures { IfOk result (λ text. text.items ≡ run_text show header run.now) }
+    ensures { IfOk result
+        (λ text. text.items ≡ run_text show header run.now.history.items run.now.verdict) }
 {
     let mut text = Vec::new(alloc);
     match show {
@@ -108,17 +114,47 @@ pub fn overrun(alloc: Global, spent: Overrun) -> Result<Answer, AllocError>
     })
 }
 
-/// How many operations were generated, how many events their run has, and the verdict about it.
-pub fn generated(alloc: Global, count: u32, run: Run) -> Result<Answer, AllocError>
-    ensures status { IfOk result (λ answer. answer.status ≡ status_of run.verdict) }
-    ensures text { IfOk result (λ answer. answer.text.items
-        ≡ generated_line count (length run.history.items) ++ verdict_text run.verdict) }
-    ensures run { IfOk result (λ answer. answer.run ≡ Some run) }
+/// What an account tells of a run by turns, with the status of its verdict.
+pub fn told_of(account: Account) -> Result<Answer, AllocError>
+    ensures status { (history : List Stamped) → HasTaken account history → IfOk result
+        (λ answer. answer.status
+        ≡ status_of (verdict account.judge.kept.header [] (log_of history))) }
+    ensures text { (history : List Stamped) → HasTaken account history → IfOk result
+        (λ answer. answer.text.items ≡ run_text account.show account.judge.kept.header history
+        (verdict account.judge.kept.header [] (log_of history))) }
+    ensures run { IfOk result (λ answer. answer.run ≡ None) }
     ensures spent { IfOk result (λ answer. answer.spent ≡ None) }
 {
-    let mut text = counts(alloc, count, run.history.len() as u64)?;
-    write_verdict(&run.verdict, &mut text)?;
-    Ok(told(text, run))
+    let Told { verdict, text, .. } = account.close()?;
+    Ok(Answer {
+        status: status_of(verdict),
+        text,
+        run: None,
+        spent: None,
+    })
+}
+
+/// How many operations were generated, how many events their run has, and the verdict about it, as
+/// an account tells them.
+pub fn generated(alloc: Global, count: u32, account: Account) -> Result<Answer, AllocError>
+    ensures status { (history : List Stamped) → HasTaken account history → IfOk result
+        (λ answer. answer.status
+        ≡ status_of (verdict account.judge.kept.header [] (log_of history))) }
+    ensures text { (history : List Stamped) → HasTaken account history → IfOk result
+        (λ answer. answer.text.items ≡ generated_line count (length history)
+        ++ verdict_text (verdict account.judge.kept.header [] (log_of history))) }
+    ensures run { IfOk result (λ answer. answer.run ≡ None) }
+    ensures spent { IfOk result (λ answer. answer.spent ≡ None) }
+{
+    let told = account.close()?;
+    let mut text = counts(alloc, count, told.count)?;
+    write_verdict(&told.verdict, &mut text)?;
+    Ok(Answer {
+        status: status_of(told.verdict),
+        text,
+        run: None,
+        spent: None,
+    })
 }
 
 /// This text about a run, with the status of its verdict.

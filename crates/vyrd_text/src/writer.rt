@@ -7,7 +7,7 @@ ghost use Rattle.vyrd_base.specs.Starts.{may_start};
 ghost use Rattle.vyrd_base.specs.Spelling.{log_text, start_line, entry_line, ended_line};
 ghost use Rattle.vyrd_base.specs.Spelling.{header_line, method_name, subject_name};
 ghost use Rattle.vyrd_text.specs.Spelled.{args_text, call_text, kind_text};
-ghost use Rattle.vyrd_text.specs.Written.{is_padded, is_writable};
+ghost use Rattle.vyrd_text.specs.Written.{is_writable};
 
 use crate::line_buffer::LineBuffer;
 use std::alloc::AllocError;
@@ -15,14 +15,27 @@ use vyrd_base::{Args, Entry, Header, Kind, Method, StartWord, Subject};
 
 /// Appends the one spelling of the entry, without a line feed. A refusal leaves `out` unchanged.
 ///
-/// Arguments that the method doesn't have are 0.
+/// Arguments that the method doesn't have aren't written.
 pub fn write_line(entry: &Entry, out: &mut Vec<u8>) -> Result<(), AllocError>
-    requires { is_padded entry.now.kind ≡ true }
     ensures ok { OnOk result (out.new.items ≡ out.old.items ++ entry_line entry.now) }
     ensures err { OnErr result (out.new.items ≡ out.old.items) }
 {
     let mut line = LineBuffer::new();
     push_entry(*entry, &mut line);
+    out.extend_from_slice(line.as_slice())
+}
+
+/// Appends the entry's line with its line feed. A refusal leaves `out` unchanged.
+///
+/// After the header's line this is how a log is written entry by entry. Arguments that the method
+/// doesn't have aren't written.
+pub fn write_entry(entry: &Entry, out: &mut Vec<u8>) -> Result<(), AllocError>
+    ensures ok { OnOk result (out.new.items ≡ out.old.items ++ ended_line (entry_line entry.now)) }
+    ensures err { OnErr result (out.new.items ≡ out.old.items) }
+{
+    let mut line = LineBuffer::new();
+    push_entry(*entry, &mut line);
+    line.push(b"\n");
     out.extend_from_slice(line.as_slice())
 }
 
@@ -75,14 +88,14 @@ fn append_log(
         (out.new.items ≡ out.old.items ++ log_text header start.now entries.now) }
     ensures err { OnErr result (take (length out.old.items) out.new.items ≡ out.old.items) }
 {
-    append_header(header, out)?;
+    write_header(header, out)?;
     append_start(start, out)?;
     append_entries(entries, out)?;
     out.extend_from_slice(b"end\n")
 }
 
-/// Appends the header's line. A refusal leaves `out` unchanged.
-fn append_header(header: Header, out: &mut Vec<u8>) -> Result<(), AllocError>
+/// Appends the line of a log's header. A refusal leaves `out` unchanged.
+pub fn write_header(header: Header, out: &mut Vec<u8>) -> Result<(), AllocError>
     ensures ok { OnOk result (out.new.items ≡ out.old.items
         ++ ended_line (header_line header.version header.subject header.size header.callers)) }
     ensures err { OnErr result (out.new.items ≡ out.old.items) }

@@ -37,6 +37,7 @@ returns-then-are_done g c = record {
       (stage c.play_rounds.new.machines c.play_rounds.new.words.items c.play_rounds.new.sink)
       (playing_start c.args.header.now g.M.Machine.script c.args.machines.now c.in_ok-words.words.items [] refl c.in_ok-words.ensures)
       c.requires.none c.in_ok-repeat_all.ensures.shown c.in_ok-play_rounds.ensures.rest (sym c.are_done.ensures ∙ c.if-are_done.true);
+  fixed = c.in_ok-play_rounds.ensures.fixed ∙ c.in_ok-repeat_all.ensures.fixed;
 }
 
 pub returns-else-are_done : goal.returns-else-are_done
@@ -47,4 +48,5 @@ returns-else-are_done g c = record {
       (stage c.play_rounds.new.machines c.play_rounds.new.words.items c.play_rounds.new.sink)
       (playing_start c.args.header.now g.M.Machine.script c.args.machines.now c.in_ok-words.words.items [] refl c.in_ok-words.ensures)
       c.requires.none c.in_ok-repeat_all.ensures.shown c.in_ok-play_rounds.ensures.rest (sym c.are_done.ensures ∙ c.if-are_done.false);
+  fixed = c.in_ok-play_rounds.ensures.fixed ∙ c.in_ok-repeat_all.ensures.fixed;
 }

@@ -1,4 +1,4 @@
-use Rattle.std.proofs.Common.{◌+◌, refl, ap, arith, Ok}
+use Rattle.std.proofs.Common.{◌∙◌, ◌+◌, refl, ap, arith, Ok}
 use Rattle.vyrd_memory.specs.Showing.{stage}
 use Rattle.vyrd_memory.proofs.ShownLaws.{one_round_more, rest_shown}
 use Rattle.vyrd_memory.proofs.turns.play_rounds.Goals as goal
@@ -16,6 +16,7 @@ loop-init g c = record {
     };
   };
   few = omega arith;
+  fixed = refl;
 }
 
 pub loop-preserved : goal.loop-preserved
@@ -27,6 +28,7 @@ loop-preserved g c = record {
       (stage c.round.new.machines c.round.new.words.items c.round.new.sink)
       c.loop.invariant.rounds c.loop.invariant.shown c.in_ok-round.ensures.shown;
   few = omega (arith, c.loop.invariant.few, c.in_ok-round.ensures.few);
+  fixed = c.in_ok-round.ensures.fixed ∙ c.loop.invariant.fixed;
 }
 
 pub returns : goal.returns
@@ -37,4 +39,5 @@ returns g c = record {
       (stage c.loop.machines c.loop.words.items c.loop.sink)
       (stage c.round.new.machines c.round.new.words.items c.round.new.sink)
       c.loop.invariant.rounds c.loop.invariant.shown c.in_ok-round.ensures.shown (c.in_ok-round.ensures.still (ap Ok c.if-branch.false));
+  fixed = c.in_ok-round.ensures.fixed ∙ c.loop.invariant.fixed;
 }

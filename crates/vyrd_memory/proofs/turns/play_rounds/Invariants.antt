@@ -1,4 +1,4 @@
-use Rattle.std.proofs.Common.{ℕ, ◌+◌, ◌≤◌}
+use Rattle.std.proofs.Common.{◌≡◌, ℕ, ◌+◌, ◌≤◌}
 use Rattle.std.specs.Prelude.{length}
 use Rattle.vyrd_memory.specs.Playing.{total, rounds_over}
 use Rattle.vyrd_memory.specs.Showing.{HasShown, stage}
@@ -12,6 +12,7 @@ invariant-loop g l = record {
       (stage l.initial.machines l.initial.words.items l.initial.sink) (stage l.machines l.words.items l.sink);
   few : g.S.EventSink.count l.sink + total g.M.Machine.ahead l.machines
       ≤ g.S.EventSink.count l.initial.sink + total g.M.Machine.ahead l.initial.machines;
+  fixed : g.S.EventSink.fixed l.sink ≡ g.S.EventSink.fixed l.initial.sink;
 }
 
 abbrev pub decreases-loop : goal.decreases-loop

@@ -1,4 +1,4 @@
-use Rattle.std.proofs.Common.{◌+◌, [], ◌∷◌, replicate, arith}
+use Rattle.std.proofs.Common.{◌∙◌, ◌+◌, [], ◌∷◌, replicate, arith}
 use Rattle.vyrd_memory.specs.Showing.{stage}
 use Rattle.vyrd_memory.proofs.PlayedLaws.{one_more}
 use Rattle.vyrd_memory.proofs.ShownLaws.{shown_more}
@@ -15,4 +15,5 @@ loop-time-preserved g c =
           (stage c.turn.new.machines c.turn.new.words.items c.turn.new.sink)
           c.loop-time.invariant.shown c.in_ok-turn.ensures.shown (one_more c.loop-time._time caller);
       few = omega (arith, c.loop-time.invariant.few, c.in_ok-turn.ensures.few);
+      fixed = c.in_ok-turn.ensures.fixed ∙ c.loop-time.invariant.fixed;
     }

@@ -1,4 +1,4 @@
-use Rattle.std.proofs.Common.{◌+◌, take, replicate, arith}
+use Rattle.std.proofs.Common.{◌∙◌, ◌+◌, take, replicate, arith}
 use Rattle.std.specs.Prelude.{get_or}
 use Rattle.vyrd_memory.specs.declared.op.Turn.{Turn}
 use Rattle.vyrd_memory.specs.Turns.{turns_of}
@@ -24,4 +24,5 @@ loop-turn-preserved g c =
           c.loop-turn.invariant.shown c.in_ok-repeat.ensures.shown
           (turns_more c.args.turns.now c.loop-turn.turn-index past c.loop-turn-test.true);
       few = omega (arith, c.loop-turn.invariant.few, c.in_ok-repeat.ensures.few);
+      fixed = c.in_ok-repeat.ensures.fixed ∙ c.loop-turn.invariant.fixed;
     }

@@ -1,4 +1,4 @@
-use Rattle.std.proofs.Common.{◌+◌, ◌≤◌, take}
+use Rattle.std.proofs.Common.{◌≡◌, ◌+◌, ◌≤◌, take}
 use Rattle.vyrd_memory.specs.Turns.{turns_of}
 use Rattle.vyrd_memory.specs.Playing.{total}
 use Rattle.vyrd_memory.specs.Showing.{HasShown, stage}
@@ -11,4 +11,5 @@ invariant-loop-turn g l = record {
       (stage l.initial.machines l.initial.words.items l.initial.sink) (stage l.machines l.words.items l.sink);
   few : g.S.EventSink.count l.sink + total g.M.Machine.ahead l.machines
       ≤ g.S.EventSink.count l.initial.sink + total g.M.Machine.ahead l.initial.machines;
+  fixed : g.S.EventSink.fixed l.sink ≡ g.S.EventSink.fixed l.initial.sink;
 }

@@ -16,6 +16,7 @@ loop-caller-preserved g c = record {
       (stage c.turn.new.machines c.turn.new.words.items c.turn.new.sink)
       c.loop-caller.invariant.shown c.in_ok-turn.ensures.shown (next_number c.loop-caller.caller);
   few = omega (arith, c.loop-caller.invariant.few, c.in_ok-turn.ensures.few);
+  fixed = c.in_ok-turn.ensures.fixed ∙ c.loop-caller.invariant.fixed;
   still = λ e. elim c.if-branch.branch [
     | then-branch w ↦ cc
     | else-branch w ↦ c.in_ok-turn.ensures.still (ap Ok w.if-branch.false) ∙ c.loop-caller.invariant.still (sym w.moved-is ∙ e)

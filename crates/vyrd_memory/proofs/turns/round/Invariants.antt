@@ -12,6 +12,7 @@ invariant-loop-caller g l = record {
   still : l.moved ≡ false → g.S.EventSink.count l.sink ≡ g.S.EventSink.count l.initial.sink;
   few : g.S.EventSink.count l.sink + total g.M.Machine.ahead l.machines
       ≤ g.S.EventSink.count l.initial.sink + total g.M.Machine.ahead l.initial.machines;
+  fixed : g.S.EventSink.fixed l.sink ≡ g.S.EventSink.fixed l.initial.sink;
   rests : total g.M.Machine.ahead l.machines ≤ total g.M.Machine.ahead l.initial.machines;
   falls : l.moved ≡ true → total g.M.Machine.ahead l.machines < total g.M.Machine.ahead l.initial.machines;
 }

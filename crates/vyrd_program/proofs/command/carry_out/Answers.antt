@@ -2,7 +2,7 @@
 use Rattle.std.proofs.Common.{sym, subst, refl, Some}
 use Rattle.vyrd_program.specs.declared.form.Form.TheVariants as asked
 use Rattle.vyrd_program.specs.Commands.{IsStatus, IsAnswerStatus, IsAnswer, IsEnough, IsNoFurther}
-use Rattle.vyrd_program.proofs.CommandLaws.{read_status, made_status, reads_on, plays_on, plays_live_on}
+use Rattle.vyrd_program.proofs.CommandLaws.{read_status, made_status, reads_on, plays_live_on}
 use Rattle.vyrd_program.proofs.command.carry_out.Goals as goal
 
 pub returns-in-Step-clause-statuses : goal.returns-in-Step-clause-statuses
@@ -24,9 +24,6 @@ returns-in-Step-clause-no_further g c = subst (λ form. IsNoFurther (Some form) 
 pub returns-in-Step-clause-untouched : goal.returns-in-Step-clause-untouched
 returns-in-Step-clause-untouched g c = λ isnt. absurd (reads_on c.args.form (asked.Step c.in-Step.show) c.in-Step.is refl isnt)
 
-pub returns-in-Step-clause-no_workload : goal.returns-in-Step-clause-no_workload
-returns-in-Step-clause-no_workload g c = λ isnt. absurd (plays_on c.args.form (asked.Step c.in-Step.show) c.in-Step.is refl isnt)
-
 pub returns-in-Run-clause-statuses : goal.returns-in-Run-clause-statuses
 returns-in-Run-clause-statuses g c = subst (λ form. IsStatus (Some form) c.run.result.status) (sym c.in-Run.is) (read_status (asked.Run c.in-Run.show) c.run.result.status refl c.run.ensures.statuses)
 
@@ -46,11 +43,8 @@ returns-in-Run-clause-no_further g c = subst (λ form. IsNoFurther (Some form) (
 pub returns-in-Run-clause-untouched : goal.returns-in-Run-clause-untouched
 returns-in-Run-clause-untouched g c = λ isnt. absurd (reads_on c.args.form (asked.Run c.in-Run.show) c.in-Run.is refl isnt)
 
-pub returns-in-Run-clause-no_workload : goal.returns-in-Run-clause-no_workload
-returns-in-Run-clause-no_workload g c = λ isnt. absurd (plays_on c.args.form (asked.Run c.in-Run.show) c.in-Run.is refl isnt)
-
-pub returns-in-Run-clause-no_limit : goal.returns-in-Run-clause-no_limit
-returns-in-Run-clause-no_limit g c = λ isnt. absurd (plays_live_on c.args.form (asked.Run c.in-Run.show) c.in-Run.is refl isnt)
+pub returns-in-Run-clause-not_live : goal.returns-in-Run-clause-not_live
+returns-in-Run-clause-not_live g c = λ isnt. absurd (plays_live_on c.args.form (asked.Run c.in-Run.show) c.in-Run.is refl isnt)
 
 pub returns-in-Gen-clause-statuses : goal.returns-in-Gen-clause-statuses
 returns-in-Gen-clause-statuses g c = subst (λ form. IsStatus (Some form) c.answer_generated.result.status) (sym c.in-Gen.is) (made_status (asked.Gen c.in-Gen.count) c.answer_generated.result.status c.answer_generated.ensures.statuses)
@@ -65,9 +59,6 @@ returns-in-Gen-clause-consumed g c = λ answered. subst (λ form. IsEnough (Some
 
 pub returns-in-Gen-clause-no_further : goal.returns-in-Gen-clause-no_further
 returns-in-Gen-clause-no_further g c = subst (λ form. IsNoFurther (Some form) (g.S.Source.rest c.args.source.now) (g.S.Source.rest c.args.source.now)) (sym c.in-Gen.is) tt
-
-pub returns-in-Gen-clause-no_workload : goal.returns-in-Gen-clause-no_workload
-returns-in-Gen-clause-no_workload g c = λ isnt. absurd (plays_on c.args.form (asked.Gen c.in-Gen.count) c.in-Gen.is refl isnt)
 
 pub returns-in-Movers-clause-statuses : goal.returns-in-Movers-clause-statuses
 returns-in-Movers-clause-statuses g c = subst (λ form. IsStatus (Some form) c.movers.result.status) (sym c.in-Movers.is) (read_status asked.Movers c.movers.result.status refl c.movers.ensures.statuses)

@@ -1,17 +1,23 @@
-use Rattle.std.proofs.Common.{sym, subst}
-use Rattle.std.specs.Prelude.{IfSome}
+use Rattle.std.proofs.Common.{◌≡◌, ◌∙◌, ap, subst, inl}
 use Rattle.vyrd_memory.specs.Turns.{GetsStuck}
+use Rattle.vyrd_memory.specs.Showing.{HasRun}
 use Rattle.vyrd_work.specs.Workloads.{workload_of}
 use Rattle.vyrd_work.specs.WorkScripts.{work_scripts}
-use Rattle.vyrd_work.proofs.ScriptLaws.{where_ok}
-use Rattle.vyrd_live.specs.TurnRuns.{IsRunByTurns}
-use Rattle.vyrd_program.specs.Steps.{NamesOnlyRaces}
-use Rattle.vyrd_program.proofs.StepLaws.{of_match, run_names_only_races}
+use Rattle.vyrd_live.proofs.FreshWorkers.{both_ok}
+use Rattle.vyrd_program.specs.Accounts.{HasTaken}
+use Rattle.vyrd_program.specs.Generated.{CountsRun}
+use Rattle.vyrd_program.proofs.StepLaws.{of_match}
+use Rattle.vyrd_program.proofs.TellingLaws.{of_some, counts_run}
 use Rattle.vyrd_program.proofs.generate.try_answer.Goals as goal
 
-pub returns-in-Some-clause-races : goal.returns-in-Some-clause-races
-returns-in-Some-clause-races c =
+pub returns-in-Some-clause-answer : goal.returns-in-Some-clause-answer
+returns-in-Some-clause-answer c =
     let w = workload_of c.in_ok-work.work in
-    let is = of_match (GetsStuck (work_scripts w) w.turns) (IsRunByTurns w) c.in_ok-run.field-0 c.in-Some.run' c.in-Some.is c.in_ok-run.ensures.played in
-    let races = run_names_only_races w c.in-Some.run' c.in_ok-work.ensures.limits is in
-    where_ok c.generated.result c.generated.ensures.run (λ answer same. subst (λ run. IfSome run NamesOnlyRaces) (sym same) races)
+    let a = c.show_by_turns.new.sink in
+    let run = of_match (GetsStuck (work_scripts w) w.turns) (λ words. HasRun (work_scripts w) w.turns w.header HasTaken a words.items)
+      c.in_ok-show_by_turns.field-0 c.in-Some.field-0 c.in-Some.is c.in_ok-show_by_turns.ensures.played in
+    let fixed = of_some _ c.in_ok-show_by_turns.field-0 c.in-Some.field-0 c.in-Some.is c.in_ok-show_by_turns.ensures.fixed in
+    both_ok c.generated.result (c.generated.ensures.status run.history run.taken) (c.generated.ensures.text run.history run.taken)
+    (λ answer status text. inl (subst (λ w. CountsRun c.args.count w answer.status answer.text.items) c.in_ok-work.ensures.work
+    (counts_run c.args.count w a c.in-Some.field-0.items answer.status answer.text.items c.in_ok-work.ensures.limits run
+    (ap (λ f. f.0) fixed ∙ c.in_ok-account.ensures.header) status text)))

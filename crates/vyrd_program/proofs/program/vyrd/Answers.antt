@@ -139,7 +139,7 @@ returns-in-Some-clause-handed_out g c =
     let ended = c.give.result in
     written_out (form_said c.args.words.now) c.in-Some.form ended.status answer.status ended.run answer.run ended.spent answer.spent is
     c.give.ensures.run c.give.ensures.spent c.give.ensures.statuses c.carry_out-answer.ensures.statuses c.carry_out-answer.ensures.unplayed
-    c.carry_out-answer.ensures.no_workload c.carry_out-answer.ensures.no_limit
+    c.carry_out-answer.ensures.not_live
 
 pub returns-in-Some-clause-sink_sure : goal.returns-in-Some-clause-sink_sure
 returns-in-Some-clause-sink_sure g c = λ room.
