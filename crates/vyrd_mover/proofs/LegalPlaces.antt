@@ -54,7 +54,7 @@ in_range cells earlier caller (Took lock) may = below_of lock (cells.plain + cel
 in_range cells earlier caller (Gave lock) may = below_of lock (cells.plain + cells.locks) (second_true (nat_le cells.plain lock) _ (first_true _ _ may))
 in_range cells earlier caller (Marked kind) may = tt
 
-small_subject : (subject : Subject) (size : ℕ) → size ≤ 1024 → plain_words_of subject size + lock_words_of subject size < 2 ^ 31
+small_subject : (subject : Subject) (size : ℕ) → size ≤ 1024 → plain_words_of subject size + lock_words_of subject size < 2 ^ 24
 small_subject Multiset size low = omega arith
 small_subject Cache size low = omega arith
 small_subject Tree size low = omega arith
@@ -69,6 +69,6 @@ some_callers h =
     (first_true (nat_le 1 h.size && nat_le h.size 1024 && nat_le 1 h.callers) _ (sized h))) in
     omega arith
 
-pub few_cells : (h : Header) → plain_words h + lock_words h < 2 ^ 31
+pub few_cells : (h : Header) → plain_words h + lock_words h < 2 ^ 24
 few_cells h = small_subject h.subject h.size (at_most_of h.size 1024 (second_true (nat_le 1 h.size) _
     (first_true (nat_le 1 h.size && nat_le h.size 1024) _ (first_true (nat_le 1 h.size && nat_le h.size 1024 && nat_le 1 h.callers) _ (sized h)))))

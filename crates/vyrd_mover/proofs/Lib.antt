@@ -23,3 +23,8 @@ pub mod TextLaws
 pub mod PaddedLaws
 pub mod ShortLines
 pub mod SettledLaws
+pub mod StepLaws
+pub mod TakingLaws
+pub mod EventsReadLaws
+pub mod LinesLaws
+pub mod ReaderLaws

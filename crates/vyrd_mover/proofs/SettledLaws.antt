@@ -76,7 +76,7 @@ longer : (line more : List ℕ) → 64 < length line → 64 < length (line ++ mo
 longer line more long = omega (arith, long, length-append line more)
 
 -- more than 64 bytes without a line feed are a bad line, whatever follows them
-long_line : (r : Recorded) (n : ℕ) (line more : List ℕ) → lacks 10 line ≡ true → 64 < length line
+pub long_line : (r : Recorded) (n : ℕ) (line more : List ℕ) → lacks 10 line ≡ true → 64 < length line
     → lines_read r n (cut (line ++ more)) ≡ refused n (unless_too_many n BadLine)
 long_line r n line more lack long = by_line (first_line more)
   where
@@ -99,7 +99,7 @@ long_line r n line more lack long = by_line (first_line more)
         subst Bad (append_assoc line p.0 (10 ∷ p.1) ∙ ap (λ text. line ++ text) (sym p.3))
         (by_limit p.0 p.1 (lacks-append 10 line p.0 lack p.2) (nat_lt 4000000 n) refl)
 
-long_text : (line more : List ℕ) → lacks 10 line ≡ true → 64 < length line → history_reading (line ++ more) ≡ refused 1 BadHeader
+pub long_text : (line more : List ℕ) → lacks 10 line ≡ true → 64 < length line → history_reading (line ++ more) ≡ refused 1 BadHeader
 long_text line more lack long = by_line (first_line more)
   where
     Bad : List ℕ → Type 0

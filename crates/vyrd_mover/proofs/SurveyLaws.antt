@@ -12,9 +12,12 @@ use Rattle.vyrd_base.specs.declared.history.Stamped.{Stamped}
 use Rattle.vyrd_base.specs.Places.{places_after, first_answer}
 use Rattle.vyrd_base.proofs.TestLaws.{same_of, apart_of, same_number}
 use Rattle.vyrd_mover.specs.declared.ahead.Ahead.{Ahead}
+use Rattle.vyrd_mover.specs.declared.step.Role.{Role}
+use Rattle.vyrd_mover.specs.declared.step.Role.TheVariants.{Opens, Ends, Marks, Takes, Gives, Accesses}
 use Rattle.vyrd_mover.specs.Movers.{is_right_mover, is_left_mover}
 use Rattle.vyrd_mover.specs.Blocks.{is_mark, is_block_open, is_block_end, up_to_end, events_of, block_at, broken_lines, broken_at, line_of}
-use Rattle.vyrd_mover.specs.Ahead.{first_not_left, break_line, kept_of, ahead_of, with_event, Surveyed, with_ahead, opened_before, ahead_at, preceded_by, HasSurveyed}
+use Rattle.vyrd_mover.specs.Steps.{role_of}
+use Rattle.vyrd_mover.specs.Ahead.{first_not_left, break_line, kept_of, ahead_of, with_line, Surveyed, with_ahead, opened_before, ahead_at, preceded_by, HasSurveyed}
 use Rattle.vyrd_mover.proofs.BreakLaws.{broken_lines_is, lines_from}
 
 -- what is kept of the rest of a block
@@ -41,7 +44,7 @@ ahead_end free c e later end no_event =
 -- one of the caller's events
 ahead_act : (free : ℕ → Bool) (c : ℕ) (e : Stamped) (later : List Stamped) → ((e.caller == c) && is_block_end e.did) ≡ false
     → ((e.caller == c) && not (is_mark e.did)) ≡ true
-    → ahead_of free c (e ∷ later) ≡ option_map (with_event e (is_left_mover free e) (is_right_mover free e)) (ahead_of free c later)
+    → ahead_of free c (e ∷ later) ≡ option_map (with_line (line_of e) (is_left_mover free e) (is_right_mover free e)) (ahead_of free c later)
 ahead_act free c e later no_end event =
     ap (λ b. option_map (keep free c) (cond b (Some (e ∷ [])) (option_map (λ rest. e ∷ rest) (up_to_end c later)))) no_end ∙ go (up_to_end c later)
   where
@@ -49,7 +52,7 @@ ahead_act free c e later no_end event =
     line true o = refl
     line false o = refl
 
-    more : (rest : List Stamped) → keep free c (e ∷ rest) ≡ with_event e (is_left_mover free e) (is_right_mover free e) (keep free c rest)
+    more : (rest : List Stamped) → keep free c (e ∷ rest) ≡ with_line (line_of e) (is_left_mover free e) (is_right_mover free e) (keep free c rest)
     more rest =
         ap (λ b. kept_of free (cond b (e ∷ events_of c rest) (events_of c rest))) event
         ∙ λ i. record {
@@ -58,7 +61,7 @@ ahead_act free c e later no_end event =
         }
 
     go : (o : Option (List Stamped)) → option_map (keep free c) (option_map (λ rest. e ∷ rest) o)
-        ≡ option_map (with_event e (is_left_mover free e) (is_right_mover free e)) (option_map (keep free c) o)
+        ≡ option_map (with_line (line_of e) (is_left_mover free e) (is_right_mover free e)) (option_map (keep free c) o)
     go None = refl
     go (Some rest) = ap Some (more rest)
 
@@ -120,44 +123,44 @@ marked free e later s no_open no_end mark is =
 -- what an opened block adds
 count_opened : (free : ℕ → Bool) (e : Stamped) (s : Surveyed) (a : Option Ahead) (o : Option (List Stamped)) (rest : List (List Stamped))
     → a ≡ option_map (keep free e.caller) o → s.blocks ≡ length rest
-    → (opened_before s e a).blocks ≡ length (cons_option (option_map (events_of e.caller) o) rest)
-count_opened free e s a None rest h count = ap (λ a. (opened_before s e a).blocks) h ∙ count
+    → (opened_before s (line_of e) a).blocks ≡ length (cons_option (option_map (events_of e.caller) o) rest)
+count_opened free e s a None rest h count = ap (λ a. (opened_before s (line_of e) a).blocks) h ∙ count
 count_opened free e s a (Some es) rest h count =
-    let more : s.blocks + 1 ≡ suc (length rest) = omega arith in ap (λ a. (opened_before s e a).blocks) h ∙ more
+    let more : s.blocks + 1 ≡ suc (length rest) = omega arith in ap (λ a. (opened_before s (line_of e) a).blocks) h ∙ more
 
 broken_opened : (free : ℕ → Bool) (e : Stamped) (s : Surveyed) (a : Option Ahead) (o : Option (List Stamped)) (rest : Option (ℕ × ℕ))
     → a ≡ option_map (keep free e.caller) o → s.broken ≡ rest
-    → (opened_before s e a).broken ≡ option_or (option_and_then (broken_lines free e) (option_map (events_of e.caller) o)) rest
-broken_opened free e s a None rest h same = ap (λ a. (opened_before s e a).broken) h ∙ same
+    → (opened_before s (line_of e) a).broken ≡ option_or (option_and_then (broken_lines free e) (option_map (events_of e.caller) o)) rest
+broken_opened free e s a None rest h same = ap (λ a. (opened_before s (line_of e) a).broken) h ∙ same
 broken_opened free e s a (Some es) rest h same =
-    ap (λ a. (opened_before s e a).broken) h
+    ap (λ a. (opened_before s (line_of e) a).broken) h
     ∙ ap (option_or (option_map (lines_from e) (break_line free (events_of e.caller es)))) same
     ∙ ap (λ o. option_or o rest) (sym (broken_lines_is free e (events_of e.caller es)))
 
-few_opened : (e : Stamped) (s : Surveyed) (a : Option Ahead) (n : ℕ) → s.blocks ≤ n → (opened_before s e a).blocks ≤ suc n
-few_opened e s None n low = omega arith
-few_opened e s (Some a) n low = omega arith
+few_opened : (line : ℕ) (s : Surveyed) (a : Option Ahead) (n : ℕ) → s.blocks ≤ n → (opened_before s line a).blocks ≤ suc n
+few_opened line s None n low = omega arith
+few_opened line s (Some a) n low = omega arith
 
-same_ahead : (e : Stamped) (s : Surveyed) (a : Option Ahead) → (opened_before s e a).ahead ≡ s.ahead
-same_ahead e s None = refl
-same_ahead e s (Some a) = refl
+same_ahead : (line : ℕ) (s : Surveyed) (a : Option Ahead) → (opened_before s line a).ahead ≡ s.ahead
+same_ahead line s None = refl
+same_ahead line s (Some a) = refl
 
 -- one more block
 opened : (free : ℕ → Bool) (e : Stamped) (later : List Stamped) (s : Surveyed) → is_block_open e.did ≡ true → is_block_end e.did ≡ false
-    → is_mark e.did ≡ true → HasSurveyed free later s → e.caller < length s.ahead → HasSurveyed free (e ∷ later) (opened_before s e (ahead_at s e))
+    → is_mark e.did ≡ true → HasSurveyed free later s → e.caller < length s.ahead → HasSurveyed free (e ∷ later) (opened_before s (line_of e) (ahead_at s e.caller))
 opened free e later s open_mark no_end mark is low =
     record {
-      ahead = λ c low_c. ap (λ xs. get_or xs c None) (same_ahead e s (ahead_at s e))
-          ∙ is.ahead c (subst (λ xs. c < length xs) (same_ahead e s (ahead_at s e)) low_c) ∙ sym (ahead_skip free c e later
+      ahead = λ c low_c. ap (λ xs. get_or xs c None) (same_ahead (line_of e) s (ahead_at s e.caller))
+          ∙ is.ahead c (subst (λ xs. c < length xs) (same_ahead (line_of e) s (ahead_at s e.caller)) low_c) ∙ sym (ahead_skip free c e later
           (ap (λ b. (e.caller == c) && b) no_end ∙ and-false (e.caller == c)) (ap (λ b. (e.caller == c) && not b) mark ∙ and-false (e.caller == c)));
-      blocks = λ earlier. count_opened free e s (ahead_at s e) (up_to_end e.caller later) (filter_map block_at (places_after (e ∷ earlier) later)) known (is.blocks (e ∷ earlier))
+      blocks = λ earlier. count_opened free e s (ahead_at s e.caller) (up_to_end e.caller later) (filter_map block_at (places_after (e ∷ earlier) later)) known (is.blocks (e ∷ earlier))
           ∙ sym (ap (λ o. length (cons_option o (filter_map block_at (places_after (e ∷ earlier) later)))) (block earlier));
-      few = few_opened e s (ahead_at s e) (length later) is.few;
-      broken = λ earlier. broken_opened free e s (ahead_at s e) (up_to_end e.caller later) (first_answer (broken_at free) (places_after (e ∷ earlier) later)) known (is.broken (e ∷ earlier))
+      few = few_opened (line_of e) s (ahead_at s e.caller) (length later) is.few;
+      broken = λ earlier. broken_opened free e s (ahead_at s e.caller) (up_to_end e.caller later) (first_answer (broken_at free) (places_after (e ∷ earlier) later)) known (is.broken (e ∷ earlier))
           ∙ sym (ap (λ o. option_or (option_and_then (broken_lines free e) o) (first_answer (broken_at free) (places_after (e ∷ earlier) later))) (block earlier));
     }
   where
-    known : ahead_at s e ≡ option_map (keep free e.caller) (up_to_end e.caller later)
+    known : ahead_at s e.caller ≡ option_map (keep free e.caller) (up_to_end e.caller later)
     known = is.ahead e.caller low
 
     block : (earlier : List Stamped) → block_at (record { earlier = earlier; here = e; later = later }) ≡ option_map (events_of e.caller) (up_to_end e.caller later)
@@ -170,9 +173,9 @@ stamp k c did = record { number = k; caller = c; did = did }
 -- an event of the caller that isn't a mark
 act_by : (free : ℕ → Bool) (e : Stamped) (later : List Stamped) (s : Surveyed) → is_mark e.did ≡ false → is_block_open e.did ≡ false
     → is_block_end e.did ≡ false → HasSurveyed free later s → e.caller < length s.ahead
-    → HasSurveyed free (e ∷ later) (with_ahead s e.caller (option_map (with_event e (is_left_mover free e) (is_right_mover free e)) (ahead_at s e)))
+    → HasSurveyed free (e ∷ later) (with_ahead s e.caller (option_map (with_line (line_of e) (is_left_mover free e) (is_right_mover free e)) (ahead_at s e.caller)))
 act_by free e later s no_mark no_open no_end is low =
-    acted free e later s _ no_open is (λ l. ap (option_map (with_event e (is_left_mover free e) (is_right_mover free e))) (is.ahead e.caller l)
+    acted free e later s _ no_open is (λ l. ap (option_map (with_line (line_of e) (is_left_mover free e) (is_right_mover free e))) (is.ahead e.caller l)
     ∙ sym (ahead_act free e.caller e later (ap (λ b. (e.caller == e.caller) && b) no_end ∙ and-false (e.caller == e.caller))
     (ap (λ b. (e.caller == e.caller) && not b) no_mark ∙ ap (λ b. b && true) (same_number e.caller)))) low
 
@@ -185,7 +188,7 @@ end_by free e later s mark no_open end is low =
     (ap (λ b. (e.caller == e.caller) && not b) mark ∙ and-false (e.caller == e.caller)))) low
 
 step_by : (free : ℕ → Bool) (k c : ℕ) (did : Did) (later : List Stamped) (s : Surveyed) → HasSurveyed free later s → c < length s.ahead
-    → HasSurveyed free (stamp k c did ∷ later) (preceded_by free s (stamp k c did) did)
+    → HasSurveyed free (stamp k c did ∷ later) (preceded_by free s (line_of (stamp k c did)) c (role_of did))
 step_by free k c (Read cell value) later s is low = act_by free (stamp k c (Read cell value)) later s refl refl refl is low
 step_by free k c (Wrote cell value) later s is low = act_by free (stamp k c (Wrote cell value)) later s refl refl refl is low
 step_by free k c (Took lock) later s is low = act_by free (stamp k c (Took lock)) later s refl refl refl is low
@@ -200,7 +203,7 @@ step_by free k c (Marked (Write w v)) later s is low = marked free (stamp k c (M
 
 -- one more event before the others
 pub surveyed_before : (free : ℕ → Bool) (e : Stamped) (later : List Stamped) (s : Surveyed) → HasSurveyed free later s → e.caller < length s.ahead
-    → HasSurveyed free (e ∷ later) (preceded_by free s e e.did)
+    → HasSurveyed free (e ∷ later) (preceded_by free s (line_of e) e.caller (role_of e.did))
 surveyed_before free e later s is low = step_by free e.number e.caller e.did later s is low
 
 -- nothing is ahead at the end
@@ -212,21 +215,13 @@ surveyed_nothing free callers = record {
   broken = λ earlier. refl;
 }
 
-opened_callers : (e : Stamped) (s : Surveyed) (a : Option Ahead) → length (opened_before s e a).ahead ≡ length s.ahead
-opened_callers e s a = ap length (same_ahead e s a)
-
-preceded_callers : (free : ℕ → Bool) (e : Stamped) (s : Surveyed) (did : Did) → length (preceded_by free s e did).ahead ≡ length s.ahead
-preceded_callers free e s (Read cell value) = length-set s.ahead e.caller _
-preceded_callers free e s (Wrote cell value) = length-set s.ahead e.caller _
-preceded_callers free e s (Took lock) = length-set s.ahead e.caller _
-preceded_callers free e s (Gave lock) = length-set s.ahead e.caller _
-preceded_callers free e s (Marked BlockOpen) = opened_callers e s (ahead_at s e)
-preceded_callers free e s (Marked BlockClose) = length-set s.ahead e.caller _
-preceded_callers free e s (Marked BlockCommit) = length-set s.ahead e.caller _
-preceded_callers free e s (Marked Commit) = refl
-preceded_callers free e s (Marked (Call m args)) = refl
-preceded_callers free e s (Marked (Return r)) = refl
-preceded_callers free e s (Marked (Write w v)) = refl
+preceded_callers : (free : ℕ → Bool) (s : Surveyed) (line caller : ℕ) (role : Role) → length (preceded_by free s line caller role).ahead ≡ length s.ahead
+preceded_callers free s line caller (Accesses cell) = length-set s.ahead caller _
+preceded_callers free s line caller Takes = length-set s.ahead caller _
+preceded_callers free s line caller Gives = length-set s.ahead caller _
+preceded_callers free s line caller Opens = ap length (same_ahead line s (ahead_at s caller))
+preceded_callers free s line caller Ends = length-set s.ahead caller _
+preceded_callers free s line caller Marks = refl
 
 -- the events from a place on are surveyed, for that many callers
 pub record IsSurvey (free : ℕ → Bool) (callers : ℕ) (later : List Stamped) (s : Surveyed) : Type 0 where
@@ -237,9 +232,9 @@ pub survey_begins : (free : ℕ → Bool) (callers : ℕ) → IsSurvey free call
 survey_begins free callers = record { callers_are = length-replicate callers None; surveyed = surveyed_nothing free callers }
 
 pub survey_goes_on : (free : ℕ → Bool) (callers : ℕ) (e : Stamped) (later : List Stamped) (s : Surveyed) → IsSurvey free callers later s → e.caller < callers
-    → IsSurvey free callers (e ∷ later) (preceded_by free s e e.did)
+    → IsSurvey free callers (e ∷ later) (preceded_by free s (line_of e) e.caller (role_of e.did))
 survey_goes_on free callers e later s is low =
     record {
-      callers_are = preceded_callers free e s e.did ∙ is.callers_are;
+      callers_are = preceded_callers free s (line_of e) e.caller (role_of e.did) ∙ is.callers_are;
       surveyed = surveyed_before free e later s is.surveyed (omega (arith, is.callers_are));
     }

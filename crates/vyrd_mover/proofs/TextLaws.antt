@@ -34,7 +34,7 @@ use Rattle.vyrd_mover.proofs.EventLaws.{event_in_sound, event_in-event_line}
 use Rattle.vyrd_mover.proofs.WalkLaws.{then_lines, after_first}
 
 -- a test of places that doesn't look ahead
-abbrev LooksBack : (Place Stamped → Bool) → Type 0
+abbrev pub LooksBack : (Place Stamped → Bool) → Type 0
 LooksBack test = (more : List Stamped) (place : Place Stamped) → test (with_later more place) ≡ test place
 
 all_split : (test : Place Stamped → Bool) → LooksBack test → (xs ys : List Stamped)
@@ -49,19 +49,19 @@ all_split test back xs ys =
     same (p ∷ ps) = ap (λ b. b && list_all (λ p. test (with_later ys p)) ps) (back ys p) ∙ ap (λ b. test p && b) (same ps)
 
 -- the test holds of one event more, if it did before
-all_more : (test : Place Stamped → Bool) → LooksBack test → (xs : List Stamped) (e : Stamped) → list_all test (places xs) ≡ true
+pub all_more : (test : Place Stamped → Bool) → LooksBack test → (xs : List Stamped) (e : Stamped) → list_all test (places xs) ≡ true
     → test (next_place xs e) ≡ true → list_all test (places (xs ++ e ∷ [])) ≡ true
 all_more test back xs e before here =
     all_split test back xs (e ∷ []) ∙ both_true _ _ before (both_true _ _ here refl)
 
 -- and of each event where it holds of all
-all_here : (test : Place Stamped → Bool) → LooksBack test → (xs : List Stamped) (e : Stamped) (ys : List Stamped)
+pub all_here : (test : Place Stamped → Bool) → LooksBack test → (xs : List Stamped) (e : Stamped) (ys : List Stamped)
     → list_all test (places (xs ++ e ∷ ys)) ≡ true → test (next_place xs e) ≡ true
 all_here test back xs e ys all =
     let rest = second_true (list_all test (places xs)) _ (sym (all_split test back xs (e ∷ ys)) ∙ all) in
     sym (back ys (next_place xs e)) ∙ first_true (test (record { earlier = newest_first xs; here = e; later = ys })) _ rest
 
-abbrev legal_test : Header → Place Stamped → Bool
+abbrev pub legal_test : Header → Place Stamped → Bool
 legal_test h place = is_legal_at (cells_of h) place
 
 abbrev turn_test : Place Stamped → Bool
@@ -72,7 +72,7 @@ all_push P [] x all here = (here, tt)
 all_push P (y ∷ xs) x all here = (all.0, all_push P xs x all.1 here)
 
 -- an event that breaks no rule is legal and in turn, and the other way round
-no_rule : (r : Recorded) (e : Stamped) → broken_by r e ≡ None
+pub no_rule : (r : Recorded) (e : Stamped) → broken_by r e ≡ None
     → (legal_test r.header (next_place r.history e) ≡ true) × (turn_test (next_place r.history e) ≡ true)
 no_rule r e none = go (legal_test r.header (next_place r.history e)) (is_misplaced (next_place r.history e)) refl refl none
   where

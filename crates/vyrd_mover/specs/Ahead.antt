@@ -4,12 +4,12 @@ use Rattle.std.specs.Prelude.{◌≡◌, ℕ, ◌+◌, ◌<◌, ◌≤◌, Bool,
 use Rattle.std.specs.Prelude.{slice_index_or, slice_set, Option, Some, None, if◌then◌else◌}
 use Rattle.std.specs.Option.{option_map, option_or}
 use Rattle.std.specs.List.{filter_map}
-use Rattle.vyrd_base.specs.declared.log.Kind.TheVariants.{BlockOpen, BlockClose, BlockCommit}
-use Rattle.vyrd_base.specs.declared.history.Did.{Did}
-use Rattle.vyrd_base.specs.declared.history.Did.TheVariants.{Read, Wrote, Took, Gave, Marked}
 use Rattle.vyrd_base.specs.declared.history.Stamped.{Stamped}
 use Rattle.vyrd_base.specs.Places.{places_after, first_answer}
 use Rattle.vyrd_mover.specs.declared.ahead.Ahead.{Ahead}
+use Rattle.vyrd_mover.specs.declared.step.Role.{Role}
+use Rattle.vyrd_mover.specs.declared.step.Role.TheVariants.{Opens, Ends, Marks, Takes, Gives}
+use Rattle.vyrd_mover.specs.declared.step.Role.TheVariants.{Accesses}
 use Rattle.vyrd_mover.specs.Movers.{is_right_mover, is_left_mover}
 use Rattle.vyrd_mover.specs.Blocks.{line_of, up_to_end, events_of, block_at, broken_at}
 
@@ -37,10 +37,10 @@ kept_of free events =
 abbrev pub ahead_of : (ℕ → Bool) → ℕ → List Stamped → Option Ahead
 ahead_of free c later = option_map (λ rest. kept_of free (events_of c rest)) (up_to_end c later)
 
--- the same with one more event before it
-abbrev pub with_event : Stamped → Bool → Bool → Ahead → Ahead
-with_event e is_left is_right ahead = record {
-  not_left = if is_left then ahead.not_left else Some (line_of e);
+-- the same with one more event before it, which stands on a line
+abbrev pub with_line : ℕ → Bool → Bool → Ahead → Ahead
+with_line line is_left is_right ahead = record {
+  not_left = if is_left then ahead.not_left else Some line;
   uncut = if is_right then ahead.uncut else ahead.not_left;
 }
 
@@ -56,33 +56,34 @@ abbrev pub with_ahead : Surveyed → ℕ → Option Ahead → Surveyed
 with_ahead s c ahead =
     record { ahead = slice_set s.ahead c ahead; blocks = s.blocks; broken = s.broken }
 
--- the same with a block opened before it, by what its caller has ahead
-abbrev pub opened_before : Surveyed → Stamped → Option Ahead → Surveyed
-opened_before s e None = s
-opened_before s e (Some ahead) = record {
+-- the same with a block opened before it on a line, by what its caller has ahead
+abbrev pub opened_before : Surveyed → ℕ → Option Ahead → Surveyed
+opened_before s line None = s
+opened_before s line (Some ahead) = record {
   ahead = s.ahead;
   blocks = s.blocks + 1;
-  broken = option_or (option_map (λ line. (line_of e, line)) ahead.uncut) s.broken;
+  broken = option_or (option_map (λ break. (line, break)) ahead.uncut) s.broken;
 }
 
--- what the event's caller has ahead
-abbrev pub ahead_at : Surveyed → Stamped → Option Ahead
-ahead_at s e = slice_index_or s.ahead e.caller None
+-- what a caller has ahead
+abbrev pub ahead_at : Surveyed → ℕ → Option Ahead
+ahead_at s caller = slice_index_or s.ahead caller None
 
--- the same with one more event before it, by what it does
-abbrev pub preceded_by : (ℕ → Bool) → Surveyed → Stamped → Did → Surveyed
-preceded_by free s e (Marked BlockOpen) = opened_before s e (ahead_at s e)
-preceded_by free s e (Marked BlockClose) = with_ahead s e.caller (Some (kept_of free []))
-preceded_by free s e (Marked BlockCommit) = with_ahead s e.caller (Some (kept_of free []))
-preceded_by free s e (Marked kind) = s
-preceded_by free s e (Took lock) =
-    with_ahead s e.caller (option_map (with_event e false true) (ahead_at s e))
-preceded_by free s e (Gave lock) =
-    with_ahead s e.caller (option_map (with_event e true false) (ahead_at s e))
-preceded_by free s e (Read cell value) =
-    with_ahead s e.caller (option_map (with_event e (free cell) (free cell)) (ahead_at s e))
-preceded_by free s e (Wrote cell value) =
-    with_ahead s e.caller (option_map (with_event e (free cell) (free cell)) (ahead_at s e))
+-- the same with one more event before it that isn't a mark, a left mover or not, and a right mover
+-- or not
+abbrev pub acted_before : Surveyed → ℕ → ℕ → Bool → Bool → Surveyed
+acted_before s line caller is_left is_right =
+    with_ahead s caller (option_map (with_line line is_left is_right) (ahead_at s caller))
+
+-- the same with one more event before it, by its line, its caller and what it is to the block
+abbrev pub preceded_by : (ℕ → Bool) → Surveyed → ℕ → ℕ → Role → Surveyed
+preceded_by free s line caller Opens = opened_before s line (ahead_at s caller)
+preceded_by free s line caller Ends = with_ahead s caller (Some (kept_of free []))
+preceded_by free s line caller Marks = s
+preceded_by free s line caller Takes = acted_before s line caller false true
+preceded_by free s line caller Gives = acted_before s line caller true false
+preceded_by free s line caller (Accesses cell) =
+    acted_before s line caller (free cell) (free cell)
 
 -- what is kept says what these events say, whatever stands before them
 pub record HasSurveyed (free : ℕ → Bool) (later : List Stamped) (s : Surveyed) : Type 0 where

@@ -8,16 +8,11 @@ use Rattle.vyrd_base.specs.declared.history.Did.{Did}
 use Rattle.vyrd_base.specs.declared.history.Did.TheVariants.{Read, Wrote, Took, Gave, Marked}
 use Rattle.vyrd_base.specs.declared.history.Stamped.{Stamped}
 use Rattle.vyrd_base.specs.Spelling.{spaced, ended_line, subject_name, entry_line, end_line}
-use Rattle.vyrd_mover.specs.declared.past.Past.{Past}
 
 -- a history with its header
 pub record Recorded : Type 0 where
   pub header : Header
   pub history : List Stamped
-
--- the history that a value holds
-abbrev pub recorded_of : Past → Recorded
-recorded_of past = record { header = past.header; history = past.history.items }
 
 -- line 1: `history`, the subject, the size and the number of callers
 abbrev pub history_header_line : Subject → ℕ → ℕ → List ℕ

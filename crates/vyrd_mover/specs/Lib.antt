@@ -6,6 +6,8 @@ pub mod Gathering
 pub mod Samples
 pub mod Usage
 pub mod Ahead
+pub mod Steps
+pub mod Taking
 pub mod HistoryText
 pub mod HistoryLines
 pub mod HistoryReading
@@ -13,6 +15,8 @@ pub mod Refusals
 pub mod Writable
 pub mod HistorySpelled
 pub mod Remembering
+pub mod EventsRead
+pub mod HistoryReaders
 pub mod HistoryLimits
 pub mod BlocksText
 pub mod LongHistories

@@ -1,9 +1,7 @@
 //! What a caller's block has ahead.
 
-ghost use Rattle.std.specs.Prelude.{◌≡◌, ◌+◌, ◌<◌, ◌^◌};
-ghost use Rattle.vyrd_mover.specs.Ahead.{with_event};
-
-use vyrd_base::Stamped;
+ghost use Rattle.std.specs.Prelude.{◌≡◌};
+ghost use Rattle.vyrd_mover.specs.Ahead.{with_line};
 
 /// What a caller does from some place of a history on, up to its next block end.
 #[derive(Clone, Copy)]
@@ -15,18 +13,13 @@ pub(crate) struct Ahead {
 }
 
 impl Ahead {
-    /// The same with one more event before it, which is a left mover or isn't, and a right mover or
-    /// isn't.
-    pub fn with_event(self, event: &Stamped, is_left: bool, is_right: bool) -> Ahead
-        requires { event.now.number < 2 ^ 63 }
-        ensures { result ≡ with_event event.now is_left is_right self }
+    /// The same with one more event before it, which stands on this line, is a left mover or isn't,
+    /// and is a right mover or isn't.
+    pub fn with_line(self, line: u64, is_left: bool, is_right: bool) -> Ahead
+        ensures { result ≡ with_line line is_left is_right self }
     {
         Ahead {
-            not_left: if is_left {
-                self.not_left
-            } else {
-                Some(event.number + 2)
-            },
+            not_left: if is_left { self.not_left } else { Some(line) },
             uncut: if is_right { self.uncut } else { self.not_left },
         }
     }

@@ -7,8 +7,7 @@ ghost use Rattle.vyrd_mover.specs.Blocks.{blocks_of};
 ghost use Rattle.vyrd_mover.specs.Gathering.{EachIsGathered};
 
 use crate::blocks::Blocks;
-use crate::survey::Survey;
-use crate::uses::Uses;
+use crate::checker::BlockChecker;
 use std::alloc::{AllocError, Global};
 use vyrd_base::{Header, Stamped};
 
@@ -28,11 +27,7 @@ use vyrd_base::{Header, Stamped};
 ///
 /// The only error is that memory ran out. Then nothing is known of the blocks.
 ///
-/// Time: the history is gone through forward, to find the race-free cells, and once more from its
-/// end. Each event takes constant time, except for two things: a read or write looks at the locks
-/// that all users of its cell held so far, and the first use of a cell looks at all locks. Memory:
-/// in proportion to the cells and the callers of the header, and for each plain cell to the locks
-/// that its first user held. None of it grows with the history.
+/// Time and memory are those of a [`BlockChecker`].
 pub fn check_blocks(
     alloc: Global,
     header: Header,
@@ -43,7 +38,9 @@ pub fn check_blocks(
     ensures gathered { (n : ℕ) → result ≡ Ok (Reducible n)
         → EachIsGathered (cells_of header) history.now }
 {
-    let uses = Uses::of(alloc, header, history)?;
-    let survey = Survey::of(alloc, header, history, &uses)?;
-    Ok(survey.answer())
+    let mut checker = BlockChecker::new(alloc, header)?;
+    for event in history {
+        checker.take(event)?;
+    }
+    checker.answer()
 }

@@ -1,20 +1,20 @@
 //! The events of a history that were read so far, and what the next one may be.
 
-ghost use Rattle.std.specs.Prelude.{◌≡◌, ◌<◌, ◌+◌, ◌==◌, true, false, None, [], length, IfOk, OnOk};
+ghost use Rattle.std.specs.Prelude.{◌≡◌, ◌<◌, ◌+◌, ◌∷◌, ◌++◌, true, None, List, [], length, IfOk};
+ghost use Rattle.vyrd_base.specs.declared.history.Stamped.{Stamped};
 ghost use Rattle.vyrd_base.specs.Layout.{plain_words, lock_words};
 ghost use Rattle.vyrd_base.specs.Places.{newest_first};
 ghost use Rattle.vyrd_base.specs.Histories.{cells_of, is_legal_at, is_plain, is_lock, may_do};
-ghost use Rattle.vyrd_mover.specs.HistoryText.{Recorded, recorded_of};
-ghost use Rattle.vyrd_mover.specs.HistoryReading.{broken_by, is_misplaced, next_place, with_event};
+ghost use Rattle.vyrd_mover.specs.HistoryReading.{broken_by, is_misplaced, next_place};
+ghost use Rattle.vyrd_mover.specs.Usage.{IsInRange};
 ghost use Rattle.vyrd_mover.specs.Remembering.{Remembers};
 
 use crate::fault::HistoryRule;
-use crate::past::Past;
 use std::alloc::{AllocError, Global};
 use std::marker::Model;
 use vyrd_base::{Did, Header, Kind, Stamped, Subject};
 
-/// A history that is being read, with the values that it leaves.
+/// What the events of a history leave, and whether a block of each caller is open.
 #[derive(Drop)]
 pub(crate) struct Ledger {
     header: Header,
@@ -22,32 +22,37 @@ pub(crate) struct Ledger {
     values: Vec<u64>,
     /// By caller: whether it has an open block.
     open_blocks: Vec<bool>,
-    history: Vec<Stamped>,
 }
 
 impl Model for Ledger {
-    ghost use Rattle.vyrd_mover.specs.HistoryText.{Recorded};
-    ghost use Rattle.vyrd_mover.specs.Remembering.{Remembers};
+    ghost use Rattle.vyrd_mover.specs.Remembering.{Remembered, HasRoom};
 
-    ghost Value = { Recorded };
+    ghost Value = { Remembered };
 
-    ghost view = { λ s. record { header = s.header; history = s.history.items } };
+    ghost view = { λ s. record {
+      header = s.header;
+      values = s.values.items;
+      open_blocks = s.open_blocks.items;
+    } };
 
-    ghost invariant = { λ s. Remembers s.header s.values.items s.open_blocks.items
-        s.history.items };
+    ghost invariant = { λ s. HasRoom (record {
+      header = s.header;
+      values = s.values.items;
+      open_blocks = s.open_blocks.items;
+    }) };
 }
 
 impl Ledger {
     /// No event was read. It takes memory in proportion to the cells and the callers.
     pub fn new(alloc: Global, header: Header) -> Result<Ledger, AllocError>
-        ensures { IfOk result (λ s. s ≡ record { header = header; history = [] }) }
+        ensures header { IfOk result (λ s. s.header ≡ header) }
+        ensures remembers { IfOk result (λ s. Remembers s []) }
     {
         let cells = header.plain_words() + header.lock_words();
         Ok(Ledger {
             header,
             values: vec![in alloc; 0; cells as usize]?,
             open_blocks: vec![in alloc; false; header.callers() as usize]?,
-            history: Vec::new(alloc),
         })
     }
 
@@ -58,17 +63,11 @@ impl Ledger {
         self.header.subject()
     }
 
-    /// How many events were read.
-    pub fn len(&self) -> usize
-        ensures { result ≡ length self.now.history }
-    {
-        self.history.len()
-    }
-
     /// The first rule that one more event breaks, whose number is that of the events so far.
     pub fn broken_rule(&self, event: &Stamped) -> Option<HistoryRule>
-        requires { event.now.number ≡ length self.now.history }
-        ensures { result ≡ broken_by self.now event.now }
+        ensures { (history : List Stamped) → Remembers self.now history
+            → event.now.number ≡ length history → result
+            ≡ broken_by (record { header = self.now.header; history = history }) event.now }
     {
         if !self.may_come(event) {
             return Some(HistoryRule::NotLegal);
@@ -81,9 +80,10 @@ impl Ledger {
 
     /// Whether one more event is legal, whose number is that of the events so far.
     fn may_come(&self, event: &Stamped) -> bool
-        requires { event.now.number ≡ length self.now.history }
-        ensures { result
-            ≡ is_legal_at (cells_of self.now.header) (next_place self.now.history event.now) }
+        ensures caller { result ≡ true → event.now.caller < self.now.header.callers }
+        ensures legal { (history : List Stamped) → Remembers self.now history
+            → event.now.number ≡ length history
+            → result ≡ is_legal_at (cells_of self.now.header) (next_place history event.now) }
     {
         event.caller < self.header.callers() && self.may_do(event.caller, event.did)
     }
@@ -91,8 +91,8 @@ impl Ledger {
     /// Whether the caller may do this after the events so far.
     fn may_do(&self, caller: u32, did: Did) -> bool
         requires { caller < self.now.header.callers }
-        ensures { result
-            ≡ may_do (cells_of self.now.header) (newest_first self.now.history) caller did }
+        ensures { (history : List Stamped) → Remembers self.now history
+            → result ≡ may_do (cells_of self.now.header) (newest_first history) caller did }
     {
         match did {
             Did::Read(cell, value) => self.is_plain(cell) && self.values[cell as usize] == value,
@@ -123,7 +123,8 @@ impl Ledger {
     /// Whether one more event opens a block in its caller's open block, or ends one without it.
     fn is_misplaced(&self, event: &Stamped) -> bool
         requires { event.now.caller < self.now.header.callers }
-        ensures { result ≡ is_misplaced (next_place self.now.history event.now) }
+        ensures { (history : List Stamped) → Remembers self.now history
+            → result ≡ is_misplaced (next_place history event.now) }
     {
         let is_open = self.open_blocks[event.caller as usize];
         match event.did {
@@ -134,11 +135,15 @@ impl Ledger {
     }
 
     /// Puts one more event, which breaks no rule, after the others.
-    pub fn put(&mut self, event: Stamped) -> Result<(), AllocError>
-        requires { broken_by self.old event ≡ None }
-        ensures { OnOk result (self.new ≡ with_event self.old event) }
+    pub fn put(&mut self, event: &Stamped)
+        requires caller { event.now.caller < self.old.header.callers }
+        requires in_range { IsInRange (plain_words self.old.header)
+            (plain_words self.old.header + lock_words self.old.header) event.now.did }
+        ensures header { self.new.header ≡ self.old.header }
+        ensures remembers { (history : List Stamped) → Remembers self.old history
+            → broken_by (record { header = self.old.header; history = history }) event.now ≡ None
+            → Remembers self.new (history ++ event.now ∷ []) }
     {
-        self.history.push(event)?;
         let place = event.caller as usize;
         match event.did {
             Did::Wrote(cell, value) => self.values[cell as usize] = value,
@@ -147,17 +152,6 @@ impl Ledger {
             Did::Marked(Kind::BlockOpen) => self.open_blocks[place] = true,
             Did::Marked(Kind::BlockClose | Kind::BlockCommit) => self.open_blocks[place] = false,
             Did::Read(_, _) | Did::Marked(_) => {}
-        }
-        Ok(())
-    }
-
-    /// The history that was read.
-    pub fn into_past(self) -> Past
-        ensures { recorded_of result ≡ self }
-    {
-        Past {
-            header: self.header,
-            history: self.history,
         }
     }
 }

@@ -10,20 +10,24 @@
 //!
 //! A block that isn't reducible may still be atomic. Nothing is said of that.
 //!
-//! `read_history` reads a history from its text, or names the first bad line and the rule that it
-//! breaks. `write_history` writes that text. What is written of a legal history within the limits
-//! is read back as that history.
+//! A [`BlockChecker`] takes the history in event by event, and keeps 4 bytes of each. A
+//! [`HistoryReader`] reads the text of a history, in pieces of any size, and says the same of its
+//! blocks, or names the first bad line and the rule that it breaks. `write_history` writes that
+//! text. What is written of a legal history within the limits is read back as that history.
 #![tactic(auto)]
 
 mod ahead;
 mod blocks;
 mod check;
+mod checker;
+mod events;
 mod fault;
 pub mod laws;
 mod ledger;
 mod line;
-mod past;
+mod lines;
 mod reader;
+mod step;
 mod survey;
 #[cfg(test)]
 mod tests;
@@ -35,7 +39,7 @@ mod writer;
 
 pub use blocks::{Blocks, write_blocks};
 pub use check::check_blocks;
+pub use checker::BlockChecker;
 pub use fault::{HistoryFault, HistoryRule, write_history_refusal};
-pub use past::Past;
-pub use reader::read_history;
+pub use reader::{HistoryReader, read_blocks};
 pub use writer::{write_event, write_history, write_history_header};

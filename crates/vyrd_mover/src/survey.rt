@@ -1,21 +1,23 @@
 //! The blocks of a history, gone through from its end.
 
-ghost use Rattle.std.specs.Prelude.{◌≡◌, ◌^◌, ◌<◌, true, List, length, replicate, None, IfOk};
-ghost use Rattle.std.specs.Option.{option_map};
+ghost use Rattle.std.specs.Prelude.{◌≡◌, ◌^◌, ◌<◌, List, length, map, replicate, None, IfOk};
 ghost use Rattle.vyrd_base.specs.declared.history.Stamped.{Stamped};
-ghost use Rattle.vyrd_base.specs.Histories.{Cells, cells_of, is_legal};
+ghost use Rattle.vyrd_base.specs.Histories.{Cells, cells_of};
 ghost use Rattle.vyrd_mover.specs.RaceFree.{is_race_free};
 ghost use Rattle.vyrd_mover.specs.Blocks.{said_of};
-ghost use Rattle.vyrd_mover.specs.Usage.{HaveSeen, IsInRange};
-ghost use Rattle.vyrd_mover.specs.Ahead.{HasSurveyed, preceded_by, opened_before, with_ahead};
-ghost use Rattle.vyrd_mover.specs.Ahead.{with_event, ahead_at};
+ghost use Rattle.vyrd_mover.specs.Usage.{HaveSeen};
+ghost use Rattle.vyrd_mover.specs.Steps.{step_coded, IsWithin};
+ghost use Rattle.vyrd_mover.specs.Taking.{HasTaken, HasTakenSome};
+ghost use Rattle.vyrd_mover.specs.Ahead.{HasSurveyed, preceded_by, opened_before, acted_before};
+ghost use Rattle.vyrd_mover.specs.Ahead.{ahead_at};
 
 use crate::ahead::Ahead;
 use crate::blocks::Blocks;
+use crate::step::{Role, Step};
 use crate::uses::Uses;
 use std::alloc::{AllocError, Global};
 use std::marker::Model;
-use vyrd_base::{Did, Header, Kind, Stamped};
+use vyrd_base::Header;
 
 /// What each caller's block has ahead, how many blocks end, and the first that isn't reducible.
 #[derive(Drop)]
@@ -48,21 +50,29 @@ impl Survey {
         })
     }
 
-    /// The blocks of a history. `uses` has seen it all, and says which of its cells are race-free.
+    /// The blocks of the history that was taken in, by the codes of its steps. `uses` has seen it
+    /// all, and says which of its cells are race-free.
     pub fn of(
         alloc: Global,
         header: Header,
-        history: &[Stamped],
         uses: &Uses,
+        codes: &[u32],
     ) -> Result<Survey, AllocError>
-        requires legal { is_legal (cells_of header) history.now ≡ true }
-        requires seen { HaveSeen (cells_of header) history.now uses.now }
-        ensures { IfOk result
-            (λ s. HasSurveyed (is_race_free (cells_of header) history.now) history.now s) }
+        requires { HasTakenSome (record {
+          header = header;
+          uses = uses.now;
+          steps = map step_coded codes.now;
+        }) }
+        ensures { (history : List Stamped) → HasTaken (record {
+          header = header;
+          uses = uses.now;
+          steps = map step_coded codes.now;
+        }) history
+            → IfOk result (λ s. HasSurveyed (is_race_free (cells_of header) history) history s) }
     {
         let mut survey = Survey::new(alloc, header.callers())?;
-        for place in (0..history.len()).rev() {
-            survey.precede(uses, &history[place]);
+        for place in (0..codes.len()).rev() {
+            survey.precede(uses, place as u64 + 2, Step::coded(codes[place]));
         }
         Ok(survey)
     }
@@ -79,60 +89,56 @@ impl Survey {
         }
     }
 
-    /// One more event comes before the others. `uses` says which cells are race-free.
-    pub fn precede(&mut self, uses: &Uses, event: &Stamped)
-        requires caller { event.now.caller < length self.old.ahead }
-        requires in_range { IsInRange (length uses.now.cells) (length uses.now.values)
-            event.now.did }
-        requires number { event.now.number < 2 ^ 63 }
+    /// One more event, which stands on this line, comes before the others. `uses` says which cells
+    /// are race-free.
+    pub fn precede(&mut self, uses: &Uses, line: u64, step: Step)
+        requires caller { step.caller < length self.old.ahead }
+        requires within { IsWithin (length uses.now.cells) step.role }
         requires few { self.old.blocks < 2 ^ 63 }
         ensures { (cells : Cells) (seen : List Stamped) → HaveSeen cells seen uses.now
             → 0 < cells.callers
-            → self.new ≡ preceded_by (is_race_free cells seen) self.old event.now event.now.did }
+            → self.new ≡ preceded_by (is_race_free cells seen) self.old line step.caller step.role }
     {
-        match event.did {
-            Did::Marked(Kind::BlockOpen) => self.open(event),
-            Did::Marked(Kind::BlockClose | Kind::BlockCommit) => {
-                self.ahead[event.caller as usize] = Some(Ahead {
+        match step.role {
+            Role::Opens => self.open(line, step.caller),
+            Role::Ends => {
+                self.ahead[step.caller as usize] = Some(Ahead {
                     not_left: None,
                     uncut: None,
                 });
             }
-            Did::Marked(_) => {}
-            Did::Took(_) => self.act(event, false, true),
-            Did::Gave(_) => self.act(event, true, false),
-            Did::Read(cell, _) | Did::Wrote(cell, _) => {
+            Role::Marks => {}
+            Role::Takes => self.act(line, step.caller, false, true),
+            Role::Gives => self.act(line, step.caller, true, false),
+            Role::Accesses(cell) => {
                 let is_free = uses.is_race_free(cell);
-                self.act(event, is_free, is_free);
+                self.act(line, step.caller, is_free, is_free);
             }
         }
     }
 
-    /// The event opens a block.
-    fn open(&mut self, event: &Stamped)
-        requires caller { event.now.caller < length self.old.ahead }
-        requires number { event.now.number < 2 ^ 63 }
+    /// The caller opens a block on this line.
+    fn open(&mut self, line: u64, caller: u32)
+        requires caller { caller < length self.old.ahead }
         requires few { self.old.blocks < 2 ^ 63 }
-        ensures { self.new ≡ opened_before self.old event.now (ahead_at self.old event.now) }
+        ensures { self.new ≡ opened_before self.old line (ahead_at self.old caller) }
     {
-        if let Some(ahead) = self.ahead[event.caller as usize] {
+        if let Some(ahead) = self.ahead[caller as usize] {
             self.blocks += 1;
             if let Some(at_line) = ahead.uncut {
-                self.broken = Some((event.number + 2, at_line));
+                self.broken = Some((line, at_line));
             }
         }
     }
 
-    /// The event isn't a mark: a left mover or not, and a right mover or not.
-    fn act(&mut self, event: &Stamped, is_left: bool, is_right: bool)
-        requires caller { event.now.caller < length self.old.ahead }
-        requires number { event.now.number < 2 ^ 63 }
-        ensures { self.new ≡ with_ahead self.old event.now.caller
-            (option_map (with_event event.now is_left is_right) (ahead_at self.old event.now)) }
+    /// The caller's event on this line isn't a mark: a left mover or not, and a right mover or not.
+    fn act(&mut self, line: u64, caller: u32, is_left: bool, is_right: bool)
+        requires { caller < length self.old.ahead }
+        ensures { self.new ≡ acted_before self.old line caller is_left is_right }
     {
-        let place = event.caller as usize;
+        let place = caller as usize;
         if let Some(ahead) = self.ahead[place] {
-            self.ahead[place] = Some(ahead.with_event(event, is_left, is_right));
+            self.ahead[place] = Some(ahead.with_line(line, is_left, is_right));
         }
     }
 }

@@ -1,10 +1,12 @@
 //! What the reader, the writer and the check answer about small histories.
 
 use crate::{
-    HistoryFault, check_blocks, read_history, write_blocks, write_history, write_history_refusal,
+    Blocks, HistoryFault, check_blocks, read_blocks, write_blocks, write_history,
+    write_history_refusal,
 };
 use std::alloc::{AllocError, Global};
 use std::test::Fail;
+use vyrd_base::{Did, Header, Kind, Stamped, Subject};
 
 /// The insert of 5 into a bucket of one.
 const INSERT: &[u8] = b"history multiset 1 1
@@ -26,11 +28,8 @@ end
 /// The line that is written about the text of a history.
 fn answer(alloc: Global, text: &[u8]) -> Result<Vec<u8>, AllocError> {
     let mut line = Vec::new(alloc);
-    match read_history(alloc, text) {
-        Ok(past) => {
-            let blocks = check_blocks(alloc, past.header, &past.history)?;
-            write_blocks(blocks, &mut line)?;
-        }
+    match read_blocks(alloc, text) {
+        Ok(blocks) => write_blocks(blocks, &mut line)?,
         Err(HistoryFault::Refused { line: number, rule }) => {
             write_history_refusal(number, rule, &mut line)?;
         }
@@ -79,18 +78,36 @@ fn answers_about_histories(rt: HostRuntime) -> Result<(), Fail> {
     Ok(())
 }
 
-/// The text of the history that the text says, and nothing if it says none.
-fn rewritten(alloc: Global, text: &[u8]) -> Result<Vec<u8>, AllocError> {
-    let mut written = Vec::new(alloc);
-    if let Ok(past) = read_history(alloc, text) {
-        write_history(past.header, &past.history, &mut written)?;
+/// What caller 0 does, with its number.
+fn by_0(number: u64, did: Did) -> Stamped
+    ensures { result ≡ record { number = number; caller = 0; did = did } }
+{
+    Stamped {
+        number,
+        caller: 0,
+        did,
     }
-    Ok(written)
 }
 
 #[test]
-fn history_read_and_written(rt: HostRuntime) -> Result<(), Fail> {
-    assert_eq!(rt; rewritten(rt.alloc(), INSERT)?.as_slice(), INSERT);
+fn history_checked_and_written(rt: HostRuntime) -> Result<(), Fail> {
+    let alloc = rt.alloc();
+    let Some(header) = Header::new(1, Subject::Multiset, 1, 1) else {
+        return Err(Fail);
+    };
+    let history = [
+        by_0(0, Did::Took(8)),
+        by_0(1, Did::Marked(Kind::BlockOpen)),
+        by_0(2, Did::Wrote(0, 1)),
+        by_0(3, Did::Marked(Kind::BlockCommit)),
+        by_0(4, Did::Gave(8)),
+    ];
+    let mut text = Vec::new(alloc);
+    write_history(header, &history, &mut text)?;
+    assert_eq!(rt;
+        text.as_slice(),
+        b"history multiset 1 1\n0 took 8\n0 open\n0 wrote 0 1\n0 close commit\n0 gave 8\nend\n"
+    );
     Ok(())
 }
 

@@ -1,6 +1,7 @@
 //! How a plain cell is used.
 
 ghost use Rattle.std.specs.Prelude.{◌≡◌, ◌+◌, ◌-◌, ◌^◌, ◌<◌, ◌≤◌, ◌||◌, false, length, IfOk, OnOk};
+ghost use Rattle.std.specs.Prelude.{OnErr};
 ghost use Rattle.std.specs.List.{filter};
 ghost use Rattle.vyrd_base.specs.Places.{numbers_from};
 ghost use Rattle.vyrd_mover.specs.Usage.{Use, used_by, unused, joined, has_value, seems_free};
@@ -61,7 +62,9 @@ impl Usage {
         requires caller { caller < 2 ^ 31 }
         requires locks { first_lock ≤ length values.now }
         requires few { length values.now < 2 ^ 31 }
-        ensures { OnOk result (self.new ≡ used_by values.now first_lock caller is_write self.old) }
+        ensures ok { OnOk result
+            (self.new ≡ used_by values.now first_lock caller is_write self.old) }
+        ensures err { OnErr result (self.new ≡ self.old) }
     {
         let held = caller + 1;
         if let Users::Nobody = self.users {

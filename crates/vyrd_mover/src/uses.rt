@@ -1,16 +1,16 @@
 //! How the plain cells of a history are used, and who holds each lock.
 
-ghost use Rattle.std.specs.Prelude.{◌≡◌, ◌+◌, ◌^◌, ◌<◌, ◌≤◌, true, List, length, replicate, IfOk};
-ghost use Rattle.std.specs.Prelude.{OnOk};
+ghost use Rattle.std.specs.Prelude.{◌≡◌, ◌+◌, ◌^◌, ◌<◌, ◌≤◌, List, length, replicate, IfOk};
+ghost use Rattle.std.specs.Prelude.{OnOk, OnErr};
 ghost use Rattle.vyrd_base.specs.declared.history.Stamped.{Stamped};
-ghost use Rattle.vyrd_base.specs.Histories.{Cells, cells_of, is_legal};
+ghost use Rattle.vyrd_base.specs.Histories.{Cells};
 ghost use Rattle.vyrd_mover.specs.RaceFree.{is_race_free};
 ghost use Rattle.vyrd_mover.specs.Usage.{HaveSeen, IsInRange, kept_after, unused};
 
 use crate::usage::Usage;
 use std::alloc::{AllocError, Global};
 use std::marker::Model;
-use vyrd_base::{Did, Header, Stamped};
+use vyrd_base::{Did, Stamped};
 
 /// How the plain cells of a history have been used so far, and the value of each lock.
 #[derive(Drop)]
@@ -42,27 +42,16 @@ impl Uses {
         })
     }
 
-    /// The uses of the cells in a history.
-    pub fn of(alloc: Global, header: Header, history: &[Stamped]) -> Result<Uses, AllocError>
-        requires { is_legal (cells_of header) history.now ≡ true }
-        ensures { IfOk result (λ s. HaveSeen (cells_of header) history.now s) }
-    {
-        let mut uses = Uses::new(alloc, header.plain_words(), header.lock_words())?;
-        for event in history {
-            uses.follow(alloc, event)?;
-        }
-        Ok(uses)
-    }
-
     /// Follows an event: in constant time, except for the locks that may guard the cell that is
-    /// used.
+    /// used. An error leaves everything unchanged.
     pub fn follow(&mut self, alloc: Global, event: &Stamped) -> Result<(), AllocError>
         requires caller { event.now.caller < 2 ^ 31 }
         requires in_range { IsInRange (length self.old.cells) (length self.old.values)
             event.now.did }
         requires locks { length self.old.cells ≤ length self.old.values }
         requires few { length self.old.values < 2 ^ 31 }
-        ensures { OnOk result (self.new ≡ kept_after self.old event.now.caller event.now.did) }
+        ensures ok { OnOk result (self.new ≡ kept_after self.old event.now.caller event.now.did) }
+        ensures err { OnErr result (self.new ≡ self.old) }
     {
         let first_lock = self.cells.len() as u32;
         match event.did {

@@ -8,7 +8,10 @@ use Rattle.vyrd_mover.specs.Blocks.{blocks_of}
 use Rattle.vyrd_mover.specs.BlocksText.{blocks_text}
 use Rattle.vyrd_mover.specs.HistoryText.{Recorded}
 use Rattle.vyrd_mover.specs.HistoryReading.{Refusal, history_reading}
+use Rattle.vyrd_mover.specs.HistoryReaders.{ReaderState, HasRead}
+use Rattle.vyrd_mover.specs.LongHistories.{longest_history}
 use Rattle.vyrd_mover.specs.Refusals.{history_refusal_text}
+use Rattle.vyrd_program.specs.Inputs.{IsInputRead}
 
 -- the status that the answer about blocks ends with
 abbrev pub status_of_blocks : Blocks → ℕ
@@ -25,6 +28,12 @@ IsMoversAnswer (Err refusal) status text =
     (status ≡ 10) × (text ≡ history_refusal_text refusal.line refusal.rule)
 IsMoversAnswer (Ok r) status text =
     (status ≡ status_of_blocks (said_of_blocks r)) × (text ≡ blocks_text (said_of_blocks r))
+
+-- These bytes were read of an input, by a reader of a history.
+pub record IsHistoryRead (before after : Option (List ℕ)) (reader : ReaderState) : Type 0 where
+  pub bytes : List ℕ
+  pub input : IsInputRead longest_history before after bytes
+  pub read : HasRead reader bytes
 
 -- The status and the text of an answer to an input. If its bytes are told, what was read is what
 -- they say.

@@ -1,24 +1,26 @@
 //! What `movers` answers.
 
-ghost use Rattle.std.specs.Prelude.{◌≡◌, ◌≤◌, ◌⊎◌, true, [], Ok, None, IfOk};
+ghost use Rattle.std.specs.Prelude.{◌≡◌, ◌≤◌, ◌⊎◌, ℕ, true, List, [], None, IfOk, OnOk};
+ghost use Rattle.std.specs.Prelude.{Err};
 ghost use Rattle.vyrd_base.specs.Devices.{HasRisen};
-ghost use Rattle.vyrd_base.specs.Histories.{cells_of, is_legal};
-ghost use Rattle.vyrd_mover.specs.HistoryText.{recorded_of};
+ghost use Rattle.vyrd_mover.specs.BlocksText.{blocks_text};
 ghost use Rattle.vyrd_mover.specs.HistoryReading.{history_reading};
+ghost use Rattle.vyrd_mover.specs.HistoryReaders.{HasRead, HasReadSome};
 ghost use Rattle.vyrd_mover.specs.LongHistories.{longest_history};
 ghost use Rattle.vyrd_mover.specs.Refusals.{history_refusal_text};
-ghost use Rattle.vyrd_program.specs.Inputs.{IsInputTaken, IsFewTaken};
+ghost use Rattle.vyrd_program.specs.Inputs.{IsInputTaken, IsFewTaken, UnlessFailed};
 ghost use Rattle.vyrd_program.specs.Moved.{AnswersMovers, IsMoversAnswer, IsMoversStatus};
+ghost use Rattle.vyrd_program.specs.Moved.{IsHistoryRead};
+ghost use Rattle.vyrd_program.specs.declared.read_log.ReadFault.TheVariants.{Failed};
 ghost use Rattle.vyrd_program.specs.Moved.{status_of_blocks};
 
 use crate::answer::{Answer, HISTORY_REFUSED, MEMORY, READ_FAULT};
-use crate::read_input::read_input;
+use crate::read_input::read_more;
 use crate::read_log::ReadFault;
 use std::alloc::{AllocError, Global};
 use vyrd_base::Source;
 use vyrd_mover::{
-    Blocks, HistoryFault, HistoryRule, Past, check_blocks, read_history, write_blocks,
-    write_history_refusal,
+    Blocks, HistoryFault, HistoryReader, HistoryRule, write_blocks, write_history_refusal,
 };
 
 /// How many bytes of a history are read at most: 256 MiB, and one byte that shows that there are
@@ -43,8 +45,9 @@ pub fn movers<S: Source>(alloc: Global, source: &mut S) -> Answer
     ensures counted { S.faults source.old ≤ S.faults source.new }
     ensures sure { S.is_sure source.old ≡ true → S.faults source.new ≡ S.faults source.old }
 {
-    match read_input(alloc, LONGEST_HISTORY, source) {
-        Ok(bytes) => match answer_to(alloc, &bytes) {
+    let mut reader = HistoryReader::new(alloc);
+    match read_history(alloc, &mut reader, source) {
+        Ok(()) => match answer_of(alloc, &reader) {
             Ok(answer) => answer,
             Err(_) => Answer::silent(alloc, MEMORY),
         },
@@ -53,29 +56,61 @@ pub fn movers<S: Source>(alloc: Global, source: &mut S) -> Answer
     }
 }
 
-/// The answer to the bytes of a history.
-fn answer_to(alloc: Global, bytes: &[u8]) -> Result<Answer, AllocError>
-    ensures answer { IfOk result
-        (λ answer. IsMoversAnswer (history_reading bytes.now) answer.status answer.text.items) }
+/// Reads to the source's end, or at most 256 MiB and one byte.
+///
+/// Each read takes at most 65,536 bytes. The bytes of a read are forgotten at the next, so the
+/// memory is that of a [`HistoryReader`].
+fn read_history<S: Source>(
+    alloc: Global,
+    reader: &mut HistoryReader,
+    source: &mut S,
+) -> Result<(), ReadFault>
+    requires { HasRead reader.old [] }
+    ensures read { OnOk result
+        (IsHistoryRead (S.rest source.old) (S.rest source.new) reader.new) }
+    ensures few { IsFewTaken longest_history (S.rest source.old) (S.rest source.new) }
+    ensures failed { result ≡ Err Failed → HasRisen (S.faults source.old) (S.faults source.new) }
+    ensures stopped { result ≡ Err Failed → S.rest source.new ≡ S.left_off source.new }
+    ensures failures_alone { UnlessFailed result (S.faults source.new ≡ S.faults source.old) }
+    ensures counted { S.faults source.old ≤ S.faults source.new }
+    ensures sure { S.is_sure source.old ≡ true → S.faults source.new ≡ S.faults source.old }
+{
+    let mut piece = Vec::new(alloc);
+    let mut count = 0;
+    while count < LONGEST_HISTORY {
+        piece.clear();
+        let n = read_more(LONGEST_HISTORY - count, &mut piece, source)?;
+        if n == 0 {
+            break;
+        }
+        reader.feed(&piece);
+        count += n;
+    }
+    Ok(())
+}
+
+/// The answer to the bytes that were read.
+fn answer_of(alloc: Global, reader: &HistoryReader) -> Result<Answer, AllocError>
+    requires { HasReadSome reader.now }
+    ensures answer { (bytes : List ℕ) → HasRead reader.now bytes → IfOk result
+        (λ answer. IsMoversAnswer (history_reading bytes) answer.status answer.text.items) }
     ensures run { IfOk result (λ answer. answer.run ≡ None) }
     ensures spent { IfOk result (λ answer. answer.spent ≡ None) }
 {
-    match read_history(alloc, bytes) {
-        Ok(past) => tell(alloc, &past),
+    match reader.finish() {
+        Ok(said) => tell(alloc, said),
         Err(HistoryFault::Refused { line, rule }) => refuse(alloc, line, rule),
         Err(HistoryFault::Memory) => Err(AllocError),
     }
 }
 
-/// What is said of the blocks of a history.
-fn tell(alloc: Global, past: &Past) -> Result<Answer, AllocError>
-    requires { is_legal (cells_of past.now.header) past.now.history.items ≡ true }
-    ensures answer { IfOk result
-        (λ answer. IsMoversAnswer (Ok (recorded_of past.now)) answer.status answer.text.items) }
+/// The answer that says this of the blocks of a history.
+fn tell(alloc: Global, blocks: Blocks) -> Result<Answer, AllocError>
+    ensures status { IfOk result (λ answer. answer.status ≡ status_of_blocks blocks) }
+    ensures text { IfOk result (λ answer. answer.text.items ≡ blocks_text blocks) }
     ensures run { IfOk result (λ answer. answer.run ≡ None) }
     ensures spent { IfOk result (λ answer. answer.spent ≡ None) }
 {
-    let blocks = check_blocks(alloc, past.header, &past.history)?;
     let mut text = Vec::new(alloc);
     write_blocks(blocks, &mut text)?;
     let status = status_of_blocks(blocks);

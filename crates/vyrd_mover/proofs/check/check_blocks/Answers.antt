@@ -1,17 +1,46 @@
-use Rattle.std.proofs.Common.{◌≡◌, ◌∙◌, sym}
+use Rattle.std.proofs.Common.{◌∙◌, sym, subst, get_or, take, arith}
+use Rattle.std.proofs.lemmas.List.{take_all}
+use Rattle.vyrd_base.specs.declared.history.Did.TheVariants.{Read}
+use Rattle.vyrd_base.specs.declared.history.Stamped.{Stamped}
 use Rattle.vyrd_base.specs.Histories.{cells_of}
-use Rattle.vyrd_mover.specs.declared.blocks.Blocks.TheVariants.{Reducible}
-use Rattle.vyrd_mover.proofs.CheckLaws.{answer_is, each_is_gathered}
+use Rattle.vyrd_mover.specs.Gathering.{EachIsGathered}
+use Rattle.vyrd_mover.specs.Taking.{IsNext}
+use Rattle.vyrd_mover.proofs.TakingLaws.{next_in, taken_up_to}
 use Rattle.vyrd_mover.proofs.check.check_blocks.Goals as goal
 
-pub returns-clause-blocks : goal.returns-clause-blocks
-returns-clause-blocks c =
-    let is = answer_is (cells_of c.args.header) c.args.history.now c.in_ok-survey.survey c.in_ok-survey.ensures in
-    c.answer.ensures ∙ is
+abbrev some_event : Stamped
+some_event = record { number = 0; caller = 0; did = Read 0 0 }
+
+pub take-requires : goal.take-requires
+take-requires c =
+    let history = c.args.history.now in
+    let i = c.loop-event.event-index in
+    let next = next_in c.args.header history i some_event c.requires c.loop-event-test.true in
+    record {
+      legal = record {
+        history = take i history;
+        taken = c.loop-event.invariant.taken;
+        next = subst (λ h. IsNext h (take i history) (get_or history i some_event)) (sym c.loop-event.invariant.header) next;
+      };
+    }
+
+pub loop-event-preserved : goal.loop-event-preserved
+loop-event-preserved c =
+    let history = c.args.history.now in
+    let i = c.loop-event.event-index in
+    let next = subst (λ h. IsNext h (take i history) (get_or history i some_event)) (sym c.loop-event.invariant.header)
+    (next_in c.args.header history i some_event c.requires c.loop-event-test.true) in
+    record {
+      header = c.take.ensures.header ∙ c.loop-event.invariant.header;
+      taken = taken_up_to c.take.new.self history i some_event c.loop-event-test.true
+          (c.in_ok-take.ensures.taken (take i history) c.loop-event.invariant.taken next);
+    }
 
 pub returns-clause-gathered : goal.returns-clause-gathered
 returns-clause-gathered c = λ n e.
-    let is = answer_is (cells_of c.args.header) c.args.history.now c.in_ok-survey.survey c.in_ok-survey.ensures in
-    let all = c.answer.ensures ∙ is in
-    let reducible : c.answer.result ≡ Reducible n = cc in
-    each_is_gathered (cells_of c.args.header) c.args.history.now n c.requires (sym all ∙ reducible)
+    let history = c.args.history.now in
+    let i = c.loop-event.event-index in
+    let all = take_all i history (omega arith) in
+    subst (EachIsGathered (cells_of c.args.header)) all
+    (subst (λ h. EachIsGathered (cells_of h) (take i history)) c.loop-event.invariant.header
+    (c.answer.ensures.gathered (take i history) c.loop-event.invariant.taken n e))

@@ -1,14 +1,21 @@
-use Rattle.std.proofs.Common.{subst}
 use Rattle.vyrd_mover.specs.HistoryReading.{history_reading}
-use Rattle.vyrd_program.specs.Moved.{IsMoversAnswer}
-use Rattle.vyrd_program.proofs.MoversLaws.{history_is_input}
+use Rattle.vyrd_mover.specs.LongHistories.{longest_history}
+use Rattle.vyrd_program.proofs.MoversLaws.{history_is_input, input_taken}
 use Rattle.vyrd_program.proofs.movers.movers.Goals as goal
 
-pub returns-in-Ok-answer_to-clause-answers : goal.returns-in-Ok-answer_to-clause-answers
-returns-in-Ok-answer_to-clause-answers g c = λ answered.
-    let answer = c.in-Ok-answer_to.answer in
+pub answer_of-requires : goal.answer_of-requires
+answer_of-requires g c = let had = c.in-Ok.ensures.read in record { bytes = had.bytes; read = had.read }
+
+pub returns-in-Ok-answer_of-clause-answers : goal.returns-in-Ok-answer_of-clause-answers
+returns-in-Ok-answer_of-clause-answers g c = λ answered.
+    let had = c.in-Ok.ensures.read in
     record {
-      history = history_reading c.in-Ok.bytes.items;
-      read = history_is_input (g.S.Source.rest c.args.source.now) (g.S.Source.rest c.read_input.new.source) c.in-Ok.bytes.items c.in-Ok.ensures.read;
-      answer = subst (λ bytes. IsMoversAnswer (history_reading bytes) answer.status answer.text.items) c.deref.ensures.value c.in-Ok-answer_to.ensures.answer;
+      history = history_reading had.bytes;
+      read = history_is_input (g.S.Source.rest c.args.source.now) (g.S.Source.rest c.read_history.new.source) had.bytes had.input;
+      answer = c.in-Ok-answer_of.ensures.answer had.bytes had.read;
     }
+
+pub returns-in-Ok-answer_of-clause-consumed : goal.returns-in-Ok-answer_of-clause-consumed
+returns-in-Ok-answer_of-clause-consumed g c = λ answered.
+    let had = c.in-Ok.ensures.read in
+    input_taken longest_history (g.S.Source.rest c.args.source.now) (g.S.Source.rest c.read_history.new.source) had.bytes had.input

@@ -1,56 +1,99 @@
-use Rattle.std.proofs.Common.{◌≡◌, ◌+◌, ◌-◌, ◌<◌, ◌∷◌, ◌∙◌, suc, arith, ap, sym, subst, get_or, take, drop, length, drop-cons}
+use Rattle.std.proofs.Common.{◌≡◌, ℕ, suc, ◌+◌, ◌-◌, ◌<◌, List, [], ◌∷◌, ◌∙◌, map, arith, ap, sym, subst, get_or, take, drop, length, drop-cons, length-drop}
+use Rattle.std.proofs.Math.Seq.{drop-length}
+use Rattle.vyrd_base.specs.declared.header.Header.{Header}
 use Rattle.vyrd_base.specs.declared.history.Did.TheVariants.{Read}
 use Rattle.vyrd_base.specs.declared.history.Stamped.{Stamped}
 use Rattle.vyrd_base.specs.Places.{newest_first}
 use Rattle.vyrd_base.specs.Histories.{cells_of}
+use Rattle.vyrd_mover.specs.declared.step.Step.{Step}
+use Rattle.vyrd_mover.specs.Blocks.{line_of}
 use Rattle.vyrd_mover.specs.RaceFree.{is_race_free}
-use Rattle.vyrd_mover.specs.Usage.{IsInRange}
-use Rattle.vyrd_mover.proofs.LegalPlaces.{legal_event, in_range, some_callers}
-use Rattle.vyrd_mover.proofs.SurveyLaws.{IsSurvey, survey_goes_on}
+use Rattle.vyrd_mover.specs.Steps.{step_coded, step_of, IsWithin}
+use Rattle.vyrd_mover.specs.Ahead.{preceded_by, HasSurveyed}
+use Rattle.vyrd_mover.specs.Usage.{Kept}
+use Rattle.vyrd_mover.specs.Taking.{HasTaken}
+use Rattle.vyrd_mover.proofs.LegalPlaces.{MayCome, legal_event, in_range, some_callers}
+use Rattle.vyrd_mover.proofs.StepLaws.{codes_count, code_at, role_within}
+use Rattle.vyrd_mover.proofs.SurveyLaws.{IsSurvey, survey_begins, survey_goes_on}
 use Rattle.vyrd_mover.proofs.survey.Survey.of.Goals as goal
 
 abbrev some_event : Stamped
 some_event = record { number = 0; caller = 0; did = Read 0 0 }
 
+-- what the step at a place is
+record Here (h : Header) (uses : Kept) (codes : List ℕ) (history : List Stamped) (i : ℕ) (step : Step) : Type 0 where
+  low : i < length history
+  come : MayCome (cells_of h) (newest_first (take i history)) i (get_or history i some_event)
+  is : step ≡ step_of (get_or history i some_event)
+  caller : step.caller < h.callers
+  within : IsWithin (length uses.cells) step.role
+
+here : (h : Header) (uses : Kept) (codes : List ℕ) (history : List Stamped) (i : ℕ) (step : Step)
+    → HasTaken (record { header = h; uses = uses; steps = map step_coded codes }) history → i < length codes → step ≡ step_coded (get_or codes i 0)
+    → Here h uses codes history i step
+here h uses codes history i step taken low coded =
+    let count = codes_count codes history taken.steps_are in
+    let low_too : i < length history = omega (arith, count) in
+    let come = legal_event (cells_of h) history i some_event taken.legal low_too in
+    let e = get_or history i some_event in
+    let is = coded ∙ code_at codes history i some_event taken.steps_are low in
+    record {
+      low = low_too;
+      come = come;
+      is = is;
+      caller = subst (λ s. s.caller < h.callers) (sym is) come.caller;
+      within = subst (λ n. IsWithin n step.role) (sym taken.seen.all_cells) (subst (λ s. IsWithin (cells_of h).plain s.role) (sym is)
+          (role_within (cells_of h).plain ((cells_of h).plain + (cells_of h).locks) e.did
+          (in_range (cells_of h) (newest_first (take i history)) e.caller e.did come.may)));
+    }
+
+pub loop-place-init : goal.loop-place-init
+loop-place-init c = λ history taken.
+    let free = is_race_free (cells_of c.args.header) history in
+    let none = ap (λ n. drop n history) (codes_count c.args.codes.now history taken.steps_are) ∙ drop-length history in
+    let first = survey_begins free c.callers.result in
+    subst (λ later. IsSurvey free c.args.header.callers later c.in_ok-survey.survey) (sym none)
+    (subst (λ n. IsSurvey free n [] c.in_ok-survey.survey) c.callers.ensures (subst (IsSurvey free c.callers.result []) (sym c.in_ok-survey.ensures) first))
+
 pub precede-requires-clause-caller : goal.precede-requires-clause-caller
 precede-requires-clause-caller c =
     let i = c.loop-place.place - 1 in
-    let low : i < length c.args.history.now = omega arith in
-    let here = legal_event (cells_of c.args.header) c.args.history.now i some_event c.requires.legal low in
-    let bound : (get_or c.args.history.now i some_event).caller < c.args.header.callers = here.caller in
-    omega (arith, c.loop-place.invariant.callers_are)
+    let at = here c.args.header c.args.uses.now c.args.codes.now c.requires.history i c.coded.result c.requires.taken (omega arith) c.coded.ensures in
+    let survey = c.loop-place.invariant c.requires.history c.requires.taken in
+    omega (arith, at.caller, survey.callers_are)
 
-pub precede-requires-clause-in_range : goal.precede-requires-clause-in_range
-precede-requires-clause-in_range c =
-    let h = c.args.header in
+pub precede-requires-clause-within : goal.precede-requires-clause-within
+precede-requires-clause-within c =
     let i = c.loop-place.place - 1 in
-    let low : i < length c.args.history.now = omega arith in
-    let e = get_or c.args.history.now i some_event in
-    let here = legal_event (cells_of h) c.args.history.now i some_event c.requires.legal low in
-    subst (λ n. IsInRange (length c.args.uses.now.cells) n e.did) (sym c.requires.seen.all_values)
-    (subst (λ n. IsInRange n ((cells_of h).plain + (cells_of h).locks) e.did) (sym c.requires.seen.all_cells)
-    (in_range (cells_of h) (newest_first (take i c.args.history.now)) e.caller e.did here.may))
+    let at = here c.args.header c.args.uses.now c.args.codes.now c.requires.history i c.coded.result c.requires.taken (omega arith) c.coded.ensures in
+    at.within
 
-pub precede-requires-clause-number : goal.precede-requires-clause-number
-precede-requires-clause-number c =
-    let i = c.loop-place.place - 1 in
-    let low : i < length c.args.history.now = omega arith in
-    let here = legal_event (cells_of c.args.header) c.args.history.now i some_event c.requires.legal low in
-    let is : (get_or c.args.history.now i some_event).number ≡ i = here.numbered in
-    omega arith
+pub precede-requires-clause-few : goal.precede-requires-clause-few
+precede-requires-clause-few c =
+    let survey = c.loop-place.invariant c.requires.history c.requires.taken in
+    let count = codes_count c.args.codes.now c.requires.history c.requires.taken.steps_are in
+    let few = survey.surveyed.few in
+    let dropped = length-drop c.loop-place.place c.requires.history in
+    omega (arith, few, count, dropped)
 
 pub loop-place-preserved : goal.loop-place-preserved
-loop-place-preserved c =
+loop-place-preserved c = λ history taken.
     let h = c.args.header in
-    let history = c.args.history.now in
     let free = is_race_free (cells_of h) history in
     let i = c.loop-place.place - 1 in
-    let low : i < length history = omega arith in
+    let at = here h c.args.uses.now c.args.codes.now history i c.coded.result taken (omega arith) c.coded.ensures in
     let e = get_or history i some_event in
-    let here = legal_event (cells_of h) history i some_event c.requires.legal low in
+    let later = drop c.loop-place.place history in
     let next : suc i ≡ c.loop-place.place = omega arith in
-    let front : drop i history ≡ e ∷ drop c.loop-place.place history = drop-cons history i some_event low ∙ ap (λ n. e ∷ drop n history) next in
-    let more = survey_goes_on free h.callers e (drop c.loop-place.place history) c.loop-place.survey c.loop-place.invariant here.caller in
-    subst (λ es. IsSurvey free h.callers es c.precede.new.self) (sym front)
-    (subst (IsSurvey free h.callers (e ∷ drop c.loop-place.place history))
-    (sym (c.precede.ensures (cells_of h) history c.requires.seen (some_callers h))) more)
+    let front : drop i history ≡ e ∷ later = drop-cons history i some_event at.low ∙ ap (λ n. e ∷ drop n history) next in
+    let line : i + 2 ≡ line_of e = ap (λ n. n + 2) (sym at.come.numbered) in
+    let more = survey_goes_on free h.callers e later c.loop-place.survey (c.loop-place.invariant history taken) at.come.caller in
+    let on = c.precede.ensures (cells_of h) history taken.seen (some_callers h)
+    ∙ λ j. preceded_by free c.loop-place.survey (line j) (at.is j).caller (at.is j).role in
+    subst (λ es. IsSurvey free h.callers es c.precede.new.self) (sym front) (subst (IsSurvey free h.callers (e ∷ later)) (sym on) more)
+
+pub returns : goal.returns
+returns c = λ history taken.
+    let all : c.loop-place.place ≡ 0 = omega arith in
+    subst (λ n. HasSurveyed (is_race_free (cells_of c.args.header) history) (drop n history) c.loop-place.survey) all
+    ((c.loop-place.invariant history taken).surveyed)

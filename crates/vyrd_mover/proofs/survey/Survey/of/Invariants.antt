@@ -1,8 +1,12 @@
-use Rattle.std.proofs.Common.{drop}
+use Rattle.std.proofs.Common.{List, map, drop}
+use Rattle.vyrd_base.specs.declared.history.Stamped.{Stamped}
 use Rattle.vyrd_base.specs.Histories.{cells_of}
 use Rattle.vyrd_mover.specs.RaceFree.{is_race_free}
+use Rattle.vyrd_mover.specs.Steps.{step_coded}
+use Rattle.vyrd_mover.specs.Taking.{HasTaken}
 use Rattle.vyrd_mover.proofs.SurveyLaws.{IsSurvey}
 use Rattle.vyrd_mover.proofs.survey.Survey.of.Given as goal
 
 abbrev pub invariant-loop-place : goal.invariant-loop-place
-invariant-loop-place l = IsSurvey (is_race_free (cells_of l.fn.header) l.history) l.fn.header.callers (drop l.place l.history) l.survey
+invariant-loop-place l = (history : List Stamped) → HasTaken (record { header = l.fn.header; uses = l.uses; steps = map step_coded l.codes }) history
+    → IsSurvey (is_race_free (cells_of l.fn.header) history) l.fn.header.callers (drop l.place history) l.survey

@@ -7,8 +7,8 @@ use Rattle.vyrd_mover.proofs.UsageLaws.{when_unused, when_used, same_use, or_is_
 use Rattle.vyrd_mover.proofs.usage.Usage.see.Goals as goal
 use Rattle.vyrd_mover.proofs.usage.Usage.see.Goals.{in-Nobody+in_ok-self-inside, in_default, then-self, else-self}
 
-pub returns : goal.returns
-returns c =
+pub returns-clause-ok : goal.returns-clause-ok
+returns-clause-ok c =
     let test = has_value c.args.values.now (c.args.caller + 1) in
     let all = numbers_from c.args.first_lock (length c.args.values.now - c.args.first_lock) in
     let before = c.self.inside in

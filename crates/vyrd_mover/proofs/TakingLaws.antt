@@ -1,0 +1,101 @@
+-- A history is taken in event by event.
+use Rattle.std.proofs.Common.{◌≡◌, ℕ, ◌+◌, ◌^◌, ◌<◌, ◌≤◌, true, ◌&&◌, List, [], ◌∷◌, ◌++◌, map, length, replicate, take, drop, drop-cons, get_or, suc, refl, ap, sym, ◌∙◌, subst, arith}
+use Rattle.std.specs.Prelude.{◌==◌, nat_lt}
+use Rattle.std.proofs.lemmas.List.{take-append-drop, take_more, length-map}
+use Rattle.vyrd_base.specs.declared.header.Header.{Header}
+use Rattle.vyrd_base.specs.declared.history.Stamped.{Stamped}
+use Rattle.vyrd_base.specs.Places.{newest_first}
+use Rattle.vyrd_base.specs.Histories.{cells_of, is_legal}
+use Rattle.vyrd_base.specs.Layout.{plain_words, lock_words}
+use Rattle.vyrd_base.proofs.PlaceLaws.{length-newest_first}
+use Rattle.vyrd_base.proofs.TestLaws.{first_true, second_true, same_of, below_of}
+use Rattle.vyrd_mover.specs.Steps.{step_of, step_coded, code_of, IsShort, role_of}
+use Rattle.vyrd_mover.specs.Usage.{Kept, HaveSeen, IsInRange, kept_after, unused}
+use Rattle.vyrd_mover.specs.Taking.{Taken, HasTaken, IsNext, CanTake}
+use Rattle.vyrd_mover.proofs.SeenLaws.{have_seen_nothing, have_seen_more}
+use Rattle.vyrd_mover.proofs.LegalPlaces.{MayCome, in_range, few_callers, few_cells}
+use Rattle.vyrd_mover.proofs.TextLaws.{all_more, all_here, legal_test}
+use Rattle.vyrd_mover.proofs.StepLaws.{steps_more, short_role}
+
+pub taken_nothing : (h : Header) (uses : Kept) → uses.values ≡ replicate (plain_words h + lock_words h) 0 → uses.cells ≡ replicate (plain_words h) unused
+    → HasTaken (record { header = h; uses = uses; steps = [] }) []
+unfolding is_legal
+taken_nothing h uses values cells = record {
+  legal = refl;
+  seen = subst (HaveSeen (cells_of h) []) (λ i. record { values = sym values i; cells = sym cells i }) (have_seen_nothing (cells_of h));
+  steps_are = refl;
+}
+
+-- what a legal event keeps to
+pub may_come : (h : Header) (history : List Stamped) (e : Stamped) → IsNext h history e → MayCome (cells_of h) (newest_first history) (length history) e
+may_come h history e legal =
+    let both = first_true (e.number == length (newest_first history) && nat_lt e.caller h.callers) _ legal in
+    record {
+      numbered = same_of e.number (length (newest_first history)) (first_true _ _ both) ∙ length-newest_first history;
+      caller = below_of e.caller h.callers (second_true (e.number == length (newest_first history)) _ both);
+      may = second_true (e.number == length (newest_first history) && nat_lt e.caller h.callers) _ legal;
+    }
+
+-- what is asked of a header's next event where it is taken in
+pub record Fits (t : Taken) (e : Stamped) : Type 0 where
+  pub caller : e.caller < 64
+  pub below : e.caller < t.header.callers
+  pub in_range : IsInRange (length t.uses.cells) (length t.uses.values) e.did
+  pub in_cells : IsInRange (plain_words t.header) (plain_words t.header + lock_words t.header) e.did
+  pub locks : length t.uses.cells ≤ length t.uses.values
+  pub few : length t.uses.values < 2 ^ 31
+  pub short : IsShort (role_of e.did)
+
+pub fits : (t : Taken) (history : List Stamped) (e : Stamped) → HasTaken t history → IsNext t.header history e → Fits t e
+fits t history e taken next =
+    let come = may_come t.header history e next in
+    let range = in_range (cells_of t.header) (newest_first history) e.caller e.did come.may in
+    let callers = few_callers t.header in
+    let cells = few_cells t.header in
+    let low : plain_words t.header < 2 ^ 24 = omega (arith, cells) in
+    let all = taken.seen.all_values in
+    let plain = taken.seen.all_cells in
+    record {
+      caller = omega (arith, come.caller, callers);
+      below = come.caller;
+      in_range = subst (λ n. IsInRange (length t.uses.cells) n e.did) (sym all)
+          (subst (λ n. IsInRange n (plain_words t.header + lock_words t.header) e.did) (sym plain) range);
+      in_cells = range;
+      locks = omega (arith, all, plain);
+      few = omega (arith, all, cells);
+      short = short_role (plain_words t.header) (plain_words t.header + lock_words t.header) e.did range low;
+    }
+
+pub can_fit : (t : Taken) (e : Stamped) → CanTake t e → Fits t e
+can_fit t e can = fits t can.history e can.taken can.next
+
+-- one more event
+pub taken_more : (h : Header) (uses : Kept) (codes : List ℕ) (history : List Stamped) (e : Stamped)
+    → HasTaken (record { header = h; uses = uses; steps = map step_coded codes }) history → IsNext h history e
+    → HasTaken (record { header = h; uses = kept_after uses e.caller e.did; steps = map step_coded (codes ++ code_of (step_of e) ∷ []) }) (history ++ e ∷ [])
+unfolding is_legal
+taken_more h uses codes history e taken next =
+    let come = may_come h history e next in
+    let callers = few_callers h in
+    record {
+      legal = all_more (legal_test h) (λ more place. refl) history e taken.legal next;
+      seen = have_seen_more (cells_of h) history uses e taken.seen come.caller come.may;
+      steps_are = steps_more codes history e taken.steps_are (omega (arith, come.caller, callers));
+    }
+
+-- there are as many steps as events
+pub taken_count : (t : Taken) (history : List Stamped) → HasTaken t history → length t.steps ≡ length history
+taken_count t history taken = ap length taken.steps_are ∙ length-map history step_of
+
+-- each event of a legal history is legal after those before it
+pub next_in : (h : Header) (history : List Stamped) (i : ℕ) (d : Stamped) → is_legal (cells_of h) history ≡ true → i < length history
+    → IsNext h (take i history) (get_or history i d)
+unfolding is_legal
+next_in h history i d legal low =
+    all_here (legal_test h) (λ more place. refl) (take i history) (get_or history i d) (drop (suc i) history)
+    (ap (λ es. is_legal (cells_of h) es) (ap (λ later. take i history ++ later) (sym (drop-cons history i d low)) ∙ take-append-drop i history) ∙ legal)
+
+-- and is taken in after them
+pub taken_up_to : (t : Taken) (history : List Stamped) (i : ℕ) (d : Stamped) → i < length history → HasTaken t (take i history ++ get_or history i d ∷ [])
+    → HasTaken t (take (i + 1) history)
+taken_up_to t history i d low taken = subst (HasTaken t) (sym (take_more history i d low)) taken

@@ -1,0 +1,44 @@
+use Rattle.std.proofs.Common.{◌∙◌, ◌++◌, ◌∷◌, [], append_assoc, ap, sym, subst}
+use Rattle.vyrd_base.proofs.SplitLaws.{lacks}
+use Rattle.vyrd_mover.specs.HistoryReaders.{HasRead, ReaderState, IsAt}
+use Rattle.vyrd_mover.proofs.ReaderLaws.{nothing_unfinished, whole_line}
+use Rattle.vyrd_mover.proofs.reader.HistoryReader.end_line.Goals as goal
+
+pub take_line-requires : goal.take_line-requires
+take_line-requires c =
+    let had = subst (λ t. HasRead t c.requires.some.bytes) (sym c.self.view_is) c.requires.some.read in
+    record { one_line = c.requires.one_line; somewhere = record { bytes = had.whole; at = had.at } }
+
+pub returns-then-is_empty : goal.returns-then-is_empty
+returns-then-is_empty c = λ bytes read.
+    let here = c.self.inside in
+    let line = c.args.line.now ++ 10 ∷ [] in
+    let s : ReaderState = record { lines = here.lines; unfinished = here.unfinished } in
+    let had : HasRead s bytes = subst (λ t. HasRead t bytes) (sym c.self.view_is) read in
+    let none = c.is_empty.ensures.0 c.if-is_empty.true in
+    subst (λ xs. HasRead (record { lines = c.take_line.new.self; unfinished = xs }) (bytes ++ line)) (sym none)
+    (whole_line c.take_line.new.self s bytes line had none (c.take_line.ensures had.whole had.at))
+
+pub take_line-requires-2-clause-one_line : goal.take_line-requires-2-clause-one_line
+take_line-requires-2-clause-one_line c =
+    let read = c.put.ensures c.requires.some.bytes c.requires.some.read in
+    let had = subst (λ t. HasRead t (c.requires.some.bytes ++ c.args.line.now)) (sym c.self-2.view_is) read in
+    ap (lacks 10) (c.as_slice.ensures.bytes ∙ c.replace-whole.ensures.value) ∙ had.one_line
+
+pub take_line-requires-2-clause-somewhere : goal.take_line-requires-2-clause-somewhere
+take_line-requires-2-clause-somewhere c =
+    let read = c.put.ensures c.requires.some.bytes c.requires.some.read in
+    let had = subst (λ t. HasRead t (c.requires.some.bytes ++ c.args.line.now)) (sym c.self-2.view_is) read in
+    record { bytes = had.whole; at = had.at }
+
+pub returns : goal.returns
+returns c = λ bytes read.
+    let here = c.self-2.inside in
+    let line = c.args.line.now in
+    let l = c.take_line-2.new.self in
+    let s : ReaderState = record { lines = here.lines; unfinished = here.unfinished } in
+    let had : HasRead s (bytes ++ line) = subst (λ t. HasRead t (bytes ++ line)) (sym c.self-2.view_is) (c.put.ensures bytes read) in
+    let at = subst (λ xs. IsAt l (had.whole ++ (xs ++ 10 ∷ []))) (c.as_slice.ensures.bytes ∙ c.replace-whole.ensures.value) (c.take_line-2.ensures had.whole had.at) in
+    subst (λ xs. HasRead (record { lines = l; unfinished = xs }) (bytes ++ (line ++ 10 ∷ []))) (sym (c.replace-whole.ensures.after ∙ c.new.ensures))
+    (subst (HasRead (record { lines = l; unfinished = [] })) (append_assoc bytes line (10 ∷ []))
+    (nothing_unfinished l s (bytes ++ line) (10 ∷ []) had at))

@@ -1,0 +1,35 @@
+use Rattle.std.proofs.Common.{◌∙◌, ◌<◌, ◌≤◌, ◌++◌, length, length-append, arith, sym, subst}
+use Rattle.vyrd_base.proofs.SplitLaws.{lacks-append}
+use Rattle.vyrd_mover.specs.HistoryReaders.{HasRead, ReaderState}
+use Rattle.vyrd_mover.proofs.LinesLaws.{still_at_fault}
+use Rattle.vyrd_mover.proofs.ReaderLaws.{nothing_unfinished, more_unfinished}
+use Rattle.vyrd_mover.proofs.reader.HistoryReader.put.Goals as goal
+
+pub returns-then-is_at_fault : goal.returns-then-is_at_fault
+returns-then-is_at_fault c = λ before read.
+    let here = c.self.inside in
+    let s : ReaderState = record { lines = here.lines; unfinished = here.unfinished } in
+    let had : HasRead s before = subst (λ t. HasRead t before) (sym c.self.view_is) read in
+    subst (λ xs. HasRead (record { lines = here.lines; unfinished = xs }) (before ++ c.args.bytes.now)) (sym c.clear.ensures)
+    (nothing_unfinished here.lines s before c.args.bytes.now had
+    (still_at_fault here.lines had.whole (here.unfinished ++ c.args.bytes.now) (sym c.is_at_fault.ensures ∙ c.if-is_at_fault.true) had.at))
+
+pub returns-then-len-bytes-gt-LONGEST : goal.returns-then-len-bytes-gt-LONGEST
+returns-then-len-bytes-gt-LONGEST c = λ before read.
+    let here = c.self.inside in
+    let more = c.args.bytes.now in
+    let s : ReaderState = record { lines = here.lines; unfinished = here.unfinished } in
+    let had : HasRead s before = subst (λ t. HasRead t before) (sym c.self.view_is) read in
+    let long : 64 < length (here.unfinished ++ more) =
+    omega (arith, c.if-len-bytes-gt-LONGEST.true, c.len.ensures.len, length-append here.unfinished more) in
+    subst (λ xs. HasRead (record { lines = c.break_long_line.new.self; unfinished = xs }) (before ++ more)) (sym c.clear-then-len-bytes-gt-LONGEST.ensures)
+    (nothing_unfinished c.break_long_line.new.self s before more had
+    (c.break_long_line.ensures had.whole (here.unfinished ++ more) had.at (lacks-append 10 here.unfinished more had.one_line c.requires.one_line) long))
+
+pub returns : goal.returns
+returns c = λ before read.
+    let here = c.self.inside in
+    let s : ReaderState = record { lines = here.lines; unfinished = here.unfinished } in
+    let had : HasRead s before = subst (λ t. HasRead t before) (sym c.self.view_is) read in
+    let short : length c.push.new.self ≤ 64 = omega (arith, c.if-len-bytes-gt-LONGEST.false, c.len.ensures.len, c.push.ensures.len) in
+    more_unfinished s c.push.new.self before c.args.bytes.now had c.push.ensures.bytes c.requires.one_line short

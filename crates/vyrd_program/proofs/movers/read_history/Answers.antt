@@ -1,0 +1,39 @@
+use Rattle.std.proofs.Common.{◌∙◌, ◌-◌, ◌++◌, refl, subst, arith}
+use Rattle.vyrd_mover.specs.HistoryReaders.{HasRead}
+use Rattle.vyrd_mover.specs.LongHistories.{longest_history}
+use Rattle.vyrd_program.specs.Inputs.{IsMoreRead}
+use Rattle.vyrd_program.proofs.MoversLaws.{nothing_read, piece_read}
+use Rattle.vyrd_program.proofs.movers.read_history.Goals as goal
+
+pub loop-count-init : goal.loop-count-init
+loop-count-init g c = record {
+  few = omega arith;
+  read = nothing_read (g.S.Source.rest c.args.source.now) c.args.reader.now c.requires;
+  faults = refl;
+  counted = omega arith;
+  sure = λ e. e;
+  uncounted = λ e. refl;
+}
+
+pub feed-requires : goal.feed-requires
+feed-requires g c = record { bytes = c.loop-count.invariant.read.taken; read = c.loop-count.invariant.read.read }
+
+pub loop-count-preserved : goal.loop-count-preserved
+loop-count-preserved g c =
+    let before = g.S.Source.rest c.args.source.now in
+    let between = g.S.Source.rest c.loop-count.source in
+    let after = g.S.Source.rest c.read_more.new.source in
+    let most = longest_history - c.loop-count.count in
+    let piece = c.read_more.new.bytes.items in
+    let n = c.in_ok-n.n in
+    let so_far = c.loop-count.invariant.read in
+    let more = subst (λ old. IsMoreRead most between after old piece n) c.clear.ensures.items c.in_ok-n.ensures.more in
+    let fed = subst (λ bytes. HasRead c.feed.new.self (so_far.taken ++ bytes)) c.deref.ensures.value (c.feed.ensures so_far.taken so_far.read) in
+    record {
+      few = omega (arith, more.few, c.loop-count-test.true);
+      read = piece_read before between after c.loop-count.reader c.feed.new.self c.loop-count.count most n piece so_far more fed;
+      faults = c.in_ok-n.ensures.failures_alone ∙ c.loop-count.invariant.faults;
+      counted = omega (arith, c.loop-count.invariant.counted, c.in_ok-n.ensures.counted);
+      sure = λ e. c.in_ok-n.ensures.stays_sure (c.loop-count.invariant.sure e);
+      uncounted = λ e. c.in_ok-n.ensures.sure (c.loop-count.invariant.sure e) ∙ c.loop-count.invariant.uncounted e;
+    }
