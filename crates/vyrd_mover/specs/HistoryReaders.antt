@@ -1,6 +1,6 @@
 -- A reader of a history's text, and the bytes that it has read.
-use Rattle.std.specs.Prelude.{◌≡◌, ℕ, ◌+◌, ◌≤◌, ◌==◌, Bool, true, false, List, [], ◌∷◌, ◌++◌, length}
-use Rattle.std.specs.Prelude.{Option, Some, None, Result}
+use Rattle.std.specs.Prelude.{◌≡◌, ℕ, ◌+◌, ◌≤◌, ◌==◌, Bool, true, false, List, [], ◌∷◌, ◌++◌}
+use Rattle.std.specs.Prelude.{length, Option, Some, None, Result}
 use Rattle.std.specs.List.{slice_split}
 use Rattle.vyrd_text.specs.Steps.{is_one_line}
 use Rattle.vyrd_mover.specs.declared.events.Events.{Events}

@@ -1,5 +1,5 @@
--- What of an event matters for the blocks: its caller, and what it is to the caller's block. Neither
--- values nor the numbers of locks do. A step is kept as one number.
+-- What of an event matters for the blocks: its caller, and what it is to the caller's block.
+-- Neither values nor the numbers of locks do. A step is kept as one number.
 use Rattle.std.specs.Prelude.{ℕ, zero, suc, ◌+◌, ◌*◌, ◌/◌, ◌%◌, ◌<◌, ◌^◌}
 use Rattle.vyrd_base.specs.declared.log.Kind.TheVariants.{BlockOpen, BlockClose, BlockCommit}
 use Rattle.vyrd_base.specs.declared.history.Did.{Did}

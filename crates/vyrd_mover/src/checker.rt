@@ -6,7 +6,7 @@ ghost use Rattle.vyrd_base.specs.Histories.{cells_of};
 ghost use Rattle.vyrd_mover.specs.declared.blocks.Blocks.TheVariants.{Reducible};
 ghost use Rattle.vyrd_mover.specs.Blocks.{blocks_of};
 ghost use Rattle.vyrd_mover.specs.Gathering.{EachIsGathered};
-ghost use Rattle.vyrd_mover.specs.Taking.{HasTaken, HasTakenSome, IsNext, CanTake};
+ghost use Rattle.vyrd_mover.specs.Taking.{HasTaken, IsNext, CanTake};
 
 use crate::blocks::Blocks;
 use crate::step::Step;
@@ -34,7 +34,7 @@ pub struct BlockChecker {
 impl Model for BlockChecker {
     ghost use Rattle.std.specs.Prelude.{map};
     ghost use Rattle.vyrd_mover.specs.Steps.{step_coded};
-    ghost use Rattle.vyrd_mover.specs.Taking.{Taken};
+    ghost use Rattle.vyrd_mover.specs.Taking.{Taken, HasTakenSome};
 
     ghost Value = { Taken };
 
@@ -43,6 +43,12 @@ impl Model for BlockChecker {
       uses = c.uses;
       steps = map step_coded c.codes.items;
     } };
+
+    ghost invariant = { λ c. HasTakenSome (record {
+      header = c.header;
+      uses = c.uses;
+      steps = map step_coded c.codes.items;
+    }) };
 }
 
 impl BlockChecker {
@@ -95,7 +101,6 @@ impl BlockChecker {
     /// The only error is out of memory. The events are gone through once more, from the last to the
     /// first, each in constant time.
     pub fn answer(&self) -> Result<Blocks, AllocError>
-        requires { HasTakenSome self.now }
         ensures blocks { (history : List Stamped) → HasTaken self.now history
             → IfOk result (λ blocks. blocks ≡ blocks_of (cells_of self.now.header) history) }
         ensures gathered { (history : List Stamped) → HasTaken self.now history → (n : ℕ)

@@ -1,6 +1,6 @@
 //! The lines of a history's text that were read so far.
 
-ghost use Rattle.std.specs.Prelude.{◌≡◌, ℕ, ◌<◌, ◌≤◌, ◌==◌, ◌∷◌, ◌++◌, [], List, length, Some, None};
+ghost use Rattle.std.specs.Prelude.{◌≡◌, ℕ, ◌<◌, ◌≤◌, ◌==◌, ◌∷◌, ◌++◌, [], List, length, None};
 ghost use Rattle.std.specs.Prelude.{true, is_some, IfOk, IfErr, OnOk};
 ghost use Rattle.std.specs.List.{slice_split};
 ghost use Rattle.vyrd_text.specs.Steps.{is_one_line};
@@ -137,7 +137,7 @@ impl Lines {
     pub fn finish(&self, unfinished: &[u8]) -> Result<Blocks, HistoryFault>
         requires one_line { is_one_line unfinished.now ≡ true }
         requires somewhere { IsSomewhere self.now }
-        ensures blocks { (bytes : List ℕ) → IsAt self.now bytes
+        ensures said { (bytes : List ℕ) → IsAt self.now bytes
             → IfOk result (AreBlocksOf (history_reading (bytes ++ unfinished.now))) }
         ensures refused { (bytes : List ℕ) → IsAt self.now bytes → IfErr result
             (λ fault. IsRefusal fault (history_reading (bytes ++ unfinished.now))) }

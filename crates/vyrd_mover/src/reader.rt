@@ -8,7 +8,7 @@ ghost use Rattle.vyrd_mover.specs.Gathering.{EachIsGathered};
 ghost use Rattle.vyrd_mover.specs.HistoryText.{Recorded};
 ghost use Rattle.vyrd_mover.specs.HistoryReading.{history_reading};
 ghost use Rattle.vyrd_mover.specs.EventsRead.{AreBlocksOf};
-ghost use Rattle.vyrd_mover.specs.HistoryReaders.{HasRead, HasReadSome};
+ghost use Rattle.vyrd_mover.specs.HistoryReaders.{HasRead};
 ghost use Rattle.vyrd_mover.specs.Refusals.{IsRefusal};
 
 use crate::blocks::Blocks;
@@ -33,11 +33,14 @@ pub struct HistoryReader {
 }
 
 impl Model for HistoryReader {
-    ghost use Rattle.vyrd_mover.specs.HistoryReaders.{ReaderState};
+    ghost use Rattle.vyrd_mover.specs.HistoryReaders.{ReaderState, HasReadSome};
 
     ghost Value = { ReaderState };
 
     ghost view = { λ r. record { lines = r.lines; unfinished = r.unfinished } };
+
+    ghost invariant = { λ r.
+        HasReadSome (record { lines = r.lines; unfinished = r.unfinished }) };
 }
 
 impl HistoryReader {
@@ -55,7 +58,6 @@ impl HistoryReader {
     /// Takes in the next piece of the text. What is wrong with it is said by `finish`. The time
     /// grows with the piece.
     pub fn feed(&mut self, piece: &[u8])
-        requires { HasReadSome self.old }
         ensures { (bytes : List ℕ) → HasRead self.old bytes
             → HasRead self.new (bytes ++ piece.now) }
     {
@@ -74,8 +76,7 @@ impl HistoryReader {
     /// and the first rule that it breaks. `Memory` says that memory ran out, now or before, and
     /// nothing of the bytes.
     pub fn finish(&self) -> Result<Blocks, HistoryFault>
-        requires { HasReadSome self.now }
-        ensures blocks { (bytes : List ℕ) → HasRead self.now bytes
+        ensures said { (bytes : List ℕ) → HasRead self.now bytes
             → IfOk result (AreBlocksOf (history_reading bytes)) }
         ensures gathered { (bytes : List ℕ) (r : Recorded) (n : ℕ) → HasRead self.now bytes
             → history_reading bytes ≡ Ok r → result ≡ Ok (Reducible n)
@@ -88,8 +89,7 @@ impl HistoryReader {
 
     /// Takes in the bytes before a line feed, and that line feed.
     fn end_line(&mut self, line: &[u8])
-        requires one_line { is_one_line line.now ≡ true }
-        requires some { HasReadSome self.old }
+        requires { is_one_line line.now ≡ true }
         ensures { (bytes : List ℕ) → HasRead self.old bytes
             → HasRead self.new (bytes ++ (line.now ++ 10 ∷ [])) }
     {
@@ -104,7 +104,7 @@ impl HistoryReader {
 
     /// Takes in bytes without a line feed.
     fn put(&mut self, bytes: &[u8])
-        requires one_line { is_one_line bytes.now ≡ true }
+        requires { is_one_line bytes.now ≡ true }
         ensures { (before : List ℕ) → HasRead self.old before
             → HasRead self.new (before ++ bytes.now) }
     {
@@ -125,7 +125,7 @@ impl HistoryReader {
 ///
 /// The errors, the time and the memory are those of a [`HistoryReader`].
 pub fn read_blocks(alloc: Global, bytes: &[u8]) -> Result<Blocks, HistoryFault>
-    ensures blocks { IfOk result (AreBlocksOf (history_reading bytes.now)) }
+    ensures said { IfOk result (AreBlocksOf (history_reading bytes.now)) }
     ensures gathered { (r : Recorded) (n : ℕ) → history_reading bytes.now ≡ Ok r
         → result ≡ Ok (Reducible n) → EachIsGathered (cells_of r.header) r.history }
     ensures refused { IfErr result (λ fault. IsRefusal fault (history_reading bytes.now)) }

@@ -1,5 +1,7 @@
 //! What the reader, the writer and the check answer about small histories.
 
+ghost use Rattle.std.specs.Prelude.{◌≡◌};
+
 use crate::{
     Blocks, HistoryFault, check_blocks, read_blocks, write_blocks, write_history,
     write_history_refusal,
@@ -90,10 +92,9 @@ fn by_0(number: u64, did: Did) -> Stamped
 }
 
 #[test]
-fn history_checked_and_written(rt: HostRuntime) -> Result<(), Fail> {
-    let alloc = rt.alloc();
+fn history_written(rt: HostRuntime) -> Result<(), Fail> {
     let Some(header) = Header::new(1, Subject::Multiset, 1, 1) else {
-        return Err(Fail);
+        panic!(rt; "no header");
     };
     let history = [
         by_0(0, Did::Took(8)),
@@ -102,12 +103,22 @@ fn history_checked_and_written(rt: HostRuntime) -> Result<(), Fail> {
         by_0(3, Did::Marked(Kind::BlockCommit)),
         by_0(4, Did::Gave(8)),
     ];
-    let mut text = Vec::new(alloc);
+    let mut text = Vec::new(rt.alloc());
     write_history(header, &history, &mut text)?;
-    assert_eq!(rt;
-        text.as_slice(),
-        b"history multiset 1 1\n0 took 8\n0 open\n0 wrote 0 1\n0 close commit\n0 gave 8\nend\n"
-    );
+    let lines: &[u8] =
+        b"history multiset 1 1\n0 took 8\n0 open\n0 wrote 0 1\n0 close commit\n0 gave 8\nend\n";
+    assert_eq!(rt; text.as_slice(), lines);
+    Ok(())
+}
+
+#[test]
+fn no_events(rt: HostRuntime) -> Result<(), Fail> {
+    let Some(header) = Header::new(1, Subject::Multiset, 1, 1) else {
+        panic!(rt; "no header");
+    };
+    let history: [Stamped; 0] = [];
+    let blocks = check_blocks(rt.alloc(), header, &history)?;
+    assert!(rt; blocks == Blocks::Reducible { blocks: 0 });
     Ok(())
 }
 

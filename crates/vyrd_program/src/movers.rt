@@ -5,7 +5,7 @@ ghost use Rattle.std.specs.Prelude.{Err};
 ghost use Rattle.vyrd_base.specs.Devices.{HasRisen};
 ghost use Rattle.vyrd_mover.specs.BlocksText.{blocks_text};
 ghost use Rattle.vyrd_mover.specs.HistoryReading.{history_reading};
-ghost use Rattle.vyrd_mover.specs.HistoryReaders.{HasRead, HasReadSome};
+ghost use Rattle.vyrd_mover.specs.HistoryReaders.{HasRead};
 ghost use Rattle.vyrd_mover.specs.LongHistories.{longest_history};
 ghost use Rattle.vyrd_mover.specs.Refusals.{history_refusal_text};
 ghost use Rattle.vyrd_program.specs.Inputs.{IsInputTaken, IsFewTaken, UnlessFailed};
@@ -91,7 +91,6 @@ fn read_history<S: Source>(
 
 /// The answer to the bytes that were read.
 fn answer_of(alloc: Global, reader: &HistoryReader) -> Result<Answer, AllocError>
-    requires { HasReadSome reader.now }
     ensures answer { (bytes : List ℕ) → HasRead reader.now bytes → IfOk result
         (λ answer. IsMoversAnswer (history_reading bytes) answer.status answer.text.items) }
     ensures run { IfOk result (λ answer. answer.run ≡ None) }

@@ -4,4 +4,4 @@ use Rattle.vyrd_program.proofs.movers.answer_of.Goals as goal
 
 pub returns-in-Ok-clause-answer : goal.returns-in-Ok-clause-answer
 returns-in-Ok-clause-answer c = λ bytes read.
-    told_is_answered c.tell.result (history_reading bytes) c.in-Ok.said (c.in-Ok.ensures.blocks bytes read) c.tell.ensures.status c.tell.ensures.text
+    told_is_answered c.tell.result (history_reading bytes) c.in-Ok.said (c.in-Ok.ensures.said bytes read) c.tell.ensures.status c.tell.ensures.text

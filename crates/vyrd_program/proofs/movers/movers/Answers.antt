@@ -3,9 +3,6 @@ use Rattle.vyrd_mover.specs.LongHistories.{longest_history}
 use Rattle.vyrd_program.proofs.MoversLaws.{history_is_input, input_taken}
 use Rattle.vyrd_program.proofs.movers.movers.Goals as goal
 
-pub answer_of-requires : goal.answer_of-requires
-answer_of-requires g c = let had = c.in-Ok.ensures.read in record { bytes = had.bytes; read = had.read }
-
 pub returns-in-Ok-answer_of-clause-answers : goal.returns-in-Ok-answer_of-clause-answers
 returns-in-Ok-answer_of-clause-answers g c = λ answered.
     let had = c.in-Ok.ensures.read in

@@ -15,9 +15,6 @@ loop-count-init g c = record {
   uncounted = λ e. refl;
 }
 
-pub feed-requires : goal.feed-requires
-feed-requires g c = record { bytes = c.loop-count.invariant.read.taken; read = c.loop-count.invariant.read.read }
-
 pub loop-count-preserved : goal.loop-count-preserved
 loop-count-preserved g c =
     let before = g.S.Source.rest c.args.source.now in

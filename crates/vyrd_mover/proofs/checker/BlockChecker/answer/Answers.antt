@@ -11,9 +11,9 @@ pub of-requires : goal.of-requires
 of-requires c =
     let here = c.self.inside in
     record {
-      history = c.requires.history;
-      taken = subst (λ cs. HasTaken (record { header = here.header; uses = here.uses; steps = map step_coded cs }) c.requires.history)
-          (sym c.deref.ensures.value) (subst (λ t. HasTaken t c.requires.history) (sym c.self.view_is) c.requires.taken);
+      history = c.self.invariant.history;
+      taken = subst (λ cs. HasTaken (record { header = here.header; uses = here.uses; steps = map step_coded cs }) c.self.invariant.history)
+          (sym c.deref.ensures.value) c.self.invariant.taken;
     }
 
 pub returns-clause-blocks : goal.returns-clause-blocks

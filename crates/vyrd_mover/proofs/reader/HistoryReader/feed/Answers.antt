@@ -4,11 +4,6 @@ use Rattle.vyrd_mover.proofs.reader.HistoryReader.feed.Goals as goal
 pub loop-line-init : goal.loop-line-init
 loop-line-init c = λ bytes read. fed_nothing c.args.self.now bytes c.args.piece.now read
 
-pub end_line-requires-clause-some : goal.end_line-requires-clause-some
-end_line-requires-clause-some c =
-    let fed = c.loop-line.invariant c.requires.bytes c.requires.read in
-    record { bytes = _; read = fed.read }
-
 pub loop-line-preserved : goal.loop-line-preserved
 loop-line-preserved c = λ bytes read.
     let fed = c.loop-line.invariant bytes read in
