@@ -3,15 +3,14 @@ use Rattle.std.proofs.Common.{◌≡◌, ℕ, ◌+◌, ◌<◌, List, length, So
 use Rattle.vyrd_base.specs.declared.subject.Subject.{Subject}
 use Rattle.vyrd_base.specs.declared.history.Stamped.{Stamped}
 use Rattle.vyrd_base.specs.Layout.{plain_words, lock_words}
-use Rattle.vyrd_base.proofs.SplitLaws.{cut}
 use Rattle.vyrd_mover.specs.declared.fault.HistoryRule.{HistoryRule}
 use Rattle.vyrd_mover.specs.HistoryText.{Recorded}
 use Rattle.vyrd_mover.specs.HistoryLines.{event_in}
-use Rattle.vyrd_mover.specs.HistoryReading.{Refusal, broken_by, with_event, unless_broken, event_read, line_read, lines_read}
+use Rattle.vyrd_mover.specs.HistoryReading.{broken_by, with_event, unless_broken, event_read, line_read}
 use Rattle.vyrd_mover.specs.Usage.{IsInRange}
 use Rattle.vyrd_mover.specs.Remembering.{Remembered}
 use Rattle.vyrd_mover.specs.Taking.{Taken, IsNext}
-use Rattle.vyrd_mover.specs.EventsRead.{HaveRead, HaveReadOn, HaveReadLines}
+use Rattle.vyrd_mover.specs.EventsRead.{HaveRead, HaveReadOn}
 use Rattle.vyrd_mover.proofs.EventLaws.{event_in_sound}
 use Rattle.vyrd_mover.proofs.TextLaws.{no_rule}
 use Rattle.vyrd_mover.proofs.TakingLaws.{taken_count, fits}
@@ -25,21 +24,6 @@ pub record ReadOn (s : Remembered) (t : Taken) (read : Result Recorded HistoryRu
 pub read_on : (s : Remembered) (t : Taken) (read : Result Recorded HistoryRule) → HaveReadOn s t read → ReadOn s t read
 read_on s t (Ok r) have = record { now = r; is = refl; have = have }
 read_on s t (Err rule) have = absurd have
-
-pub record ReadLines (s : Remembered) (t : Taken) (read : Result Recorded Refusal) : Type 0 where
-  pub now : Recorded
-  pub is : read ≡ Ok now
-  pub have : HaveRead s t now
-
-pub lines_on : (s : Remembered) (t : Taken) (read : Result Recorded Refusal) → HaveReadLines s t read → ReadLines s t read
-lines_on s t (Ok r) have = record { now = r; is = refl; have = have }
-lines_on s t (Err refusal) have = absurd have
-
--- the history so far, of which the rest of the text says the same as the whole text of the first
-pub record ReadTo (s : Remembered) (t : Taken) (first : Recorded) (text : List ℕ) (number : ℕ) (rest : List ℕ) : Type 0 where
-  pub now : Recorded
-  pub have : HaveRead s t now
-  pub read : lines_read first 2 (cut text) ≡ lines_read now number (cut rest)
 
 -- the event that a line spells after the history so far
 pub spelled : (s : Remembered) (t : Taken) (r : Recorded) (subject : Subject) (place : ℕ) (line : List ℕ) → HaveRead s t r

@@ -11,7 +11,7 @@ use Rattle.vyrd_base.proofs.PlaceLaws.{length-newest_first}
 use Rattle.vyrd_base.proofs.TestLaws.{first_true, second_true, same_of, below_of}
 use Rattle.vyrd_mover.specs.Steps.{step_of, step_coded, code_of, IsShort, role_of}
 use Rattle.vyrd_mover.specs.Usage.{Kept, HaveSeen, IsInRange, kept_after, unused}
-use Rattle.vyrd_mover.specs.Taking.{Taken, HasTaken, IsNext, CanTake}
+use Rattle.vyrd_mover.specs.Taking.{Taken, HasTaken, IsNext}
 use Rattle.vyrd_mover.proofs.SeenLaws.{have_seen_nothing, have_seen_more}
 use Rattle.vyrd_mover.proofs.LegalPlaces.{MayCome, in_range, few_callers, few_cells}
 use Rattle.vyrd_mover.proofs.TextLaws.{all_more, all_here, legal_test}
@@ -65,9 +65,6 @@ fits t history e taken next =
       few = omega (arith, all, cells);
       short = short_role (plain_words t.header) (plain_words t.header + lock_words t.header) e.did range low;
     }
-
-pub can_fit : (t : Taken) (e : Stamped) → CanTake t e → Fits t e
-can_fit t e can = fits t can.history e can.taken can.next
 
 -- one more event
 pub taken_more : (h : Header) (uses : Kept) (codes : List ℕ) (history : List Stamped) (e : Stamped)

@@ -26,11 +26,6 @@ abbrev pub HaveReadOn : Remembered → Taken → Result Recorded HistoryRule →
 HaveReadOn s t (Ok r) = HaveRead s t r
 HaveReadOn s t (Err rule) = ⊥
 
--- the same of all lines
-abbrev pub HaveReadLines : Remembered → Taken → Result Recorded Refusal → Type 0
-HaveReadLines s t (Ok r) = HaveRead s t r
-HaveReadLines s t (Err refusal) = ⊥
-
 -- what is said of the blocks of a history that was read
 abbrev pub AreBlocksOf : Result Recorded Refusal → Blocks → Type 0
 AreBlocksOf (Ok r) blocks = blocks ≡ blocks_of (cells_of r.header) r.history
