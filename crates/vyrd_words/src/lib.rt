@@ -11,6 +11,7 @@
 mod starting;
 mod views;
 mod words;
+mod write;
 
 pub use starting::{words_at_start, words_of};
 pub use views::Views;

@@ -13,6 +13,7 @@ ghost use Rattle.vyrd_words.specs.Cuts.{first_with, with_part, written};
 ghost use Rattle.vyrd_spec.specs.Touching.{with_touched, with_key};
 ghost use Rattle.vyrd_view.specs.Comparing.{AgreeElsewhere};
 
+use crate::write::Write;
 use std::alloc::{AllocError, Global};
 use std::collections::VecDeque;
 use std::marker::{Brand, Model};
@@ -27,6 +28,9 @@ const MOST_CHANGED: usize = 1024;
 
 /// The words at the last commit that was compared, and the writes that took effect since then, up
 /// to each commit that waits and after the last of them.
+///
+/// The only error of its calls is that memory has run out. Nothing is known of the words after it
+/// but what a clause says.
 #[derive(Drop)]
 pub struct Views {
     header: Header,
@@ -34,7 +38,7 @@ pub struct Views {
     /// How many of the writes took effect between each commit that waits and the commit before it.
     /// Those of a block take effect at the lone commit inside it, if there is one.
     counts: VecDeque<usize>,
-    writes: VecDeque<(u32, u64)>,
+    writes: VecDeque<Write>,
     /// How many of the writes took effect after the last commit.
     tail: usize,
     /// Which words have changed since they were compared.
@@ -121,7 +125,7 @@ impl Views {
         if self.counts.is_empty() {
             self.take_effect(word, value)
         } else {
-            self.writes.push_back((word, value))?;
+            self.writes.push_back(Write::new(word, value))?;
             self.tail += 1;
             Ok(())
         }
@@ -357,7 +361,7 @@ fn tell_amount<L: Ledger>(
 fn catch_up(
     words: &mut Vec<u64>,
     changed: &mut Vec<u32>,
-    writes: &mut VecDeque<(u32, u64)>,
+    writes: &mut VecDeque<Write>,
     count: usize,
 )
     requires count { count ≤ length writes.old.items }
@@ -379,7 +383,7 @@ fn catch_up(
 fn write_first(
     words: &mut Vec<u64>,
     changed: &mut Vec<u32>,
-    writes: &mut VecDeque<(u32, u64)>,
+    writes: &mut VecDeque<Write>,
     count: usize,
 )
     requires count { count ≤ length writes.old.items }
@@ -393,8 +397,9 @@ fn write_first(
     ensures capacity { vec_capacity changed.old ≤ vec_capacity changed.new }
 {
     for _ in 0..count {
-        if let Some((word, value)) = writes.pop_front() {
-            words[word as usize] = value;
+        if let Some(write) = writes.pop_front() {
+            let word = write.word();
+            words[word as usize] = write.value();
             note(changed, word);
         }
     }
@@ -415,7 +420,7 @@ fn place_behind(counts: &VecDeque<usize>, all: usize, index: usize) -> usize
 }
 
 /// The changed words are written from this place on. There is room for that.
-fn put(writes: &mut VecDeque<(u32, u64)>, place: usize, changed: &[u32], words: &[u64])
+fn put(writes: &mut VecDeque<Write>, place: usize, changed: &[u32], words: &[u64])
     requires place { place ≤ length writes.old.items }
     requires room { deque_len writes.old + length changed.now ≤ deque_capacity writes.old }
     requires changed { All (λ w. w < length words.now) changed.now }
@@ -428,14 +433,14 @@ fn put(writes: &mut VecDeque<(u32, u64)>, place: usize, changed: &[u32], words: 
 }
 
 /// One more write at this place. There is room for it.
-fn put_one(writes: &mut VecDeque<(u32, u64)>, place: usize, word: u32, value: u64)
+fn put_one(writes: &mut VecDeque<Write>, place: usize, word: u32, value: u64)
     requires place { place ≤ length writes.old.items }
     requires room { deque_len writes.old < deque_capacity writes.old }
     ensures items { writes.new.items ≡ insert writes.old.items place (word, value) }
     ensures len { deque_len writes.new ≡ deque_len writes.old + 1 }
     ensures capacity { deque_capacity writes.old ≤ deque_capacity writes.new }
 {
-    let _ = writes.insert(place, (word, value));
+    let _ = writes.insert(place, Write::new(word, value));
 }
 
 /// One more word has changed. There is room for it.

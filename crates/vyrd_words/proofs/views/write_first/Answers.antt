@@ -1,4 +1,4 @@
-use Rattle.std.proofs.Common.{◌≡◌, ◌+◌, ◌-◌, ◌++◌, suc, vec_len, map, take, sym, ap, ◌∙◌, arith}
+use Rattle.std.proofs.Common.{◌≡◌, ◌+◌, ◌-◌, ◌∷◌, ◌++◌, [], suc, vec_len, map, take, sym, ap, ◌∙◌, arith}
 use Rattle.vyrd_words.proofs.CutLaws.{caught_up, dropped, range_left, one_taken, changed_more}
 use Rattle.vyrd_words.proofs.views.write_first.Goals as goal
 use Rattle.vyrd_words.proofs.views.write_first.Goals.{in-Some, in_default}
@@ -8,16 +8,16 @@ loop-preserved c =
     let more : c.args.count - c.loop.counter ≡ suc (c.args.count - (c.loop.counter + 1)) = omega (arith, c.loop-test.true) in
     elim c.match-pop_front.branch [
       | in-Some w ↦ record {
-        left = one_taken c.loop.writes.items c.pop_front.new.self.items w.in-Some.word w.in-Some.value (c.args.count - c.loop.counter)
+        left = one_taken c.loop.writes.items c.pop_front.new.self.items w.in-Some.write.0 w.in-Some.write.1 (c.args.count - c.loop.counter)
             (c.args.count - (c.loop.counter + 1)) more w.in-Some.ensures.items c.loop.invariant.left;
-        in_range = range_left (vec_len c.args.words.now) c.loop.writes.items c.pop_front.new.self.items w.in-Some.word w.in-Some.value
+        in_range = range_left (vec_len c.args.words.now) c.loop.writes.items c.pop_front.new.self.items w.in-Some.write.0 w.in-Some.write.1
             w.in-Some.ensures.items c.loop.invariant.in_range;
-        words = rw w.words-is (sym (caught_up c.loop.words.items c.loop.writes.items c.pop_front.new.self.items w.in-Some.word w.in-Some.value (c.args.count - c.loop.counter)
+        words = rw (w.words-is, w.word-word.ensures, w.value.ensures) (sym (caught_up c.loop.words.items c.loop.writes.items c.pop_front.new.self.items w.in-Some.write.0 w.in-Some.write.1 (c.args.count - c.loop.counter)
             (c.args.count - (c.loop.counter + 1)) more w.in-Some.ensures.items) ∙ c.loop.invariant.words);
-        changed = rw w.changed-is (ap (λ xs. xs ++ map (λ write. write.0) (take (c.args.count - (c.loop.counter + 1)) c.pop_front.new.self.items)) w.note.ensures.items
-            ∙ sym (changed_more c.loop.writes.items c.pop_front.new.self.items c.loop.changed.items w.in-Some.word w.in-Some.value (c.args.count - c.loop.counter)
+        changed = rw w.changed-is (ap (λ xs. xs ++ map (λ write. write.0) (take (c.args.count - (c.loop.counter + 1)) c.pop_front.new.self.items)) (w.note.ensures.items ∙ ap (λ word. c.loop.changed.items ++ word ∷ []) w.word-word.ensures)
+            ∙ sym (changed_more c.loop.writes.items c.pop_front.new.self.items c.loop.changed.items w.in-Some.write.0 w.in-Some.write.1 (c.args.count - c.loop.counter)
             (c.args.count - (c.loop.counter + 1)) more w.in-Some.ensures.items) ∙ c.loop.invariant.changed);
-        writes = sym (dropped c.loop.writes.items c.pop_front.new.self.items w.in-Some.word w.in-Some.value (c.args.count - c.loop.counter)
+        writes = sym (dropped c.loop.writes.items c.pop_front.new.self.items w.in-Some.write.0 w.in-Some.write.1 (c.args.count - c.loop.counter)
             (c.args.count - (c.loop.counter + 1)) more w.in-Some.ensures.items) ∙ c.loop.invariant.writes;
         all = rw w.words-is c.loop.invariant.all;
         room = rw w.changed-is (omega (arith, more, w.note.ensures.len, w.note.ensures.capacity, c.loop.invariant.room));
