@@ -1,3 +1,4 @@
+pub mod WaitingView
 pub mod Waiting
 pub mod Reached
 pub mod Judged

@@ -240,7 +240,7 @@ impl<S: Spec> Follower<S> {
                 Ok(Advance::Goes)
             }
             Outcome::Faults(why) => {
-                let line = self.started + x.position + 2;
+                let line = self.started + x.position() + 2;
                 Ok(Advance::Stops(Some(Verdict::Violation { line, why })))
             }
             Outcome::Ends => Ok(Advance::Stops(None)),

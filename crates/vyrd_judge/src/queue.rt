@@ -84,6 +84,7 @@ impl Queue {
 
     /// A call is remembered, and waits if it is an observer's.
     #[inline(always)]
+    #[tactic(auto, using(crate::proofs::CallerLaws::few_callers))]
     fn call(
         &mut self,
         caller: u32,
@@ -106,17 +107,14 @@ impl Queue {
             commit: 0,
         };
         if method.is_observer() {
-            self.waiting.push_back(Waiting {
-                caller,
-                position,
-                event: Event::Begins(method, args),
-            })?;
+            self.waiting.push_back(Waiting::new(caller, position, Event::Begins(method, args)))?;
         }
         Ok(())
     }
 
     /// A commit waits, and its caller knows its number.
     #[inline(always)]
+    #[tactic(auto, using(crate::proofs::CallerLaws::few_callers))]
     fn commit(&mut self, caller: u32, position: u64) -> Result<(), AllocError>
         requires caller { caller < self.old.header.callers }
         requires few { self.old.taken + length self.old.waiting.items < 2 ^ 62 }
@@ -136,11 +134,9 @@ impl Queue {
     {
         let number = self.taken + self.waiting.len() as u64;
         let called = self.callers[caller as usize];
-        self.waiting.push_back(Waiting {
-            caller,
-            position,
-            event: Event::Commits(called.method, called.args, None),
-        })?;
+        let event = Event::Commits(called.method, called.args, None);
+        self.waiting
+            .push_back(Waiting::new(caller, position, event))?;
         self.callers[caller as usize] = Caller {
             method: called.method,
             args: called.args,
@@ -151,6 +147,7 @@ impl Queue {
 
     /// An observer's return waits. A mutator's goes to its commit.
     #[inline(always)]
+    #[tactic(auto, using(crate::proofs::CallerLaws::few_callers))]
     fn give_back(&mut self, caller: u32, position: u64, reply: u64) -> Result<(), AllocError>
         requires caller { caller < self.old.header.callers }
         requires pending { (called : Caller) → slice_get self.old.callers.items caller ≡ Some called
@@ -173,19 +170,13 @@ impl Queue {
     {
         let called = self.callers[caller as usize];
         if called.method.is_observer() {
-            self.waiting.push_back(Waiting {
-                caller,
-                position,
-                event: Event::Returns(reply),
-            })?;
+            self.waiting
+                .push_back(Waiting::new(caller, position, Event::Returns(reply)))?;
         } else {
             let at = (called.commit - self.taken) as usize;
             let commit = self.waiting[at];
-            self.waiting[at] = Waiting {
-                caller: commit.caller,
-                position: commit.position,
-                event: Event::Commits(called.method, called.args, Some(reply)),
-            };
+            let event = Event::Commits(called.method, called.args, Some(reply));
+            self.waiting[at] = Waiting::new(commit.caller(), commit.position(), event);
         }
         Ok(())
     }

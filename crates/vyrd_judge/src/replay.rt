@@ -145,9 +145,9 @@ impl<S: Spec> Replay<S> {
         ensures header { self.new.header ≡ self.old.header }
         ensures views_header { views.new.header ≡ views.old.header }
     {
-        match x.event {
+        match x.event() {
             Event::Begins(method, args) => {
-                self.begin(x.caller, method, args)?;
+                self.begin(x.caller(), method, args)?;
                 Ok(Outcome::Goes)
             }
             Event::Commits(method, args, reply) => match reply {
@@ -155,7 +155,7 @@ impl<S: Spec> Replay<S> {
                 None => Ok(Outcome::Ends),
             },
             Event::Returns(reply) => {
-                if self.end(x.caller, reply) {
+                if self.end(x.caller(), reply) {
                     Ok(Outcome::Goes)
                 } else {
                     Ok(Outcome::Faults(Why::Observer(reply)))

@@ -60,6 +60,7 @@ returns-in-Faults-clause-gives g c = λ starting log t.
     ∙ subst (HeadGives i.replay.header starting log (g.S.Spec.state c.judge.new.self.spec) (g.S.Spec.made c.judge.new.self.spec)
     c.judge.new.self.watches.by_caller c.in-Some.x rest.0 c.judge.new.views.first c.judge.new.views.since) c.in-Faults.is gives
     ∙ ap (λ n. Some (Violation (n + c.in-Some.x.position + 2) c.in-Faults.why)) (sym was.started)
+    ∙ ap (λ n. Some (Violation (i.started + n + 2) c.in-Faults.why)) (sym c.position.ensures)
 
 pub returns-in-Ends-clause-gives : goal.returns-in-Ends-clause-gives
 returns-in-Ends-clause-gives g c = λ starting log t.
