@@ -11,6 +11,8 @@
 #![tactic(auto)]
 
 mod leaving;
+#[cfg(test)]
+mod tests;
 mod trail;
 mod trails;
 mod watch;

@@ -20,6 +20,9 @@ use vyrd_spec::{Spec, Touched};
 
 /// What is known of each caller's open observer, if it has one. Observers that ask the same share
 /// one trail of answers.
+///
+/// The only error of its calls is that memory has run out. After one nothing is known any more but
+/// the header and how many callers there are.
 #[derive(Drop)]
 pub struct Watches {
     alloc: Global,
