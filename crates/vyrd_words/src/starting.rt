@@ -7,7 +7,9 @@ ghost use Rattle.vyrd_base.specs.Starts.{may_start, words_at_start};
 use std::alloc::{AllocError, Global};
 use vyrd_base::{Header, StartWord};
 
-/// All plain words at the start.
+/// All plain words at the start: those that the log begins with have their values, and all others
+/// are 0. It takes time and memory for each plain word and each starting word. The only error is
+/// that memory has run out.
 pub fn words_at_start(
     alloc: Global,
     header: Header,
@@ -23,7 +25,8 @@ pub fn words_at_start(
     Ok(words)
 }
 
-/// Which words have a starting value.
+/// Which words have a starting value, in the order of the starting words. The only error is that
+/// memory has run out.
 pub fn words_of(alloc: Global, start: &[StartWord]) -> Result<Vec<u32>, AllocError>
     ensures { IfOk result (λ words. words.items ≡ map (λ s. s.word) start.now) }
 {

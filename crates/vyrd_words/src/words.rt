@@ -17,7 +17,11 @@ use vyrd_base::{Entry, Header, Kind, View};
 use vyrd_shadow::Shadow;
 
 /// The words after the entries so far, with what open blocks keep back, and the words at the
-/// commits that wait.
+/// commits that wait. It takes memory for each plain word, each write that an open block keeps
+/// back, each commit that waits, and each write that took effect since the first of these.
+///
+/// The only error of its calls is that memory has run out. After one nothing is known of the words
+/// any more but whose header they have.
 #[derive(Drop)]
 pub struct Words {
     pub shadow: Shadow,
@@ -31,7 +35,7 @@ pub struct Words {
 
 impl Words {
     /// These are the words at the start, of which all but the changed ones are 0, and this is the
-    /// specification's state.
+    /// specification's state. It takes time for each plain word and each amount of the state.
     pub fn new(
         alloc: Global,
         header: Header,
@@ -62,7 +66,9 @@ impl Words {
     }
 
     /// Takes in an entry that keeps the rules, after this many commits. A commit waits from then
-    /// on.
+    /// on. An entry takes constant time, and the end of a block takes time for each of its writes.
+    /// If a lone commit stands in the block and still waits, the end takes time for each commit
+    /// since then too, and each of the block's writes takes time for the writes since then.
     #[inline(always)]
     pub fn follow(&mut self, entry: Entry, commits: u64) -> Result<(), AllocError>
         requires may { MayFollow self.old.shadow self.old.inner.items entry commits }
