@@ -341,7 +341,7 @@ pub taken_all : (k n : Kept) (e : Entry) (queue_header : Header) (commits_here o
     → n.shape.header ≡ k.shape.header
     → ((starting : List StartWord) (earlier : List Entry) → HasWords k.shadow k.inner starting earlier → Keeps k.shadow.header earlier e
     → k.commits ≡ commit_count earlier → HasTaken n.shadow n.inner k.views n.views starting e earlier)
-    → n.shadow.header ≡ k.shadow.header → n.views.header ≡ n.shadow.header
+    → n.shadow.header ≡ k.shadow.header → n.views.header ≡ k.views.header
     → ((earlier : List Entry) → HasQueued queue_header k.waiting k.taken k.callers earlier → Keeps queue_header earlier e → k.entries ≡ length earlier
     → HasTakenUp queue_header k.waiting n.waiting n.taken n.callers e earlier)
     → n.header ≡ k.header → n.started ≡ k.started → n.state ≡ k.state → n.made ≡ k.made → n.watches ≡ k.watches
@@ -353,7 +353,8 @@ pub taken_all : (k n : Kept) (e : Entry) (queue_header : Header) (commits_here o
     → (starting : List StartWord) (log : List Entry) → HasTakenIn k starting log → HasTakenIn n starting (log ++ e ∷ [])
 taken_all k n e queue_header commits_here observes shape_is shadow_is queue_is shape shape_header words shadow_header views_header queued header started state made watches commits_is commits_more observes_is observers entries known starting log t =
     taken_more k n starting log e t keeps (shape (newest_first log) t.shape).1 shape_header
-    (words starting (newest_first log) t.words (keeps_at shadow_is) (t.commits ∙ sym (commits_same log))) shadow_header views_header
+    (words starting (newest_first log) t.words (keeps_at shadow_is) (t.commits ∙ sym (commits_same log))) shadow_header
+    (views_header ∙ t.views_header ∙ sym t.shadow_header ∙ sym shadow_header)
     (subst (λ h. HasTakenUp h k.waiting n.waiting n.taken n.callers e (newest_first log)) queue_is
     (queued (newest_first log) queue (keeps_at queue_is) (reversed log t.entries)))
     header started state made watches entries (commits_more ∙ ap (λ b. k.commits + cond b 1 0) commits_is)

@@ -49,7 +49,7 @@ impl<S: Spec> Model for Follower<S> {
       started = f.started;
       shape = f.shape;
       shadow = f.words.shadow;
-      inner = f.words.inner.items;
+      inner = f.words.inner;
       views = f.words.views;
       waiting = f.queue.waiting.items;
       taken = f.queue.taken;
@@ -64,7 +64,8 @@ impl<S: Spec> Model for Follower<S> {
 
     ghost invariant = { λ f. (f.shape.header ≡ f.replay.header)
         × (f.words.shadow.header ≡ f.replay.header) × (f.queue.header ≡ f.replay.header)
-        × (f.started ≤ 2 ^ 32) × (f.entries ≤ 2 ^ 62) };
+        × (f.started ≤ 2 ^ 32) × (f.entries ≤ 2 ^ 62)
+        × (f.words.views.header ≡ f.replay.header) };
 }
 
 impl<S: Spec> Follower<S> {
@@ -234,7 +235,7 @@ impl<S: Spec> Follower<S> {
         let Some(x) = self.queue.first() else {
             return Ok(Advance::Stops(None));
         };
-        match self.replay.judge(&mut self.words.views, x)? {
+        match self.replay.judge(&mut self.words, x)? {
             Outcome::Goes => {
                 self.queue.leave();
                 Ok(Advance::Goes)

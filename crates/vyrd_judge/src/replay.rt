@@ -20,7 +20,7 @@ use std::alloc::{AllocError, Global};
 use vyrd_base::{Args, Header, Method, Why};
 use vyrd_observers::Watches;
 use vyrd_spec::Spec;
-use vyrd_words::Views;
+use vyrd_words::Words;
 
 /// What is known when all entries before some place are judged: the state of the specification
 /// there, and each caller's open observer.
@@ -90,33 +90,37 @@ impl<S: Spec> Replay<S> {
     #[inline(never)]
     fn commit(
         &mut self,
-        views: &mut Views,
+        words: &mut Words,
         method: Method,
         args: Args,
         reply: u64,
     ) -> Result<Outcome, AllocError>
-        requires header { views.old.header ≡ self.old.header }
+        requires header { words.old.views.header ≡ self.old.header }
         requires may { has_method self.old.header method args ≡ true }
         requires mutates { is_observer method ≡ false }
         requires few { S.made self.old.spec < 2 ^ 62 }
         requires current { AreCurrent (S.state self.old.spec) self.old.watches.by_caller }
-        requires sound { views.old.refused ≡ false }
+        requires sound { words.old.views.refused ≡ false }
         ensures leads { (part : List (ℕ × ℕ)) (rest : List (List (ℕ × ℕ)))
-            → views.old.since ≡ part ∷ rest → views.old.specified ≡ S.state self.old.spec
-            → IfOk result (CommitLeads self.old.header views.old.first part rest
+            → words.old.views.since ≡ part ∷ rest
+            → words.old.views.specified ≡ S.state self.old.spec
+            → IfOk result (CommitLeads self.old.header words.old.views.first part rest
             (record { method = method; args = args }) reply (S.state self.old.spec)
             (S.made self.old.spec) self.old.watches.by_caller (S.state self.new.spec)
-            (S.made self.new.spec) self.new.watches.by_caller views.new.first views.new.since) }
-        ensures known { views.old.specified ≡ S.state self.old.spec
-            → IfOk result (KnowsState views.new (S.state self.new.spec)) }
+            (S.made self.new.spec) self.new.watches.by_caller words.new.views.first
+            words.new.views.since) }
+        ensures known { words.old.views.specified ≡ S.state self.old.spec
+            → IfOk result (KnowsState words.new.views (S.state self.new.spec)) }
         ensures header { self.new.header ≡ self.old.header }
-        ensures views_header { views.new.header ≡ views.old.header }
+        ensures views_header { words.new.views.header ≡ words.old.views.header }
+        ensures shadow { words.new.shadow ≡ words.old.shadow }
+        ensures inner { words.new.inner ≡ words.old.inner }
     {
         let touched = self.spec.touched(method, args);
         if !self.spec.step(method, args, reply)? {
             return Ok(Outcome::Faults(Why::Reply(reply)));
         }
-        if let Some(key) = views.difference(&self.spec, touched)? {
+        if let Some(key) = words.difference(&self.spec, touched)? {
             return Ok(Outcome::Faults(Why::View(key)));
         }
         self.watches.see_all(&self.spec, touched)?;
@@ -127,23 +131,25 @@ impl<S: Spec> Replay<S> {
     /// after `Ends` all is as it was. A commit takes time in proportion to the different questions
     /// of open observers, besides that of the specification's step and of the comparison.
     #[inline(always)]
-    pub fn judge(&mut self, views: &mut Views, x: Waiting) -> Result<Outcome, AllocError>
-        requires header { views.old.header ≡ self.old.header }
+    pub fn judge(&mut self, words: &mut Words, x: Waiting) -> Result<Outcome, AllocError>
+        requires header { words.old.views.header ≡ self.old.header }
         requires may { MayJudge self.old.header (S.state self.old.spec) (S.made self.old.spec)
-            self.old.watches.by_caller x views.old.first views.old.since }
-        requires sound { views.old.refused ≡ false }
+            self.old.watches.by_caller x words.old.views.first words.old.views.since }
+        requires sound { words.old.views.refused ≡ false }
         ensures gives { (starting : List StartWord) (log : List Entry) (xs : List Waiting)
             → Judged self.old.header starting log (S.state self.old.spec) (S.made self.old.spec)
-            self.old.watches.by_caller (x ∷ xs) views.old.first views.old.since
-            → views.old.specified ≡ S.state self.old.spec
+            self.old.watches.by_caller (x ∷ xs) words.old.views.first words.old.views.since
+            → words.old.views.specified ≡ S.state self.old.spec
             → IfOk result (HeadGives self.old.header starting log (S.state self.new.spec)
-            (S.made self.new.spec) self.new.watches.by_caller x xs views.new.first
-            views.new.since) }
+            (S.made self.new.spec) self.new.watches.by_caller x xs words.new.views.first
+            words.new.views.since) }
         ensures leaves { result ≡ Ok Goes → CanLeave x }
-        ensures known { views.old.specified ≡ S.state self.old.spec
-            → IfOk result (KnowsState views.new (S.state self.new.spec)) }
+        ensures known { words.old.views.specified ≡ S.state self.old.spec
+            → IfOk result (KnowsState words.new.views (S.state self.new.spec)) }
         ensures header { self.new.header ≡ self.old.header }
-        ensures views_header { views.new.header ≡ views.old.header }
+        ensures views_header { words.new.views.header ≡ words.old.views.header }
+        ensures shadow { words.new.shadow ≡ words.old.shadow }
+        ensures inner { words.new.inner ≡ words.old.inner }
     {
         match x.event() {
             Event::Begins(method, args) => {
@@ -151,7 +157,7 @@ impl<S: Spec> Replay<S> {
                 Ok(Outcome::Goes)
             }
             Event::Commits(method, args, reply) => match reply {
-                Some(reply) => self.commit(views, method, args, reply),
+                Some(reply) => self.commit(words, method, args, reply),
                 None => Ok(Outcome::Ends),
             },
             Event::Returns(reply) => {

@@ -5,9 +5,9 @@
 //! Observers that ask the same share one list of answers, so that a commit takes time in proportion
 //! to the different questions that are asked, and not to the observers.
 //!
-//! How the pieces go: each open observer has a `watch`, which is on the `trail` of its question, one
-//! of all `trails`. When an observer has returned, `leaving` drops the answers that nobody needs any
-//! more.
+//! How the pieces go: each open observer has a `watch`, which is on the `trail` of its question,
+//! one of all `trails`. When an observer has returned, `leaving` drops the answers that nobody
+//! needs any more.
 #![tactic(auto)]
 
 mod leaving;

@@ -25,7 +25,7 @@ use Rattle.vyrd_base.proofs.TestLaws.{below_of, is_below, at_most_of, is_at_most
 use Rattle.vyrd_shadow.specs.Following.{Kept, HasFollowed, is_open, kept_writes, words_of}
 use Rattle.vyrd_words.specs.Cuts.{Cuts, first_with, with_part, written}
 use Rattle.vyrd_words.specs.Effects.{ActAlike, cut_if, number_at, inner_number, parts_behind, parts_since}
-use Rattle.vyrd_words.specs.HasWords.{HasWords, HasTaken, Keeps, MayFollow}
+use Rattle.vyrd_words.specs.HasWords.{WordsView, HasWords, HasTaken, Keeps, MayFollow}
 use Rattle.vyrd_words.proofs.ActLaws.{written_alike, word_is}
 use Rattle.vyrd_words.proofs.CutLaws.{with_part_nothing, first_with_nothing}
 use Rattle.vyrd_base.proofs.KeptLaws.{write_kept}
@@ -326,6 +326,21 @@ parts_since_some inner c number commits earlier here has some counted =
     by_number : (n : ℕ) → n ≢ 0 → n ≤ commits → (commits - n) + 1 ≡ parts_since commits n
     by_number zero other few = absurd (other refl)
     by_number (suc n) other few = omega (arith, few)
+
+-- what is seen of the words, by what is kept
+pub may_opened : {v w : WordsView} {e : Entry} {commits : ℕ} → w ≡ v → MayFollow v.shadow v.inner e commits → MayFollow w.shadow w.inner e commits
+may_opened {e = e} {commits = commits} is may = subst (λ (x : WordsView). MayFollow x.shadow x.inner e commits) (sym is) may
+
+pub has_opened : {v w : WordsView} {starting : List StartWord} {earlier : List Entry} → w ≡ v → HasWords v.shadow v.inner starting earlier
+    → HasWords w.shadow w.inner starting earlier
+has_opened {starting = starting} {earlier = earlier} is has = subst (λ (x : WordsView). HasWords x.shadow x.inner starting earlier) (sym is) has
+
+pub keeps_opened : {v w : WordsView} {earlier : List Entry} {e : Entry} → w ≡ v → Keeps v.shadow.header earlier e → Keeps w.shadow.header earlier e
+keeps_opened {earlier = earlier} {e = e} is keeps = subst (λ (x : WordsView). Keeps x.shadow.header earlier e) (sym is) keeps
+
+pub taken_closed : {v w : WordsView} {k : Kept} {inner : List ℕ} {n : Cuts} {starting : List StartWord} {e : Entry} {earlier : List Entry} → w ≡ v
+    → HasTaken k inner w.views n starting e earlier → HasTaken k inner v.views n starting e earlier
+taken_closed {k = k} {inner} {n} {starting} {e} {earlier} is taken = subst (λ (x : WordsView). HasTaken k inner x.views n starting e earlier) is taken
 
 -- answers put together
 pub ok_two : {T E P Q S : Type 0} (r : Result T E) → OnOk r P → OnOk r Q → (P → Q → S) → OnOk r S

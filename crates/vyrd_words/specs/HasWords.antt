@@ -10,6 +10,13 @@ use Rattle.vyrd_shadow.specs.Following.{Kept, HasFollowed}
 use Rattle.vyrd_words.specs.Cuts.{Cuts, first_with, with_part}
 use Rattle.vyrd_words.specs.Effects.{ActAlike, cut_if, inner_number, parts_behind}
 
+-- What is kept of the words: the words now with the blocks that are open, those at the commits that
+-- wait, and for each caller the number of the lone commit since its last open.
+pub record WordsView : Type 0 where
+  pub shadow : Kept
+  pub views : Cuts
+  pub inner : List ℕ
+
 -- The shadow has followed the entries, given the newest first, and the lone commits in open blocks
 -- have their numbers.
 pub record HasWords (shadow : Kept) (inner : List ℕ) (starting : List StartWord)

@@ -32,7 +32,7 @@ const MOST_CHANGED: usize = 1024;
 /// The only error of its calls is that memory has run out. Nothing is known of the words after it
 /// but what a clause says.
 #[derive(Drop)]
-pub struct Views {
+pub(crate) struct Views {
     header: Header,
     words: Vec<u64>,
     /// How many of the writes took effect between each commit that waits and the commit before it.

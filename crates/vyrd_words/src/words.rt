@@ -1,20 +1,26 @@
 //! The words of a log, and what of them waits to be compared.
 
-ghost use Rattle.std.specs.Prelude.{◌≡◌, ◌<◌, ◌^◌, ℕ, false, List, [], length, slice_index, IfOk};
-ghost use Rattle.std.specs.Prelude.{OnOk, replicate, vec_len, All};
+ghost use Rattle.std.specs.Prelude.{◌≡◌, ◌<◌, ◌^◌, ◌∷◌, ℕ, false, List, [], length, slice_index};
+ghost use Rattle.std.specs.Prelude.{IfOk, OnOk, replicate, All};
+ghost use Rattle.vyrd_base.specs.Amounts.{first_difference as least_difference};
 ghost use Rattle.vyrd_base.specs.declared.log.Entry.{Entry};
 ghost use Rattle.vyrd_base.specs.declared.log.StartWord.{StartWord};
 ghost use Rattle.vyrd_base.specs.Commits.{commit_count};
 ghost use Rattle.vyrd_base.specs.Layout.{plain_words};
 ghost use Rattle.vyrd_base.specs.Starts.{words_at_start};
+ghost use Rattle.vyrd_base.specs.Views.{view_of_words};
+ghost use Rattle.vyrd_shadow.specs.Blocks.{with_writes};
+ghost use Rattle.vyrd_spec.specs.Touching.{with_touched};
 ghost use Rattle.vyrd_view.specs.Comparing.{AgreeElsewhere};
 ghost use Rattle.vyrd_words.specs.Cuts.{first_with, with_part, written};
 ghost use Rattle.vyrd_words.specs.HasWords.{HasWords, HasTaken, Keeps, MayFollow};
 
 use crate::views::Views;
 use std::alloc::{AllocError, Global};
+use std::marker::Model;
 use vyrd_base::{Entry, Header, Kind, View};
 use vyrd_shadow::Shadow;
+use vyrd_spec::{Spec, Touched};
 
 /// The words after the entries so far, with what open blocks keep back, and the words at the
 /// commits that wait. It takes memory for each plain word, each write that an open block keeps
@@ -24,13 +30,23 @@ use vyrd_shadow::Shadow;
 /// any more but whose header they have.
 #[derive(Drop)]
 pub struct Words {
-    pub shadow: Shadow,
-    pub views: Views,
+    shadow: Shadow,
+    views: Views,
     /// By caller: the number of the lone commit since its last open, 0 if there is none. The first
     /// commit of a log has number 1.
-    pub inner: Vec<u64>,
-    ghost same_header: { views.header ≡ shadow.header },
-    ghost callers: { vec_len inner ≡ shadow.header.callers },
+    inner: Vec<u64>,
+}
+
+impl Model for Words {
+    ghost use Rattle.std.specs.Prelude.{◌≡◌, vec_len};
+    ghost use Rattle.vyrd_words.specs.HasWords.{WordsView};
+
+    ghost Value = { WordsView };
+
+    ghost view = { λ w. record { shadow = w.shadow; views = w.views; inner = w.inner.items } };
+
+    ghost invariant = { λ w. (w.views.header ≡ w.shadow.header)
+        × (vec_len w.inner ≡ w.shadow.header.callers) };
 }
 
 impl Words {
@@ -49,8 +65,9 @@ impl Words {
         requires elsewhere { AgreeElsewhere (replicate (plain_words header) 0) words.now
             changed.items }
         ensures words { (starting : List StartWord) → words.now ≡ words_at_start header starting →
-            IfOk result (λ w. HasWords w.shadow w.inner.items starting []) }
+            IfOk result (λ w. HasWords w.shadow w.inner starting []) }
         ensures header { IfOk result (λ w. w.shadow.header ≡ header) }
+        ensures views_header { IfOk result (λ w. w.views.header ≡ header) }
         ensures first { IfOk result (λ w. w.views.first ≡ words.now) }
         ensures since { IfOk result (λ w. w.views.since ≡ []) }
         ensures specified { IfOk result (λ w. w.views.specified ≡ state.now) }
@@ -71,17 +88,18 @@ impl Words {
     /// since then too, and each of the block's writes takes time for the writes since then.
     #[inline(always)]
     pub fn follow(&mut self, entry: Entry, commits: u64) -> Result<(), AllocError>
-        requires may { MayFollow self.old.shadow self.old.inner.items entry commits }
+        requires may { MayFollow self.old.shadow self.old.inner entry commits }
         requires few { commits < 2 ^ 62 }
         requires sound { self.old.views.refused ≡ false }
         ensures taken { (starting : List StartWord) (earlier : List Entry)
-            → HasWords self.old.shadow self.old.inner.items starting earlier
+            → HasWords self.old.shadow self.old.inner starting earlier
             → Keeps self.old.shadow.header earlier entry → commits ≡ commit_count earlier
-            → OnOk result (HasTaken self.new.shadow self.new.inner.items self.old.views
+            → OnOk result (HasTaken self.new.shadow self.new.inner self.old.views
             self.new.views starting entry earlier) }
         ensures specified { OnOk result (self.new.views.specified ≡ self.old.views.specified) }
         ensures sound { OnOk result (self.new.views.refused ≡ false) }
         ensures header { self.new.shadow.header ≡ self.old.shadow.header }
+        ensures views_header { self.new.views.header ≡ self.old.views.header }
     {
         let caller = entry.caller;
         match entry.kind {
@@ -89,7 +107,7 @@ impl Words {
             Kind::Return(_) => Ok(()),
             Kind::Write(word, value) => {
                 self.shadow.write(caller, word, value)?;
-                self.pass_on()
+                pass_on(&mut self.shadow, &mut self.views)
             }
             Kind::BlockOpen => {
                 self.shadow.open_block(caller);
@@ -100,9 +118,10 @@ impl Words {
                 self.shadow.close_block(caller);
                 let number = self.inner[caller as usize];
                 if number == 0 {
-                    self.pass_on()
+                    pass_on(&mut self.shadow, &mut self.views)
                 } else {
-                    self.pass_back((commits - number) as usize + 1)
+                    let behind = (commits - number) as usize + 1;
+                    pass_back(&mut self.shadow, &mut self.views, behind)
                 }
             }
             Kind::Commit => {
@@ -111,57 +130,88 @@ impl Words {
             }
             Kind::BlockCommit => {
                 self.shadow.close_block(caller);
-                self.pass_on()?;
+                pass_on(&mut self.shadow, &mut self.views)?;
                 self.views.cut()
             }
         }
     }
 
-    /// What effects have changed is known to the views too.
+    /// Compares what the words at the first commit that waits show with the specification's state
+    /// after it: the least key where they differ. That commit no longer waits then. The state
+    /// differs from that of the last comparison in the touched keys alone. It takes time for each
+    /// write that took effect between that commit and the one before it.
     #[inline(always)]
-    fn pass_on(&mut self) -> Result<(), AllocError>
-        requires { self.old.views.refused ≡ false }
-        ensures within { All (λ w. w < plain_words self.old.shadow.header) self.old.shadow.changed }
-        ensures first { OnOk result (self.new.views.first
-            ≡ first_with 0 (written self.old.shadow.words self.old.shadow.changed)
-            self.old.views.first self.old.views.since) }
-        ensures since { OnOk result (self.new.views.since ≡ with_part 0
-            (written self.old.shadow.words self.old.shadow.changed) self.old.views.since) }
-        ensures specified { OnOk result (self.new.views.specified ≡ self.old.views.specified) }
-        ensures sound { OnOk result (self.new.views.refused ≡ false) }
-        ensures views_header { self.new.views.header ≡ self.old.views.header }
-        ensures shadow { OnOk result (self.new.shadow ≡ record self.old.shadow { changed = [] }) }
-        ensures inner { self.new.inner.items ≡ self.old.inner.items }
-        ensures header { self.new.shadow.header ≡ self.old.shadow.header }
-    {
-        give(&mut self.views, self.shadow.changed(), self.shadow.words())?;
-        self.shadow.clear_changed();
-        Ok(())
-    }
-
-    /// What effects have changed was so at a commit already, after which that many lists of writes
-    /// stand.
-    fn pass_back(&mut self, behind: usize) -> Result<(), AllocError>
-        requires some { 0 < behind }
+    pub fn difference<S: Spec>(
+        &mut self,
+        spec: &S,
+        touched: Touched,
+    ) -> Result<Option<u64>, AllocError>
         requires sound { self.old.views.refused ≡ false }
-        ensures within { All (λ w. w < plain_words self.old.shadow.header) self.old.shadow.changed }
-        ensures first { OnOk result (self.new.views.first
-            ≡ first_with behind (written self.old.shadow.words self.old.shadow.changed)
-            self.old.views.first self.old.views.since) }
-        ensures since { OnOk result (self.new.views.since ≡ with_part behind
-            (written self.old.shadow.words self.old.shadow.changed) self.old.views.since) }
-        ensures specified { OnOk result (self.new.views.specified ≡ self.old.views.specified) }
+        ensures difference { (part : List (ℕ × ℕ)) (rest : List (List (ℕ × ℕ)))
+            → self.old.views.since ≡ part ∷ rest
+            → with_touched touched (S.state spec.now) self.old.views.specified ≡ S.state spec.now
+            → IfOk result (λ found. found ≡ least_difference
+            (view_of_words self.old.views.header self.old.views.first) (S.state spec.now)) }
+        ensures first { (part : List (ℕ × ℕ)) (rest : List (List (ℕ × ℕ)))
+            → self.old.views.since ≡ part ∷ rest
+            → OnOk result (self.new.views.first ≡ with_writes self.old.views.first part) }
+        ensures since { (part : List (ℕ × ℕ)) (rest : List (List (ℕ × ℕ)))
+            → self.old.views.since ≡ part ∷ rest
+            → OnOk result (self.new.views.since ≡ rest) }
+        ensures specified { OnOk result (self.new.views.specified
+            ≡ with_touched touched (S.state spec.now) self.old.views.specified) }
         ensures sound { OnOk result (self.new.views.refused ≡ false) }
         ensures views_header { self.new.views.header ≡ self.old.views.header }
-        ensures shadow { OnOk result (self.new.shadow ≡ record self.old.shadow { changed = [] }) }
-        ensures inner { self.new.inner.items ≡ self.old.inner.items }
-        ensures header { self.new.shadow.header ≡ self.old.shadow.header }
+        ensures shadow { self.new.shadow ≡ self.old.shadow }
+        ensures inner { self.new.inner ≡ self.old.inner }
     {
-        self.views
-            .late(behind, self.shadow.changed(), self.shadow.words())?;
-        self.shadow.clear_changed();
-        Ok(())
+        self.views.difference(spec, touched)
     }
+}
+
+/// What effects have changed is known to the views too.
+#[inline(always)]
+fn pass_on(shadow: &mut Shadow, views: &mut Views) -> Result<(), AllocError>
+    requires header { views.old.header ≡ shadow.old.header }
+    requires sound { views.old.refused ≡ false }
+    ensures within { All (λ w. w < plain_words shadow.old.header) shadow.old.changed }
+    ensures first { OnOk result (views.new.first
+        ≡ first_with 0 (written shadow.old.words shadow.old.changed) views.old.first
+        views.old.since) }
+    ensures since { OnOk result (views.new.since
+        ≡ with_part 0 (written shadow.old.words shadow.old.changed) views.old.since) }
+    ensures specified { OnOk result (views.new.specified ≡ views.old.specified) }
+    ensures sound { OnOk result (views.new.refused ≡ false) }
+    ensures shadow { OnOk result (shadow.new ≡ record shadow.old { changed = [] }) }
+    ensures shadow_header { shadow.new.header ≡ shadow.old.header }
+    ensures views_header { views.new.header ≡ views.old.header }
+{
+    give(views, shadow.changed(), shadow.words())?;
+    shadow.clear_changed();
+    Ok(())
+}
+
+/// What effects have changed was so at a commit already, after which that many lists of writes
+/// stand.
+fn pass_back(shadow: &mut Shadow, views: &mut Views, behind: usize) -> Result<(), AllocError>
+    requires some { 0 < behind }
+    requires header { views.old.header ≡ shadow.old.header }
+    requires sound { views.old.refused ≡ false }
+    ensures within { All (λ w. w < plain_words shadow.old.header) shadow.old.changed }
+    ensures first { OnOk result (views.new.first
+        ≡ first_with behind (written shadow.old.words shadow.old.changed) views.old.first
+        views.old.since) }
+    ensures since { OnOk result (views.new.since
+        ≡ with_part behind (written shadow.old.words shadow.old.changed) views.old.since) }
+    ensures specified { OnOk result (views.new.specified ≡ views.old.specified) }
+    ensures sound { OnOk result (views.new.refused ≡ false) }
+    ensures shadow { OnOk result (shadow.new ≡ record shadow.old { changed = [] }) }
+    ensures shadow_header { shadow.new.header ≡ shadow.old.header }
+    ensures views_header { views.new.header ≡ views.old.header }
+{
+    views.late(behind, shadow.changed(), shadow.words())?;
+    shadow.clear_changed();
+    Ok(())
 }
 
 /// The views learn the changed words.

@@ -30,7 +30,7 @@ returns-clause-taken_in g c =
     (c.requires.state ∙ ap (λ s. Some (g.S.Spec.state s)) (sym c.in_ok-new-4.ensures.spec))
     c.in_ok-new.ensures.followed c.in_ok-new.ensures.header
     (c.in_ok-new-2.ensures.words c.args.start.now c.requires.words) c.in_ok-new-2.ensures.header
-    (c.in_ok-new-2.field-0.same_header ∙ c.in_ok-new-2.ensures.header) c.in_ok-new-3.ensures.queued
+    c.in_ok-new-2.ensures.views_header c.in_ok-new-3.ensures.queued
     (ap g.S.Spec.made c.in_ok-new-4.ensures.spec ∙ c.requires.made)
     (subst (λ s. AreCurrent (g.S.Spec.state s) c.in_ok-new-4.field-0.watches.by_caller) (sym c.in_ok-new-4.ensures.spec) c.in_ok-new-4.ensures.current)
     c.in_ok-new-3.ensures.waiting (c.in_ok-new-2.ensures.first ∙ c.requires.words) c.in_ok-new-2.ensures.since refl refl refl
@@ -43,4 +43,5 @@ invariant_of-result g c = (
   c.in_ok-new-3.ensures.header ∙ sym c.in_ok-new-4.ensures.header,
   omega (arith, start_few c.args.header c.args.start.now c.requires.may_start, plain_words_few c.args.header),
   omega arith,
+  c.in_ok-new-2.ensures.views_header ∙ sym c.in_ok-new-4.ensures.header,
 )

@@ -12,15 +12,15 @@ use Rattle.vyrd_judge.proofs.replay.Replay.commit.Goals as goal
 
 pub returns-then-not-branch-clause-leads : goal.returns-then-not-branch-clause-leads
 returns-then-not-branch-clause-leads g c = λ part rest is known.
-    ap (by_next (view_of_words c.args.self.now.header c.args.views.now.first) c.args.reply) (c.in_ok-step.ensures.refused (ap Ok c.if-not-branch.true))
+    ap (by_next (view_of_words c.args.self.now.header c.args.words.now.views.first) c.args.reply) (c.in_ok-step.ensures.refused (ap Ok c.if-not-branch.true))
 
 pub returns-in-Some-clause-leads : goal.returns-in-Some-clause-leads
 returns-in-Some-clause-leads g c = λ part rest is known.
     let makes = ap (λ s. with_touched c.touched-touched.result (g.S.Spec.state c.step.new.self) s) known
     ∙ ap (λ t. with_touched t (g.S.Spec.state c.step.new.self) (g.S.Spec.state c.args.self.now.spec)) c.touched-touched.ensures
     ∙ touched_makes c.args.method c.args.args c.args.reply _ _ (g.met.S.Spec.is_formed c.args.self.now.spec) (c.in_ok-step.ensures.allowed (ap Ok c.if-not-branch.false)) in
-    ap (by_next (view_of_words c.args.self.now.header c.args.views.now.first) c.args.reply) (c.in_ok-step.ensures.allowed (ap Ok c.if-not-branch.false))
-    ∙ ap (λ h. option_map View (first_difference (view_of_words h c.args.views.now.first) (g.S.Spec.state c.step.new.self))) (sym c.requires.header)
+    ap (by_next (view_of_words c.args.self.now.header c.args.words.now.views.first) c.args.reply) (c.in_ok-step.ensures.allowed (ap Ok c.if-not-branch.false))
+    ∙ ap (λ h. option_map View (first_difference (view_of_words h c.args.words.now.views.first) (g.S.Spec.state c.step.new.self))) (sym c.requires.header)
     ∙ ap (option_map View) (sym (c.in_ok-key.ensures.difference part rest is makes) ∙ c.in-Some.is)
 
 pub see_all-requires-clause-current : goal.see_all-requires-clause-current
@@ -35,7 +35,7 @@ returns-clause-leads g c = λ part rest is known.
     ∙ touched_makes c.args.method c.args.args c.args.reply _ _ (g.met.S.Spec.is_formed c.args.self.now.spec) (c.in_ok-step.ensures.allowed (ap Ok c.if-not-branch.false)) in
     record {
       next = c.in_ok-step.ensures.allowed (ap Ok c.if-not-branch.false);
-      same = ap (λ h. first_difference (view_of_words h c.args.views.now.first) (g.S.Spec.state c.step.new.self)) (sym c.requires.header)
+      same = ap (λ h. first_difference (view_of_words h c.args.words.now.views.first) (g.S.Spec.state c.step.new.self)) (sym c.requires.header)
           ∙ sym (c.in_ok-key.ensures.difference part rest is makes) ∙ is_none _ c.in_default.not-Some;
       count = omega (arith, c.in_ok-step.ensures.counted (ap Ok c.if-not-branch.false));
       seen = c.in_ok-see_all.ensures.seen;

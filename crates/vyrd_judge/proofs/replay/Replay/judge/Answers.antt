@@ -34,8 +34,8 @@ returns-in_ok-begin-in-Begins-clause-gives g c = λ starting log xs j known.
     let old = c.args.self.now in
     let done = judged_begins (sym c.event.ensures ∙ c.in-Begins.is) old.callers j in
     let same_spec = c.begin.ensures.spec in
-    subst (λ s. Judged h starting log (g.S.Spec.state s) (g.S.Spec.made s) c.begin.new.self.watches.by_caller xs c.args.views.now.first c.args.views.now.since) (sym same_spec)
-    (subst (λ ws. Judged h starting log (g.S.Spec.state old.spec) (g.S.Spec.made old.spec) ws xs c.args.views.now.first c.args.views.now.since) (sym (rw c.caller.ensures.is at c.in_ok-begin-in-Begins.ensures.watches)) done)
+    subst (λ s. Judged h starting log (g.S.Spec.state s) (g.S.Spec.made s) c.begin.new.self.watches.by_caller xs c.args.words.now.views.first c.args.words.now.views.since) (sym same_spec)
+    (subst (λ ws. Judged h starting log (g.S.Spec.state old.spec) (g.S.Spec.made old.spec) ws xs c.args.words.now.views.first c.args.words.now.views.since) (sym (rw c.caller.ensures.is at c.in_ok-begin-in-Begins.ensures.watches)) done)
 
 pub returns-in-None-clause-gives : goal.returns-in-None-clause-gives
 returns-in-None-clause-gives g c = λ starting log xs j known.
@@ -43,7 +43,7 @@ returns-in-None-clause-gives g c = λ starting log xs j known.
 
 pub returns-in-Some-clause-gives : goal.returns-in-Some-clause-gives
 returns-in-Some-clause-gives g c = λ starting log xs j known.
-    judged_commits (g.S.Spec.state c.commit.new.self.spec) (g.S.Spec.made c.commit.new.self.spec) c.commit.new.self.watches.by_caller c.commit.new.views.first c.commit.new.views.since
+    judged_commits (g.S.Spec.state c.commit.new.self.spec) (g.S.Spec.made c.commit.new.self.spec) c.commit.new.self.watches.by_caller c.commit.new.words.views.first c.commit.new.words.views.since
     c.commit.result (sym c.event.ensures ∙ c.in-Commits.is ∙ ap (Commits c.in-Commits.method c.in-Commits.args) c.in-Some.is) j
     (λ part rest is. c.commit.ensures.leads part rest is known)
 
@@ -53,8 +53,8 @@ returns-then-end-clause-gives g c = λ starting log xs j known.
     let old = c.args.self.now in
     let seen = watch_there (sym c.event.ensures ∙ c.in-Returns.is) old.callers j in
     let done = judged_answered seen.0 (sym c.event.ensures ∙ c.in-Returns.is) seen.1 (sym (c.end.ensures.answered seen.0 (rw c.caller-in-Returns.ensures.is seen.1)) ∙ c.if-end.true) j in
-    subst (λ s. Judged h starting log (g.S.Spec.state s) (g.S.Spec.made s) c.end.new.self.watches.by_caller xs c.args.views.now.first c.args.views.now.since) (sym c.end.ensures.spec)
-    (subst (λ ws. Judged h starting log (g.S.Spec.state old.spec) (g.S.Spec.made old.spec) ws xs c.args.views.now.first c.args.views.now.since) (sym (rw c.caller-in-Returns.ensures.is at c.end.ensures.watches)) done)
+    subst (λ s. Judged h starting log (g.S.Spec.state s) (g.S.Spec.made s) c.end.new.self.watches.by_caller xs c.args.words.now.views.first c.args.words.now.views.since) (sym c.end.ensures.spec)
+    (subst (λ ws. Judged h starting log (g.S.Spec.state old.spec) (g.S.Spec.made old.spec) ws xs c.args.words.now.views.first c.args.words.now.views.since) (sym (rw c.caller-in-Returns.ensures.is at c.end.ensures.watches)) done)
 
 pub returns-else-end-clause-gives : goal.returns-else-end-clause-gives
 returns-else-end-clause-gives g c = λ starting log xs j known.

@@ -2,52 +2,51 @@ use Rattle.std.proofs.Common.{◌≡◌, ◌<◌, ◌+◌, suc, length, Some, re
 use Rattle.std.proofs.lemmas.Option.{slice_get-get_or}
 use Rattle.vyrd_base.specs.declared.log.Kind.TheVariants.{Call, Return}
 use Rattle.vyrd_base.specs.Commits.{commit_count}
-use Rattle.vyrd_words.specs.HasWords.{HasTaken}
 use Rattle.vyrd_words.proofs.ShadowFacts.{call_followed, return_followed, commit_followed}
-use Rattle.vyrd_words.proofs.WordsLaws.{may_caller, may_word, may_value, may_open, may_close, may_block_commit, may_number, keeps_as, quiet_taken, open_taken, write_taken, close_taken, commit_taken, block_commit_taken, parts_since_none, parts_since_some, ok_two, ok_three, taken_as, low_caller, closes_block, commits_block}
+use Rattle.vyrd_words.proofs.WordsLaws.{may_opened, has_opened, keeps_opened, taken_closed, may_caller, may_word, may_value, may_open, may_close, may_block_commit, may_number, keeps_as, quiet_taken, open_taken, write_taken, close_taken, commit_taken, block_commit_taken, parts_since_none, parts_since_some, ok_two, ok_three, taken_as, low_caller, closes_block, commits_block}
 use Rattle.vyrd_words.proofs.words.Words.follow.Goals as goal
 
 pub write-requires-clause-caller : goal.write-requires-clause-caller
-write-requires-clause-caller c = may_caller c.requires.may
+write-requires-clause-caller c = may_caller (may_opened c.self.view_is c.requires.may)
 
 pub write-requires-clause-word : goal.write-requires-clause-word
-write-requires-clause-word c = may_word c.in-Write.is c.requires.may
+write-requires-clause-word c = may_word c.in-Write.is (may_opened c.self.view_is c.requires.may)
 
 pub write-requires-clause-value : goal.write-requires-clause-value
-write-requires-clause-value c = may_value c.in-Write.is c.requires.may
+write-requires-clause-value c = may_value c.in-Write.is (may_opened c.self.view_is c.requires.may)
 
 pub open_block-requires-clause-caller : goal.open_block-requires-clause-caller
-open_block-requires-clause-caller c = may_caller c.requires.may
+open_block-requires-clause-caller c = may_caller (may_opened c.self.view_is c.requires.may)
 
 pub open_block-requires-clause-closed : goal.open_block-requires-clause-closed
-open_block-requires-clause-closed c = may_open c.in-BlockOpen.is c.requires.may
+open_block-requires-clause-closed c = may_open c.in-BlockOpen.is (may_opened c.self.view_is c.requires.may)
 
 pub close_block-requires-clause-caller : goal.close_block-requires-clause-caller
-close_block-requires-clause-caller c = may_caller c.requires.may
+close_block-requires-clause-caller c = may_caller (may_opened c.self.view_is c.requires.may)
 
 pub close_block-requires-clause-opened : goal.close_block-requires-clause-opened
-close_block-requires-clause-opened c = may_close c.in-BlockClose.is c.requires.may
+close_block-requires-clause-opened c = may_close c.in-BlockClose.is (may_opened c.self.view_is c.requires.may)
 
 pub close_block-requires-in-BlockCommit-clause-caller : goal.close_block-requires-in-BlockCommit-clause-caller
-close_block-requires-in-BlockCommit-clause-caller c = may_caller c.requires.may
+close_block-requires-in-BlockCommit-clause-caller c = may_caller (may_opened c.self.view_is c.requires.may)
 
 pub close_block-requires-in-BlockCommit-clause-opened : goal.close_block-requires-in-BlockCommit-clause-opened
-close_block-requires-in-BlockCommit-clause-opened c = may_block_commit c.in-BlockCommit.is c.requires.may
+close_block-requires-in-BlockCommit-clause-opened c = may_block_commit c.in-BlockCommit.is (may_opened c.self.view_is c.requires.may)
 
 pub index_mut-requires : goal.index_mut-requires
-index_mut-requires c = omega (arith, may_caller c.requires.may, c.args.self.now.callers)
+index_mut-requires c = omega (arith, may_caller (may_opened c.self.view_is c.requires.may), c.self.invariant.1)
 
 pub index-number-requires : goal.index-number-requires
-index-number-requires c = omega (arith, may_caller c.requires.may, c.args.self.now.callers)
+index-number-requires c = omega (arith, may_caller (may_opened c.self.view_is c.requires.may), c.self.invariant.1)
 
-pub overflow_sub-commits : goal.overflow_sub-commits
-overflow_sub-commits c =
-    let low : c.args.entry.caller < length c.args.self.now.inner.items = omega (arith, may_caller c.requires.may, c.args.self.now.callers, c.args.self.now.inner.ok.0) in
+pub overflow_sub-behind : goal.overflow_sub-behind
+overflow_sub-behind c =
+    let low : c.args.entry.caller < length c.self.inside.inner.items = omega (arith, may_caller (may_opened c.self.view_is c.requires.may), c.self.invariant.1, c.self.inside.inner.ok.0) in
     may_number c.index-number.result.now
-    (slice_get-get_or c.args.self.now.inner.items c.args.entry.caller c.index-number.result.now low ∙ ap Some (sym c.index-number.ensures)) c.requires.may
+    (slice_get-get_or c.self.inside.inner.items c.args.entry.caller c.index-number.result.now low ∙ ap Some (sym c.index-number.ensures)) (may_opened c.self.view_is c.requires.may)
 
 pub index_mut-requires-in-Commit : goal.index_mut-requires-in-Commit
-index_mut-requires-in-Commit c = omega (arith, may_caller c.requires.may, c.args.self.now.callers)
+index_mut-requires-in-Commit c = omega (arith, may_caller (may_opened c.self.view_is c.requires.may), c.self.invariant.1)
 
 pub returns-in-Call-clause-taken : goal.returns-in-Call-clause-taken
 returns-in-Call-clause-taken c = λ starting earlier has keeps counted.
@@ -62,34 +61,39 @@ returns-in-Return-clause-taken c = λ starting earlier has keeps counted.
     (return_followed _ starting earlier c.args.entry.caller c.in-Return.field-0 (keeps_as c.in-Return.is keeps).rules has.followed))
 
 pub returns-in-BlockOpen-clause-taken : goal.returns-in-BlockOpen-clause-taken
-returns-in-BlockOpen-clause-taken c = λ starting earlier has keeps counted.
-    let low : c.args.entry.caller < length c.args.self.now.inner.items = omega (arith, may_caller c.requires.may, c.args.self.now.callers, c.args.self.now.inner.ok.0) in
-    taken_as c.args.entry c.in-BlockOpen.is
-    (open_taken c.args.self.now.shadow c.open_block.new.self c.args.self.now.inner.items c.args.self.now.views starting earlier c.args.entry.caller has
+returns-in-BlockOpen-clause-taken c = λ starting earlier seen kept counted.
+    let before = c.self.inside in
+    let has = has_opened c.self.view_is seen in
+    let keeps = keeps_opened c.self.view_is kept in
+    let low : c.args.entry.caller < length before.inner.items = omega (arith, low_caller keeps, c.self.invariant.1, before.inner.ok.0) in
+    taken_closed c.self.view_is (taken_as c.args.entry c.in-BlockOpen.is
+    (open_taken before.shadow c.open_block.new.self before.inner.items before.views starting earlier c.args.entry.caller has
     (c.open_block.ensures.followed starting earlier has.followed (keeps_as c.in-BlockOpen.is keeps).rules)
-    c.open_block.ensures.header c.open_block.ensures.changed low)
+    c.open_block.ensures.header c.open_block.ensures.changed low))
 
 pub returns-in_ok-write-in-Write-clause-taken : goal.returns-in_ok-write-in-Write-clause-taken
-returns-in_ok-write-in-Write-clause-taken c = λ starting earlier has keeps counted.
-    let before = c.args.self.now in
+returns-in_ok-write-in-Write-clause-taken c = λ starting earlier seen kept counted.
+    let before = c.self.inside in
+    let has = has_opened c.self.view_is seen in
+    let keeps = keeps_opened c.self.view_is kept in
     ok_three c.pass_on.result c.pass_on.ensures.first c.pass_on.ensures.since c.pass_on.ensures.shadow (λ first since shadow.
-    subst (λ xs. HasTaken c.pass_on.new.self.shadow xs before.views c.pass_on.new.self.views starting c.args.entry earlier) (sym c.pass_on.ensures.inner)
-    (taken_as c.args.entry c.in-Write.is
-    (write_taken before.shadow c.write.new.self c.pass_on.new.self.shadow before.inner.items before.views c.pass_on.new.self.views starting earlier
+    taken_closed c.self.view_is (taken_as c.args.entry c.in-Write.is
+    (write_taken before.shadow c.write.new.self c.pass_on.new.shadow before.inner.items before.views c.pass_on.new.views starting earlier
     c.args.entry.caller c.in-Write.word c.in-Write.value has (low_caller keeps)
     (c.in_ok-write-in-Write.ensures.followed starting earlier has.followed (keeps_as c.in-Write.is keeps).rules)
     c.write.ensures.header c.pass_on.ensures.within c.in_ok-write-in-Write.ensures.changed shadow first since)))
 
 pub returns-then-number-eq0-clause-taken : goal.returns-then-number-eq0-clause-taken
-returns-then-number-eq0-clause-taken c = λ starting earlier has keeps counted.
-    let before = c.args.self.now in
-    let low : c.args.entry.caller < length before.inner.items = omega (arith, may_caller c.requires.may, before.callers, before.inner.ok.0) in
+returns-then-number-eq0-clause-taken c = λ starting earlier seen kept counted.
+    let before = c.self.inside in
+    let has = has_opened c.self.view_is seen in
+    let keeps = keeps_opened c.self.view_is kept in
+    let low : c.args.entry.caller < length before.inner.items = omega (arith, low_caller keeps, c.self.invariant.1, before.inner.ok.0) in
     let here = slice_get-get_or before.inner.items c.args.entry.caller c.index-number.result.now low ∙ ap Some (sym c.index-number.ensures) in
     let on = c.pass_on-then-number-eq0 in
     ok_three on.result on.ensures.first on.ensures.since on.ensures.shadow (λ first since shadow.
-    subst (λ xs. HasTaken on.new.self.shadow xs before.views on.new.self.views starting c.args.entry earlier) (sym on.ensures.inner)
-    (taken_as c.args.entry c.in-BlockClose.is
-    (close_taken before.shadow c.close_block.new.self on.new.self.shadow before.inner.items before.views on.new.self.views starting earlier
+    taken_closed c.self.view_is (taken_as c.args.entry c.in-BlockClose.is
+    (close_taken before.shadow c.close_block.new.self on.new.shadow before.inner.items before.views on.new.views starting earlier
     c.args.entry.caller 0 has (low_caller keeps) (closes_block c.in-BlockClose.is keeps)
     (c.close_block.ensures.closed starting earlier has.followed (keeps_as c.in-BlockClose.is keeps).rules)
     c.close_block.ensures.header on.ensures.within c.close_block.ensures.changed shadow
@@ -98,14 +102,15 @@ returns-then-number-eq0-clause-taken c = λ starting earlier has keeps counted.
     first since)))
 
 pub returns-else-number-eq0-clause-taken : goal.returns-else-number-eq0-clause-taken
-returns-else-number-eq0-clause-taken c = λ starting earlier has keeps counted.
-    let before = c.args.self.now in
-    let low : c.args.entry.caller < length before.inner.items = omega (arith, may_caller c.requires.may, before.callers, before.inner.ok.0) in
+returns-else-number-eq0-clause-taken c = λ starting earlier seen kept counted.
+    let before = c.self.inside in
+    let has = has_opened c.self.view_is seen in
+    let keeps = keeps_opened c.self.view_is kept in
+    let low : c.args.entry.caller < length before.inner.items = omega (arith, low_caller keeps, c.self.invariant.1, before.inner.ok.0) in
     let here = slice_get-get_or before.inner.items c.args.entry.caller c.index-number.result.now low ∙ ap Some (sym c.index-number.ensures) in
     ok_three c.pass_back.result c.pass_back.ensures.first c.pass_back.ensures.since c.pass_back.ensures.shadow (λ first since shadow.
-    subst (λ xs. HasTaken c.pass_back.new.self.shadow xs before.views c.pass_back.new.self.views starting c.args.entry earlier) (sym c.pass_back.ensures.inner)
-    (taken_as c.args.entry c.in-BlockClose.is
-    (close_taken before.shadow c.close_block.new.self c.pass_back.new.self.shadow before.inner.items before.views c.pass_back.new.self.views starting earlier
+    taken_closed c.self.view_is (taken_as c.args.entry c.in-BlockClose.is
+    (close_taken before.shadow c.close_block.new.self c.pass_back.new.shadow before.inner.items before.views c.pass_back.new.views starting earlier
     c.args.entry.caller _ has (low_caller keeps) (closes_block c.in-BlockClose.is keeps)
     (c.close_block.ensures.closed starting earlier has.followed (keeps_as c.in-BlockClose.is keeps).rules)
     c.close_block.ensures.header c.pass_back.ensures.within c.close_block.ensures.changed shadow
@@ -114,24 +119,27 @@ returns-else-number-eq0-clause-taken c = λ starting earlier has keeps counted.
     first since)))
 
 pub returns-in-Commit-clause-taken : goal.returns-in-Commit-clause-taken
-returns-in-Commit-clause-taken c = λ starting earlier has keeps counted.
-    let before = c.args.self.now in
-    let low : c.args.entry.caller < length before.inner.items = omega (arith, may_caller c.requires.may, before.callers, before.inner.ok.0) in
+returns-in-Commit-clause-taken c = λ starting earlier seen kept counted.
+    let before = c.self.inside in
+    let has = has_opened c.self.view_is seen in
+    let keeps = keeps_opened c.self.view_is kept in
+    let low : c.args.entry.caller < length before.inner.items = omega (arith, low_caller keeps, c.self.invariant.1, before.inner.ok.0) in
     let one : c.args.commits + 1 ≡ suc (commit_count earlier) = omega (arith, counted) in
     ok_two c.cut.result c.cut.ensures.first c.cut.ensures.since (λ first since.
-    taken_as c.args.entry c.in-Commit.is
+    taken_closed c.self.view_is (taken_as c.args.entry c.in-Commit.is
     (commit_taken before.shadow before.inner.items before.views c.cut.new.self starting earlier c.args.entry.caller (c.args.commits + 1) has
-    (commit_followed before.shadow starting earlier c.args.entry.caller (keeps_as c.in-Commit.is keeps).rules has.followed) low one first since))
+    (commit_followed before.shadow starting earlier c.args.entry.caller (keeps_as c.in-Commit.is keeps).rules has.followed) low one first since)))
 
 pub returns-in_ok-pass_on-in-BlockCommit-clause-taken : goal.returns-in_ok-pass_on-in-BlockCommit-clause-taken
-returns-in_ok-pass_on-in-BlockCommit-clause-taken c = λ starting earlier has keeps counted.
-    let before = c.args.self.now in
+returns-in_ok-pass_on-in-BlockCommit-clause-taken c = λ starting earlier seen kept counted.
+    let before = c.self.inside in
+    let has = has_opened c.self.view_is seen in
+    let keeps = keeps_opened c.self.view_is kept in
     let on = c.pass_on-in-BlockCommit in
     let ok = c.in_ok-pass_on-in-BlockCommit in
     ok_two c.cut-in-BlockCommit.result c.cut-in-BlockCommit.ensures.first c.cut-in-BlockCommit.ensures.since (λ first since.
-    subst (λ xs. HasTaken on.new.self.shadow xs before.views c.cut-in-BlockCommit.new.self starting c.args.entry earlier) (sym on.ensures.inner)
-    (taken_as c.args.entry c.in-BlockCommit.is
-    (block_commit_taken before.shadow c.close_block-in-BlockCommit.new.self on.new.self.shadow before.inner.items before.views on.new.self.views
+    taken_closed c.self.view_is (taken_as c.args.entry c.in-BlockCommit.is
+    (block_commit_taken before.shadow c.close_block-in-BlockCommit.new.self on.new.shadow before.inner.items before.views on.new.views
     c.cut-in-BlockCommit.new.self starting earlier c.args.entry.caller has (low_caller keeps) (commits_block c.in-BlockCommit.is keeps)
     (c.close_block-in-BlockCommit.ensures.committed starting earlier has.followed (keeps_as c.in-BlockCommit.is keeps).rules)
     c.close_block-in-BlockCommit.ensures.header on.ensures.within c.close_block-in-BlockCommit.ensures.changed ok.ensures.shadow
