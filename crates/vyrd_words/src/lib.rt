@@ -9,6 +9,8 @@
 #![tactic(auto)]
 
 mod starting;
+#[cfg(test)]
+mod tests;
 mod views;
 mod words;
 mod write;
