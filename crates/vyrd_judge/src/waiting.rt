@@ -59,7 +59,7 @@ impl Model for Waiting {
 
 impl Waiting {
     /// A caller's entry at this position, which does this.
-    #[inline(always)]
+    #[inline]
     pub fn new(caller: u32, position: u64, event: Event) -> Waiting
         requires { caller < 256 }
         ensures { result ≡ record { caller = caller; position = position; event = event } }
@@ -77,7 +77,7 @@ impl Waiting {
     }
 
     /// Whose entry it is.
-    #[inline(always)]
+    #[inline]
     pub fn caller(self) -> u32
         ensures is { result ≡ self.caller }
         ensures few { result < 256 }
@@ -92,7 +92,7 @@ impl Waiting {
     }
 
     /// Its position in the log, counted from 0.
-    #[inline(always)]
+    #[inline]
     pub fn position(self) -> u64
         ensures { result ≡ self.position }
     {
@@ -100,7 +100,7 @@ impl Waiting {
     }
 
     /// What it does.
-    #[inline(always)]
+    #[inline]
     pub fn event(self) -> Event
         ensures { result ≡ self.event }
     {
