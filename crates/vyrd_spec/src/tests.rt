@@ -388,8 +388,8 @@ fn absent_key_is_not_deleted(rt: HostRuntime) {
     assert!(rt; matches!(refused, Ok(None)));
 }
 
-/// The keys that a call may change, as the empty state says: the first, the second, and whether this
-/// key is one of them.
+/// The keys that a call may change, as the empty state says: the first, the second, and whether
+/// this key is one of them.
 fn touched<S: Spec>(
     alloc: Global,
     header: Header,

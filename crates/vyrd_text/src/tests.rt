@@ -2,21 +2,20 @@
 
 ghost use Rattle.std.specs.Prelude.{◌≡◌, ◌≤◌, true, length};
 ghost use Rattle.std.specs.List.{AllByRecursion};
-ghost use Rattle.vyrd_text.specs.Written.{is_writable};
+ghost use Rattle.vyrd_base.specs.declared.log.Kind.TheVariants.{Call};
+ghost use Rattle.vyrd_text.specs.Written.{is_padded, is_writable};
 
 use crate::{
     LogReader, TextFault, read_line, read_start, write_line, write_log, write_started,
     write_verdict,
 };
-use std::alloc::Global;
+use std::alloc::{AllocError, Global};
 use std::process::Abort;
-use std::test::*;
+use std::test::Fail;
 use vyrd_base::{Args, Entry, Header, Kind, Method, Rule, StartWord, Subject, Verdict, Why};
 
 /// The most lines that a reader may be given.
 const MOST: u64 = 268_435_456;
-
-const EMPTY: &[u8] = b"vyrd 1 multiset 1 1\nend\n";
 
 /// A log whose bucket has the value 5 at the start.
 const STARTED: &[u8] = b"vyrd 2 multiset 1 1
@@ -32,12 +31,94 @@ end
 
 const DELETED: &[u8] = b"vyrd 1 multiset 1 1\n0 call delete 5\n0 commit\n0 return 0\nend\n";
 
+/// A text, the line and the rule that it breaks, if it breaks one, and how many entries are read.
+type Case = (&'static [u8], Option<(u64, Rule)>, usize);
+
+const CASES: &[Case] = &[
+    (b"vyrd 1 multiset 1 1\nend\n", None, 0),
+    (DELETED, None, 3),
+    (b"", Some((1, Rule::NoEnd)), 0),
+    (b"vyrd 1 multiset 1 1\nend", Some((2, Rule::NoLineFeed)), 0),
+    (b"vyrd 1 multiset 1 1\nend\nx", Some((3, Rule::AfterEnd)), 0),
+    (
+        b"vyrd 1 multiset 1 1\n0 call insert 05\nend\n",
+        Some((2, Rule::BadEntry)),
+        0,
+    ),
+    // The limits of the header.
+    (b"vyrd 1 multiset 1 64\nend\n", None, 0),
+    (
+        b"vyrd 1 multiset 1 65\nend\n",
+        Some((1, Rule::BadHeader)),
+        0,
+    ),
+    (b"vyrd 2 multiset 1 1\nend\n", None, 0),
+    (
+        b"vyrd 3 multiset 1 1\nend\n",
+        Some((1, Rule::UnknownVersion)),
+        0,
+    ),
+    // Starting words.
+    (STARTED, None, 5),
+    (
+        b"vyrd 2 multiset 1 1\nstart 1 5\nstart 0 2\nend\n",
+        Some((3, Rule::StartOrder)),
+        0,
+    ),
+    (
+        b"vyrd 2 multiset 1 1\nstart 0 0\nend\n",
+        Some((2, Rule::StartRange)),
+        0,
+    ),
+    (
+        b"vyrd 1 multiset 1 1\nstart 0 2\nend\n",
+        Some((2, Rule::BadEntry)),
+        0,
+    ),
+    (
+        b"vyrd 2 multiset 1 1\n0 call lookup 5\nstart 0 2\nend\n",
+        Some((3, Rule::BadEntry)),
+        1,
+    ),
+];
+
+#[test]
+fn faults_of_text(rt: HostRuntime) {
+    for (row, case) in CASES.iter().enumerate() {
+        assert_read(&rt, rt.alloc(), MOST, case, row);
+    }
+}
+
+#[test]
+fn too_many_lines(rt: HostRuntime) {
+    let case = (DELETED, Some((3, Rule::TooManyLines)), 1);
+    assert_read(&rt, rt.alloc(), 2, &case, 0);
+}
+
+/// Asserts the answer in every cutting of the text into two pieces, and byte by byte.
+fn assert_read(rt: &impl Abort, alloc: Global, max_lines: u64, case: &Case, row: usize)
+    requires { (1 ≤ max_lines) × (max_lines ≤ 268435456) }
+{
+    let (text, fault, count) = *case;
+    let answer = (answer_of(fault), count);
+    for cut in 0..=text.len() {
+        let found = read_in_two(alloc, max_lines, text, cut);
+        assert!(rt; found == answer, "row {row}, cut at {cut}");
+    }
+    let found = read_bytes(alloc, max_lines, text);
+    assert!(rt; found == answer, "row {row}, byte by byte");
+}
+
+/// What a reader answers about this fault.
+fn answer_of(fault: Option<(u64, Rule)>) -> Result<(), TextFault> {
+    match fault {
+        Some((line, rule)) => Err(TextFault::Malformed { line, rule }),
+        None => Ok(()),
+    }
+}
+
 /// The answer about a text, and how many entries were read.
 type Answer = (Result<(), TextFault>, usize);
-
-fn malformed(line: u64, rule: Rule) -> Result<(), TextFault> {
-    Err(TextFault::Malformed { line, rule })
-}
 
 /// Reads the text in two pieces.
 fn read_in_two(alloc: Global, max_lines: u64, text: &[u8], cut: usize) -> Answer
@@ -71,124 +152,6 @@ fn read_bytes(alloc: Global, max_lines: u64, text: &[u8]) -> Answer
     (reader.finish(), entries.len())
 }
 
-/// Asserts the answer in every cutting of the text into two pieces, and byte by byte.
-fn assert_read(rt: &impl Abort, alloc: Global, max_lines: u64, text: &[u8], answer: Answer)
-    requires { (1 ≤ max_lines) × (max_lines ≤ 268435456) }
-{
-    for cut in 0..=text.len() {
-        assert_eq!(rt;
-            read_in_two(alloc, max_lines, text, cut),
-            answer,
-            "cut at {cut}"
-        );
-    }
-    assert_eq!(rt; read_bytes(alloc, max_lines, text), answer);
-}
-
-#[test]
-fn faults_of_text(rt: HostRuntime) {
-    assert_read(&rt, rt.alloc(), MOST, EMPTY, (Ok(()), 0));
-    assert_read(&rt, rt.alloc(), MOST, DELETED, (Ok(()), 3));
-    assert_read(&rt, rt.alloc(), MOST, b"", (malformed(1, Rule::NoEnd), 0));
-    assert_read(
-        &rt,
-        rt.alloc(),
-        MOST,
-        b"vyrd 1 multiset 1 1\nend",
-        (malformed(2, Rule::NoLineFeed), 0),
-    );
-    assert_read(
-        &rt,
-        rt.alloc(),
-        MOST,
-        b"vyrd 1 multiset 1 1\nend\nx",
-        (malformed(3, Rule::AfterEnd), 0),
-    );
-    assert_read(
-        &rt,
-        rt.alloc(),
-        MOST,
-        b"vyrd 1 multiset 1 1\n0 call insert 05\nend\n",
-        (malformed(2, Rule::BadEntry), 0),
-    );
-}
-
-#[test]
-fn limits_of_the_header(rt: HostRuntime) {
-    assert_read(
-        &rt,
-        rt.alloc(),
-        MOST,
-        b"vyrd 1 multiset 1 64\nend\n",
-        (Ok(()), 0),
-    );
-    assert_read(
-        &rt,
-        rt.alloc(),
-        MOST,
-        b"vyrd 1 multiset 1 65\nend\n",
-        (malformed(1, Rule::BadHeader), 0),
-    );
-    assert_read(
-        &rt,
-        rt.alloc(),
-        MOST,
-        b"vyrd 2 multiset 1 1\nend\n",
-        (Ok(()), 0),
-    );
-    assert_read(
-        &rt,
-        rt.alloc(),
-        MOST,
-        b"vyrd 3 multiset 1 1\nend\n",
-        (malformed(1, Rule::UnknownVersion), 0),
-    );
-}
-
-#[test]
-fn faults_of_starting_words(rt: HostRuntime) {
-    assert_read(&rt, rt.alloc(), MOST, STARTED, (Ok(()), 5));
-    assert_read(
-        &rt,
-        rt.alloc(),
-        MOST,
-        b"vyrd 2 multiset 1 1\nstart 1 5\nstart 0 2\nend\n",
-        (malformed(3, Rule::StartOrder), 0),
-    );
-    assert_read(
-        &rt,
-        rt.alloc(),
-        MOST,
-        b"vyrd 2 multiset 1 1\nstart 0 0\nend\n",
-        (malformed(2, Rule::StartRange), 0),
-    );
-    assert_read(
-        &rt,
-        rt.alloc(),
-        MOST,
-        b"vyrd 1 multiset 1 1\nstart 0 2\nend\n",
-        (malformed(2, Rule::BadEntry), 0),
-    );
-    assert_read(
-        &rt,
-        rt.alloc(),
-        MOST,
-        b"vyrd 2 multiset 1 1\n0 call lookup 5\nstart 0 2\nend\n",
-        (malformed(3, Rule::BadEntry), 1),
-    );
-}
-
-#[test]
-fn too_many_lines(rt: HostRuntime) {
-    assert_read(
-        &rt,
-        rt.alloc(),
-        2,
-        DELETED,
-        (malformed(3, Rule::TooManyLines), 1),
-    );
-}
-
 /// The entries of the log whose text is `DELETED`.
 fn deleted() -> [Entry; 3]
     ensures { AllByRecursion (λ e. is_writable Subject.Multiset e ≡ true) result }
@@ -211,21 +174,28 @@ fn deleted() -> [Entry; 3]
 }
 
 #[test]
-fn absent_delete_replies_0(rt: HostRuntime) -> Result<(), Fail> {
-    let Some(header) = Header::new(1, Subject::Multiset, 1, 1) else {
-        panic!(rt; "no header");
-    };
-    let mut text = Vec::new(rt.alloc());
-    write_log(header, &deleted(), &mut text)?;
-    assert_eq!(rt; text.as_slice(), DELETED);
+fn absent_delete_replies_0(rt: HostRuntime) {
+    let header = Header::new(1, Subject::Multiset, 1, 1).unwrap();
+    assert!(rt; is_written(rt.alloc(), header, &deleted(), DELETED));
+    assert!(rt; is_read(rt.alloc(), DELETED, header, &deleted()));
+}
 
-    let mut reader = LogReader::new(rt.alloc(), MOST);
-    let mut entries = Vec::new(rt.alloc());
-    reader.feed(&text, &mut entries)?;
-    assert_eq!(rt; entries.as_slice(), deleted().as_slice());
-    assert_eq!(rt; reader.header(), Some(header));
-    assert!(rt; reader.ended());
-    Ok(())
+/// Whether the log with these entries is written as this text.
+fn is_written(alloc: Global, header: Header, entries: &[Entry], text: &[u8]) -> bool
+    requires { AllByRecursion (λ e. is_writable header.subject e ≡ true) entries.now }
+{
+    let mut out = Vec::new(alloc);
+    write_log(header, entries, &mut out).is_ok() && out.as_slice() == text
+}
+
+/// Whether the text is read as the log with this header and these entries, to its end.
+fn is_read(alloc: Global, text: &[u8], header: Header, entries: &[Entry]) -> bool {
+    let mut reader = LogReader::new(alloc, MOST);
+    let mut read = Vec::new(alloc);
+    reader.feed(text, &mut read).is_ok()
+        && read.as_slice() == entries
+        && reader.header() == Some(header)
+        && reader.ended()
 }
 
 /// What a reader gives of the text that comes in two pieces, written again.
@@ -247,98 +217,130 @@ fn written_again(alloc: Global, text: &[u8], cut: usize) -> Result<Vec<u8>, Fail
 fn starting_words_are_written_as_they_were_read(rt: HostRuntime) -> Result<(), Fail> {
     for cut in 0..=STARTED.len() {
         let again = written_again(rt.alloc(), STARTED, cut)?;
-        assert_eq!(rt; again.as_slice(), STARTED, "cut at {cut}");
+        assert!(rt; again.as_slice() == STARTED, "cut at {cut}");
     }
     Ok(())
 }
 
 #[test]
-fn starting_words_are_kept(rt: HostRuntime) -> Result<(), Fail> {
+fn starting_words_are_kept(rt: HostRuntime) {
+    let first = StartWord { word: 0, value: 2 };
+    let second = StartWord { word: 1, value: 5 };
     let mut reader = LogReader::new(rt.alloc(), MOST);
     let mut entries = Vec::new(rt.alloc());
-    reader.feed(&STARTED[..35], &mut entries)?;
-    let first = StartWord { word: 0, value: 2 };
-    assert_eq!(rt; reader.start(), [first].as_slice());
-    assert_eq!(rt; read_start(b"start 0 2"), Some(first));
+    assert!(rt; is_taken(&mut reader, &mut entries, &STARTED[..35], &[first], 0));
+    assert!(rt;
+        is_taken(
+            &mut reader,
+            &mut entries,
+            &STARTED[35..],
+            &[first, second],
+            5
+        )
+    );
+    assert!(rt; read_start(b"start 0 2") == Some(first));
+}
 
-    reader.feed(&STARTED[35..], &mut entries)?;
-    let second = StartWord { word: 1, value: 5 };
-    assert_eq!(rt; reader.start(), [first, second].as_slice());
-    assert_eq!(rt; entries.len(), 5);
-    Ok(())
+/// Whether the reader takes the piece, and has these starting words then and that many entries.
+fn is_taken(
+    reader: &mut LogReader,
+    entries: &mut Vec<Entry>,
+    piece: &[u8],
+    start: &[StartWord],
+    count: usize,
+) -> bool {
+    reader.feed(piece, entries).is_ok() && reader.start() == start && entries.len() == count
 }
 
 #[test]
-fn one_line(rt: HostRuntime) -> Result<(), Fail> {
-    let last = Entry {
-        caller: 0,
-        kind: Kind::Return(0),
-    };
-    let mut line = Vec::new(rt.alloc());
-    write_line(&last, &mut line)?;
-    assert_eq!(rt; line.as_slice(), b"0 return 0".as_slice());
-    assert_eq!(rt; read_line(Subject::Multiset, &line), Some(last));
-    Ok(())
+fn one_line(rt: HostRuntime) {
+    assert!(rt;
+        is_line(
+            rt.alloc(),
+            Subject::Multiset,
+            b"0 return 0",
+            Kind::Return(0)
+        )
+    );
 }
 
 /// The lines of string buffers, read and written, and two of other subjects.
 #[test]
-fn lines_of_string_buffers(rt: HostRuntime) -> Result<(), Fail> {
-    let table = [
-        (
-            b"0 call append 1 254".as_slice(),
-            Method::BuAppend,
-            (1, 254),
-        ),
-        (b"0 call append_from 1 0", Method::BuAppendFrom, (1, 0)),
-        (
+fn lines_of_string_buffers(rt: HostRuntime) {
+    let alloc = rt.alloc();
+    assert!(rt; is_call(alloc, b"0 call append 1 254", Method::BuAppend, 1, 254));
+    assert!(rt; is_call(alloc, b"0 call append_from 1 0", Method::BuAppendFrom, 1, 0));
+    assert!(rt;
+        is_call(
+            alloc,
             b"0 call cut 1 4294967295",
             Method::BuCut,
-            (1, 4_294_967_295),
-        ),
-        (b"0 call length 1", Method::BuLength, (1, 0)),
-        (b"0 call read 1", Method::BuRead, (1, 0)),
-    ];
-    for (text, method, (a, b)) in table {
-        let entry = Entry {
-            caller: 0,
-            kind: Kind::Call(method, Args { a, b, c: 0 }),
-        };
-        let mut line = Vec::new(rt.alloc());
-        write_line(&entry, &mut line)?;
-        assert_eq!(rt; line.as_slice(), text);
-        assert_eq!(rt; read_line(Subject::Buffers, text), Some(entry));
-    }
-    assert_eq!(rt; read_line(Subject::Cache, b"0 call append 1 254"), None);
-    assert_eq!(rt; read_line(Subject::Buffers, b"0 call insert 1"), None);
-    Ok(())
+            1,
+            4_294_967_295
+        )
+    );
+    assert!(rt; is_call(alloc, b"0 call length 1", Method::BuLength, 1, 0));
+    assert!(rt; is_call(alloc, b"0 call read 1", Method::BuRead, 1, 0));
+    assert!(rt; read_line(Subject::Cache, b"0 call append 1 254").is_none());
+    assert!(rt; read_line(Subject::Buffers, b"0 call insert 1").is_none());
 }
 
-#[test]
-fn verdicts(rt: HostRuntime) -> Result<(), Fail> {
-    let mut text = Vec::new(rt.alloc());
-    let accepted = Verdict::Accepted {
+/// Whether this is the line of a call to string buffers by caller 0, written and read.
+fn is_call(alloc: Global, text: &[u8], method: Method, a: u32, b: u32) -> bool
+    requires { is_padded (Call method (record { a = a; b = b; c = 0 })) ≡ true }
+{
+    let args = Args { a, b, c: 0 };
+    is_line(alloc, Subject::Buffers, text, Kind::Call(method, args))
+}
+
+/// Whether this is the line of what caller 0 does, written and read.
+fn is_line(alloc: Global, subject: Subject, text: &[u8], kind: Kind) -> bool
+    requires { is_padded kind ≡ true }
+{
+    let entry = Entry { caller: 0, kind };
+    let mut line = Vec::new(alloc);
+    write_line(&entry, &mut line).is_ok()
+        && line.as_slice() == text
+        && read_line(subject, text) == Some(entry)
+}
+
+const VERDICTS: &[Verdict] = &[
+    Verdict::Accepted {
         entries: 9,
         commits: 1,
         observers: 1,
-    };
-    write_verdict(&accepted, &mut text)?;
-    for (line, why) in [
-        (3, Why::Reply(1)),
-        (14, Why::View(6)),
-        (6, Why::Observer(1)),
-    ] {
-        write_verdict(&Verdict::Violation { line, why }, &mut text)?;
-    }
-    let raced = Verdict::Malformed {
+    },
+    Verdict::Violation {
+        line: 3,
+        why: Why::Reply(1),
+    },
+    Verdict::Violation {
+        line: 14,
+        why: Why::View(6),
+    },
+    Verdict::Violation {
+        line: 6,
+        why: Why::Observer(1),
+    },
+    Verdict::Malformed {
         line: 6,
         rule: Rule::BlockRaced,
-    };
-    write_verdict(&raced, &mut text)?;
-    for rule in [Rule::StartRange, Rule::StartOrder, Rule::StartState] {
-        write_verdict(&Verdict::Malformed { line: 2, rule }, &mut text)?;
-    }
-    let lines = b"accepted: 9 entries, 1 commits, 1 observers
+    },
+    Verdict::Malformed {
+        line: 2,
+        rule: Rule::StartRange,
+    },
+    Verdict::Malformed {
+        line: 2,
+        rule: Rule::StartOrder,
+    },
+    Verdict::Malformed {
+        line: 2,
+        rule: Rule::StartState,
+    },
+];
+
+const LINES: &[u8] = b"accepted: 9 entries, 1 commits, 1 observers
 violation at line 3: reply 1 not allowed
 violation at line 14: view differs at key 6
 violation at line 6: observer reply 1 in no state
@@ -347,6 +349,19 @@ malformed at line 2: start out of range
 malformed at line 2: start word not rising
 malformed at line 2: start stands for no state
 ";
-    assert_eq!(rt; text.as_slice(), lines.as_slice());
+
+#[test]
+fn verdicts(rt: HostRuntime) -> Result<(), Fail> {
+    let mut text = Vec::new(rt.alloc());
+    write_all(VERDICTS, &mut text)?;
+    assert_eq!(rt; text.as_slice(), LINES);
+    Ok(())
+}
+
+/// Appends the lines of these verdicts.
+fn write_all(verdicts: &[Verdict], text: &mut Vec<u8>) -> Result<(), AllocError> {
+    for verdict in verdicts {
+        write_verdict(verdict, text)?;
+    }
     Ok(())
 }
