@@ -21,6 +21,14 @@ const DELETE: Kind = Call(Method::MsDelete, Args { a: 5, b: 0, c: 0 });
 
 const LOOKUP: Kind = Call(Method::MsLookup, Args { a: 5, b: 0, c: 0 });
 
+const WRITE_EARLY: Kind = Call(Method::CaWrite, Args { a: 0, b: 1, c: 2 });
+
+const WRITE_LATE: Kind = Call(Method::CaWrite, Args { a: 0, b: 3, c: 4 });
+
+const FLUSH: Kind = Call(Method::CaFlush, Args { a: 0, b: 0, c: 0 });
+
+const INSERT_KEY: Kind = Call(Method::TrInsert, Args { a: 5, b: 9, c: 0 });
+
 const APPEND: Kind = Call(Method::BuAppend, Args { a: 1, b: 65, c: 0 });
 
 const LENGTH: Kind = Call(Method::BuLength, Args { a: 1, b: 0, c: 0 });
@@ -43,47 +51,48 @@ fn accepted(entries: u64, commits: u64, observers: u64) -> Verdict {
 /// Logs of a multiset of size 1 with two callers, each of both versions. Their verdicts are those
 /// of `examples/logs`.
 #[test]
-fn judges_agree_on_a_multiset(rt: HostRuntime) -> Result<(), Fail> {
-    assert!(rt; agree_on(rt.alloc(), &insert_with_its_writes())?);
-    assert!(rt; agree_on(rt.alloc(), &insert_without_its_writes())?);
-    assert!(rt; agree_on(rt.alloc(), &absent_delete(1))?);
-    assert!(rt; agree_on(rt.alloc(), &absent_delete(0))?);
-    assert!(rt; agree_on(rt.alloc(), &lookup_across_a_commit(0))?);
-    assert!(rt; agree_on(rt.alloc(), &lookup_across_a_commit(1))?);
-    assert!(rt; agree_on(rt.alloc(), &lookup_before_the_commit())?);
-    assert!(rt; agree_on(rt.alloc(), &commit_before_its_write())?);
-    Ok(())
+fn judges_agree_on_a_multiset(rt: HostRuntime) {
+    for (row, entries) in MULTISETS.iter().enumerate() {
+        assert!(rt; agree_on(rt.alloc(), entries) == Ok(true), "row {row}");
+    }
 }
 
-/// The same of logs in which something waits, or is wrong before something else.
-#[test]
-fn judges_agree_on_what_waits(rt: HostRuntime) -> Result<(), Fail> {
-    assert!(rt; agree_on(rt.alloc(), &open_block_is_left_out())?);
-    assert!(rt; agree_on(rt.alloc(), &write_outside_a_block_counts())?);
-    assert!(rt; agree_on(rt.alloc(), &block_raced())?);
-    assert!(rt; agree_on(rt.alloc(), &delete_behind_a_lookup(1))?);
-    assert!(rt; agree_on(rt.alloc(), &delete_behind_a_lookup(0))?);
-    assert!(rt; agree_on(rt.alloc(), &cut_before_end())?);
-    assert!(rt; agree_on(rt.alloc(), &another_commit_between())?);
-    Ok(())
-}
+const MULTISETS: &[&[Entry]] = &[
+    INSERT_WITH_ITS_WRITES,
+    INSERT_WITHOUT_ITS_WRITES,
+    ABSENT_DELETE_REPLIES_1,
+    ABSENT_DELETE_REPLIES_0,
+    LOOKUP_ACROSS_A_COMMIT_REPLIES_0,
+    LOOKUP_ACROSS_A_COMMIT_REPLIES_1,
+    LOOKUP_BEFORE_THE_COMMIT,
+    COMMIT_BEFORE_ITS_WRITE,
+    // In these something waits, or is wrong before something else.
+    OPEN_BLOCK_IS_LEFT_OUT,
+    WRITE_OUTSIDE_A_BLOCK_COUNTS,
+    BLOCK_RACED,
+    DELETE_BEHIND_A_LOOKUP_REPLIES_1,
+    DELETE_BEHIND_A_LOOKUP_REPLIES_0,
+    CUT_BEFORE_END,
+    ANOTHER_COMMIT_BETWEEN,
+];
 
 /// The same of the other structures.
 #[test]
-fn judges_agree_on_each_structure(rt: HostRuntime) -> Result<(), Fail> {
-    let cache = Header::new(1, Subject::Cache, 1, 2).ok_or("no header")?;
-    assert!(rt; judges_agree::<CacheSpec>(rt.alloc(), cache, &write_behind_a_flush())?);
-    let tree = Header::new(1, Subject::Tree, 1, 1).ok_or("no header")?;
-    assert!(rt; judges_agree::<TreeSpec>(rt.alloc(), tree, &absent_insert_replies_2())?);
-    let buffers = Header::new(1, Subject::Buffers, 2, 4).ok_or("no header")?;
-    assert!(rt; judges_agree::<BufferSpec>(rt.alloc(), buffers, &three_lengths([0, 1, 1]))?);
-    Ok(())
+fn judges_agree_on_each_structure(rt: HostRuntime) {
+    let alloc = rt.alloc();
+    let cache = Header::new(1, Subject::Cache, 1, 2).unwrap();
+    let tree = Header::new(1, Subject::Tree, 1, 1).unwrap();
+    let buffers = Header::new(1, Subject::Buffers, 2, 4).unwrap();
+    assert!(rt; judges_agree::<CacheSpec>(alloc, cache, WRITE_BEHIND_A_FLUSH) == Ok(true));
+    assert!(rt; judges_agree::<TreeSpec>(alloc, tree, ABSENT_INSERT_REPLIES_2) == Ok(true));
+    assert!(rt; judges_agree::<BufferSpec>(alloc, buffers, THREE_LENGTHS) == Ok(true));
 }
 
-/// Whether the judges agree on the log of a multiset, of either version.
-fn agree_on(alloc: Global, entries: &[Entry]) -> Result<bool, AllocError>
-    requires few { length entries.now ≤ 20 }
-{
+/// Whether the judges agree on the log of a multiset, of either version. It has 20 entries at most.
+fn agree_on(alloc: Global, entries: &[Entry]) -> Result<bool, AllocError> {
+    if entries.len() > 20 {
+        return Ok(false);
+    }
     for version in 1..3 {
         match Header::new(version, Subject::Multiset, 1, 2) {
             Some(header) if judges_agree::<MultisetSpec>(alloc, header, entries)? => {}
@@ -116,118 +125,95 @@ fn judges_agree<S: Spec>(
     Ok(judge.finish()? == judge_log::<S>(alloc, header, entries, Stop::End)?)
 }
 
-fn insert_with_its_writes() -> [Entry; 7] {
-    logged![
-        0 INSERT, 0 Write(1, 5), 0 Write(0, 1), 0 BlockOpen, 0 Write(0, 2), 0 BlockCommit,
-        0 Return(1)
-    ]
-}
+const INSERT_WITH_ITS_WRITES: &[Entry] = &logged![
+    0 INSERT, 0 Write(1, 5), 0 Write(0, 1), 0 BlockOpen, 0 Write(0, 2), 0 BlockCommit,
+    0 Return(1)
+];
 
-fn insert_without_its_writes() -> [Entry; 3] {
-    logged![0 INSERT, 0 Commit, 0 Return(1)]
-}
+const INSERT_WITHOUT_ITS_WRITES: &[Entry] = &logged![0 INSERT, 0 Commit, 0 Return(1)];
 
-fn absent_delete(reply: u64) -> [Entry; 3] {
-    logged![0 DELETE, 0 Commit, 0 Return(reply)]
-}
+const ABSENT_DELETE_REPLIES_1: &[Entry] = &logged![0 DELETE, 0 Commit, 0 Return(1)];
 
-fn lookup_across_a_commit(reply: u64) -> [Entry; 9] {
-    logged![
-        0 INSERT, 0 Write(1, 5), 0 Write(0, 1), 1 LOOKUP,
-        0 BlockOpen, 0 Write(0, 2), 0 BlockCommit, 0 Return(1), 1 Return(reply)
-    ]
-}
+const ABSENT_DELETE_REPLIES_0: &[Entry] = &logged![0 DELETE, 0 Commit, 0 Return(0)];
 
-fn lookup_before_the_commit() -> [Entry; 9] {
-    logged![
-        0 INSERT, 0 Write(1, 5), 0 Write(0, 1), 1 LOOKUP, 1 Return(1),
-        0 BlockOpen, 0 Write(0, 2), 0 BlockCommit, 0 Return(1)
-    ]
-}
+const LOOKUP_ACROSS_A_COMMIT_REPLIES_0: &[Entry] = &logged![
+    0 INSERT, 0 Write(1, 5), 0 Write(0, 1), 1 LOOKUP,
+    0 BlockOpen, 0 Write(0, 2), 0 BlockCommit, 0 Return(1), 1 Return(0)
+];
 
-fn open_block_is_left_out() -> [Entry; 10] {
-    logged![
-        0 INSERT, 0 Write(1, 5), 0 Write(0, 1), 0 BlockOpen, 0 Write(0, 2),
-        1 INSERT_SIX, 1 Commit, 1 Return(0), 0 BlockCommit, 0 Return(1)
-    ]
-}
+const LOOKUP_ACROSS_A_COMMIT_REPLIES_1: &[Entry] = &logged![
+    0 INSERT, 0 Write(1, 5), 0 Write(0, 1), 1 LOOKUP,
+    0 BlockOpen, 0 Write(0, 2), 0 BlockCommit, 0 Return(1), 1 Return(1)
+];
 
-fn write_outside_a_block_counts() -> [Entry; 9] {
-    logged![
-        0 INSERT, 0 Write(1, 5), 0 Write(0, 1), 0 Write(0, 2),
-        1 INSERT_SIX, 1 Commit, 1 Return(0), 0 Commit, 0 Return(1)
-    ]
-}
+const LOOKUP_BEFORE_THE_COMMIT: &[Entry] = &logged![
+    0 INSERT, 0 Write(1, 5), 0 Write(0, 1), 1 LOOKUP, 1 Return(1),
+    0 BlockOpen, 0 Write(0, 2), 0 BlockCommit, 0 Return(1)
+];
 
-fn block_raced() -> [Entry; 5] {
-    logged![0 INSERT, 0 BlockOpen, 0 Write(0, 2), 1 INSERT_SIX, 1 Write(0, 1)]
-}
+const OPEN_BLOCK_IS_LEFT_OUT: &[Entry] = &logged![
+    0 INSERT, 0 Write(1, 5), 0 Write(0, 1), 0 BlockOpen, 0 Write(0, 2),
+    1 INSERT_SIX, 1 Commit, 1 Return(0), 0 BlockCommit, 0 Return(1)
+];
 
-fn delete_behind_a_lookup(reply: u64) -> [Entry; 5] {
-    logged![0 DELETE, 0 Commit, 1 LOOKUP, 1 Return(7), 0 Return(reply)]
-}
+const WRITE_OUTSIDE_A_BLOCK_COUNTS: &[Entry] = &logged![
+    0 INSERT, 0 Write(1, 5), 0 Write(0, 1), 0 Write(0, 2),
+    1 INSERT_SIX, 1 Commit, 1 Return(0), 0 Commit, 0 Return(1)
+];
 
-fn cut_before_end() -> [Entry; 4] {
-    logged![0 DELETE, 0 Commit, 1 LOOKUP, 1 Return(7)]
-}
+const BLOCK_RACED: &[Entry] =
+    &logged![0 INSERT, 0 BlockOpen, 0 Write(0, 2), 1 INSERT_SIX, 1 Write(0, 1)];
 
-fn commit_before_its_write() -> [Entry; 7] {
-    logged![
-        0 INSERT, 0 Write(1, 5), 0 BlockOpen, 0 Commit, 0 Write(0, 2), 0 BlockClose, 0 Return(1)
-    ]
-}
+const DELETE_BEHIND_A_LOOKUP_REPLIES_1: &[Entry] =
+    &logged![0 DELETE, 0 Commit, 1 LOOKUP, 1 Return(7), 0 Return(1)];
 
-fn another_commit_between() -> [Entry; 10] {
-    logged![
-        0 INSERT, 0 Write(1, 5), 0 BlockOpen, 0 Commit, 1 INSERT_SIX, 1 Commit, 1 Return(0),
-        0 Write(0, 2), 0 BlockClose, 0 Return(1)
-    ]
-}
+const DELETE_BEHIND_A_LOOKUP_REPLIES_0: &[Entry] =
+    &logged![0 DELETE, 0 Commit, 1 LOOKUP, 1 Return(7), 0 Return(0)];
+
+const CUT_BEFORE_END: &[Entry] = &logged![0 DELETE, 0 Commit, 1 LOOKUP, 1 Return(7)];
+
+const COMMIT_BEFORE_ITS_WRITE: &[Entry] = &logged![
+    0 INSERT, 0 Write(1, 5), 0 BlockOpen, 0 Commit, 0 Write(0, 2), 0 BlockClose, 0 Return(1)
+];
+
+const ANOTHER_COMMIT_BETWEEN: &[Entry] = &logged![
+    0 INSERT, 0 Write(1, 5), 0 BlockOpen, 0 Commit, 1 INSERT_SIX, 1 Commit, 1 Return(0),
+    0 Write(0, 2), 0 BlockClose, 0 Return(1)
+];
 
 /// A write to the cache outside a block, with another caller's flush in its middle: the flush
 /// copies a torn pair.
-fn write_behind_a_flush() -> [Entry; 19] {
-    let early = Call(Method::CaWrite, Args { a: 0, b: 1, c: 2 });
-    let late = Call(Method::CaWrite, Args { a: 0, b: 3, c: 4 });
-    let flush = Call(Method::CaFlush, Args { a: 0, b: 0, c: 0 });
-    logged![
-        0 early, 0 BlockOpen, 0 Write(1, 1), 0 Write(2, 2), 0 Write(0, 2), 0 BlockCommit,
-        0 Return(1),
-        0 late, 0 Write(1, 3),
-        1 flush, 1 BlockOpen, 1 Write(3, 3), 1 Write(4, 2), 1 Write(0, 1), 1 BlockCommit,
-        1 Return(1),
-        0 Write(2, 4), 0 Commit, 0 Return(1)
-    ]
-}
+const WRITE_BEHIND_A_FLUSH: &[Entry] = &logged![
+    0 WRITE_EARLY, 0 BlockOpen, 0 Write(1, 1), 0 Write(2, 2), 0 Write(0, 2), 0 BlockCommit,
+    0 Return(1),
+    0 WRITE_LATE, 0 Write(1, 3),
+    1 FLUSH, 1 BlockOpen, 1 Write(3, 3), 1 Write(4, 2), 1 Write(0, 1), 1 BlockCommit,
+    1 Return(1),
+    0 Write(2, 4), 0 Commit, 0 Return(1)
+];
 
 /// An insert that says it replaced a key which the tree doesn't have.
-fn absent_insert_replies_2() -> [Entry; 3] {
-    let insert = Call(Method::TrInsert, Args { a: 5, b: 9, c: 0 });
-    logged![0 insert, 0 Commit, 0 Return(2)]
-}
+const ABSENT_INSERT_REPLIES_2: &[Entry] = &logged![0 INSERT_KEY, 0 Commit, 0 Return(2)];
 
 /// A call before the first append, one between the two, and one after both. Then they return in
 /// this order.
-fn three_lengths(replies: [u64; 3]) -> [Entry; 18] {
-    logged![
-        1 LENGTH,
-        0 APPEND, 0 BlockOpen, 0 Write(9, 65), 0 Write(8, 1), 0 BlockCommit, 0 Return(1),
-        2 LENGTH,
-        0 APPEND, 0 BlockOpen, 0 Write(10, 65), 0 Write(8, 2), 0 BlockCommit, 0 Return(1),
-        3 LENGTH, 1 Return(replies[0]), 2 Return(replies[1]), 3 Return(replies[2])
-    ]
-}
+const THREE_LENGTHS: &[Entry] = &logged![
+    1 LENGTH,
+    0 APPEND, 0 BlockOpen, 0 Write(9, 65), 0 Write(8, 1), 0 BlockCommit, 0 Return(1),
+    2 LENGTH,
+    0 APPEND, 0 BlockOpen, 0 Write(10, 65), 0 Write(8, 2), 0 BlockCommit, 0 Return(1),
+    3 LENGTH, 1 Return(0), 2 Return(1), 3 Return(1)
+];
 
 /// A value that stands there at the start is deleted. In two buckets it stands in one that isn't
 /// its own.
 #[test]
-fn a_start_is_a_state_or_none(rt: HostRuntime) -> Result<(), Fail> {
-    let one = Header::new(2, Subject::Multiset, 1, 1).ok_or("no header")?;
-    let deleted = judged_from(rt.alloc(), one, &ONE_FIVE, &delete_of_a_start())?;
-    assert_eq!(rt; deleted, Some(accepted(5, 1, 0)));
-    let two = Header::new(2, Subject::Multiset, 2, 1).ok_or("no header")?;
-    assert!(rt; judged_from(rt.alloc(), two, &ONE_FIVE, &[])?.is_none());
-    Ok(())
+fn a_start_is_a_state_or_none(rt: HostRuntime) {
+    let one = Header::new(2, Subject::Multiset, 1, 1).unwrap();
+    let deleted = judged_from(rt.alloc(), one, &ONE_FIVE, &DELETE_OF_A_START);
+    assert!(rt; deleted == Ok(Some(accepted(5, 1, 0))));
+    let two = Header::new(2, Subject::Multiset, 2, 1).unwrap();
+    assert!(rt; judged_from(rt.alloc(), two, &ONE_FIVE, &[]) == Ok(None));
 }
 
 const ONE_FIVE: [StartWord; 2] = [
@@ -235,9 +221,8 @@ const ONE_FIVE: [StartWord; 2] = [
     StartWord { word: 1, value: 5 },
 ];
 
-fn delete_of_a_start() -> [Entry; 5] {
-    logged![0 DELETE, 0 BlockOpen, 0 Write(0, 0), 0 BlockCommit, 0 Return(1)]
-}
+const DELETE_OF_A_START: [Entry; 5] =
+    logged![0 DELETE, 0 BlockOpen, 0 Write(0, 0), 0 BlockCommit, 0 Return(1)];
 
 /// The verdict about a log that begins with these words, if they stand for a state.
 fn judged_from(
@@ -258,21 +243,25 @@ fn judged_from(
 
 /// Of a lookup that reads a word, the log has the call and the return.
 #[test]
-fn a_history_has_a_log(rt: HostRuntime) -> Result<(), Fail> {
-    let header = Header::new(1, Subject::Multiset, 1, 1).ok_or("no header")?;
+fn a_history_has_a_log(rt: HostRuntime) {
+    let header = Header::new(1, Subject::Multiset, 1, 1).unwrap();
     let history = [
         did(0, Did::Marked(LOOKUP)),
         did(1, Did::Read(0, 0)),
         did(2, Did::Marked(Return(0))),
     ];
-    let log = log_of(rt.alloc(), &history)?;
-    assert_eq!(rt; log.as_slice(), logged![0 LOOKUP, 0 Return(0)].as_slice());
-    assert_eq!(rt; entry_of(history[1]), None);
-    assert_eq!(rt;
-        judge_history(rt.alloc(), header, &history)?,
-        accepted(2, 0, 1)
-    );
-    Ok(())
+    assert!(rt; is_log(rt.alloc(), &history, &logged![0 LOOKUP, 0 Return(0)]));
+    assert!(rt; entry_of(history[1]).is_none());
+    let verdict = judge_history(rt.alloc(), header, &history);
+    assert!(rt; verdict == Ok(accepted(2, 0, 1)));
+}
+
+/// Whether the history has this log.
+fn is_log(alloc: Global, history: &[Stamped], log: &[Entry]) -> bool {
+    match log_of(alloc, history) {
+        Ok(found) => found.as_slice() == log,
+        Err(_) => false,
+    }
 }
 
 fn did(number: u64, did: Did) -> Stamped {
