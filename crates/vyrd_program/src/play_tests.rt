@@ -3,8 +3,12 @@
 use crate::case::{BYTE_BY_BYTE, Case};
 use crate::program::vyrd;
 use std::alloc::{AllocError, Global};
+use std::sync::Wait;
 use std::test::*;
+use std::thread::Threads;
 use vyrd_base::{Did, MemorySink, MemorySource, OpenGate, Stamped, Verdict};
+use vyrd_live::run_by_turns;
+use vyrd_work::{AnyMachine, generate};
 
 /// The most bytes that a sink takes here. No answer is as long.
 const ROOM: usize = 4096;
@@ -93,47 +97,58 @@ fn write_of_a_log_that_fails(rt: HostRuntime) -> Result<(), Fail> {
 
 #[test]
 fn the_same_operations_twice(rt: HostRuntime) -> Result<(), Fail> {
-    let alloc = rt.alloc();
-    let words = ["gen", "2000"];
-    let mut source = MemorySource::new(alloc, b"", 1, &[])?;
-    let mut first = MemorySink::new(alloc, ROOM, ROOM, &[])?;
-    let mut second = MemorySink::new(alloc, ROOM, ROOM, &[])?;
-    let once = vyrd(&rt, alloc, &words, &mut source, &mut first, &OpenGate);
-    let again = vyrd(&rt, alloc, &words, &mut source, &mut second, &OpenGate);
-    assert_eq!(rt; (once.status, again.status), (0, 0));
-    assert_eq!(rt; first.taken(), second.taken());
-    let work = generate(alloc, 2000)?;
-    let run = run_by_turns::<AnyMachine>(alloc, &work)?;
-    let judged = match run.map(|run| run.verdict) {
-        Some(
-            Verdict::Accepted {
-                commits,
-                observers,
-                ..
-            },
-        ) => commits.checked_add(observers),
-        _ => None,
-    };
-    assert_eq!(rt; judged, Some(2000));
+    let mut first = MemorySink::new(rt.alloc(), ROOM, ROOM, &[])?;
+    let mut second = MemorySink::new(rt.alloc(), ROOM, ROOM, &[])?;
+    assert!(rt; accepts_2000(&rt, rt.alloc(), &mut first));
+    assert!(rt; accepts_2000(&rt, rt.alloc(), &mut second));
+    assert!(rt; first.taken() == second.taken());
+    assert!(rt; judged_of_2000(rt.alloc()) == Some(2000));
     Ok(())
+}
+
+/// Whether 2,000 generated operations are accepted.
+fn accepts_2000<R: Threads + Wait + Sync>(rt: &R, alloc: Global, sink: &mut MemorySink) -> bool {
+    match MemorySource::new(alloc, b"", 1, &[]) {
+        Ok(mut source) => {
+            vyrd(rt, alloc, &["gen", "2000"], &mut source, sink, &OpenGate).status == 0
+        }
+        Err(_) => false,
+    }
+}
+
+/// How many of 2,000 generated operations are judged in their run by turns.
+fn judged_of_2000(alloc: Global) -> Option<u64> {
+    let work = generate(alloc, 2000).ok()?;
+    match run_by_turns::<AnyMachine>(alloc, &work).ok()??.verdict {
+        Verdict::Accepted {
+            commits,
+            observers,
+            ..
+        } => commits.checked_add(observers),
+        _ => None,
+    }
 }
 
 #[test]
 fn twenty_live_runs(rt: HostRuntime) -> Result<(), Fail> {
-    let alloc = rt.alloc();
     for size in 1..=20u32 {
-        let work = mixed_work(alloc, size)?;
-        let mut source = MemorySource::new(alloc, &work, 64, &[])?;
-        let mut sink = MemorySink::new(alloc, ROOM, ROOM, &[])?;
-        let ended = vyrd(&rt, alloc, &["run"], &mut source, &mut sink, &OpenGate);
-        assert_eq!(rt; ended.status, 0, "size {size}");
-        let legal = match &ended.run {
-            Some(run) => is_legal(alloc, &run.history)?,
-            None => false,
-        };
-        assert!(rt; legal, "size {size}");
+        let work = mixed_work(rt.alloc(), size)?;
+        assert!(rt;
+            is_legal_live(&rt, rt.alloc(), &work) == Some(true),
+            "size {size}"
+        );
     }
     Ok(())
+}
+
+/// Whether the workload's live run is accepted and its history legal.
+fn is_legal_live<R: Threads + Wait + Sync>(rt: &R, alloc: Global, work: &[u8]) -> Option<bool> {
+    let mut source = MemorySource::new(alloc, work, 64, &[]).ok()?;
+    let mut sink = MemorySink::new(alloc, ROOM, ROOM, &[]).ok()?;
+    let ended = vyrd(rt, alloc, &["run"], &mut source, &mut sink, &OpenGate);
+    let status = ended.status;
+    let run = ended.run?;
+    Some(status == 0 && is_legal(alloc, &run.history).ok()?)
 }
 
 /// A workload of three callers who share a few keys, on a multiset, a cache, a tree or string

@@ -1,16 +1,28 @@
 //! The words that a run leaves, as the start of a log.
 
 ghost use Rattle.std.specs.Prelude.{◌≡◌, ◌<◌, ◌^◌, ℕ, length, slice_index, IfOk, IfSome};
+ghost use Rattle.vyrd_base.specs.declared.subject.Subject.TheVariants.{Tree};
 ghost use Rattle.vyrd_base.specs.Layout.{plain_words};
 
+use crate::case::{Case, Devices};
 use crate::program::vyrd;
 use std::alloc::{AllocError, Global};
+use std::sync::Wait;
 use std::test::*;
+use std::thread::Threads;
 use vyrd_base::{Header, MemorySink, MemorySource, OpenGate, Subject};
 use vyrd_spec::{Spec, TreeSpec};
 
 /// The most bytes that a sink takes here. No answer is as long.
 const ROOM: usize = 128;
+
+/// Devices that give and take as much as there is, and never fail.
+const WHOLE: Devices<'static> = Devices {
+    longest_read: 4096,
+    failing_reads: &[],
+    longest_write: ROOM,
+    failing_writes: &[],
+};
 
 /// The workload that inserts the keys 1 to 40 into a tree of 18 nodes, each with itself as its
 /// value.
@@ -62,27 +74,39 @@ fn plain_words_of(
     Ok(Some(plain))
 }
 
+/// The words that forty inserts leave.
+fn words_left<R: Threads + Wait + Sync>(rt: &R, alloc: Global) -> Option<Vec<u64>> {
+    let work = forty_inserts(alloc).ok()?;
+    let mut source = MemorySource::new(alloc, work.as_bytes(), 4096, &[]).ok()?;
+    let mut sink = MemorySink::new(alloc, ROOM, ROOM, &[]).ok()?;
+    let ended = vyrd(rt, alloc, &["step"], &mut source, &mut sink, &OpenGate);
+    Some(ended.run?.words)
+}
+
+/// How many keys the state has for which the words stand, if they stand for one.
+fn count_keys(alloc: Global, header: Header, plain: &[u64]) -> Option<usize>
+    requires subject { header.subject ≡ Tree }
+    requires count { length plain.now ≡ plain_words header }
+    requires low { (w : ℕ) → slice_index plain.now w < 2 ^ 63 }
+{
+    let spec = TreeSpec::start_from(alloc, header, plain).ok()??;
+    Some(spec.view(alloc).ok()?.pairs().len())
+}
+
 #[test]
 fn start_with_forty_keys(rt: HostRuntime) -> Result<(), Fail> {
     let alloc = rt.alloc();
-    let work = forty_inserts(alloc)?;
-    let mut source = MemorySource::new(alloc, work.as_bytes(), 4096, &[])?;
-    let mut sink = MemorySink::new(alloc, ROOM, ROOM, &[])?;
-    let ended = vyrd(&rt, alloc, &["step"], &mut source, &mut sink, &OpenGate);
-    let run = ended.run.ok_or("no run")?;
-    let header = Header::new(2, Subject::Tree, 18, 1).ok_or("no header")?;
-    let plain = plain_words_of(alloc, header, &run.words)?.ok_or("no words")?;
-    let spec = TreeSpec::start_from(alloc, header, &plain)?.ok_or("no state")?;
-    assert_eq!(rt; spec.view(alloc)?.pairs().len(), 40);
-
+    let header = Header::new(2, Subject::Tree, 18, 1).unwrap();
+    let words = words_left(&rt, alloc).ok_or("no run")?;
+    let plain = plain_words_of(alloc, header, &words)?.ok_or("no words")?;
+    assert!(rt; count_keys(alloc, header, &plain) == Some(40));
     let log = forty_lookups(alloc, &plain)?;
-    let mut source = MemorySource::new(alloc, log.as_bytes(), 4096, &[])?;
-    let mut sink = MemorySink::new(alloc, ROOM, ROOM, &[])?;
-    let ended = vyrd(&rt, alloc, &["check"], &mut source, &mut sink, &OpenGate);
-    assert_eq!(rt; ended.status, 0);
-    assert_eq!(rt;
-        sink.taken(),
-        b"accepted: 80 entries, 0 commits, 40 observers\n".as_slice()
-    );
-    Ok(())
+    let case = Case {
+        name: "forty_lookups",
+        words: &["check"],
+        input: log.as_bytes(),
+        status: 0,
+        answer: b"accepted: 80 entries, 0 commits, 40 observers\n",
+    };
+    case.assert_over(&rt, alloc, &WHOLE)
 }
