@@ -50,8 +50,6 @@ mod memory_sink;
 mod memory_source;
 mod streams;
 mod subject;
-#[cfg(test)]
-mod tests;
 mod verdict;
 mod view;
 pub mod worked;

@@ -15,8 +15,6 @@ mod parts;
 mod reader;
 mod rounds;
 mod span;
-#[cfg(test)]
-mod tests;
 pub mod worked;
 
 pub use answer::{status_of, write_refusal, write_verdicts};

@@ -13,8 +13,6 @@ mod machine;
 mod place;
 mod progress;
 mod task;
-#[cfg(test)]
-mod tests;
 mod text;
 
 pub use machine::BufferMachine;

@@ -12,8 +12,6 @@ mod machine;
 mod place;
 mod progress;
 mod task;
-#[cfg(test)]
-mod tests;
 
 pub use machine::CacheMachine;
 pub use progress::CacheProgress;

@@ -9,8 +9,6 @@
 #![tactic(auto)]
 
 mod checker;
-#[cfg(test)]
-mod tests;
 mod text_judge;
 
 pub use checker::{Checker, verdict_of};

@@ -25,8 +25,6 @@ mod online;
 mod outcome;
 mod queue;
 mod replay;
-#[cfg(test)]
-mod tests;
 mod waiting;
 
 pub use any::{AnyJudge, judge_history};

@@ -23,8 +23,6 @@ mod judging;
 mod live;
 mod outbox;
 mod run;
-#[cfg(test)]
-mod tests;
 mod verifier;
 mod watch;
 mod worker;

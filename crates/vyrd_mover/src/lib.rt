@@ -29,8 +29,6 @@ mod lines;
 mod reader;
 mod step;
 mod survey;
-#[cfg(test)]
-mod tests;
 mod usage;
 mod uses;
 pub mod worked;

@@ -18,8 +18,6 @@ mod nodes;
 mod row;
 mod slot_words;
 mod spec;
-#[cfg(test)]
-mod tests;
 mod text;
 mod touched;
 mod tree;

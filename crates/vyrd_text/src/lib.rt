@@ -21,8 +21,6 @@ mod number;
 mod quick;
 mod reader;
 mod start;
-#[cfg(test)]
-mod tests;
 mod verdict;
 mod writer;
 

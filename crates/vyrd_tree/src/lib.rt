@@ -21,8 +21,6 @@ mod slot;
 mod split;
 mod storing;
 mod task;
-#[cfg(test)]
-mod tests;
 mod visit;
 mod walk;
 mod written;

@@ -30,8 +30,6 @@ mod sides;
 mod slots;
 mod steps;
 mod string_buffers;
-#[cfg(test)]
-mod tests;
 mod tree;
 mod words;
 

@@ -18,8 +18,6 @@ pub mod laws;
 mod line;
 mod machine;
 mod reader;
-#[cfg(test)]
-mod tests;
 mod work;
 pub mod worked;
 mod writer;

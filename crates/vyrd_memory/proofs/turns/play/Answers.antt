@@ -26,7 +26,7 @@ pub play_rounds-requires-clause-few : goal.play_rounds-requires-clause-few
 play_rounds-requires-clause-few g c =
     let low : length c.args.machines.now ≤ 64 = search rules in
     let before = few g.M.Machine.ahead c.args.machines.now (g.S.EventSink.count c.args.sink.now) g.met.M.Machine.few low
-      (g.met.S.EventSink.counted c.args.sink.now [] c.requires.none) in
+    (g.met.S.EventSink.counted c.args.sink.now [] c.requires.none) in
     omega (arith, before, c.in_ok-repeat_all.ensures.few)
 
 pub returns-then-are_done : goal.returns-then-are_done

@@ -103,8 +103,8 @@ returns-clause-shown g c =
 pub take-requires-clause-few : goal.take-requires-clause-few
 take-requires-clause-few g c =
     let falls = total_falls g.M.Machine.ahead c.args.machines.now c.args.caller c.index-machines-caller.result c.took.new.self
-      (element_here c.args.machines.now c.args.caller c.index-machines-caller.result c.requires.caller c.index-machines-caller.is)
-      (subst (λ m. g.M.Machine.ahead c.took.new.self < g.M.Machine.ahead m) (sym c.index-machines-caller.is) c.took.ensures.falls) in
+    (element_here c.args.machines.now c.args.caller c.index-machines-caller.result c.requires.caller c.index-machines-caller.is)
+    (subst (λ m. g.M.Machine.ahead c.took.new.self < g.M.Machine.ahead m) (sym c.index-machines-caller.is) c.took.ensures.falls) in
     omega (arith, c.requires.few, falls)
 
 pub returns-clause-falls : goal.returns-clause-falls

@@ -1,4 +1,4 @@
-use Rattle.std.proofs.Common.{◌≡◌, ◌∙◌, ap, subst, inl}
+use Rattle.std.proofs.Common.{◌∙◌, ap, subst, inl}
 use Rattle.vyrd_memory.specs.Turns.{GetsStuck}
 use Rattle.vyrd_memory.specs.Showing.{HasRun}
 use Rattle.vyrd_work.specs.Workloads.{workload_of}
@@ -15,7 +15,7 @@ returns-in-Some-clause-answer c =
     let w = workload_of c.in_ok-work.work in
     let a = c.show_by_turns.new.sink in
     let run = of_match (GetsStuck (work_scripts w) w.turns) (λ words. HasRun (work_scripts w) w.turns w.header HasTaken a words.items)
-      c.in_ok-show_by_turns.field-0 c.in-Some.field-0 c.in-Some.is c.in_ok-show_by_turns.ensures.played in
+    c.in_ok-show_by_turns.field-0 c.in-Some.field-0 c.in-Some.is c.in_ok-show_by_turns.ensures.played in
     let fixed = of_some _ c.in_ok-show_by_turns.field-0 c.in-Some.field-0 c.in-Some.is c.in_ok-show_by_turns.ensures.fixed in
     both_ok c.generated.result (c.generated.ensures.status run.history run.taken) (c.generated.ensures.text run.history run.taken)
     (λ answer status text. inl (subst (λ w. CountsRun c.args.count w answer.status answer.text.items) c.in_ok-work.ensures.work

@@ -11,15 +11,15 @@ returns-clause-text c = λ history taken.
     let show = sym (ap (λ a. a.show) c.self.view_is) in
     elim c.match-show.branch [
       | in-Verdict+in_ok-write_verdict-in-Verdict w ↦
-        ap (λ t. t.items) w.text-is
-        ∙ verdict_told c.args.self.show h history v c.self.inside.text.items w.write_verdict.new.out.items (show ∙ w.in-Verdict.is) before
-        w.in_ok-write_verdict-in-Verdict.ensures.ok
+          ap (λ t. t.items) w.text-is
+          ∙ verdict_told c.args.self.show h history v c.self.inside.text.items w.write_verdict.new.out.items (show ∙ w.in-Verdict.is) before
+          w.in_ok-write_verdict-in-Verdict.ensures.ok
       | in-Log+in_ok-extend_from_slice-in-Log+in_ok-write_verdict-in-Log w ↦
-        ap (λ t. t.items) w.text-is
-        ∙ log_told c.args.self.show h history v c.self.inside.text.items w.extend_from_slice.new.self.items w.write_verdict-in-Log.new.out.items
-        (show ∙ w.in-Log.is) before w.in_ok-extend_from_slice-in-Log.ensures.items w.in_ok-write_verdict-in-Log.ensures.ok
+          ap (λ t. t.items) w.text-is
+          ∙ log_told c.args.self.show h history v c.self.inside.text.items w.extend_from_slice.new.self.items w.write_verdict-in-Log.new.out.items
+          (show ∙ w.in-Log.is) before w.in_ok-extend_from_slice-in-Log.ensures.items w.in_ok-write_verdict-in-Log.ensures.ok
       | in-History+in_ok-extend_from_slice-in-History w ↦
-        ap (λ t. t.items) w.text-is
-        ∙ history_told c.args.self.show h history v c.self.inside.text.items w.extend_from_slice-in-History.new.self.items
-        (show ∙ w.in-History.is) before w.in_ok-extend_from_slice-in-History.ensures.items
+          ap (λ t. t.items) w.text-is
+          ∙ history_told c.args.self.show h history v c.self.inside.text.items w.extend_from_slice-in-History.new.self.items
+          (show ∙ w.in-History.is) before w.in_ok-extend_from_slice-in-History.ensures.items
     ]

@@ -1,5 +1,4 @@
 use Rattle.std.proofs.Common.{◌∙◌, sym, subst, ap, ◌++◌, [], refl}
-use Rattle.vyrd_base.specs.Histories.{log_of}
 use Rattle.vyrd_base.specs.Spelling.{ended_line, header_line}
 use Rattle.vyrd_mover.specs.HistoryText.{history_header_line}
 use Rattle.vyrd_judge.specs.Following.{HasFollowed}
@@ -17,14 +16,14 @@ returns-clause-taken c =
       text_is = elim c.match-show.branch [
         | in-Verdict w ↦ ap (λ t. t.items) w.text-is ∙ nothing_begun c.args.show own c.new-text.result.items w.in-Verdict.is c.new-text.ensures.items
         | in-Log+in_ok-write_header-in-Log w ↦
-          ap (λ t. t.items) w.text-is
-          ∙ log_begun c.args.show h own w.write_header.new.out.items w.in-Log.is c.in_ok-judge.ensures.header
-          (w.in_ok-write_header-in-Log.ensures.ok
-          ∙ ap (λ t. t ++ ended_line (header_line h.version h.subject h.size h.callers)) c.new-text.ensures.items)
+            ap (λ t. t.items) w.text-is
+            ∙ log_begun c.args.show h own w.write_header.new.out.items w.in-Log.is c.in_ok-judge.ensures.header
+            (w.in_ok-write_header-in-Log.ensures.ok
+            ∙ ap (λ t. t ++ ended_line (header_line h.version h.subject h.size h.callers)) c.new-text.ensures.items)
         | in-History+in_ok-write_history_header-in-History w ↦
-          ap (λ t. t.items) w.text-is
-          ∙ history_begun c.args.show h own w.write_history_header.new.out.items w.in-History.is c.in_ok-judge.ensures.header
-          (w.in_ok-write_history_header-in-History.ensures.ok
-          ∙ ap (λ t. t ++ ended_line (history_header_line h.subject h.size h.callers)) c.new-text.ensures.items)
+            ap (λ t. t.items) w.text-is
+            ∙ history_begun c.args.show h own w.write_history_header.new.out.items w.in-History.is c.in_ok-judge.ensures.header
+            (w.in_ok-write_history_header-in-History.ensures.ok
+            ∙ ap (λ t. t ++ ended_line (history_header_line h.subject h.size h.callers)) c.new-text.ensures.items)
       ];
     }

@@ -1,0 +1,34 @@
+//! Tests of the public calls of the crates below, a module for each.
+//!
+//! They show what no clause says: worked cases as tables, texts in every cutting, each call on its
+//! happy path. They stand in a crate of their own since a crate is proved once more with its tests.
+#![tactic(auto)]
+
+#[cfg(test)]
+mod base;
+#[cfg(test)]
+mod batch;
+#[cfg(test)]
+mod buffers;
+#[cfg(test)]
+mod cache;
+#[cfg(test)]
+mod check;
+#[cfg(test)]
+mod judge;
+#[cfg(test)]
+mod live;
+#[cfg(test)]
+mod mover;
+#[cfg(test)]
+mod multiset;
+#[cfg(test)]
+mod spec;
+#[cfg(test)]
+mod text;
+#[cfg(test)]
+mod tree;
+#[cfg(test)]
+mod view;
+#[cfg(test)]
+mod work;

@@ -1,0 +1,319 @@
+//! Live runs of small workloads, with gates that hold callers in the middle of their work, and a
+//! verifier by itself.
+
+ghost use Rattle.std.specs.Prelude.{◌≡◌, ◌<◌, ◌≤◌, ◌^◌};
+ghost use Rattle.vyrd_trace.specs.Hands.{most_events};
+
+use std::alloc::{AllocError, Global};
+use std::sync::Wait;
+use std::sync::atomic::{AtomicBool, AtomicU64, Ordering};
+use std::test::Fail;
+use std::thread::Threads;
+use vyrd_base::{Args, Did, Gate, Header, Kind, Method, OpenGate, Stamped, Subject, Verdict, Why};
+use vyrd_live::{LiveFault, Run, Verifier, run_live};
+use vyrd_work::read_work;
+
+/// How often a gate is asked, or looks for another caller, before it gives up.
+const PATIENCE: u64 = 50_000_000;
+
+/// The live run of a workload's text, if that is one.
+fn run_text<R: Threads + Wait + Sync, G: Gate>(
+    rt: &R,
+    alloc: Global,
+    text: &[u8],
+    limit: u64,
+    gate: &G,
+) -> Option<Result<Run, LiveFault>>
+    requires { limit ≤ most_events }
+{
+    let Ok(work) = read_work(alloc, text) else {
+        return None;
+    };
+    Some(run_live(rt, alloc, &work, limit, gate))
+}
+
+/// A gate that lets callers 0 and 1 begin once both want to. It looks for the other one that many
+/// times, and remembers if it didn't find it.
+#[derive(Drop)]
+struct Meeting {
+    first: AtomicBool,
+    second: AtomicBool,
+    missed: AtomicBool,
+}
+
+impl Meeting {
+    fn new() -> Meeting {
+        Meeting {
+            first: AtomicBool::new(false),
+            second: AtomicBool::new(false),
+            missed: AtomicBool::new(false),
+        }
+    }
+
+    /// Leaves a note in `own`, and looks for one in `other`.
+    fn meet(&self, own: &AtomicBool, other: &AtomicBool) {
+        own.store(true, Ordering::SeqCst);
+        for _ in 0..PATIENCE {
+            if other.load(Ordering::SeqCst) {
+                return;
+            }
+        }
+        self.missed.store(true, Ordering::SeqCst);
+    }
+}
+
+impl Gate for Meeting {
+    fn may_start(&self, caller: u32, place: u64) -> bool {
+        match (caller, place) {
+            (0, 0) => self.meet(&self.first, &self.second),
+            (1, 0) => self.meet(&self.second, &self.first),
+            _ => {}
+        }
+        true
+    }
+}
+
+/// In one thread, in whatever order, one of the two callers would not find the other's note.
+#[test]
+fn two_callers_at_once(rt: HostRuntime) -> Result<(), Fail> {
+    let text = b"work multiset 2 2 correct\nop 0 lookup 1\nop 1 lookup 0\nop 1 lookup 0\nend\n";
+    let gate = Meeting::new();
+    let Some(Ok(run)) = run_text(&rt, rt.alloc(), text, 1000, &gate) else {
+        panic!(rt; "no run")
+    };
+    let accepted = Verdict::Accepted {
+        entries: 6,
+        commits: 0,
+        observers: 3,
+    };
+    assert_eq!(rt; run.verdict, accepted);
+    assert!(rt; !gate.missed.load(Ordering::SeqCst));
+    Ok(())
+}
+
+/// The bound of a multiset's operation is 32.
+#[test]
+fn bound_of_events(rt: HostRuntime) -> Result<(), Fail> {
+    let text = b"work multiset 1 1 correct\nop 0 lookup 5\nend\n";
+    let Some(Err(LiveFault::Spent(overrun))) = run_text(&rt, rt.alloc(), text, 31, &OpenGate) else {
+        panic!(rt; "not spent")
+    };
+    assert!(rt; overrun.caller == 0 && overrun.history.is_empty());
+    let Some(Ok(run)) = run_text(&rt, rt.alloc(), text, 32, &OpenGate) else {
+        panic!(rt; "no run")
+    };
+    let accepted = Verdict::Accepted {
+        entries: 2,
+        commits: 0,
+        observers: 1,
+    };
+    assert_eq!(rt; run.verdict, accepted);
+    Ok(())
+}
+
+/// A gate that holds each of two callers in the middle of its work until the other one has come to
+/// a place. It counts how often it is asked, and gives up after a number of questions.
+#[derive(Drop)]
+struct Turnstile {
+    asked: AtomicU64,
+    gave_up: AtomicBool,
+    // Which places callers have asked at: 0 of caller 0, 9 of caller 0, and 10 of caller 1.
+    zero_at_2: AtomicBool,
+    zero_at_9: AtomicBool,
+    one_at_10: AtomicBool,
+}
+
+impl Turnstile {
+    fn new() -> Turnstile {
+        Turnstile {
+            asked: AtomicU64::new(0),
+            gave_up: AtomicBool::new(false),
+            zero_at_2: AtomicBool::new(false),
+            zero_at_9: AtomicBool::new(false),
+            one_at_10: AtomicBool::new(false),
+        }
+    }
+
+    /// Whether the caller has come so far that the other one may go on. It notes that this one has
+    /// come to its place.
+    fn has_come(&self, caller: u32, place: u64) -> bool {
+        match (caller, place) {
+            (0, 2) => {
+                self.zero_at_2.store(true, Ordering::SeqCst);
+                self.one_at_10.load(Ordering::SeqCst)
+            }
+            (0, 9) => {
+                self.zero_at_9.store(true, Ordering::SeqCst);
+                true
+            }
+            (1, 0) => self.zero_at_2.load(Ordering::SeqCst),
+            (1, 10) => {
+                self.one_at_10.store(true, Ordering::SeqCst);
+                self.zero_at_9.load(Ordering::SeqCst)
+            }
+            _ => true,
+        }
+    }
+}
+
+impl Gate for Turnstile {
+    fn may_start(&self, caller: u32, place: u64) -> bool {
+        let may = self.has_come(caller, place);
+        if self.asked.fetch_add(1, Ordering::SeqCst) < PATIENCE {
+            return may;
+        }
+        self.gave_up.store(true, Ordering::SeqCst);
+        true
+    }
+}
+
+/// Playing one script after the other doesn't lead to this order of events.
+#[test]
+fn schedule_forced_by_the_gate(rt: HostRuntime) -> Result<(), Fail> {
+    let text = b"work multiset 1 2 broken\nop 0 insert 5\nop 1 insert 6\nop 1 lookup 9\nend\n";
+    let gate = Turnstile::new();
+    let Some(Ok(run)) = run_text(&rt, rt.alloc(), text, 1000, &gate) else {
+        panic!(rt; "no run")
+    };
+    let differs = Verdict::Violation {
+        line: 14,
+        why: Why::View(6),
+    };
+    assert_eq!(rt; run.verdict, differs);
+    assert!(rt; !gate.gave_up.load(Ordering::SeqCst));
+    Ok(())
+}
+
+/// Four callers, each of which inserts its key, looks for it, deletes it and looks for it twice,
+/// ten times over.
+fn four_callers(alloc: Global) -> Result<Vec<u8>, AllocError> {
+    let lines = [
+        b"op 0 insert 0\nop 0 lookup 0\nop 0 delete 0\nop 0 lookup 0\nop 0 lookup 0\n",
+        b"op 1 insert 1\nop 1 lookup 1\nop 1 delete 1\nop 1 lookup 1\nop 1 lookup 1\n",
+        b"op 2 insert 0\nop 2 lookup 0\nop 2 delete 0\nop 2 lookup 0\nop 2 lookup 0\n",
+        b"op 3 insert 1\nop 3 lookup 1\nop 3 delete 1\nop 3 lookup 1\nop 3 lookup 1\n",
+    ];
+    let mut text = Vec::new(alloc);
+    text.extend_from_slice(b"work multiset 8 4 correct\n")?;
+    for own in lines {
+        for _ in 0..10 {
+            text.extend_from_slice(own)?;
+        }
+    }
+    text.extend_from_slice(b"end\n")?;
+    Ok(text)
+}
+
+#[test]
+fn four_callers_beside(rt: HostRuntime) -> Result<(), Fail> {
+    let text = four_callers(rt.alloc())?;
+    let Some(Ok(run)) = run_text(&rt, rt.alloc(), &text, 16_777_216, &OpenGate) else {
+        panic!(rt; "no run")
+    };
+    let accepted = Verdict::Accepted {
+        entries: 720,
+        commits: 80,
+        observers: 120,
+    };
+    assert_eq!(rt; run.verdict, accepted);
+    Ok(())
+}
+
+/// A gate that holds caller 0 at its ninth event until the verifier asked for its eighth. With one
+/// caller the verifier asks as caller 1. The gate gives up after a number of questions, and
+/// remembers it.
+#[derive(Drop)]
+struct Beside {
+    asked: AtomicU64,
+    seen: AtomicBool,
+    gave_up: AtomicBool,
+}
+
+impl Gate for Beside {
+    fn may_start(&self, caller: u32, place: u64) -> bool {
+        if self.asked.fetch_add(1, Ordering::SeqCst) >= PATIENCE {
+            self.gave_up.store(true, Ordering::SeqCst);
+            return true;
+        }
+        if caller == 1 && place == 7 {
+            self.seen.store(true, Ordering::SeqCst);
+        }
+        caller != 0 || place != 8 || self.seen.load(Ordering::SeqCst)
+    }
+}
+
+/// A verifier that begins to take in events once the workers have ended doesn't ask in time.
+#[test]
+fn verifier_beside_the_worker(rt: HostRuntime) -> Result<(), Fail> {
+    let text = b"work multiset 1 1 correct\nop 0 lookup 5\nop 0 lookup 5\nend\n";
+    let gate = Beside {
+        asked: AtomicU64::new(0),
+        seen: AtomicBool::new(false),
+        gave_up: AtomicBool::new(false),
+    };
+    let Some(Ok(run)) = run_text(&rt, rt.alloc(), text, 1000, &gate) else {
+        panic!(rt; "no run")
+    };
+    let accepted = Verdict::Accepted {
+        entries: 4,
+        commits: 0,
+        observers: 2,
+    };
+    assert_eq!(rt; run.verdict, accepted);
+    assert!(rt; !gate.gave_up.load(Ordering::SeqCst));
+    Ok(())
+}
+
+/// A mark of caller 0.
+fn marked(number: u64, kind: Kind) -> Stamped
+    ensures { result.number ≡ number }
+{
+    Stamped {
+        number,
+        caller: 0,
+        did: Did::Marked(kind),
+    }
+}
+
+/// Takes in an event, if none with its number was taken in.
+fn take_new(verifier: &mut Verifier, event: Stamped) -> Result<Option<Verdict>, AllocError>
+    requires { event.number < 2 ^ 62 }
+{
+    if verifier.had(event.number) {
+        return Ok(None);
+    }
+    verifier.take_in(event)
+}
+
+/// A delete of a key that isn't there replies 1. Its events are taken in last first, and this is
+/// answered after each of them.
+fn answers_backwards(
+    verifier: &mut Verifier,
+) -> Result<(Option<Verdict>, Option<Verdict>, Option<Verdict>), AllocError> {
+    let five = Args { a: 5, b: 0, c: 0 };
+    let reply = take_new(verifier, marked(2, Kind::Return(1)))?;
+    let commit = take_new(verifier, marked(1, Kind::Commit))?;
+    let call = take_new(verifier, marked(0, Kind::Call(Method::MsDelete, five)))?;
+    Ok((reply, commit, call))
+}
+
+#[test]
+fn events_taken_in_backwards(rt: HostRuntime) -> Result<(), Fail> {
+    let Some(header) = Header::new(1, Subject::Multiset, 1, 1) else {
+        panic!(rt; "no header")
+    };
+    let refused = Verdict::Violation {
+        line: 3,
+        why: Why::Reply(1),
+    };
+    let mut verifier = Verifier::new(rt.alloc(), header)?;
+    let Ok((reply, commit, call)) = answers_backwards(&mut verifier) else {
+        panic!(rt; "no memory")
+    };
+    assert_eq!(rt; reply, None);
+    assert_eq!(rt; commit, None);
+    assert_eq!(rt; call, Some(refused));
+    assert_eq!(rt; verifier.finish()?, refused);
+    assert!(rt; verifier.had(2) && !verifier.had(3));
+    Ok(())
+}
