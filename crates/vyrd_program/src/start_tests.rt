@@ -79,7 +79,7 @@ fn words_left<R: Threads + Wait + Sync>(rt: &R, alloc: Global) -> Option<Vec<u64
     let work = forty_inserts(alloc).ok()?;
     let mut source = MemorySource::new(alloc, work.as_bytes(), 4096, &[]).ok()?;
     let mut sink = MemorySink::new(alloc, ROOM, ROOM, &[]).ok()?;
-    let ended = vyrd(rt, alloc, &["step"], &mut source, &mut sink, &OpenGate);
+    let ended = vyrd(rt, alloc, &["run"], &mut source, &mut sink, &OpenGate);
     Some(ended.run?.words)
 }
 
