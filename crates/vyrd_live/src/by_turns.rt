@@ -60,7 +60,10 @@ pub fn show_by_turns<M: WorkMachine, S: EventSink>(
     ensures ends { IsCorrect (workload_of work) → IfOk result IsSome }
 {
     let mut machines: Vec<M> = machines_of(alloc, &work)?;
-    let Work { header, turns, .. } = work;
+    let Work {
+        header, ops, turns, ..
+    } = work;
+    drop(ops);
     match show_turns(alloc, header, &mut machines, &turns, sink) {
         Ok(words) => Ok(Some(words)),
         Err(StepFault::Stuck) => Ok(None),
