@@ -277,8 +277,7 @@ fn play<M: Machine, S: EventSink>(
 ///
 /// The sink, which has taken nothing, takes each event as it is made; no event is kept beside it.
 /// The answer is the memory at the end: the plain words, and then the locks. The events are a
-/// function of the machines' scripts and the turns. After an error the sink has taken some of the
-/// first of them, and nothing is known of a sink that there was no memory for.
+/// function of the machines' scripts and the turns. Nothing is known of the sink after an error.
 pub fn show_turns<M: Machine, S: EventSink>(
     alloc: Global,
     header: Header,
