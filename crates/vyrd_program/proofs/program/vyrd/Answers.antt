@@ -1,6 +1,5 @@
 -- What the call does under the form that the words have is what it does for the words.
 use Rattle.std.proofs.Common.{◌≡◌, ap, ◌∙◌, sym, subst, Some, false}
-use Rattle.vyrd_program.specs.declared.form.Form.TheVariants as asked
 use Rattle.vyrd_program.specs.Forms.{form_said}
 use Rattle.vyrd_program.specs.Commands.{reads, IsEnough, IsNoFurther}
 use Rattle.vyrd_program.proofs.CommandLaws.{written_status, no_usage, written_answer, written_in_part, text_fits, enough_taken, written_out, hands_out_nothing, checked_status, checked_untouched, checked_answer, checked_in_part, checked_enough, line_fits, usage_status, usage_answer, usage_in_part, usage_fits}
