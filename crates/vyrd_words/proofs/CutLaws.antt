@@ -19,7 +19,8 @@ use Rattle.vyrd_shadow.proofs.WriteLaws.{with_writes-append}
 use Rattle.vyrd_shadow.specs.Blocks.{with_writes, AreInRange}
 use Rattle.vyrd_shadow.proofs.KeptWrites.{length-with_writes, below_set, below_with, keys_below}
 use Rattle.vyrd_words.specs.Cuts.{first_of, split_at, since_of, with_part, first_with, written, AreCuts, AreKnown}
-use Rattle.std.specs.Prelude.{cond, ◌-◌, insert}
+use Rattle.std.specs.Prelude.{cond, ◌-◌, insert, Some, slice_get}
+use Rattle.std.proofs.lemmas.Option.{same_Some}
 use Rattle.std.proofs.Math.Seq.{take-append_seam}
 use Rattle.std.proofs.Common.{append-nil, Bool}
 
@@ -42,7 +43,7 @@ in_range-drop n zero xs all = all
 in_range-drop n (suc k) [] all = all
 in_range-drop n (suc k) ((w, v) ∷ xs) all = in_range-drop n k xs all.2
 
-sum-cons : (k : ℕ) (ks : List ℕ) → sum (k ∷ ks) ≡ k + sum ks
+pub sum-cons : (k : ℕ) (ks : List ℕ) → sum (k ∷ ks) ≡ k + sum ks
 sum-cons k ks = sum_by-cons (λ x. x) k ks
 
 -- how many lists there are
@@ -294,7 +295,7 @@ sum-set (k ∷ ks) zero n low = omega (arith, sum-cons k ks, sum-cons (k + n) ks
 sum-set (k ∷ ks) (suc i) n low =
     omega (arith, sum-cons k ks, sum-cons k (set ks i (get_or ks i 0 + n)), sum-set ks i n (omega (arith, low)))
 
-get-within : (ks : List ℕ) (i : ℕ) → get_or ks i 0 ≤ sum ks
+pub get-within : (ks : List ℕ) (i : ℕ) → get_or ks i 0 ≤ sum ks
 get-within [] i = omega arith
 get-within (k ∷ ks) zero = omega (arith, sum-cons k ks)
 get-within (k ∷ ks) (suc i) = omega (arith, sum-cons k ks, get-within ks i)
@@ -563,6 +564,6 @@ always (Ok x) p = p
 always (Err x) p = tt
 
 -- the first of a queue was looked at, and then taken
-pub first_taken : (xs new : List ℕ) (n : ℕ) → n ≡ get_or xs 0 n → 0 < length xs → new ≡ drop 1 xs → xs ≡ n ∷ new
-first_taken [] new n is some rest = absurd (omega (arith, some))
-first_taken (x ∷ xs) new n is some rest = ap (λ y. y ∷ xs) (sym is) ∙ ap (λ ys. n ∷ ys) (sym rest)
+pub first_taken : (xs new : List ℕ) (n : ℕ) → slice_get xs 0 ≡ Some n → new ≡ drop 1 xs → xs ≡ n ∷ new
+first_taken [] new n is rest = cc
+first_taken (x ∷ xs) new n is rest = (λ j. same_Some x n is j ∷ xs) ∙ ap (λ ys. n ∷ ys) (sym rest)

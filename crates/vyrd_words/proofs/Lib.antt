@@ -5,3 +5,4 @@ pub mod ShadowFacts
 pub mod ActLaws
 pub mod StartingLaws
 pub mod StartWords
+pub mod CountLaws

@@ -13,6 +13,7 @@ ghost use Rattle.vyrd_words.specs.Cuts.{first_with, with_part, written};
 ghost use Rattle.vyrd_spec.specs.Touching.{with_touched, with_key};
 ghost use Rattle.vyrd_view.specs.Comparing.{AgreeElsewhere};
 
+use crate::counts::Counts;
 use crate::write::Write;
 use std::alloc::{AllocError, Global};
 use std::collections::VecDeque;
@@ -37,7 +38,7 @@ pub(crate) struct Views {
     words: Vec<u64>,
     /// How many of the writes took effect between each commit that waits and the commit before it.
     /// Those of a block take effect at the lone commit inside it, if there is one.
-    counts: VecDeque<usize>,
+    counts: Counts,
     writes: VecDeque<Write>,
     /// How many of the writes took effect after the last commit.
     tail: usize,
@@ -54,14 +55,14 @@ impl Model for Views {
     ghost view = { λ v. record {
       header = v.header;
       base = v.words.items;
-      first = first_of v.words.items v.counts.items v.writes.items;
-      since = since_of v.counts.items v.writes.items;
+      first = first_of v.words.items v.counts v.writes.items;
+      since = since_of v.counts v.writes.items;
       compared = v.compared.words;
       specified = v.compared.specified;
       refused = v.compared.refused;
     } };
 
-    ghost invariant = { λ v. AreCuts v.header v.words.items v.counts.items v.writes.items v.tail
+    ghost invariant = { λ v. AreCuts v.header v.words.items v.counts v.writes.items v.tail
         × AreKnown v.header v.words.items v.changed.items v.compared };
 }
 
@@ -87,7 +88,7 @@ impl Views {
         Ok(Views {
             header,
             words: Vec::from_slice(alloc, words)?,
-            counts: VecDeque::new(alloc),
+            counts: Counts::new(alloc),
             writes: VecDeque::new(alloc),
             tail: 0,
             changed,
@@ -182,8 +183,8 @@ impl Views {
         let index = self.counts.len() - behind;
         self.writes.reserve(changed.len())?;
         let place = place_behind(&self.counts, self.writes.len() - self.tail, index);
+        self.counts.add(index, changed.len())?;
         put(&mut self.writes, place, changed, words);
-        self.counts[index] += changed.len();
         Ok(())
     }
 
@@ -196,7 +197,7 @@ impl Views {
         ensures sound { self.new.refused ≡ self.old.refused }
         ensures header { self.new.header ≡ self.old.header }
     {
-        self.counts.push_back(self.tail)?;
+        self.counts.push(self.tail)?;
         self.tail = 0;
         Ok(())
     }
@@ -217,12 +218,11 @@ impl Views {
         ensures sound { self.new.refused ≡ self.old.refused }
         ensures header { self.new.header ≡ self.old.header }
     {
-        let Some(first) = self.counts.front() else {
+        let Some(count) = self.counts.first() else {
             return Ok(());
         };
-        let count = *first;
         self.changed.reserve(count)?;
-        let _ = self.counts.pop_front();
+        self.counts.pop();
         catch_up(&mut self.words, &mut self.changed, &mut self.writes, count);
         Ok(())
     }
@@ -407,16 +407,12 @@ fn write_first(
 
 /// The place after the writes of the commit with this index. `all` is how many writes all commits
 /// have.
-fn place_behind(counts: &VecDeque<usize>, all: usize, index: usize) -> usize
-    requires index { index < length counts.now.items }
-    requires all { sum counts.now.items ≡ all }
-    ensures { result ≡ sum (take (index + 1) counts.now.items) }
+fn place_behind(counts: &Counts, all: usize, index: usize) -> usize
+    requires index { index < length counts.now }
+    requires all { sum counts.now ≡ all }
+    ensures { result ≡ sum (take (index + 1) counts.now) }
 {
-    let mut place = all;
-    for later in index + 1..counts.len() {
-        place -= counts[later];
-    }
-    place
+    all - counts.sum_behind(index)
 }
 
 /// The changed words are written from this place on. There is room for that.

@@ -1,32 +1,32 @@
-use Rattle.std.proofs.Common.{◌≡◌, ◌∷◌, drop, ap, sym, ◌∙◌, subst}
+use Rattle.std.proofs.Common.{◌≡◌, ◌∷◌, sum, drop, arith, ap, sym, ◌∙◌, subst}
 use Rattle.vyrd_shadow.specs.Blocks.{with_writes}
 use Rattle.vyrd_words.specs.Cuts.{Cuts, first_of, since_of, AreCuts, AreKnown}
-use Rattle.vyrd_words.proofs.CutLaws.{advanced_both, first_taken, first_next, since_next}
+use Rattle.vyrd_words.proofs.CutLaws.{sum-cons, advanced_both, first_taken, first_next, since_next}
 use Rattle.vyrd_words.proofs.views.Views.advance.Goals as goal
 
 pub invariant_of-self-2 : goal.invariant_of-self-2
 invariant_of-self-2 c =
     let i = c.self.inside in
-    let is : i.counts.items ≡ c.in-Some.first.now ∷ c.pop_front.new.self.items =
-    first_taken i.counts.items c.pop_front.new.self.items c.in-Some.first.now c.in-Some.ensures.lookup c.in-Some.ensures.item.3.0 c.pop_front.ensures.rest in
+    let is : i.counts ≡ c.in-Some.count ∷ c.pop.new.self =
+    first_taken i.counts c.pop.new.self c.in-Some.count (sym c.in-Some.ensures) c.pop.ensures in
     rw (c.catch_up.ensures.words, c.catch_up.ensures.writes, c.catch_up.ensures.changed, c.in_ok-reserve.ensures.items)
-    (advanced_both i.header i.words.items c.in-Some.first.now c.pop_front.new.self.items i.writes.items i.tail i.changed.items i.compared
+    (advanced_both i.header i.words.items c.in-Some.count c.pop.new.self i.writes.items i.tail i.changed.items i.compared
     (subst (λ ks. AreCuts i.header i.words.items ks i.writes.items i.tail × AreKnown i.header i.words.items i.changed.items i.compared) is c.self.invariant))
 
 pub returns-clause-base : goal.returns-clause-base
 returns-clause-base c = λ part rest waits.
     let i = c.self.inside in
-    let is : i.counts.items ≡ c.in-Some.first.now ∷ c.pop_front.new.self.items =
-    first_taken i.counts.items c.pop_front.new.self.items c.in-Some.first.now c.in-Some.ensures.lookup c.in-Some.ensures.item.3.0 c.pop_front.ensures.rest in
+    let is : i.counts ≡ c.in-Some.count ∷ c.pop.new.self =
+    first_taken i.counts c.pop.new.self c.in-Some.count (sym c.in-Some.ensures) c.pop.ensures in
     c.catch_up.ensures.words ∙ ap (λ ks. first_of i.words.items ks i.writes.items) (sym is) ∙ ap (λ (v : Cuts). v.first) c.self.view_is
 
 pub returns-clause-first : goal.returns-clause-first
 returns-clause-first c = λ part rest waits.
     let i = c.self.inside in
-    let is : i.counts.items ≡ c.in-Some.first.now ∷ c.pop_front.new.self.items =
-    first_taken i.counts.items c.pop_front.new.self.items c.in-Some.first.now c.in-Some.ensures.lookup c.in-Some.ensures.item.3.0 c.pop_front.ensures.rest in
-    ap (first_of c.catch_up.new.words.items c.pop_front.new.self.items) c.catch_up.ensures.writes
-    ∙ first_next c.catch_up.new.words.items c.pop_front.new.self.items (drop c.in-Some.first.now i.writes.items) part rest
+    let is : i.counts ≡ c.in-Some.count ∷ c.pop.new.self =
+    first_taken i.counts c.pop.new.self c.in-Some.count (sym c.in-Some.ensures) c.pop.ensures in
+    ap (first_of c.catch_up.new.words.items c.pop.new.self) c.catch_up.ensures.writes
+    ∙ first_next c.catch_up.new.words.items c.pop.new.self (drop c.in-Some.count i.writes.items) part rest
     (ap (λ ks. since_of ks i.writes.items) (sym is) ∙ ap (λ (v : Cuts). v.since) c.self.view_is ∙ waits)
     ∙ ap (λ ws. with_writes ws part)
     (c.catch_up.ensures.words ∙ ap (λ ks. first_of i.words.items ks i.writes.items) (sym is) ∙ ap (λ (v : Cuts). v.first) c.self.view_is)
@@ -34,8 +34,15 @@ returns-clause-first c = λ part rest waits.
 pub returns-clause-since : goal.returns-clause-since
 returns-clause-since c = λ part rest waits.
     let i = c.self.inside in
-    let is : i.counts.items ≡ c.in-Some.first.now ∷ c.pop_front.new.self.items =
-    first_taken i.counts.items c.pop_front.new.self.items c.in-Some.first.now c.in-Some.ensures.lookup c.in-Some.ensures.item.3.0 c.pop_front.ensures.rest in
-    ap (since_of c.pop_front.new.self.items) c.catch_up.ensures.writes
-    ∙ since_next c.pop_front.new.self.items (drop c.in-Some.first.now i.writes.items) part rest
+    let is : i.counts ≡ c.in-Some.count ∷ c.pop.new.self =
+    first_taken i.counts c.pop.new.self c.in-Some.count (sym c.in-Some.ensures) c.pop.ensures in
+    ap (since_of c.pop.new.self) c.catch_up.ensures.writes
+    ∙ since_next c.pop.new.self (drop c.in-Some.count i.writes.items) part rest
     (ap (λ ks. since_of ks i.writes.items) (sym is) ∙ ap (λ (v : Cuts). v.since) c.self.view_is ∙ waits)
+
+pub catch_up-requires-clause-count : goal.catch_up-requires-clause-count
+catch_up-requires-clause-count c =
+    let i = c.self.inside in
+    let is : i.counts ≡ c.in-Some.count ∷ c.pop.new.self =
+    first_taken i.counts c.pop.new.self c.in-Some.count (sym c.in-Some.ensures) c.pop.ensures in
+    omega (arith, c.self.invariant.0.counted, ap sum is, sum-cons c.in-Some.count c.pop.new.self)

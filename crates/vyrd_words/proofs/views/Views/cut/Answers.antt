@@ -6,13 +6,13 @@ use Rattle.vyrd_words.proofs.views.Views.cut.Goals as goal
 pub returns-clause-first : goal.returns-clause-first
 returns-clause-first c =
     let i = c.self.inside in
-    ap (λ ks. first_of i.words.items ks i.writes.items) c.in_ok-push_back.ensures.items
-    ∙ first_push i.words.items i.counts.items i.tail i.writes.items c.self.invariant.0.counted
+    ap (λ ks. first_of i.words.items ks i.writes.items) c.in_ok-push.ensures
+    ∙ first_push i.words.items i.counts i.tail i.writes.items c.self.invariant.0.counted
     ∙ ap (λ (v : Cuts). v.first) c.self.view_is
 
 pub returns-clause-since : goal.returns-clause-since
 returns-clause-since c =
     let i = c.self.inside in
-    ap (λ ks. since_of ks i.writes.items) c.in_ok-push_back.ensures.items
-    ∙ since_push i.counts.items i.tail i.writes.items c.self.invariant.0.counted
+    ap (λ ks. since_of ks i.writes.items) c.in_ok-push.ensures
+    ∙ since_push i.counts i.tail i.writes.items c.self.invariant.0.counted
     ∙ ap (λ (v : Cuts). v.since ++ [] ∷ []) c.self.view_is

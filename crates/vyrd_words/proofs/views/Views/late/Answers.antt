@@ -3,22 +3,22 @@ use Rattle.std.specs.Prelude.{All}
 use Rattle.vyrd_base.specs.Layout.{plain_words}
 use Rattle.vyrd_shadow.specs.Blocks.{AreInRange}
 use Rattle.vyrd_words.specs.Cuts.{Cuts, AreCuts, first_of, since_of, first_with, with_part, written}
-use Rattle.vyrd_words.proofs.CutLaws.{put_at, place_of_cut, first_late, since_late, late_cuts, written_in_range, length-written, length-since_of, first_far, since_far, read_at}
+use Rattle.vyrd_words.proofs.CutLaws.{put_at, place_of_cut, first_late, since_late, late_cuts, written_in_range, length-written, length-since_of, first_far, since_far}
 use Rattle.vyrd_words.proofs.views.Views.late.Goals as goal
 
 pub returns-then-behind-len-clause-first : goal.returns-then-behind-len-clause-first
 returns-then-behind-len-clause-first c =
     let i = c.self.inside in
-    let far : length (since_of i.counts.items i.writes.items) < c.args.behind =
-    omega (arith, length-since_of i.counts.items i.writes.items, i.counts.ok.0, c.len.ensures, c.if-behind-len.true) in
+    let far : length (since_of i.counts i.writes.items) < c.args.behind =
+    omega (arith, length-since_of i.counts i.writes.items, c.len.ensures, c.if-behind-len.true) in
     first_far c.args.behind (written c.args.words.now c.args.changed.now) c.args.self.now.first c.args.self.now.since
     (subst (λ (v : Cuts). length v.since < c.args.behind) c.self.view_is far)
 
 pub returns-then-behind-len-clause-since : goal.returns-then-behind-len-clause-since
 returns-then-behind-len-clause-since c =
     let i = c.self.inside in
-    let far : length (since_of i.counts.items i.writes.items) < c.args.behind =
-    omega (arith, length-since_of i.counts.items i.writes.items, i.counts.ok.0, c.len.ensures, c.if-behind-len.true) in
+    let far : length (since_of i.counts i.writes.items) < c.args.behind =
+    omega (arith, length-since_of i.counts i.writes.items, c.len.ensures, c.if-behind-len.true) in
     since_far c.args.behind (written c.args.words.now c.args.changed.now) c.args.self.now.since
     (subst (λ (v : Cuts). length v.since < c.args.behind) c.self.view_is far)
 
@@ -26,20 +26,20 @@ pub invariant_of-self-2 : goal.invariant_of-self-2
 invariant_of-self-2 c =
     let i = c.self.inside in
     let index : ℕ = c.len-2.result - c.args.behind in
-    let ks = i.counts.items in
+    let ks = i.counts in
     let new = written c.args.words.now c.args.changed.now in
-    let low : index < length ks = omega (arith, i.counts.ok.0, c.len.ensures, c.len-2.ensures, c.if-behind-len.false, c.requires.some) in
+    let low : index < length ks = omega (arith, c.len.ensures, c.len-2.ensures, c.if-behind-len.false, c.requires.some) in
     let one : index + 1 ≡ suc index = omega arith in
     let place : c.place_behind-place.result ≡ place_of_cut ks index = c.place_behind-place.ensures ∙ ap (λ n. sum (take n ks)) one in
     let writes : c.put.new.writes.items ≡ put_at (place_of_cut ks index) new i.writes.items =
     c.put.ensures.writes ∙ (λ j. put_at (place j) new (c.in_ok-reserve.ensures.items j)) in
-    let count : c.index_mut.result.now + length c.args.changed.now ≡ get_or ks index 0 + length new =
-    omega (arith, c.index_mut.ensures.value, read_at ks index c.index_mut.result.now low, length-written c.args.words.now c.args.changed.now) in
+    let counts : c.add.new.self ≡ set ks index (get_or ks index 0 + length new) =
+    c.in_ok-add.ensures ∙ ap (λ n. set ks index (get_or ks index 0 + n)) (sym (length-written c.args.words.now c.args.changed.now)) in
     let fits : AreInRange (plain_words i.header) new =
     written_in_range (plain_words i.header) c.args.words.now c.args.changed.now
     (subst (λ (v : Cuts). All (λ w. w < plain_words v.header) c.args.changed.now) (sym c.self.view_is) c.requires.changed) c.requires.values in (
-      subst (λ ws. AreCuts i.header i.words.items (set ks index (c.index_mut.result.now + length c.args.changed.now)) ws i.tail) (sym writes)
-          (subst (λ n. AreCuts i.header i.words.items (set ks index n) (put_at (place_of_cut ks index) new i.writes.items) i.tail) (sym count)
+      subst (λ ws. AreCuts i.header i.words.items c.add.new.self ws i.tail) (sym writes)
+          (subst (λ cs. AreCuts i.header i.words.items cs (put_at (place_of_cut ks index) new i.writes.items) i.tail) (sym counts)
           (late_cuts i.header i.words.items ks index new i.writes.items i.tail low fits c.self.invariant.0)),
       c.self.invariant.1,
     )
@@ -48,18 +48,18 @@ pub returns-clause-first : goal.returns-clause-first
 returns-clause-first c =
     let i = c.self.inside in
     let index : ℕ = c.len-2.result - c.args.behind in
-    let ks = i.counts.items in
+    let ks = i.counts in
     let new = written c.args.words.now c.args.changed.now in
-    let low : index < length ks = omega (arith, i.counts.ok.0, c.len.ensures, c.len-2.ensures, c.if-behind-len.false, c.requires.some) in
+    let low : index < length ks = omega (arith, c.len.ensures, c.len-2.ensures, c.if-behind-len.false, c.requires.some) in
     let one : index + 1 ≡ suc index = omega arith in
     let place : c.place_behind-place.result ≡ place_of_cut ks index = c.place_behind-place.ensures ∙ ap (λ n. sum (take n ks)) one in
     let writes : c.put.new.writes.items ≡ put_at (place_of_cut ks index) new i.writes.items =
     c.put.ensures.writes ∙ (λ j. put_at (place j) new (c.in_ok-reserve.ensures.items j)) in
-    let count : c.index_mut.result.now + length c.args.changed.now ≡ get_or ks index 0 + length new =
-    omega (arith, c.index_mut.ensures.value, read_at ks index c.index_mut.result.now low, length-written c.args.words.now c.args.changed.now) in
+    let counts : c.add.new.self ≡ set ks index (get_or ks index 0 + length new) =
+    c.in_ok-add.ensures ∙ ap (λ n. set ks index (get_or ks index 0 + n)) (sym (length-written c.args.words.now c.args.changed.now)) in
     let within : sum ks ≤ length i.writes.items = omega (arith, c.self.invariant.0.counted) in
-    let behind : length ks - index ≡ c.args.behind = omega (arith, i.counts.ok.0, c.len.ensures, c.len-2.ensures, c.if-behind-len.false) in
-    (λ j. first_of i.words.items (set ks index (count j)) (writes j))
+    let behind : length ks - index ≡ c.args.behind = omega (arith, c.len.ensures, c.len-2.ensures, c.if-behind-len.false) in
+    (λ j. first_of i.words.items (counts j) (writes j))
     ∙ first_late i.words.items ks index new i.writes.items low within
     ∙ ap (λ n. first_with n new (first_of i.words.items ks i.writes.items) (since_of ks i.writes.items)) behind
     ∙ ap (λ (v : Cuts). first_with c.args.behind new v.first v.since) c.self.view_is
@@ -68,18 +68,18 @@ pub returns-clause-since : goal.returns-clause-since
 returns-clause-since c =
     let i = c.self.inside in
     let index : ℕ = c.len-2.result - c.args.behind in
-    let ks = i.counts.items in
+    let ks = i.counts in
     let new = written c.args.words.now c.args.changed.now in
-    let low : index < length ks = omega (arith, i.counts.ok.0, c.len.ensures, c.len-2.ensures, c.if-behind-len.false, c.requires.some) in
+    let low : index < length ks = omega (arith, c.len.ensures, c.len-2.ensures, c.if-behind-len.false, c.requires.some) in
     let one : index + 1 ≡ suc index = omega arith in
     let place : c.place_behind-place.result ≡ place_of_cut ks index = c.place_behind-place.ensures ∙ ap (λ n. sum (take n ks)) one in
     let writes : c.put.new.writes.items ≡ put_at (place_of_cut ks index) new i.writes.items =
     c.put.ensures.writes ∙ (λ j. put_at (place j) new (c.in_ok-reserve.ensures.items j)) in
-    let count : c.index_mut.result.now + length c.args.changed.now ≡ get_or ks index 0 + length new =
-    omega (arith, c.index_mut.ensures.value, read_at ks index c.index_mut.result.now low, length-written c.args.words.now c.args.changed.now) in
+    let counts : c.add.new.self ≡ set ks index (get_or ks index 0 + length new) =
+    c.in_ok-add.ensures ∙ ap (λ n. set ks index (get_or ks index 0 + n)) (sym (length-written c.args.words.now c.args.changed.now)) in
     let within : sum ks ≤ length i.writes.items = omega (arith, c.self.invariant.0.counted) in
-    let behind : length ks - index ≡ c.args.behind = omega (arith, i.counts.ok.0, c.len.ensures, c.len-2.ensures, c.if-behind-len.false) in
-    (λ j. since_of (set ks index (count j)) (writes j))
+    let behind : length ks - index ≡ c.args.behind = omega (arith, c.len.ensures, c.len-2.ensures, c.if-behind-len.false) in
+    (λ j. since_of (counts j) (writes j))
     ∙ since_late ks index new i.writes.items low within
     ∙ ap (λ n. with_part n new (since_of ks i.writes.items)) behind
     ∙ ap (λ (v : Cuts). with_part c.args.behind new v.since) c.self.view_is

@@ -7,7 +7,7 @@ use Rattle.vyrd_words.proofs.views.Views.take_effect.Goals as goal
 pub invariant_of-self-then-len-ge-MOST_CHANGED : goal.invariant_of-self-then-len-ge-MOST_CHANGED
 invariant_of-self-then-len-ge-MOST_CHANGED c =
     let i = c.self.inside in
-    let none : i.counts.items ≡ [] = none_waits i.counts.items i.writes.items (ap (λ (v : Cuts). v.since) c.self.view_is ∙ c.requires.none_waits) in
+    let none : i.counts ≡ [] = none_waits i.counts i.writes.items (ap (λ (v : Cuts). v.since) c.self.view_is ∙ c.requires.none_waits) in
     rw (c.note.ensures.items, c.catch_up.ensures.words, c.catch_up.ensures.writes, c.catch_up.ensures.changed, c.in_ok-reserve.ensures.items, none)
     (at_once_both i.header i.words.items i.writes.items i.tail c.args.word c.args.value i.changed.items i.compared
     (subst (λ (v : Cuts). c.args.word < plain_words v.header) (sym c.self.view_is) c.requires.word) c.requires.value
@@ -16,7 +16,7 @@ invariant_of-self-then-len-ge-MOST_CHANGED c =
 pub invariant_of-self-else-len-ge-MOST_CHANGED : goal.invariant_of-self-else-len-ge-MOST_CHANGED
 invariant_of-self-else-len-ge-MOST_CHANGED c =
     let i = c.self.inside in
-    let none : i.counts.items ≡ [] = none_waits i.counts.items i.writes.items (ap (λ (v : Cuts). v.since) c.self.view_is ∙ c.requires.none_waits) in
+    let none : i.counts ≡ [] = none_waits i.counts i.writes.items (ap (λ (v : Cuts). v.since) c.self.view_is ∙ c.requires.none_waits) in
     rw (c.note.ensures.items, c.catch_up.ensures.words, c.catch_up.ensures.writes, c.catch_up.ensures.changed, c.in_ok-reserve.ensures.items, none)
     (at_once_both i.header i.words.items i.writes.items i.tail c.args.word c.args.value i.changed.items i.compared
     (subst (λ (v : Cuts). c.args.word < plain_words v.header) (sym c.self.view_is) c.requires.word) c.requires.value
@@ -25,32 +25,32 @@ invariant_of-self-else-len-ge-MOST_CHANGED c =
 pub returns-clause-first : goal.returns-clause-first
 returns-clause-first c =
     let i = c.self.inside in
-    let none : i.counts.items ≡ [] = none_waits i.counts.items i.writes.items (ap (λ (v : Cuts). v.since) c.self.view_is ∙ c.requires.none_waits) in
+    let none : i.counts ≡ [] = none_waits i.counts i.writes.items (ap (λ (v : Cuts). v.since) c.self.view_is ∙ c.requires.none_waits) in
     ap (λ ks. first_of (set c.catch_up.new.words.items c.args.word c.args.value) ks c.catch_up.new.writes.items) none
     ∙ rw (c.catch_up.ensures.words, c.catch_up.ensures.writes)
-    (now_at_once i.words.items i.writes.items i.tail c.args.word c.args.value (all_tail i.counts.items i.tail _ none c.self.invariant.0.counted))
+    (now_at_once i.words.items i.writes.items i.tail c.args.word c.args.value (all_tail i.counts i.tail _ none c.self.invariant.0.counted))
     ∙ ap (λ ks. set (first_of i.words.items ks i.writes.items) c.args.word c.args.value) (sym none)
     ∙ ap (λ (v : Cuts). set v.first c.args.word c.args.value) c.self.view_is
 
 pub returns-clause-since : goal.returns-clause-since
 returns-clause-since c =
     let i = c.self.inside in
-    let none : i.counts.items ≡ [] = none_waits i.counts.items i.writes.items (ap (λ (v : Cuts). v.since) c.self.view_is ∙ c.requires.none_waits) in
+    let none : i.counts ≡ [] = none_waits i.counts i.writes.items (ap (λ (v : Cuts). v.since) c.self.view_is ∙ c.requires.none_waits) in
     ap (λ ks. since_of ks c.catch_up.new.writes.items) none
 
 pub returns-then-len-ge-MOST_CHANGED-clause-first : goal.returns-then-len-ge-MOST_CHANGED-clause-first
 returns-then-len-ge-MOST_CHANGED-clause-first c =
     let i = c.self.inside in
-    let none : i.counts.items ≡ [] = none_waits i.counts.items i.writes.items (ap (λ (v : Cuts). v.since) c.self.view_is ∙ c.requires.none_waits) in
+    let none : i.counts ≡ [] = none_waits i.counts i.writes.items (ap (λ (v : Cuts). v.since) c.self.view_is ∙ c.requires.none_waits) in
     always c.compare_words.result (c.compare_words.ensures.first
     ∙ ap (λ ks. first_of (set c.catch_up.new.words.items c.args.word c.args.value) ks c.catch_up.new.writes.items) none
     ∙ rw (c.catch_up.ensures.words, c.catch_up.ensures.writes)
-    (now_at_once i.words.items i.writes.items i.tail c.args.word c.args.value (all_tail i.counts.items i.tail _ none c.self.invariant.0.counted))
+    (now_at_once i.words.items i.writes.items i.tail c.args.word c.args.value (all_tail i.counts i.tail _ none c.self.invariant.0.counted))
     ∙ ap (λ ks. set (first_of i.words.items ks i.writes.items) c.args.word c.args.value) (sym none)
     ∙ ap (λ (v : Cuts). set v.first c.args.word c.args.value) c.self.view_is)
 
 pub returns-then-len-ge-MOST_CHANGED-clause-since : goal.returns-then-len-ge-MOST_CHANGED-clause-since
 returns-then-len-ge-MOST_CHANGED-clause-since c =
     let i = c.self.inside in
-    let none : i.counts.items ≡ [] = none_waits i.counts.items i.writes.items (ap (λ (v : Cuts). v.since) c.self.view_is ∙ c.requires.none_waits) in
+    let none : i.counts ≡ [] = none_waits i.counts i.writes.items (ap (λ (v : Cuts). v.since) c.self.view_is ∙ c.requires.none_waits) in
     always c.compare_words.result (c.compare_words.ensures.since ∙ ap (λ ks. since_of ks c.catch_up.new.writes.items) none)

@@ -1,0 +1,6 @@
+use Rattle.std.proofs.Common.{◌≡◌, ◌+◌, take, drop}
+use Rattle.vyrd_words.specs.Counts.{apart_in}
+use Rattle.vyrd_words.proofs.counts.place_apart.Given as goal
+
+abbrev pub invariant-loop-later : goal.invariant-loop-later
+invariant-loop-later l = record { left : l.place ≡ apart_in (take l.index l.bytes.items) + apart_in (drop l.later l.bytes.items) }
