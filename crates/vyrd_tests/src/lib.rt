@@ -31,4 +31,6 @@ mod tree;
 #[cfg(test)]
 mod view;
 #[cfg(test)]
+mod words;
+#[cfg(test)]
 mod work;

@@ -10,8 +10,6 @@
 
 mod counts;
 mod starting;
-#[cfg(test)]
-mod tests;
 mod views;
 mod words;
 mod write;

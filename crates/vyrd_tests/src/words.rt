@@ -4,37 +4,41 @@ ghost use Rattle.std.specs.Prelude.{◌≡◌, ◌<◌, [], false, OnOk};
 ghost use Rattle.vyrd_base.specs.declared.subject.Subject.TheVariants.{Multiset};
 ghost use Rattle.vyrd_words.specs.HasWords.{HasWords};
 
-use crate::views::Views;
-use crate::{Words, words_at_start, words_of};
 use std::alloc::AllocError;
 use std::test::Fail;
 use vyrd_base::{Args, Entry, Header, Kind, Method, StartWord, Subject};
 use vyrd_spec::{MultisetSpec, Spec};
+use vyrd_words::{Words, words_at_start, words_of};
 
 const FIVE: Args = Args { a: 5, b: 0, c: 0 };
 
-const SIX: Args = Args { a: 6, b: 0, c: 0 };
-
-/// A commit of an insert whose writes take effect after it, and then one of a delete that changes
-/// nothing.
+/// An insert that commits before it writes.
 #[test]
-fn views_are_compared_at_each_commit(rt: HostRuntime) -> Result<(), Fail> {
-    let header = Header::new(1, Subject::Multiset, 1, 1).ok_or("no header")?;
+fn a_commit_shows_what_was_written_before_it(rt: HostRuntime) -> Result<(), Fail> {
+    let header = Header::new(2, Subject::Multiset, 1, 1).ok_or("no header")?;
     let mut spec = MultisetSpec::start(rt.alloc(), header)?;
     let words = words_at_start(rt.alloc(), header, &[])?;
-    let mut views = Views::new(rt.alloc(), header, &words, Vec::new(rt.alloc()))?;
-    views.specify_start(&spec.view(rt.alloc())?)?;
-    views.cut()?;
-    views.effect(1, 5)?;
-    views.effect(0, 2)?;
-    views.cut()?;
+    let state = spec.view(rt.alloc())?;
+    let mut followed = Words::new(rt.alloc(), header, &words, Vec::new(rt.alloc()), &state)?;
+    follow_an_insert(&mut followed, &[])?;
     let touched = spec.touched(Method::MsInsert, FIVE);
     assert!(rt; spec.step(Method::MsInsert, FIVE, 1)?);
-    assert_eq!(rt; views.difference(&spec, touched)?, Some(5));
-    let touched = spec.touched(Method::MsDelete, SIX);
-    assert!(rt; spec.step(Method::MsDelete, SIX, 0)?);
-    assert_eq!(rt; views.difference(&spec, touched)?, None);
+    assert_eq!(rt; followed.difference(&spec, touched)?, Some(5));
     Ok(())
+}
+
+/// Takes in the call of an insert and its commit, as the first entries of a log of a multiset.
+fn follow_an_insert(words: &mut Words, _start: &[StartWord]) -> Result<(), AllocError>
+    requires subject { words.old.shadow.header.subject ≡ Multiset }
+    requires callers { 0 < words.old.shadow.header.callers }
+    requires begun { HasWords words.old.shadow words.old.inner _start.now [] }
+    requires sound { words.old.views.refused ≡ false }
+    ensures sound { OnOk result (words.new.views.refused ≡ false) }
+{
+    let kind = Kind::Call(Method::MsInsert, FIVE);
+    words.follow(Entry { caller: 0, kind }, 0)?;
+    let kind = Kind::Commit;
+    words.follow(Entry { caller: 0, kind }, 0)
 }
 
 /// A log that begins with a 5 in the first slot. Its first entry calls a delete.

@@ -9,7 +9,7 @@ use Rattle.vyrd_base.specs.Subjects.{same_subject}
 use Rattle.vyrd_base.specs.Shape.{first_broken, checks_of}
 use Rattle.vyrd_base.proofs.TestLaws.{isnt_at_most}
 use Rattle.vyrd_words.specs.HasWords.{Keeps}
-use Rattle.vyrd_words.proofs.tests.follow_a_call.Goals as goal
+use Rattle.vyrd_tests.proofs.words.follow_a_call.Goals as goal
 
 -- the call of a delete keeps the rules, as the first entry
 call_keeps : (h : Header) → h.subject ≡ Multiset → 0 < h.callers → Keeps h [] (record { caller = 0; kind = Call MsDelete (record { a = 5; b = 0; c = 0 }) })
