@@ -13,8 +13,7 @@ use Rattle.vyrd_live.specs.declared.worker.Ending.{Ending}
 use Rattle.vyrd_live.specs.declared.worker.Ending.TheVariants.{Finished, Spent, Memory}
 use Rattle.vyrd_live.specs.Rooms.{HadRoom, StopsForRoom}
 use Rattle.vyrd_live.specs.Endings.{HasEnded, IsFirstSpent}
-use Rattle.vyrd_live.specs.LiveRuns.{done_by}
-use Rattle.vyrd_live.specs.Workers.{HavePlayed}
+use Rattle.vyrd_live.specs.LiveRuns.{done_by, HavePlayed}
 
 -- what holds of each number below n, and of n
 one_more : (P : ℕ → Type 0) (n : ℕ) → ((i : ℕ) → i < n → P i) → P n → (i : ℕ) → i < n + 1 → P i

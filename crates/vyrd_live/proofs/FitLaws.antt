@@ -26,6 +26,7 @@ use Rattle.vyrd_trace.specs.declared.look.Look.{Look}
 use Rattle.vyrd_trace.specs.Lanes.{last_value}
 use Rattle.vyrd_trace.specs.Hands.{HandView, Holds, with_spare, with_one_more}
 use Rattle.vyrd_trace.proofs.Holding.{holds-taken, holds-still, holds-beside}
+use Rattle.vyrd_live.specs.Sending.{with_forgotten}
 use Rattle.vyrd_live.specs.Acts.{MayAct, HasActed}
 use Rattle.vyrd_live.specs.Working.{IsMemoryOf, FitsHand}
 
@@ -241,6 +242,12 @@ fits_on h left hand now answer acted fits = ∥∥₁_map fits (fits_after h lef
 pub fits_with_room : (h : Header) (left : Script) (hand now : HandView) → now ≡ with_spare hand now.spare
     → ∥ FitsHand h left hand ∥₁ → ∥ FitsHand h left now ∥₁
 fits_with_room h left hand now is fits =
+    ∥∥₁_map fits (λ s. subst (FitsHand h left) (sym is) (record { situation = s.situation; sound = s.sound; held = s.held }))
+
+-- so does what the hand keeps of its lane
+pub fits_kept : (h : Header) (left : Script) (forgotten : ℕ) (hand now : HandView) → now ≡ with_forgotten hand forgotten
+    → ∥ FitsHand h left hand ∥₁ → ∥ FitsHand h left now ∥₁
+fits_kept h left forgotten hand now is fits =
     ∥∥₁_map fits (λ s. subst (FitsHand h left) (sym is) (record { situation = s.situation; sound = s.sound; held = s.held }))
 
 -- between operations no lock is held

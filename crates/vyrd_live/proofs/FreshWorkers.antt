@@ -1,6 +1,6 @@
 -- Workers that haven't begun: those of a workload's callers.
-use Rattle.std.proofs.Common.{◌≡◌, ℕ, suc, ◌+◌, ◌<◌, List, [], ◌∷◌, map, length, refl, ap, ◌∙◌, sym, subst, arith}
-use Rattle.std.specs.Prelude.{slice_index_or, Option, Some, None, Result, Ok, Err, IfOk, IfSome}
+use Rattle.std.proofs.Common.{◌≡◌, ℕ, suc, ◌+◌, ◌<◌, ◌≤◌, List, [], ◌∷◌, map, length, refl, ap, ◌∙◌, sym, subst, arith}
+use Rattle.std.specs.Prelude.{slice_index, slice_index_or, Option, Some, None, Result, Ok, Err, IfOk, IfSome}
 use Rattle.std.specs.List.{All}
 use Rattle.std.proofs.lemmas.List.{get_or-map, length-map}
 use Rattle.std.proofs.lemmas.List.Elements.{All-map}
@@ -9,14 +9,19 @@ use Rattle.vyrd_base.specs.declared.history.Stamped.{Stamped}
 use Rattle.vyrd_base.specs.Places.{numbers_from, numbers_below}
 use Rattle.vyrd_memory.specs.Scripts.{Script, is_between}
 use Rattle.vyrd_memory.specs.Bounds.{bounds_of}
+use Rattle.vyrd_memory.proofs.NumberLists.{element_below}
 use Rattle.vyrd_memory.specs.Laws.Player.{operations-between}
 use Rattle.vyrd_trace.specs.Hands.{TracedView, HandView, AreNew, AreAll}
 use Rattle.vyrd_work.specs.Workloads.{Workload}
+use Rattle.vyrd_work.specs.WorkLimits.{KeepsLimits}
 use Rattle.vyrd_work.specs.WorkScripts.{procedure_in, ops_of, work_script, work_scripts}
+use Rattle.vyrd_every.specs.Schedules.{IsCorrectWithFewEvents, most_few_events}
+use Rattle.vyrd_every.proofs.Workloads.{few_events}
 use Rattle.vyrd_live.specs.declared.worker.Worker.{Worker}
-use Rattle.vyrd_live.specs.Workers.{IsFresh, IsWorkerOf, HavePlayed, AreMadeFor}
+use Rattle.vyrd_live.specs.LiveRuns.{HavePlayed}
+use Rattle.vyrd_live.specs.Workers.{IsFresh, IsWorkerOf, AreMadeFor, work_bounds}
 use Rattle.vyrd_live.specs.Working.{IsMemoryOf}
-use Rattle.vyrd_live.proofs.WorkerLists.{element_of, first_hands}
+use Rattle.vyrd_live.proofs.WorkerLists.{first_hands}
 
 -- each worker has the machine of its hand's caller
 abbrev pub AreWorkersOf : {M : Type 0} → (M → Header) → (M → Script) → (M → ℕ) → Workload → List (Worker M) → Type 0
@@ -44,6 +49,7 @@ all_fresh header_of script ahead traced w workers hands new same made memory = �
     let hand = hand_at workers hands i d same low in record {
       hand_of = subst (λ (v : HandView). (v.table ≡ traced.table) × (v.limit ≡ traced.plan.limit)) hand fresh.0;
       empty = ap (λ (v : HandView). v.lane) (sym hand) ∙ fresh.3;
+      kept = ap (λ (v : HandView). v.forgotten) (sym hand) ∙ fresh.4;
       between = ap is_between is.script_is ∙ operations-between (procedure_in w.header.subject w.header w.variant) (ops_of x.hand.caller w.ops);
       memory = subst (λ h. IsMemoryOf h traced.plan) (sym is.header) memory;
     }
@@ -65,14 +71,14 @@ caller_at traced workers hands new same i d low =
     let e : 0 + i ≡ i = omega arith in
     ap (λ (v : HandView). v.caller) (sym (hand_at workers hands i d same low)) ∙ fresh.1 ∙ e
 
-scripts_from : {M : Type 0} (script : M → Script) (f : ℕ → Script) (k : ℕ) (workers : List (Worker M))
-    → ((i : ℕ) (d : Worker M) → i < length workers → script (slice_index_or workers i d).machine ≡ f (k + i))
-    → map (λ (x : Worker M). script x.machine) workers ≡ map f (numbers_from k (length workers))
-scripts_from script f k [] each = refl
-scripts_from script f k (x ∷ workers) each =
+all_from : {M B : Type 0} (of : M → B) (f : ℕ → B) (k : ℕ) (workers : List (Worker M))
+    → ((i : ℕ) (d : Worker M) → i < length workers → of (slice_index_or workers i d).machine ≡ f (k + i))
+    → map (λ (x : Worker M). of x.machine) workers ≡ map f (numbers_from k (length workers))
+all_from of f k [] each = refl
+all_from of f k (x ∷ workers) each =
     let first : k + 0 ≡ k = omega arith in
-    ap (λ s. s ∷ map (λ (x : _). script x.machine) workers) (each 0 x (omega arith) ∙ ap f first)
-    ∙ ap (λ rest. f k ∷ rest) (scripts_from script f (k + 1) workers (λ i d low. let e : k + suc i ≡ k + 1 + i = omega arith in
+    ap (λ y. y ∷ map (λ (x : _). of x.machine) workers) (each 0 x (omega arith) ∙ ap f first)
+    ∙ ap (λ rest. f k ∷ rest) (all_from of f (k + 1) workers (λ i d low. let e : k + suc i ≡ k + 1 + i = omega arith in
     each (suc i) d (omega (arith, low))
     ∙ ap f e))
 
@@ -83,7 +89,7 @@ pub scripts_are : {M : Type 0} (header_of : M → Header) (script : M → Script
     → AreNew traced 0 hands → first_hands workers ≡ hands → AreWorkersOf header_of script ahead w workers → length hands ≡ w.header.callers
     → map (λ (x : Worker M). script x.machine) workers ≡ work_scripts w
 scripts_are header_of script ahead traced w workers hands new same made count =
-    scripts_from script (work_script w) 0 workers (λ i d low.
+    all_from script (work_script w) 0 workers (λ i d low.
     let e : i ≡ 0 + i = omega arith in (made i d low).script_is ∙ ap (work_script w) (caller_at traced workers hands new same i d low ∙ e))
     ∙ ap (λ n. map (work_script w) (numbers_below n)) (how_many workers hands same ∙ count)
 
@@ -97,21 +103,26 @@ all_made header_of script ahead w workers hands same made count = record {
   each = All-map (λ (header : Header). header ≡ w.header) (λ (x : _). header_of x.machine) workers (λ i d low. (made i d low).header);
 }
 
--- the bound of a caller's machine is that of the caller's operations
-pub bound_at : {M : Type 0} (header_of : M → Header) (script : M → Script) (ahead : M
+-- the bounds of their machines are those of the callers' operations
+pub bounds_are : {M : Type 0} (header_of : M → Header) (script : M → Script) (ahead : M
     → ℕ) (traced : TracedView) (w : Workload) (workers : List (Worker M))
     (hands : List HandView)
     → AreNew traced 0 hands → first_hands workers ≡ hands → AreWorkersOf header_of script ahead w workers → length hands ≡ w.header.callers
-    → (limit : ℕ) (first : Option ℕ) → IfSome first (λ caller. (x : Worker M) → limit < ahead (slice_index_or workers caller x).machine)
-    → IfSome first (λ caller. caller < w.header.callers)
+    → map (λ (x : Worker M). ahead x.machine) workers ≡ work_bounds w
+bounds_are header_of script ahead traced w workers hands new same made count =
+    let bound : ℕ → ℕ = λ c. bounds_of w.header (ops_of c w.ops) in
+    all_from ahead bound 0 workers (λ i d low.
+    let e : i ≡ 0 + i = omega arith in (made i d low).bound ∙ ap bound (caller_at traced workers hands new same i d low ∙ e))
+    ∙ ap (λ n. map bound (numbers_below n)) (how_many workers hands same ∙ count)
+
+-- so the limit is below that of a caller whose machine had no room
+pub too_low_at : (w : Workload) (aheads : List ℕ) (limit own : ℕ) (first : Option ℕ) → own ≡ limit → aheads ≡ work_bounds w
+    → IfSome first (λ caller. own < slice_index aheads caller) → IfSome first (λ caller. caller < w.header.callers)
     → IfSome first (λ caller. limit < bounds_of w.header (ops_of caller w.ops))
-bound_at header_of script ahead traced w workers hands new same made count limit None long low = tt
-bound_at header_of script ahead traced w workers hands new same made count limit (Some caller) long low =
-    let within : caller < length workers = omega (arith, low, how_many workers hands same, count) in
-    let x = element_of workers caller within in
-    let bound = (made caller x within).bound
-    ∙ ap (λ c. bounds_of w.header (ops_of c w.ops)) (caller_at traced workers hands new same caller x within) in
-    omega (arith, long x, bound)
+too_low_at w aheads limit own None same are long low = tt
+too_low_at w aheads limit own (Some caller) same are long low =
+    let bound = ap (λ xs. slice_index xs caller) are ∙ element_below (λ c. bounds_of w.header (ops_of c w.ops)) w.header.callers caller low in
+    omega (arith, same, long, bound)
 
 -- the caller that ended a run is one of the header's
 pub in_range : (h : Header) (limit : ℕ) (scripts : List Script) (history : List Stamped) (first : Option ℕ) → HavePlayed h limit scripts history first
@@ -122,3 +133,10 @@ in_range h limit scripts history (Some caller) is = is.in_range
 pub both_ok : {A E : Type 0} {P Q R : A → Type 0} (r : Result A E) → IfOk r P → IfOk r Q → ((x : A) → P x → Q x → R x) → IfOk r R
 both_ok (Ok x) first second step = step x first second
 both_ok (Err e) first second step = first
+
+-- where operations have few events no caller is spent
+pub is_unspent : (w : Workload) (limit : ℕ) (spent : Option ℕ) → KeepsLimits w → IsCorrectWithFewEvents w → most_few_events ≤ limit
+    → IfSome spent (λ caller. limit < bounds_of w.header (ops_of caller w.ops)) → spent ≡ None
+is_unspent w limit None limits is enough long = refl
+is_unspent w limit (Some caller) limits is enough long =
+    let few : bounds_of w.header (ops_of caller w.ops) ≤ most_few_events = few_events w caller limits is in absurd (omega (arith, long, few, enough))

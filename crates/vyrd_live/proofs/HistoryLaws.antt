@@ -1,19 +1,18 @@
--- What was taken in is the history, where each event of it stands there, and each of its events was taken in.
-use Rattle.std.proofs.Common.{◌≡◌, ◌≢◌, ℕ, zero, suc, ◌+◌, ◌-◌, ◌<◌, ◌≤◌, List, [], ◌∷◌, ◌++◌, length, take, drop, Bool, true, false, cond, Option, Some, None, refl, sym, ap, ◌∙◌, subst, arith, eq-eqb}
-use Rattle.std.specs.Prelude.{◌==◌, is_some, slice_get}
+-- A sink that was shown in order what came of a history has taken the history.
+use Rattle.std.proofs.Common.{◌≡◌, ◌≢◌, ℕ, zero, suc, ◌<◌, ◌≤◌, List, [], ◌∷◌, ◌++◌, length, take, Bool, true, false, cond, Option, Some, None, refl, sym, ap, ◌∙◌, subst, arith, eq-eqb}
+use Rattle.std.specs.Prelude.{◌==◌, is_some, slice_get, slice_index_or}
 use Rattle.std.specs.Option.{option_to_list}
+use Rattle.std.specs.List.{All}
 use Rattle.std.proofs.lemmas.List.{take_all}
-use mathlib.Core.Logic.{dite}
-use native.Mathlib.Decide.{dec_lt}
+use Rattle.std.proofs.lemmas.Option.{slice_get_within, get_or_from_slice_get}
 use Rattle.vyrd_base.specs.declared.history.Stamped.{Stamped}
-use Rattle.vyrd_base.specs.declared.header.Header.{Header}
-use Rattle.vyrd_base.specs.declared.verdict.Verdict.{Verdict}
-use Rattle.vyrd_base.specs.Histories.{Cells, is_legal, log_of}
-use Rattle.vyrd_base.specs.Verdicts.{verdict}
+use Rattle.vyrd_base.specs.Histories.{Cells, is_legal}
+use Rattle.vyrd_base.specs.Parts.{part}
 use Rattle.vyrd_base.proofs.TestLaws.{same_of}
 use Rattle.vyrd_trace.proofs.HistoryGrows.{numbered as number_at}
+use Rattle.vyrd_trace.proofs.Parts.{part_in, in_part}
 use Rattle.vyrd_live.specs.Taken.{numbered, in_order_below}
-use Rattle.vyrd_live.specs.Beside.{IsClosing}
+use Rattle.vyrd_live.specs.Beside.{HasShownInOrder}
 
 -- what is found stands in the list, with its number
 found_at : (n : ℕ) (taken : List Stamped) (e : Stamped) → numbered n taken ≡ Some e → (k : ℕ) × (slice_get taken k ≡ Some e) × (e.number ≡ n)
@@ -53,41 +52,9 @@ past_end [] n e = omega arith
 past_end (x ∷ xs) zero e = absurd (cc)
 past_end (x ∷ xs) (suc n) e = let r = past_end xs n e in omega (arith, r)
 
-none_past : (h : List Stamped) → slice_get h (length h) ≡ None
-none_past [] = refl
-none_past (x ∷ xs) = none_past xs
-
--- what is found in either of two lists is found in both
-found_left : (n : ℕ) (xs ys : List Stamped) → is_some (numbered n xs) ≡ true → is_some (numbered n (xs ++ ys)) ≡ true
-found_left n [] ys is = absurd (cc)
-found_left n (x ∷ xs) ys is = at (x.number == n) is (found_left n xs ys)
-  where
-    at : (b : Bool) → is_some (cond b (Some x) (numbered n xs)) ≡ true → (is_some (numbered n xs) ≡ true → is_some (numbered n (xs ++ ys)) ≡ true)
-        → is_some (cond b (Some x) (numbered n (xs ++ ys))) ≡ true
-    at true q more = refl
-    at false q more = more q
-
-found_right : (n : ℕ) (xs ys : List Stamped) → is_some (numbered n ys) ≡ true → is_some (numbered n (xs ++ ys)) ≡ true
-found_right n [] ys is = is
-found_right n (x ∷ xs) ys is = at (x.number == n) (found_right n xs ys is)
-  where
-    at : (b : Bool) → is_some (numbered n (xs ++ ys)) ≡ true → is_some (cond b (Some x) (numbered n (xs ++ ys))) ≡ true
-    at true q = refl
-    at false q = q
-
 -- each event of the list stands in the history at its number
-abbrev pub StandIn : List Stamped → List Stamped → Type 0
+abbrev StandIn : List Stamped → List Stamped → Type 0
 StandIn h xs = (k : ℕ) (e : Stamped) → slice_get xs k ≡ Some e → slice_get h e.number ≡ Some e
-
-stand_both : (h xs ys : List Stamped) → StandIn h xs → StandIn h ys → StandIn h (xs ++ ys)
-stand_both h [] ys a b k e is = b k e is
-stand_both h (x ∷ xs) ys a b zero e is = a zero e is
-stand_both h (x ∷ xs) ys a b (suc k) e is = stand_both h xs ys (λ k e q. a (suc k) e q) b k e is
-
-get_drop : (h : List Stamped) (n k : ℕ) → slice_get (drop n h) k ≡ slice_get h (n + k)
-get_drop h zero k = let e : k ≡ 0 + k = omega arith in ap (slice_get h) e
-get_drop [] (suc n) k = refl
-get_drop (x ∷ xs) (suc n) k = let e : suc (n + k) ≡ suc n + k = omega arith in get_drop xs n k ∙ ap (slice_get (x ∷ xs)) e
 
 module _ (h taken : List Stamped) (inside : StandIn h taken) (whole : (i : ℕ) (e : Stamped) → slice_get h i ≡ Some e → is_some (numbered i taken) ≡ true) where
   at_number : (n : ℕ) → numbered n taken ≡ slice_get h n
@@ -103,22 +70,38 @@ module _ (h taken : List Stamped) (inside : StandIn h taken) (whole : (i : ℕ) 
           no e = cc
 
   -- all events that were taken in, in the order of their numbers, are the history
-  pub history_is : (m : ℕ) → ((n : ℕ) → n < m → is_some (numbered n taken) ≡ true) → numbered m taken ≡ None → in_order_below m taken ≡ h
-  history_is m gone missing =
+  history_is : (m : ℕ) → numbered m taken ≡ None → in_order_below m taken ≡ h
+  history_is m missing =
       let over = past_end h m (sym (at_number m) ∙ missing) in
       in_order h taken at_number m ∙ take_all m h over
 
--- the verdict at the end is that of the history's log
-pub closing_is : (z : Cells) (header : Header) (v : Verdict) (taken h : List Stamped) → is_legal z h ≡ true → StandIn h taken → IsClosing header v taken h
-    → v ≡ verdict header [] (log_of h)
-closing_is z header v taken h legal inside c =
-    let rest : StandIn h (drop c.from h) = λ k e is. let at = sym (get_drop h c.from k) ∙ is in
-    ap (slice_get h) (number_at z h legal (c.from + k) e at).0 ∙ at in
-    let whole : (i : ℕ) (e : Stamped) → slice_get h i ≡ Some e → is_some (numbered i (taken ++ drop c.from h)) ≡ true = λ i e at. dite (dec_lt i c.from)
-    (λ l. found_left i taken (drop c.from h) (c.begun i l))
-    (λ no. let n = (number_at z h legal i e at).0 in
-    let place : c.from + (i - c.from) ≡ i = omega arith in
-    let there : slice_get (drop c.from h) (i - c.from) ≡ Some e = get_drop h c.from (i - c.from) ∙ ap (slice_get h) place ∙ at in
-    found_right i taken (drop c.from h) (subst (λ (m : ℕ). is_some (numbered m (drop c.from h)) ≡ true) n (found (drop c.from h) (i - c.from) e there))) in
-    c.verdict_is ∙ ap (λ (xs : List Stamped). verdict header [] (log_of xs))
-    (history_is h (taken ++ drop c.from h) (stand_both h taken (drop c.from h) inside rest) whole c.next c.gone c.missing)
+-- of two lists that have the same part of a caller, each has the other's events of that caller
+in_other : (c : ℕ) (xs ys : List Stamped) → part c xs ≡ part c ys → (k : ℕ) (e : Stamped) → slice_get xs k ≡ Some e → e.caller ≡ c
+    → (i : ℕ) × (slice_get ys i ≡ Some e)
+in_other c xs ys same k e at own =
+    let mine = in_part c xs k e at own in
+    let there = part_in c ys mine.0 e (subst (λ (p : List Stamped). mine.0 < length p) same mine.1) in
+    (there.0, there.1 ∙ ap Some (ap (λ (p : List Stamped). slice_index_or p mine.0 e) (sym same) ∙ mine.2 e))
+
+module _ (z : Cells) (had h : List Stamped) (legal : is_legal z h ≡ true) (parts : (c : ℕ) → c < z.callers → part c had ≡ part c h) where
+  -- each event that was had stands in the history at its number
+  had_stands : All (λ (e : Stamped). e.caller < z.callers) had → StandIn h had
+  had_stands senders k e at =
+      let low : e.caller < z.callers = subst (λ (x : Stamped). x.caller < z.callers) (get_or_from_slice_get had k e e at)
+      (senders k e (slice_get_within had k e at)) in
+      let there = in_other e.caller had h (parts e.caller low) k e at refl in
+      ap (slice_get h) (number_at z h legal there.0 e there.1).0 ∙ there.1
+
+  -- each event of the history was had
+  all_had : (i : ℕ) (e : Stamped) → slice_get h i ≡ Some e → is_some (numbered i had) ≡ true
+  all_had i e at =
+      let is = number_at z h legal i e at in
+      let there = in_other e.caller h had (sym (parts e.caller is.1)) i e at refl in
+      subst (λ (n : ℕ). is_some (numbered n had) ≡ true) is.0 (found had there.0 e there.1)
+
+-- a sink that was shown in order what came has taken the history, if of each caller the events came that are its part
+pub all_shown : {S : Type 0} (has_taken : S → List Stamped → Type 0) (z : Cells) (sink : S) (had h : List Stamped) → is_legal z h ≡ true
+    → ((c : ℕ) → c < z.callers → part c had ≡ part c h) → All (λ (e : Stamped). e.caller < z.callers) had
+    → HasShownInOrder has_taken sink had → has_taken sink h
+all_shown has_taken z sink had h legal parts senders shown =
+    subst (has_taken sink) (history_is h had (had_stands z had h legal parts senders) (all_had z had h legal parts) shown.next shown.missing) shown.shown

@@ -8,8 +8,7 @@ pub mod WorkerLists
 pub mod FreshWorkers
 pub mod TakenLaws
 pub mod SendingLaws
-pub mod BesideLaws
 pub mod HistoryLaws
 pub mod TurnLaws
-pub mod TakenParts
 pub mod PlayLaws
+pub mod JudgeLaws

@@ -1,27 +1,23 @@
--- All workers with their senders, and the verdict beside them.
-use Rattle.std.proofs.Common.{◌≡◌, ℕ, ◌+◌, ◌<◌, List, [], ◌∷◌, length, map, get_or, true, Option, Some, None, refl, sym, ap, ◌∙◌, subst, arith}
-use Rattle.std.specs.Prelude.{IfSome, slice_index_or}
+-- All workers with their senders, and what came of each.
+use Rattle.std.proofs.Common.{◌≡◌, ℕ, ◌+◌, ◌<◌, List, [], ◌∷◌, length, map, refl, sym, ap, ◌∙◌, subst, arith}
+use Rattle.std.specs.Prelude.{slice_index_or}
 use Rattle.std.specs.List.{All}
 use Rattle.std.proofs.lemmas.List.{ext_get_or, get_or-map, length-map}
 use Rattle.vyrd_base.specs.declared.header.Header.{Header}
 use Rattle.vyrd_base.specs.declared.history.Stamped.{Stamped}
-use Rattle.vyrd_base.specs.declared.verdict.Verdict.{Verdict}
-use Rattle.vyrd_base.specs.Histories.{Cells, is_legal, log_of}
-use Rattle.vyrd_base.specs.Verdicts.{verdict}
 use Rattle.vyrd_memory.specs.Scripts.{Script}
 use Rattle.vyrd_base.specs.Parts.{part}
 use Rattle.vyrd_trace.specs.Hands.{TracedView, HandView, AreAll}
-use Rattle.vyrd_relay.specs.declared.known.Lane.{Lane}
-use Rattle.vyrd_relay.specs.Knowledge.{HasBeginning}
-use Rattle.vyrd_relay.specs.Ends.{RelayView, SenderView, AreNew}
+use Rattle.vyrd_relay.specs.Ends.{RelayView, SenderView, AreNew, HasAll}
 use Rattle.vyrd_live.specs.declared.worker.Worker.{Worker}
 use Rattle.vyrd_live.specs.declared.worker.Stopped.{Stopped}
 use Rattle.vyrd_live.specs.declared.outbox.Outbox.{Outbox}
 use Rattle.vyrd_live.specs.Workers.{HasWorked}
-use Rattle.vyrd_live.specs.Beside.{IsClosing, hands_left, lanes_left}
-use Rattle.vyrd_live.proofs.WorkerLists.{HaveWorked, element_of}
-use Rattle.vyrd_live.proofs.HistoryLaws.{closing_is}
-use Rattle.vyrd_live.proofs.TakenParts.{Done, AllSent, had_stands}
+use Rattle.vyrd_live.specs.Beside.{lanes_made}
+use Rattle.vyrd_live.proofs.WorkerLists.{HaveWorked, element_of, hands}
+
+abbrev pub Done : Type 0
+Done = Stopped × Outbox
 
 -- a fact of all images is one of all
 pub of_images : {A B : Type 0} (f : A → B) (P : B → Type 0) (xs : List A) → All P (map f xs) → All (λ (x : A). P (f x)) xs
@@ -83,19 +79,17 @@ worked_all {M} header_of script ahead traced workers jobs done stopped are left 
       ∙ sym (length-map jobs (λ (j : Worker M × Outbox). j.0)) ∙ ap (λ (xs : List (Worker M)). length xs) are,
 )
 
--- the verdict at the end is that of the history's log
-pub beside_verdict : (relay : RelayView) (z : Cells) (h : Header) (done : List Done) (had history : List Stamped) (hands : List HandView)
-    (lanes : List Lane) (senders : ℕ) (r : Option Verdict) → is_legal z history ≡ true → senders ≡ length done
-    → hands ≡ hands_left done → lanes ≡ lanes_left done
-    → ((i : ℕ) (d : Done) → i < length done → (get_or done i d).0.hand.caller ≡ i) → AllSent relay done
-    → All (λ (hand : HandView). part hand.caller history ≡ hand.lane) hands
-    → All (HasBeginning had) lanes → All (λ (e : Stamped). e.caller < senders) had
-    → IfSome r (λ v. IsClosing h v had history) → IfSome r (λ v. v ≡ verdict h [] (log_of history))
-beside_verdict relay z h done had history hands lanes senders None legal many are sent_is own sent parts begins theirs is = tt
-beside_verdict relay z h done had history hands lanes senders (Some v) legal many are sent_is own sent parts begins theirs is =
-    let each = of_images (λ (d : Done). d.0.hand) (λ (hand : HandView). part hand.caller history ≡ hand.lane) done
-    (subst (All (λ (hand : HandView). part hand.caller history ≡ hand.lane)) are parts) in
-    closing_is z h v had history legal
-    (had_stands relay z done had history legal own sent (subst (All (HasBeginning had)) sent_is begins)
-    (subst (λ (n : ℕ). All (λ (e : Stamped). e.caller < n) had) many theirs)
-    (λ i d l. ap (λ (n : ℕ). part n history) (sym (own i d l)) ∙ each i d l)) is
+-- of each caller the events came that are its part of the history
+pub same_parts : (traced : TracedView) (stopped : List Stopped) (had history : List Stamped) → AreAll traced (hands stopped)
+    → All (HasAll had) (lanes_made stopped) → All (λ (hand : HandView). part hand.caller history ≡ hand.lane) (hands stopped)
+    → (c : ℕ) → c < traced.plan.callers → part c had ≡ part c history
+same_parts traced stopped had history all sent parts c low =
+    let count = length-map stopped (λ (s : Stopped). s.hand) in
+    let many = all.0 in
+    let here : c < length stopped = omega (arith, low, many, count) in
+    let s = element_of stopped c here in
+    let own = subst (λ (v : HandView). v.caller ≡ c) (get_or-map (λ (s : Stopped). s.hand) stopped c s s.hand here)
+    (all.1 c s.hand (omega (arith, here, count))).1 in
+    let came = of_images (λ (s : Stopped). record { caller = s.hand.caller; items = s.hand.lane }) (HasAll had) stopped sent c s here in
+    let stands = of_images (λ (s : Stopped). s.hand) (λ (hand : HandView). part hand.caller history ≡ hand.lane) stopped parts c s here in
+    subst (λ n. part n had ≡ part n history) own (came ∙ sym stands)

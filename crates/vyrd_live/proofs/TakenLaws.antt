@@ -1,18 +1,13 @@
 -- One event more that is taken in, and one more that is handed out.
-use Rattle.std.proofs.Common.{◌≡◌, ◌≢◌, ℕ, zero, suc, ◌+◌, ◌<◌, ◌≤◌, List, [], ◌∷◌, ◌++◌, Bool, true, false, cond, ltb, filter_map, Option, Some, None, refl, sym, ap, ◌∙◌, subst, arith, eq-eqb, ne_eqb}
+use Rattle.std.proofs.Common.{◌≡◌, ◌≢◌, ℕ, zero, suc, ◌+◌, ◌<◌, ◌≤◌, List, [], ◌∷◌, ◌++◌, Bool, true, false, cond, ltb, Option, Some, None, refl, sym, ap, ◌∙◌, subst, arith, eq-eqb, ne_eqb}
 use Rattle.std.specs.Prelude.{◌==◌, is_some, if◌then◌else◌, ◌&&◌, ◌||◌, not}
 use Rattle.std.specs.Option.{option_to_list}
-use Rattle.std.specs.List.{cons_option}
-use Rattle.std.proofs.lemmas.List.Elements.{filter_map-append}
 use Rattle.std.proofs.lemmas.Bool.Decides.{nat_tests}
 use mathlib.Core.Logic.{dite}
 use native.Mathlib.Decide.{ℕ_discrete, dec_lt}
-use Rattle.vyrd_base.specs.declared.log.Entry.{Entry}
 use Rattle.vyrd_base.specs.declared.history.Stamped.{Stamped}
-use Rattle.vyrd_base.specs.Histories.{logged, log_of}
 use Rattle.vyrd_relay.specs.Numbers.{Kept, held, has}
-use Rattle.vyrd_judge.specs.Following.{JudgeView, HasFollowed}
-use Rattle.vyrd_live.specs.Taken.{numbered, in_order_below, VerifierView, has_failed, has_number, AreKept, is_in, IsTaking, HasTakenIn}
+use Rattle.vyrd_live.specs.Taken.{numbered, in_order_below, SequencerView, has_failed, has_number, AreKept, is_in, IsTaking, HasTakenIn}
 
 -- an event more at the end is found where none with its number was there
 pub numbered_new : (n : ℕ) (taken : List Stamped) (e : Stamped) → numbered n taken ≡ None → e.number ≡ n → numbered n (taken ++ e ∷ []) ≡ Some e
@@ -34,21 +29,13 @@ in_order_same zero taken e l = refl
 in_order_same (suc n) taken e l = let a = in_order_same n taken e (omega arith) in let b = numbered_old n taken e (λ q. omega arith) in
     λ i. a i ++ option_to_list (b i)
 
-option_list : {A B : Type 0} (f : A → Option B) (a : A) → filter_map f (a ∷ []) ≡ option_to_list (f a)
-option_list f a = elim (f a) as (λ o. cons_option o [] ≡ option_to_list o) [
-  | None ↦ refl
-  | Some b ↦ refl
-]
-
--- the log when the event with the next number is there too
-pub log_more : (n : ℕ) (taken : List Stamped) (e : Stamped) → numbered n taken ≡ Some e
-    → log_of (in_order_below (suc n) taken) ≡ log_of (in_order_below n taken) ++ option_to_list (logged e.caller e.did)
-unfolding log_of
-log_more n taken e found =
-    let f : Stamped → Option Entry = λ x. logged x.caller x.did in
-    ap (λ (o : Option Stamped). filter_map f (in_order_below n taken ++ option_to_list o)) found
-    ∙ filter_map-append f (in_order_below n taken) (e ∷ [])
-    ∙ ap (λ (l : List Entry). filter_map f (in_order_below n taken) ++ l) (option_list f e)
+-- the events in their order when the one with the next number is there too
+pub in_order_more : (n : ℕ) (taken : List Stamped) (e : Stamped) → numbered n taken ≡ Some e
+    → in_order_below (n + 1) taken ≡ in_order_below n taken ++ e ∷ []
+in_order_more n taken e found = ap (λ (m : ℕ). in_order_below m taken) (one_more n) ∙ ap (λ (o : Option Stamped). in_order_below n taken ++ option_to_list o) found
+  where
+    one_more : (n : ℕ) → n + 1 ≡ suc n
+    one_more n = omega arith
 
 -- the event with the next number was handed out
 pub kept_after : (k after : Kept) (taken : List Stamped) (e : Stamped) → held k k.next ≡ Some e → after.next ≡ k.next + 1
@@ -89,35 +76,32 @@ kept_with k after taken e not_had next put kept =
           ∙ kept.later n (omega arith) ∙ sym (numbered_old n taken e (λ q. apart (sym q))));
     }
 
-pub taking_after : (judge judge' : JudgeView) (k after : Kept) (taken : List Stamped) (e : Stamped) → held k k.next ≡ Some e → after.next ≡ k.next + 1
-    → ((n : ℕ) → k.next < n → held after n ≡ held k n)
-    → ((log : List Entry) → HasFollowed judge [] log → HasFollowed judge' [] (log ++ option_to_list (logged e.caller e.did)))
-    → IsTaking judge k taken → IsTaking judge' after taken
-taking_after judge judge' k after taken e found next same fed t =
+pub taking_after : {S : Type 0} (has_taken : S → List Stamped → Type 0) (sink sink' : S) (k after : Kept) (taken : List Stamped) (e : Stamped)
+    → held k k.next ≡ Some e → after.next ≡ k.next + 1 → ((n : ℕ) → k.next < n → held after n ≡ held k n)
+    → ((history : List Stamped) → has_taken sink history → has_taken sink' (history ++ e ∷ []))
+    → IsTaking has_taken sink k taken → IsTaking has_taken sink' after taken
+taking_after has_taken sink sink' k after taken e found next same shown t =
     let here : numbered k.next taken ≡ Some e = sym (t.in_hand.later k.next (omega arith)) ∙ found in
-    let log = ap (λ (n : ℕ). log_of (in_order_below n taken)) next ∙ ap (λ (n : ℕ). log_of (in_order_below n taken)) (one_more k.next) ∙ log_more k.next taken e here in record {
+    let order = ap (λ (n : ℕ). in_order_below n taken) next ∙ in_order_more k.next taken e here in record {
       in_hand = kept_after k after taken e found next same t.in_hand;
-      judged = subst (HasFollowed judge' []) (sym log) (fed _ t.judged);
+      shown = subst (has_taken sink') (sym order) (shown _ t.shown);
     }
-  where
-    one_more : (n : ℕ) → n + 1 ≡ suc n
-    one_more n = omega arith
 
-pub taking_with : (judge : JudgeView) (k after : Kept) (taken : List Stamped) (e : Stamped) → has k e.number ≡ false → after.next ≡ k.next
-    → ((n : ℕ) → held after n ≡ (if n == e.number then Some e else held k n))
-    → IsTaking judge k taken → IsTaking judge after (taken ++ e ∷ [])
-taking_with judge k after taken e not_had next put t =
+pub taking_with : {S : Type 0} (has_taken : S → List Stamped → Type 0) (sink : S) (k after : Kept) (taken : List Stamped) (e : Stamped)
+    → has k e.number ≡ false → after.next ≡ k.next → ((n : ℕ) → held after n ≡ (if n == e.number then Some e else held k n))
+    → IsTaking has_taken sink k taken → IsTaking has_taken sink after (taken ++ e ∷ [])
+taking_with has_taken sink k after taken e not_had next put t =
     let new = new_number k taken e.number not_had t.in_hand in record {
       in_hand = kept_with k after taken e not_had next put t.in_hand;
-      judged = subst (HasFollowed judge []) (ap log_of (sym (ap (λ (n : ℕ). in_order_below n (taken ++ e ∷ [])) next ∙ in_order_same k.next taken e new.0))) t.judged;
+      shown = subst (has_taken sink) (sym (ap (λ (n : ℕ). in_order_below n (taken ++ e ∷ [])) next ∙ in_order_same k.next taken e new.0)) t.shown;
     }
 
 -- nothing was taken in
-pub taking_none : (judge : JudgeView) (k : Kept) → k.next ≡ 0 → ((n : ℕ) → held k n ≡ None) → HasFollowed judge [] [] → IsTaking judge k []
-unfolding log_of
-taking_none judge k next none fed = record {
+pub taking_none : {S : Type 0} (has_taken : S → List Stamped → Type 0) (sink : S) (k : Kept) → k.next ≡ 0 → ((n : ℕ) → held k n ≡ None)
+    → has_taken sink [] → IsTaking has_taken sink k []
+taking_none has_taken sink k next none shown = record {
   in_hand = record { gone = λ n l. absurd (omega arith); later = λ n l. none n };
-  judged = subst (λ (n : ℕ). HasFollowed judge [] (log_of (in_order_below n []))) (sym next) fed;
+  shown = subst (λ (n : ℕ). has_taken sink (in_order_below n [])) (sym next) shown;
 }
 
 -- what is had is what was taken in
@@ -128,33 +112,36 @@ knows_all k taken kept n = dite (dec_lt n k.next)
     (λ no_less. let b : ltb n k.next ≡ false = grind (arith, nat_tests) in
     ap (λ (x : Bool). x || is_some (held k n)) b ∙ ap is_some (kept.later n (omega arith)))
 
--- a new verifier
-pub taken_first : (v : VerifierView) → v.refused ≡ None → IsTaking v.judge v.kept [] → HasTakenIn v []
-taken_first v none t = record {
-  known = λ n. ap (λ (r : Option ℕ). is_in v.kept r n) none ∙ knows_all v.kept [] t.in_hand n;
-  judging = λ going. record { taking = t; missing = refl };
+-- a new sequencer
+pub taken_first : {S : Type 0} (has_taken : S → List Stamped → Type 0) (q : SequencerView S) → q.refused ≡ None
+    → IsTaking has_taken q.sink q.kept [] → HasTakenIn has_taken q []
+taken_first has_taken q none t = record {
+  known = λ n. ap (λ (r : Option ℕ). is_in q.kept r n) none ∙ knows_all q.kept [] t.in_hand n;
+  in_order = λ going. record { taking = t; missing = refl };
 }
 
 -- one event more was taken in
-pub taken_more : (old new : VerifierView) (taken : List Stamped) (e : Stamped) → has_failed old ≡ false → new.refused ≡ None
-    → ((xs : List Stamped) → IsTaking old.judge old.kept xs → IsTaking new.judge new.kept (xs ++ e ∷ []))
-    → held new.kept new.kept.next ≡ None → HasTakenIn old taken → HasTakenIn new (taken ++ e ∷ [])
-taken_more old new taken e going none step gone t =
-    let now = step taken (t.judging going).taking in record {
+pub taken_more : {S : Type 0} (has_taken : S → List Stamped → Type 0) (old new : SequencerView S) (taken : List Stamped) (e : Stamped)
+    → has_failed old ≡ false → new.refused ≡ None
+    → ((xs : List Stamped) → IsTaking has_taken old.sink old.kept xs → IsTaking has_taken new.sink new.kept (xs ++ e ∷ []))
+    → held new.kept new.kept.next ≡ None → HasTakenIn has_taken old taken → HasTakenIn has_taken new (taken ++ e ∷ [])
+taken_more has_taken old new taken e going none step gone t =
+    let now = step taken (t.in_order going).taking in record {
       known = λ n. ap (λ (r : Option ℕ). is_in new.kept r n) none ∙ knows_all new.kept (taken ++ e ∷ []) now.in_hand n;
-      judging = λ still. record { taking = now; missing = sym (now.in_hand.later new.kept.next (omega arith)) ∙ gone };
+      in_order = λ still. record { taking = now; missing = sym (now.in_hand.later new.kept.next (omega arith)) ∙ gone };
     }
 
 -- an event was refused
-pub taken_same : (old new : VerifierView) (taken : List Stamped) (number : ℕ) → old.refused ≡ None → new.refused ≡ Some number
-    → has_number old number ≡ false → ((n : ℕ) → n ≢ number → has new.kept n ≡ has old.kept n) → HasTakenIn old taken → HasTakenIn new taken
-taken_same old new taken number none some not_had same t = record {
+pub taken_same : {S : Type 0} (has_taken : S → List Stamped → Type 0) (old new : SequencerView S) (taken : List Stamped) (number : ℕ) → old.refused ≡ None → new.refused ≡ Some number
+    → has_number old number ≡ false → ((n : ℕ) → n ≢ number → has new.kept n ≡ has old.kept n)
+    → HasTakenIn has_taken old taken → HasTakenIn has_taken new taken
+taken_same has_taken old new taken number none some not_had same t = record {
   known = λ n. ap (λ (r : Option ℕ). is_in new.kept r n) some ∙ dite (ℕ_discrete n number)
       (λ is. ap (λ (b : Bool). has new.kept n && not b) (eq-eqb n number is) ∙ no_and (has new.kept n)
       ∙ sym not_had ∙ t.known number ∙ ap (λ (m : ℕ). is_some (numbered m taken)) (sym is))
       (λ apart. ap (λ (b : Bool). has new.kept n && not b) (ne_eqb n number apart) ∙ and_yes (has new.kept n) ∙ same n apart
       ∙ ap (λ (r : Option ℕ). is_in old.kept r n) (sym none) ∙ t.known n);
-  judging = λ still. absurd (differ (sym (ap (λ (r : Option ℕ). is_some r) some) ∙ still));
+  in_order = λ still. absurd (differ (sym (ap (λ (r : Option ℕ). is_some r) some) ∙ still));
 }
   where
     differ : true ≢ false
@@ -176,28 +163,24 @@ has_with k after e next put n apart =
     ∙ ap (λ (o : Option Stamped). ltb n k.next || is_some o) (put n ∙ ap (λ (b : Bool). cond b (Some e) (held k n)) (ne_eqb n e.number apart))
 
 -- an event whose turn it is was shown at once
-pub taking_turn : (judge judge' : JudgeView) (k after : Kept) (taken : List Stamped) (e : Stamped) → has k e.number ≡ false → e.number ≡ k.next
-    → after.next ≡ k.next + 1 → ((n : ℕ) → k.next < n → held after n ≡ held k n)
-    → HasFollowed judge' [] (log_of (in_order_below k.next taken) ++ option_to_list (logged e.caller e.did))
-    → IsTaking judge k taken → IsTaking judge' after (taken ++ e ∷ [])
-taking_turn judge judge' k after taken e not_had turn next same fed t =
+pub taking_turn : {S : Type 0} (has_taken : S → List Stamped → Type 0) (sink sink' : S) (k after : Kept) (taken : List Stamped) (e : Stamped)
+    → has k e.number ≡ false → e.number ≡ k.next → after.next ≡ k.next + 1 → ((n : ℕ) → k.next < n → held after n ≡ held k n)
+    → has_taken sink' (in_order_below k.next taken ++ e ∷ [])
+    → IsTaking has_taken sink k taken → IsTaking has_taken sink' after (taken ++ e ∷ [])
+taking_turn has_taken sink sink' k after taken e not_had turn next same shown t =
     let new = new_number k taken e.number not_had t.in_hand in
     let none : numbered k.next taken ≡ None = ap (λ (n : ℕ). numbered n taken) (sym turn) ∙ new.1 in
     let here : numbered k.next (taken ++ e ∷ []) ≡ Some e = numbered_new k.next taken e none turn in
-    let log = ap (λ (n : ℕ). log_of (in_order_below n (taken ++ e ∷ []))) next
-    ∙ ap (λ (n : ℕ). log_of (in_order_below n (taken ++ e ∷ []))) (one_more k.next) ∙ log_more k.next (taken ++ e ∷ []) e here
-    ∙ ap (λ (xs : List Stamped). log_of xs ++ option_to_list (logged e.caller e.did)) (in_order_same k.next taken e new.0) in record {
+    let order = ap (λ (n : ℕ). in_order_below n (taken ++ e ∷ [])) next ∙ in_order_more k.next (taken ++ e ∷ []) e here
+    ∙ ap (λ (xs : List Stamped). xs ++ e ∷ []) (in_order_same k.next taken e new.0) in record {
       in_hand = record {
         gone = λ n l. dite (dec_lt n k.next)
             (λ less. ap is_some (numbered_old n taken e (λ q. omega arith)) ∙ t.in_hand.gone n less)
             (λ no_less. let is : k.next ≡ n = omega arith in ap is_some (ap (λ (m : ℕ). numbered m (taken ++ e ∷ [])) (sym is) ∙ here));
         later = λ n l. same n (omega arith) ∙ t.in_hand.later n (omega arith) ∙ sym (numbered_old n taken e (λ q. omega arith));
       };
-      judged = subst (HasFollowed judge' []) (sym log) fed;
+      shown = subst (has_taken sink') (sym order) shown;
     }
-  where
-    one_more : (n : ℕ) → n + 1 ≡ suc n
-    one_more n = omega arith
 
 -- and what is had changes at its number alone
 pub has_passed : (k after : Kept) (number : ℕ) → number ≡ k.next → after.next ≡ k.next + 1 → ((n : ℕ) → k.next < n → held after n ≡ held k n)

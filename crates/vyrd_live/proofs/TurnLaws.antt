@@ -1,7 +1,13 @@
--- The run by turns of a correct structure is accepted.
-use Rattle.std.proofs.Common.{◌≡◌, ◌∙◌}
+-- What is recorded of a run by turns is its run, and that of a correct structure is accepted.
+use Rattle.std.proofs.Common.{◌≡◌, ℕ, List, [], ap, sym, subst, ◌∙◌}
+use Rattle.vyrd_base.specs.declared.header.Header.{Header}
+use Rattle.vyrd_base.specs.declared.history.Stamped.{Stamped}
 use Rattle.vyrd_base.specs.Histories.{log_of}
-use Rattle.vyrd_base.specs.Verdicts.{accepted}
+use Rattle.vyrd_base.specs.Places.{newest_first}
+use Rattle.vyrd_base.specs.Verdicts.{accepted, verdict}
+use Rattle.vyrd_memory.specs.Playing.{memory_after}
+use Rattle.vyrd_memory.specs.Showing.{HasRun}
+use Rattle.vyrd_memory.specs.Turns.{RunsTo}
 use Rattle.vyrd_memory.proofs.LegalRuns.{run_is_legal, run_plays}
 use Rattle.vyrd_work.specs.Workloads.{Workload}
 use Rattle.vyrd_work.specs.WorkLimits.{KeepsLimits}
@@ -9,8 +15,24 @@ use Rattle.vyrd_work.specs.WorkScripts.{work_scripts}
 use Rattle.vyrd_work.proofs.SoundScripts.{scripts_sound}
 use Rattle.vyrd_every.specs.Schedules.{IsCorrect}
 use Rattle.vyrd_every.proofs.Workloads.{schedule_accepted}
+use Rattle.vyrd_live.specs.declared.recording.Recording.{Recording}
 use Rattle.vyrd_live.specs.declared.run.Run.{Run}
+use Rattle.vyrd_live.specs.Recorded.{HasRecorded}
 use Rattle.vyrd_live.specs.TurnRuns.{IsRunByTurns}
+
+-- a recording that was shown the run by turns has what its run is made of
+pub run_recorded : (w : Workload) (r : Recording) (words : List ℕ) (run : Run)
+    → HasRun (work_scripts w) w.turns w.header HasRecorded r words → r.judge.judge.kept.header ≡ w.header
+    → run.history.items ≡ r.history.items → run.words.items ≡ words
+    → ((history : List Stamped) → HasRecorded r history → run.verdict ≡ verdict r.judge.judge.kept.header [] (log_of history))
+    → IsRunByTurns w run
+run_recorded w r words run has_run header history_is words_is judged =
+    let same : run.history.items ≡ has_run.history = history_is ∙ has_run.taken.kept in record {
+      history = subst (RunsTo (work_scripts w) w.turns) (sym same) has_run.runs;
+      words = words_is ∙ has_run.words_are ∙ ap (λ (h : List Stamped). memory_after w.header (newest_first h)) (sym same);
+      verdict_is = judged has_run.history has_run.taken ∙ ap (λ (h : Header). verdict h [] (log_of has_run.history)) header
+          ∙ ap (λ (h : List Stamped). verdict w.header [] (log_of h)) (sym same);
+    }
 
 pub turns_accepted : (w : Workload) (run : Run) → KeepsLimits w → IsCorrect w → IsRunByTurns w run
     → run.verdict ≡ accepted (log_of run.history.items)

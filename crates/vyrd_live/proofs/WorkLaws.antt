@@ -1,5 +1,5 @@
 -- A machine that is played on a hand, event by event.
-use Rattle.std.proofs.Common.{◌≡◌, ℕ, ◌+◌, ◌-◌, length, true, false, List, [], ◌∷◌, Some, ap, ◌∙◌, sym, subst, length-append}
+use Rattle.std.proofs.Common.{◌≡◌, ℕ, ◌+◌, ◌-◌, length, true, false, List, [], ◌∷◌, Some, refl, ap, ◌∙◌, sym, subst, length-append}
 use Rattle.vyrd_base.specs.declared.header.Header.{Header}
 use Rattle.vyrd_base.specs.declared.history.Did.{Did}
 use Rattle.vyrd_base.specs.declared.history.Did.TheVariants.{Read, Wrote, Took, Gave, Marked}
@@ -16,7 +16,8 @@ use Rattle.vyrd_live.specs.Working.{dids_of, IsWorking, HasRoomAhead}
 use Rattle.vyrd_live.specs.Acts.{HasActed}
 use Rattle.vyrd_live.proofs.Lanes.{dids_of-snoc, length-dids}
 use Rattle.vyrd_live.proofs.RoomLaws.{began_with_room, still_in_time}
-use Rattle.vyrd_live.proofs.FitLaws.{fits_on, fits_with_room, fits_fresh, nothing_left}
+use Rattle.vyrd_live.specs.Sending.{with_forgotten}
+use Rattle.vyrd_live.proofs.FitLaws.{fits_on, fits_with_room, fits_kept, fits_fresh, nothing_left}
 
 -- the answer that an act got is the one that its event gave
 answer_is : (act : Act) (answer : ℕ) (did : Did) → event_of act answer ≡ Some did → IsAnswer act answer → answer_of did ≡ answer
@@ -51,6 +52,17 @@ working_with_room h script left hand now is w room =
       fits = fits_with_room h left hand now is w.fits;
       in_time = λ goes. room.spare;
     }
+
+-- where the hand keeps less of its lane
+pub working_kept : (h : Header) (script left : Script) (forgotten : ℕ) (hand now : HandView) → now ≡ with_forgotten hand forgotten
+    → IsWorking h script left hand → IsWorking h script left now
+working_kept h script left forgotten hand now is w = subst (IsWorking h script left) (sym is) (record {
+  plays = w.plays;
+  left_is = w.left_is;
+  had_room = w.had_room;
+  fits = fits_kept h left forgotten hand (with_forgotten hand forgotten) refl w.fits;
+  in_time = w.in_time;
+})
 
 -- The lane is one event longer.
 lane_after : (act : Act) (answer : ℕ) (hand now : HandView) (acted : HasActed act answer hand now) → dids_of now.lane ≡ acted.did ∷ dids_of hand.lane

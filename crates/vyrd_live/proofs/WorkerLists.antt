@@ -1,6 +1,6 @@
 -- What all workers together leave.
 use Rattle.std.proofs.Common.{◌≡◌, ℕ, ◌<◌, List, [], ◌∷◌, map, length, true, Option, Some, None, ap, ◌∙◌, sym, subst, arith}
-use Rattle.std.specs.Prelude.{slice_index_or, IfSome}
+use Rattle.std.specs.Prelude.{slice_index, slice_index_or, IfSome}
 use Rattle.std.specs.List.{All}
 use Rattle.std.proofs.lemmas.List.{get_or-map, length-map, get_or_past}
 use Rattle.vyrd_base.specs.declared.header.Header.{Header}
@@ -18,8 +18,8 @@ use Rattle.vyrd_live.specs.declared.worker.Worker.{Worker}
 use Rattle.vyrd_live.specs.declared.worker.Stopped.{Stopped}
 use Rattle.vyrd_live.specs.Endings.{HasEnded, IsFirstSpent}
 use Rattle.vyrd_live.specs.Working.{dids_of}
-use Rattle.vyrd_live.specs.Workers.{HasWorked, HavePlayed, AreMadeFor}
-use Rattle.vyrd_live.specs.LiveRuns.{done_by}
+use Rattle.vyrd_live.specs.Workers.{HasWorked, AreMadeFor}
+use Rattle.vyrd_live.specs.LiveRuns.{done_by, HavePlayed}
 use Rattle.vyrd_live.proofs.Parts.{done_by-part, nothing_done}
 use Rattle.vyrd_live.proofs.EndingLaws.{played}
 
@@ -136,8 +136,11 @@ pub first_is_long : {M : Type 0} (header_of : M → Header) (script : M → Scri
     (stopped : List Stopped) (first : Option ℕ)
     → HaveWorked header_of script ahead traced workers stopped → length stopped ≡ length workers
     → IsFirstSpent (endings stopped) (length stopped) first
-    → IfSome first (λ caller. (w : Worker M) → traced.plan.limit < ahead (slice_index_or workers caller w).machine)
+    → IfSome first (λ caller. traced.plan.limit < slice_index (map (λ (w : Worker M). ahead w.machine) workers) caller)
 first_is_long header_of script ahead traced workers stopped None worked count is = tt
-first_is_long header_of script ahead traced workers stopped (Some first) worked count is = λ w.
+first_is_long header_of script ahead traced workers stopped (Some first) worked count is =
+    let here : first < length workers = let low = is.0 in omega (arith, low, count) in
+    let w = element_of workers first here in
     let s : Stopped = record { hand = w.hand; ending = Finished } in
-    (worked first w s (omega (arith, is.0, count))).long (sym (get_or-map (λ (s : Stopped). s.ending) stopped first s Finished is.0) ∙ is.1)
+    subst (λ n. traced.plan.limit < n) (sym (get_or-map (λ (w : _). ahead w.machine) workers first w 0 here))
+    ((worked first w s here).long (sym (get_or-map (λ (s : Stopped). s.ending) stopped first s Finished is.0) ∙ is.1))

@@ -12,10 +12,10 @@ ghost use Rattle.vyrd_work.specs.WorkScripts.{work_scripts};
 ghost use Rattle.vyrd_every.specs.Schedules.{IsCorrect};
 ghost use Rattle.vyrd_live.specs.TurnRuns.{IsRunByTurns};
 
-use crate::judging::judged;
+use crate::recording::Recording;
 use crate::run::Run;
 use std::alloc::{AllocError, Global};
-use vyrd_memory::{EventSink, Ran, StepFault, run_turns, show_turns};
+use vyrd_memory::{EventSink, StepFault, show_turns};
 use vyrd_work::{Work, WorkMachine};
 
 /// Plays a workload by its turns and judges the run: what each caller does, event by event, is
@@ -30,9 +30,16 @@ pub fn run_by_turns<M: WorkMachine>(alloc: Global, work: &Work) -> Result<Option
     ensures every_schedule { IsCorrect (workload_of work.now) → IfOk result (λ run.
         MatchOption run ⊥ (λ run. run.verdict ≡ accepted (log_of run.history.items))) }
 {
+    let mut recording = Recording::new(alloc, work.header)?;
     let mut machines: Vec<M> = machines_of(alloc, work)?;
-    match run_turns(alloc, work.header, &mut machines, &work.turns) {
-        Ok(Ran { history, words }) => Ok(Some(judged(alloc, work.header, history, words)?)),
+    match show_turns(
+        alloc,
+        work.header,
+        &mut machines,
+        &work.turns,
+        &mut recording,
+    ) {
+        Ok(words) => Ok(Some(recording.finish(words)?)),
         Err(StepFault::Stuck) => Ok(None),
         Err(StepFault::Memory) => Err(AllocError),
     }
@@ -61,7 +68,10 @@ pub fn show_by_turns<M: WorkMachine, S: EventSink>(
 {
     let mut machines: Vec<M> = machines_of(alloc, &work)?;
     let Work {
-        header, ops, turns, ..
+        header,
+        ops,
+        turns,
+        ..
     } = work;
     drop(ops);
     match show_turns(alloc, header, &mut machines, &turns, sink) {

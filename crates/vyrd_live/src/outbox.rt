@@ -1,8 +1,14 @@
 //! What a worker sends on of its lane.
 
-ghost use Rattle.vyrd_live.specs.Sending.{HasSent};
+ghost use Rattle.std.specs.Prelude.{◌≡◌, true, length};
+ghost use Rattle.vyrd_live.specs.Sending.{HasSent, with_forgotten};
+ghost use Rattle.vyrd_live.specs.Beside.{HasWatched, StaysFixed, IsSameReceiver, AreOfSenders};
 
+use crate::signals::Signals;
+use crate::watch::Watch;
 use std::sync::Wait;
+use std::thread;
+use vyrd_memory::EventSink;
 use vyrd_relay::{Relay, Sender};
 use vyrd_trace::Hand;
 
@@ -10,33 +16,95 @@ use vyrd_trace::Hand;
 /// many workers slow one another down.
 const PAUSE: u32 = 64;
 
-/// A worker's sender, and the place in its lane up to which it has sent.
+/// A worker's sender, and how many events of its lane it has sent.
 #[derive(Drop)]
 pub(crate) struct Outbox {
     pub(crate) sender: Sender,
-    pub(crate) place: usize,
+    pub(crate) place: u64,
     pub(crate) pause: u32,
 }
 
 impl Outbox {
-    /// Sends the events of the lane that weren't sent yet, until one finds the relay full. It never
-    /// waits for room, and some calls after one that found none do nothing.
-    pub(crate) fn send<R: Wait>(&mut self, rt: &R, relay: &Relay, hand: &Hand)
+    /// Sends the events of the lane that weren't sent yet, until one finds the relay full, and
+    /// answers whether none is left. It never waits for room, and some calls after one that found
+    /// none do nothing.
+    pub(crate) fn send<R: Wait>(&mut self, rt: &R, relay: &Relay, hand: &Hand) -> bool
         requires { HasSent relay.now self.old.sender self.old.place hand.now }
-        ensures { HasSent relay.now self.new.sender self.new.place hand.now }
+        ensures sent { HasSent relay.now self.new.sender self.new.place hand.now }
+        ensures all { result ≡ true → self.new.place ≡ length hand.now.lane }
     {
         if self.pause > 0 {
             self.pause -= 1;
-            return;
+            return false;
         }
-        let lane = hand.lane();
-        while self.place < lane.len() {
-            let event = lane[self.place];
+        let kept = hand.lane();
+        let forgotten = hand.forgotten();
+        let made = hand.made();
+        while self.place < made {
+            let event = kept[(self.place - forgotten) as usize];
             if relay.push_next(rt, &mut self.sender, event).is_err() {
                 self.pause = PAUSE;
-                return;
+                return false;
             }
             self.place += 1;
         }
+        true
+    }
+
+    /// Sends all events of the lane, and lets the hand forget them. While what is in the relay is
+    /// taken in beside the workers, it waits for room, and for the sink to come near to the last of
+    /// them. Otherwise it may leave all as it is.
+    pub(crate) fn empty<R: Wait>(
+        &mut self,
+        rt: &R,
+        relay: &Relay,
+        hand: &mut Hand,
+        signals: &Signals,
+    )
+        requires { HasSent relay.now self.old.sender self.old.place hand.old }
+        ensures hand { hand.new ≡ with_forgotten hand.old hand.new.forgotten }
+        ensures sent { HasSent relay.now self.new.sender self.new.place hand.new }
+    {
+        let last = hand.lane().last().map_or(0, |event| event.number);
+        for _ in rt.forever() {
+            if self.send(rt, relay, hand) && signals.is_near(last) {
+                hand.forget();
+                return;
+            }
+            if !signals.has_begun() {
+                return;
+            }
+            thread::yield_now();
+        }
+        unreachable!()
+    }
+
+    /// Sends all events of the lane of a worker that has ended. Where the relay has no room, what
+    /// is in it is taken in.
+    pub(crate) fn send_rest<R: Wait, S: EventSink + Drop>(
+        &mut self,
+        rt: &R,
+        relay: &Relay,
+        hand: &Hand,
+        watch: &mut Watch<S>,
+    )
+        requires sent { HasSent relay.now self.old.sender self.old.place hand.now }
+        requires receiver { watch.old.receiver.queue ≡ relay.now.queue }
+        requires theirs { AreOfSenders watch.old.receiver }
+        ensures sent { HasSent relay.now self.new.sender self.new.place hand.now }
+        ensures all { self.new.place ≡ length hand.now.lane }
+        ensures same { IsSameReceiver watch.old.receiver watch.new.receiver }
+        ensures watched { HasWatched S.has_taken watch.old watch.old.receiver.had
+            → HasWatched S.has_taken watch.new watch.new.receiver.had }
+        ensures fixed { StaysFixed S.fixed watch.old watch.new }
+        ensures theirs { AreOfSenders watch.new.receiver }
+    {
+        for _ in rt.forever() {
+            if self.send(rt, relay, hand) {
+                return;
+            }
+            watch.take_next(rt, relay);
+        }
+        unreachable!()
     }
 }

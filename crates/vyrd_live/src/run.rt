@@ -15,6 +15,18 @@ pub struct Run {
     pub verdict: Verdict,
 }
 
+/// What a live run leaves that was shown to a sink.
+#[derive(Debug, Drop)]
+pub struct Played<S> {
+    /// The sink, which has taken the events of all callers, in their order.
+    pub sink: S,
+    /// The memory at the end: the plain words, and then the locks.
+    pub words: Vec<u64>,
+    /// The least caller that stopped because its next operation might have had more events than the
+    /// limit leaves. A caller that didn't stop so has done all of its operations.
+    pub spent: Option<u32>,
+}
+
 /// A live run that the limit of events ended.
 #[derive(Debug, Drop)]
 pub struct Overrun {

@@ -1,31 +1,28 @@
-//! The verifier beside the workers.
+//! The end of the relay, where the events of a live run are put in order.
 
-ghost use Rattle.std.specs.Prelude.{◌≡◌, true, List, [], ◌∷◌, ◌++◌, drop, IfOk, IfSome};
+ghost use Rattle.std.specs.Prelude.{◌≡◌, true, false, List, [], ◌∷◌, ◌++◌, IfOk, IfSome};
 ghost use Rattle.std.specs.List.{All};
-ghost use Rattle.vyrd_base.specs.declared.header.Header.{Header};
 ghost use Rattle.vyrd_base.specs.declared.history.Stamped.{Stamped};
-ghost use Rattle.vyrd_base.specs.Histories.{log_of};
-ghost use Rattle.vyrd_base.specs.Verdicts.{verdict};
-ghost use Rattle.vyrd_relay.specs.Knowledge.{HasBeginning};
-ghost use Rattle.vyrd_live.specs.Taken.{in_order_below};
-ghost use Rattle.vyrd_live.specs.Beside.{HasWatched, IsSameReceiver, lanes_sent, AreOfSenders};
-ghost use Rattle.vyrd_live.specs.Beside.{IsClosing};
+ghost use Rattle.vyrd_relay.specs.Ends.{HasAll};
+ghost use Rattle.vyrd_live.specs.Beside.{HasWatched, StaysFixed, IsSameReceiver, AreOfSenders};
+ghost use Rattle.vyrd_live.specs.Beside.{lanes_sent, HasShownInOrder};
 
 use crate::outbox::Outbox;
-use crate::verifier::Verifier;
+use crate::sequencer::Sequencer;
+use crate::signals::Signals;
 use std::alloc::{AllocError, Global};
 use std::sync::Wait;
-use std::sync::atomic::{AtomicBool, Ordering};
 use std::thread;
-use vyrd_base::{Gate, Header, Stamped, Verdict};
+use vyrd_base::{Gate, Stamped};
+use vyrd_memory::EventSink;
 use vyrd_relay::{Receiver, Relay};
 
-/// The end of the relay, with the verifier that takes in what comes there.
+/// The end of the relay, with the sequencer that takes in what comes there.
 #[derive(Drop)]
-pub(crate) struct Watch {
+pub(crate) struct Watch<S: EventSink + Drop> {
     pub(crate) receiver: Receiver,
-    pub(crate) verifier: Verifier,
-    /// Whether the verifier has taken in all that came. Otherwise it was set aside.
+    pub(crate) sequencer: Sequencer<S>,
+    /// Whether the sequencer has taken in all that came. Otherwise it was set aside.
     pub(crate) stands: bool,
     /// How many events it has taken in.
     pub(crate) taken: u64,
@@ -33,24 +30,27 @@ pub(crate) struct Watch {
     pub(crate) callers: u32,
 }
 
-impl Watch {
-    /// A verifier for this header at the receiver of a relay. Nothing has come.
+impl<S: EventSink + Drop> Watch<S> {
+    /// A sink at the receiver of a relay. Nothing has come.
     pub(crate) fn new(
         alloc: Global,
-        header: Header,
+        callers: u32,
         receiver: Receiver,
-    ) -> Result<Watch, AllocError>
-        requires { receiver.had ≡ [] }
+        sink: S,
+    ) -> Result<Watch<S>, AllocError>
+        requires receiver { receiver.had ≡ [] }
+        requires sink { S.has_taken sink [] }
         ensures receiver { IfOk result (λ w. w.receiver ≡ receiver) }
-        ensures watched { IfOk result (λ w. HasWatched header w w.receiver.had) }
+        ensures watched { IfOk result (λ w. HasWatched S.has_taken w w.receiver.had) }
+        ensures sink { IfOk result (λ w. w.sequencer.sink ≡ sink) }
     {
-        let verifier = Verifier::new(alloc, header)?;
+        let sequencer = Sequencer::new(alloc, sink)?;
         Ok(Watch {
             receiver,
-            verifier,
+            sequencer,
             stands: true,
             taken: 0,
-            callers: header.callers(),
+            callers,
         })
     }
 
@@ -60,95 +60,125 @@ impl Watch {
         rt: &R,
         relay: &Relay,
         gate: &G,
-        ended: &AtomicBool,
-    ) -> Watch
+        signals: &Signals,
+    ) -> Watch<S>
         requires receiver { self.receiver.queue ≡ relay.now.queue }
         requires theirs { AreOfSenders self.receiver }
         ensures same { IsSameReceiver self.receiver result.receiver }
-        ensures watched { (h : Header) → HasWatched h self self.receiver.had
-            → HasWatched h result result.receiver.had }
+        ensures watched { HasWatched S.has_taken self self.receiver.had
+            → HasWatched S.has_taken result result.receiver.had }
+        ensures fixed { StaysFixed S.fixed self result }
         ensures theirs { AreOfSenders result.receiver }
     {
         let mut watch = self;
-        watch.watch(rt, relay, gate, ended);
+        watch.watch(rt, relay, gate, signals);
         watch
     }
 
     /// Takes in what comes, until the workers have ended. What is in the relay then stays there.
-    pub(crate) fn watch<R: Wait, G: Gate>(
-        &mut self,
-        rt: &R,
-        relay: &Relay,
-        gate: &G,
-        ended: &AtomicBool,
-    )
+    fn watch<R: Wait, G: Gate>(&mut self, rt: &R, relay: &Relay, gate: &G, signals: &Signals)
         requires receiver { self.old.receiver.queue ≡ relay.now.queue }
         requires theirs { AreOfSenders self.old.receiver }
         ensures same { IsSameReceiver self.old.receiver self.new.receiver }
-        ensures watched { (h : Header) → HasWatched h self.old self.old.receiver.had
-            → HasWatched h self.new self.new.receiver.had }
+        ensures watched { HasWatched S.has_taken self.old self.old.receiver.had
+            → HasWatched S.has_taken self.new self.new.receiver.had }
+        ensures fixed { StaysFixed S.fixed self.old self.new }
         ensures theirs { AreOfSenders self.new.receiver }
     {
+        signals.begin();
         for _ in rt.forever() {
-            if ended.load(Ordering::SeqCst) {
+            if signals.has_ended() {
                 return;
             }
-            if !self.take_next(rt, relay, gate, ended) {
+            if !self.take_when_allowed(rt, relay, gate, signals) {
                 thread::yield_now();
             }
+            signals.advance(self.next());
         }
         unreachable!()
     }
 
-    /// Takes in the event that comes next, and answers whether there was one.
-    fn take_next<R: Wait, G: Gate>(
+    /// Takes in the event that comes next, once the gate allows it, and answers whether there was
+    /// one.
+    fn take_when_allowed<R: Wait, G: Gate>(
         &mut self,
         rt: &R,
         relay: &Relay,
         gate: &G,
-        ended: &AtomicBool,
+        signals: &Signals,
     ) -> bool
         requires receiver { self.old.receiver.queue ≡ relay.now.queue }
         requires theirs { AreOfSenders self.old.receiver }
         ensures same { IsSameReceiver self.old.receiver self.new.receiver }
-        ensures watched { (h : Header) → HasWatched h self.old self.old.receiver.had
-            → HasWatched h self.new self.new.receiver.had }
+        ensures watched { HasWatched S.has_taken self.old self.old.receiver.had
+            → HasWatched S.has_taken self.new self.new.receiver.had }
+        ensures fixed { StaysFixed S.fixed self.old self.new }
         ensures theirs { AreOfSenders self.new.receiver }
     {
         let Some(event) = relay.pop(rt, &mut self.receiver) else {
             return false;
         };
         if self.stands {
-            await_turn(rt, gate, self.callers, self.taken, ended);
+            await_turn(rt, gate, self.callers, self.taken, signals);
         }
         self.take_in(event);
         true
     }
 
-    /// Takes in an event, or sets the verifier aside.
+    /// Takes in the event that comes next, and answers whether there was one. If there was none,
+    /// all was had that the senders sent which were taken in.
+    pub(crate) fn take_next<R: Wait>(&mut self, rt: &R, relay: &Relay) -> bool
+        requires receiver { self.old.receiver.queue ≡ relay.now.queue }
+        requires theirs { AreOfSenders self.old.receiver }
+        ensures same { IsSameReceiver self.old.receiver self.new.receiver }
+        ensures watched { HasWatched S.has_taken self.old self.old.receiver.had
+            → HasWatched S.has_taken self.new self.new.receiver.had }
+        ensures fixed { StaysFixed S.fixed self.old self.new }
+        ensures theirs { AreOfSenders self.new.receiver }
+        ensures all { result ≡ false
+            → All (HasAll self.new.receiver.had) self.new.receiver.settled }
+    {
+        let Some(event) = relay.pop(rt, &mut self.receiver) else {
+            return false;
+        };
+        self.take_in(event);
+        true
+    }
+
+    /// Takes in an event, or sets the sequencer aside.
     fn take_in(&mut self, event: Stamped)
         ensures same { self.new.receiver ≡ self.old.receiver }
-        ensures watched { (h : Header) (taken : List Stamped) → HasWatched h self.old taken
-            → HasWatched h self.new (taken ++ event ∷ []) }
+        ensures watched { (taken : List Stamped) → HasWatched S.has_taken self.old taken
+            → HasWatched S.has_taken self.new (taken ++ event ∷ []) }
+        ensures fixed { StaysFixed S.fixed self.old self.new }
     {
         if self.stands {
-            self.stands = self.verifier.try_take_in(event);
+            self.stands = self.sequencer.try_take_in(event);
             self.taken = self.taken.saturating_add(1);
+        }
+    }
+
+    /// The least number that the sink wants and hasn't taken: none, if it was set aside.
+    fn next(&self) -> u64 {
+        if self.stands {
+            self.sequencer.next()
+        } else {
+            u64::MAX
         }
     }
 
     /// Takes in the senders of the workers, which have ended: what was had of each is a beginning
     /// of what it sent.
-    pub(crate) fn settle<R: Wait>(&mut self, rt: &R, relay: &Relay, outboxes: Vec<Outbox>)
+    fn settle<R: Wait>(&mut self, rt: &R, relay: &Relay, outboxes: Vec<Outbox>)
         requires receiver { self.old.receiver.queue ≡ relay.now.queue }
         requires first { self.old.receiver.settled ≡ [] }
         requires senders { All (λ o. o.sender.queue ≡ relay.now.queue) outboxes.items }
+        ensures queue { self.new.receiver.queue ≡ self.old.receiver.queue }
         ensures senders { self.new.receiver.senders ≡ self.old.receiver.senders }
         ensures had { self.new.receiver.had ≡ self.old.receiver.had }
-        ensures verifier { (self.new.stands ≡ self.old.stands)
-            × (self.new.verifier ≡ self.old.verifier) }
+        ensures rest { (self.new.stands ≡ self.old.stands)
+            × (self.new.sequencer ≡ self.old.sequencer) }
         ensures settled { self.new.receiver.settled ≡ lanes_sent outboxes.items }
-        ensures beginnings { All (HasBeginning self.new.receiver.had) self.new.receiver.settled }
     {
         for outbox in outboxes {
             let Outbox { sender, .. } = outbox;
@@ -156,49 +186,52 @@ impl Watch {
         }
     }
 
-    /// The verdict about the log of a history, where the verifier stands and can take in the events
-    /// from the least number on that it hasn't taken in.
-    pub(crate) fn verdict(&mut self, history: &[Stamped]) -> Option<Verdict>
-        ensures { (h : Header) (taken : List Stamped) → HasWatched h self.old taken
-            → IfSome result (λ v. IsClosing h v taken history.now) }
+    /// Takes in all that the workers, which have ended, have sent and that is still in the relay.
+    pub(crate) fn take_rest<R: Wait>(&mut self, rt: &R, relay: &Relay, outboxes: Vec<Outbox>)
+        requires receiver { self.old.receiver.queue ≡ relay.now.queue }
+        requires theirs { AreOfSenders self.old.receiver }
+        requires first { self.old.receiver.settled ≡ [] }
+        requires senders { All (λ o. o.sender.queue ≡ relay.now.queue) outboxes.items }
+        ensures senders { self.new.receiver.senders ≡ self.old.receiver.senders }
+        ensures all { All (HasAll self.new.receiver.had) (lanes_sent outboxes.items) }
+        ensures watched { HasWatched S.has_taken self.old self.old.receiver.had
+            → HasWatched S.has_taken self.new self.new.receiver.had }
+        ensures fixed { StaysFixed S.fixed self.old self.new }
+        ensures theirs { AreOfSenders self.new.receiver }
     {
-        if !self.stands {
-            return None;
+        self.settle(rt, relay, outboxes);
+        for _ in rt.forever() {
+            if !self.take_next(rt, relay) {
+                return;
+            }
         }
-        self.take_rest(history);
-        self.closing()
+        unreachable!()
     }
 
-    /// Takes in the events of a history from the place on whose number is the least that wasn't
-    /// taken in.
-    fn take_rest(&mut self, history: &[Stamped])
-        ensures { (h : Header) (taken : List Stamped) → HasWatched h self.old taken
-            → HasWatched h self.new (taken ++ drop self.old.verifier.kept.next history.now) }
+    /// The sink, which has taken all events in order up to the least number that didn't come. There
+    /// is none if the sequencer was set aside.
+    pub(crate) fn into_sink(self) -> Option<S>
+        ensures shown { (taken : List Stamped) → HasWatched S.has_taken self taken
+            → IfSome result (λ sink. HasShownInOrder S.has_taken sink taken) }
+        ensures sink { IfSome result (λ sink. sink ≡ self.sequencer.sink) }
+        ensures stands { IfSome result (λ _. self.stands ≡ true) }
     {
-        let next = self.verifier.next() as usize;
-        for place in next..history.len() {
-            self.take_in(history[place]);
-        }
-    }
-
-    /// The verdict about all that was taken in, if the verifier stands.
-    fn closing(&self) -> Option<Verdict>
-        ensures verdict { (h : Header) (taken : List Stamped) → HasWatched h self.now taken
-            → IfSome result
-            (λ v. v ≡ verdict h [] (log_of (in_order_below self.now.verifier.kept.next taken))) }
-        ensures stands { IfSome result (λ _. self.now.stands ≡ true) }
-    {
-        if !self.stands {
+        let Watch {
+            sequencer,
+            stands,
+            ..
+        } = self;
+        if !stands {
             return None;
         }
-        self.verifier.finish().ok()
+        Some(sequencer.into_sink())
     }
 }
 
-/// Asks the gate until it lets the verifier take in an event, or until the workers have ended.
-fn await_turn<R: Wait, G: Gate>(rt: &R, gate: &G, callers: u32, taken: u64, ended: &AtomicBool) {
+/// Asks the gate until it lets an event be taken in, or until the workers have ended.
+fn await_turn<R: Wait, G: Gate>(rt: &R, gate: &G, callers: u32, taken: u64, signals: &Signals) {
     for _ in rt.forever() {
-        if ended.load(Ordering::SeqCst) || gate.may_start(callers, taken) {
+        if signals.has_ended() || gate.may_start(callers, taken) {
             return;
         }
         thread::yield_now();

@@ -10,10 +10,11 @@ ghost use Rattle.vyrd_live.specs.Rooms.{HasNoRoom};
 ghost use Rattle.vyrd_live.specs.Acts.{MayAct, HasActed};
 ghost use Rattle.vyrd_live.specs.Working.{HasRoomAhead};
 ghost use Rattle.vyrd_live.specs.Workers.{IsFresh, HasWorked};
-ghost use Rattle.vyrd_live.specs.Sending.{HasSent};
+ghost use Rattle.vyrd_live.specs.Sending.{HasSent, with_forgotten};
 
 use crate::acting::act;
 use crate::outbox::Outbox;
+use crate::signals::Signals;
 use std::sync::Wait;
 use std::thread;
 use vyrd_base::Gate;
@@ -60,15 +61,17 @@ impl<M: Machine> Worker<M> {
     /// Plays the machine until all of its operations are done, or until the next one has no room.
     ///
     /// It asks the gate before each event. Before an operation it makes room for all of the
-    /// operation's events, so that it stops only between operations. After each event, and while it
-    /// waits, it sends what the relay has room for. It may wait forever: for the gate, or for a
-    /// lock that nobody gives back.
+    /// operation's events, so that it stops only between operations. While it waits it sends what the
+    /// relay has room for. After an operation it waits until all is sent, as long as the events are
+    /// taken in beside it, and lets go of them. It may wait forever: for the gate, for a lock that
+    /// nobody gives back, or for room in the relay.
     pub(crate) fn work<R: Wait, G: Gate>(
         self,
         rt: &R,
         traced: &Traced,
         gate: &G,
         relay: &Relay,
+        signals: &Signals,
         outbox: Outbox,
     ) -> (Stopped, Outbox)
         requires fresh { IsFresh M.header_of M.script traced.now self.machine self.hand }
@@ -79,8 +82,11 @@ impl<M: Machine> Worker<M> {
     {
         let mut worker = self;
         let mut outbox = outbox;
-        let ending = worker.play(rt, traced, gate, relay, &mut outbox);
+        let ending = worker.play(rt, traced, gate, relay, signals, &mut outbox);
         let Worker { machine: _, hand } = worker;
+        if outbox.place < hand.made() {
+            signals.leave();
+        }
         (Stopped { hand, ending }, outbox)
     }
 
@@ -90,6 +96,7 @@ impl<M: Machine> Worker<M> {
         traced: &Traced,
         gate: &G,
         relay: &Relay,
+        signals: &Signals,
         outbox: &mut Outbox,
     ) -> Ending
         requires fresh { IsFresh M.header_of M.script traced.now self.old.machine self.old.hand }
@@ -105,7 +112,7 @@ impl<M: Machine> Worker<M> {
                 Err(Reserve::Memory) => return Ending::Memory,
             }
             self.make_event(rt, traced, gate, relay, outbox);
-            outbox.send(rt, relay, &self.hand);
+            self.pass_on(rt, relay, signals, outbox);
         }
         Ending::Finished
     }
@@ -155,6 +162,19 @@ impl<M: Machine> Worker<M> {
         let answer = act(rt, traced, &mut self.hand, wanted, relay, outbox);
         self.machine.took(answer);
     }
+
+    /// Where an operation has ended, sends all events that weren't sent yet. Then nothing of the
+    /// lane has to be kept. Events sent one after the other cost less than single ones.
+    fn pass_on<R: Wait>(&mut self, rt: &R, relay: &Relay, signals: &Signals, outbox: &mut Outbox)
+        requires { HasSent relay.now outbox.old.sender outbox.old.place self.old.hand }
+        ensures machine { self.new.machine ≡ self.old.machine }
+        ensures hand { self.new.hand ≡ with_forgotten self.old.hand self.new.hand.forgotten }
+        ensures sent { HasSent relay.now outbox.new.sender outbox.new.place self.new.hand }
+    {
+        if self.machine.between() {
+            outbox.empty(rt, relay, &mut self.hand, signals);
+        }
+    }
 }
 
 /// Asks the gate until it lets the caller's next event start, and sends meanwhile.
@@ -162,7 +182,7 @@ fn wait_for<R: Wait, G: Gate>(rt: &R, gate: &G, hand: &Hand, relay: &Relay, outb
     requires { HasSent relay.now outbox.old.sender outbox.old.place hand.now }
     ensures { HasSent relay.now outbox.new.sender outbox.new.place hand.now }
 {
-    let place = hand.lane().len() as u64;
+    let place = hand.made();
     for _ in rt.forever() {
         if gate.may_start(hand.caller(), place) {
             return;

@@ -1,100 +1,82 @@
-//! All workers of a live run, each in a thread of its own, and the verifier beside them.
+//! All workers of a live run, each in a thread of its own, and what takes in their events.
 
 ghost use Rattle.std.specs.Prelude.{◌≡◌, ◌<◌, ◌≤◌, ℕ, true, List, [], length, map, IfOk};
-ghost use Rattle.std.specs.Prelude.{IfSome, vec_len, slice_index_or};
+ghost use Rattle.std.specs.Prelude.{IfSome, vec_len, slice_index, slice_index_or};
 ghost use Rattle.std.specs.List.{All};
 ghost use Rattle.std.specs.Thread.{IsSync};
-ghost use Rattle.vyrd_base.specs.declared.header.Header.{Header};
-ghost use Rattle.vyrd_base.specs.declared.history.Stamped.{Stamped};
-ghost use Rattle.vyrd_base.specs.Histories.{is_legal, log_of};
-ghost use Rattle.vyrd_base.specs.Verdicts.{verdict};
-ghost use Rattle.vyrd_trace.specs.Lanes.{cells_in, last_values};
 ghost use Rattle.vyrd_trace.specs.Hands.{AreAll};
 ghost use Rattle.vyrd_live.specs.Endings.{IsFirstSpent};
-ghost use Rattle.vyrd_live.specs.Workers.{IsFresh, HasWorked, HavePlayed, AreMadeFor};
+ghost use Rattle.vyrd_live.specs.LiveRuns.{LeavesRun};
+ghost use Rattle.vyrd_live.specs.Workers.{IsFresh, HasWorked, AreMadeFor, plan_of};
 ghost use Rattle.vyrd_live.specs.Sending.{HasSent};
-ghost use Rattle.vyrd_live.specs.Beside.{HasWatched, IsSameReceiver, AreOfSenders, IsClosing};
+ghost use Rattle.vyrd_live.specs.Beside.{HasWatched, StaysFixed, IsSameReceiver, AreOfSenders};
+ghost use Rattle.vyrd_live.specs.Beside.{lanes_sent, lanes_made};
 
 use crate::outbox::Outbox;
+use crate::run::Played;
+use crate::signals::Signals;
 use crate::watch::Watch;
 use crate::worker::{Ending, Stopped, Worker};
 use std::alloc::{AllocError, Global};
 use std::sync::Wait;
-use std::sync::atomic::{AtomicBool, Ordering};
 use std::thread;
 use std::thread::{Threads, join};
-use vyrd_base::{Gate, Header, Stamped, Verdict};
-use vyrd_memory::Machine;
+use vyrd_base::{Gate, Header};
+use vyrd_memory::{EventSink, Machine};
 use vyrd_relay::{Relay, Sender};
 use vyrd_trace::{Hand, Traced};
 
-/// What all workers leave.
-#[derive(Drop)]
-pub(crate) struct Played {
-    /// The events of all callers, in their order.
-    pub(crate) history: Vec<Stamped>,
-    /// The memory at the end.
-    pub(crate) words: Vec<u64>,
-    /// The least caller whose next operation had no room, if there is one.
-    pub(crate) spent: Option<u32>,
-    /// The verdict about the log of the history, if no caller is spent and the verifier wasn't set
-    /// aside.
-    pub(crate) verdict: Option<Verdict>,
-}
+/// How many events may be on their way to the sink at a time. A worker that finds the relay full in
+/// the middle of an operation goes on, and sends later.
+const RELAY_CAPACITY: u64 = 8192;
 
-/// How many events may be on their way to the verifier at a time. A worker that finds the relay
-/// full goes on, and sends later.
-const RELAY_CAPACITY: u64 = 1024;
-
-/// Plays all workers and closes their memory. The workers have all of its hands, in the order of
-/// their callers. A verifier takes in beside them what they do.
+/// Plays all workers, shows what they do to a sink that has taken nothing, and ends their memory.
+/// The workers have all of its hands, in the order of their callers.
 ///
-/// Each worker has a thread of its own. If one can't be started, its worker is run by the thread
-/// that would have started it. The error comes if there is no memory.
-pub(crate) fn play_all<R: Threads + Wait + Sync, G: Gate, M: Machine + Send>(
+/// Each worker has a thread of its own, and so has what takes in their events. If one can't be
+/// started, its work is done by the thread that would have started it. The error comes if there is
+/// no memory.
+pub(crate) fn play_all<
+    R: Threads + Wait + Sync,
+    G: Gate,
+    M: Machine + Send,
+    S: EventSink + Drop + Send,
+>(
     rt: &R,
     alloc: Global,
     traced: Traced,
     gate: &G,
     header: Header,
     workers: Vec<Worker<M>>,
-) -> Result<Played, AllocError>
+    sink: S,
+) -> Result<Played<S>, AllocError>
     requires fresh { All (λ w. IsFresh M.header_of M.script traced w.machine w.hand) workers.items }
     requires hands { AreAll traced (map (λ w. w.hand) workers.items) }
-    requires few { vec_len workers ≤ 64 }
-    requires callers { (header.callers ≡ traced.plan.callers) × (vec_len workers ≡ header.callers)
-        × (1 ≤ header.callers) }
-    ensures legal { IfOk result
-        (λ played. is_legal (cells_in traced.plan) played.history.items ≡ true) }
-    ensures words { IfOk result
-        (λ played. played.words.items ≡ last_values traced.plan played.history.items) }
-    ensures long { IfOk result (λ played. IfSome played.spent (λ caller. (w : _)
-        → traced.plan.limit < M.ahead (slice_index_or workers.items caller w).machine)) }
-    ensures played { IfOk result (λ played. (h : Header)
-        → AreMadeFor h (map (λ w. M.header_of w.machine) workers.items)
-        → HavePlayed h traced.plan.limit (map (λ w. M.script w.machine) workers.items)
-        played.history.items played.spent) }
-    ensures verdict { IfOk result (λ played. IfSome played.verdict
-        (λ v. v ≡ verdict header [] (log_of played.history.items))) }
+    requires plan { traced.plan ≡ plan_of header traced.plan.limit }
+    requires made { AreMadeFor header (map (λ w. M.header_of w.machine) workers.items) }
+    requires none { S.has_taken sink [] }
+    ensures played { IfOk result (λ played. LeavesRun header traced.plan.limit
+        (map (λ w. M.script w.machine) workers.items) S.has_taken played.sink played.words.items
+        played.spent) }
+    ensures long { IfOk result (λ played. IfSome played.spent (λ caller.
+        traced.plan.limit < slice_index (map (λ w. M.ahead w.machine) workers.items) caller)) }
+    ensures fixed { IfOk result (λ played. S.fixed played.sink ≡ S.fixed sink) }
 {
     let (relay, senders, receiver) = Relay::new(alloc, RELAY_CAPACITY, header.callers())?;
     let jobs = jobs_of(alloc, &relay, workers, senders)?;
-    let watch = Watch::new(alloc, header, receiver)?;
+    let watch = Watch::new(alloc, header.callers(), receiver, sink)?;
     let (done, mut watch) = beside(rt, &traced, gate, &relay, jobs, watch)?;
-    let (stopped, outboxes) = part_all(alloc, done)?;
+    let (stopped, outboxes) = part_all(rt, alloc, &relay, &mut watch, done)?;
     let spent = first_spent(&stopped)?;
     let hands = hands_of(alloc, stopped)?;
-    watch.settle(rt, &relay, outboxes);
-    let Ok(closed) = traced.close(hands) else {
+    watch.take_rest(rt, &relay, outboxes);
+    let Ok(words) = traced.end(hands) else {
         return Err(AllocError);
     };
-    let verdict = closing_verdict(watch, spent, &closed.history);
-    Ok(Played {
-        history: closed.history,
-        words: closed.words,
-        spent,
-        verdict,
-    })
+    let Some(sink) = watch.into_sink() else {
+        return Err(AllocError);
+    };
+    Ok(Played { sink, words, spent })
 }
 
 /// Each worker with an outbox for its caller.
@@ -104,7 +86,7 @@ fn jobs_of<M: Machine>(
     workers: Vec<Worker<M>>,
     senders: Vec<Sender>,
 ) -> Result<Vec<(Worker<M>, Outbox)>, AllocError>
-    requires fresh { All (λ w. w.hand.lane ≡ []) workers.items }
+    requires fresh { All (λ w. (w.hand.lane ≡ []) × (w.hand.forgotten ≡ 0)) workers.items }
     requires senders { All (λ s. (s.queue ≡ relay.now.queue) × (s.sent ≡ [])) senders.items }
     requires callers { map (λ w. w.hand.caller) workers.items ≡ map (λ s. s.caller) senders.items }
     ensures workers { IfOk result (λ jobs. map (λ j. j.0) jobs.items ≡ workers.items) }
@@ -129,15 +111,15 @@ fn jobs_of<M: Machine>(
     Ok(jobs)
 }
 
-/// Plays the workers, while the verifier takes in what they do.
-fn beside<R: Threads + Wait + Sync, G: Gate, M: Machine + Send>(
+/// Plays the workers, while what they do is taken in.
+fn beside<R: Threads + Wait + Sync, G: Gate, M: Machine + Send, S: EventSink + Drop + Send>(
     rt: &R,
     traced: &Traced,
     gate: &G,
     relay: &Relay,
     jobs: Vec<(Worker<M>, Outbox)>,
-    watch: Watch,
-) -> Result<(Vec<(Stopped, Outbox)>, Watch), AllocError>
+    watch: Watch<S>,
+) -> Result<(Vec<(Stopped, Outbox)>, Watch<S>), AllocError>
     requires fresh { All (λ j. IsFresh M.header_of M.script traced.now j.0.machine j.0.hand)
         jobs.items }
     requires sent { All (λ j. HasSent relay.now j.1.sender j.1.place j.0.hand) jobs.items }
@@ -151,23 +133,25 @@ fn beside<R: Threads + Wait + Sync, G: Gate, M: Machine + Send>(
     ensures sent { IfOk result
         (λ r. All (λ d. HasSent relay.now d.1.sender d.1.place d.0.hand) r.0.items) }
     ensures same { IfOk result (λ r. IsSameReceiver watch.receiver r.1.receiver) }
-    ensures watched { IfOk result (λ r. (h : Header) → HasWatched h watch watch.receiver.had
-        → HasWatched h r.1 r.1.receiver.had) }
+    ensures watched { IfOk result (λ r. HasWatched S.has_taken watch watch.receiver.had
+        → HasWatched S.has_taken r.1 r.1.receiver.had) }
+    ensures fixed { IfOk result (λ r. StaysFixed S.fixed watch r.1) }
     ensures theirs { IfOk result (λ r. AreOfSenders r.1.receiver) }
 {
-    let ended = AtomicBool::new(false);
-    let over = &ended;
-    // If no thread can be made, the first closure is called last: the verifier then finds that the
-    // workers have ended. The other way round it would wait for them for ever.
+    let signals = Signals::new();
+    let told = &signals;
+    // If no thread can be made, the first closure is called last: it then finds that the workers
+    // have ended. The other way round it would wait for them for ever.
     let (watch, done) = join(
         rt,
-        move || -> Watch
+        move || -> Watch<S>
             requires { (watch.receiver.queue ≡ relay.now.queue) × AreOfSenders watch.receiver }
             ensures same { IsSameReceiver watch.receiver result.receiver }
-            ensures watched { (h : Header) → HasWatched h watch watch.receiver.had
-                → HasWatched h result result.receiver.had }
+            ensures watched { HasWatched S.has_taken watch watch.receiver.had
+                → HasWatched S.has_taken result result.receiver.had }
+            ensures fixed { StaysFixed S.fixed watch result }
             ensures theirs { AreOfSenders result.receiver }
-        { watch.watched(rt, relay, gate, over) },
+        { watch.watched(rt, relay, gate, told) },
         move || -> Result<Vec<(Stopped, Outbox)>, AllocError>
             requires { All (λ j. IsFresh M.header_of M.script traced.now j.0.machine j.0.hand)
                 jobs.items
@@ -180,8 +164,8 @@ fn beside<R: Threads + Wait + Sync, G: Gate, M: Machine + Send>(
             ensures sent { IfOk result (λ all.
                 All (λ d. HasSent relay.entry.now d.1.sender d.1.place d.0.hand) all.items) }
         {
-            let done = work_all(rt, traced, gate, relay, jobs);
-            over.store(true, Ordering::SeqCst);
+            let done = work_all(rt, traced, gate, relay, told, jobs);
+            told.end();
             done
         },
     );
@@ -194,6 +178,7 @@ fn work_all<R: Threads + Wait + Sync, G: Gate, M: Machine + Send>(
     traced: &Traced,
     gate: &G,
     relay: &Relay,
+    signals: &Signals,
     jobs: Vec<(Worker<M>, Outbox)>,
 ) -> Result<Vec<(Stopped, Outbox)>, AllocError>
     requires fresh { All (λ j. IsFresh M.header_of M.script traced.now j.0.machine j.0.hand)
@@ -219,22 +204,36 @@ fn work_all<R: Threads + Wait + Sync, G: Gate, M: Machine + Send>(
             ensures sent { HasSent relay.entry.now result.1.sender result.1.place result.0.hand }
         {
             let (worker, outbox) = job;
-            worker.work(rt, traced, gate, relay, outbox)
+            worker.work(rt, traced, gate, relay, signals, outbox)
         },
     )
 }
 
-/// What the workers left, and their outboxes.
-fn part_all(
+/// What the workers left, and their outboxes, which have sent the whole lanes.
+fn part_all<R: Wait, S: EventSink + Drop>(
+    rt: &R,
     alloc: Global,
+    relay: &Relay,
+    watch: &mut Watch<S>,
     done: Vec<(Stopped, Outbox)>,
 ) -> Result<(Vec<Stopped>, Vec<Outbox>), AllocError>
+    requires sent { All (λ d. HasSent relay.now d.1.sender d.1.place d.0.hand) done.items }
+    requires receiver { watch.old.receiver.queue ≡ relay.now.queue }
+    requires theirs { AreOfSenders watch.old.receiver }
     ensures stopped { IfOk result (λ r. r.0.items ≡ map (λ d. d.0) done.items) }
-    ensures outboxes { IfOk result (λ r. r.1.items ≡ map (λ d. d.1) done.items) }
+    ensures lanes { IfOk result (λ r. lanes_sent r.1.items ≡ lanes_made r.0.items) }
+    ensures senders { IfOk result (λ r. All (λ o. o.sender.queue ≡ relay.now.queue) r.1.items) }
+    ensures same { IfOk result (λ _. IsSameReceiver watch.old.receiver watch.new.receiver) }
+    ensures watched { IfOk result (λ _. HasWatched S.has_taken watch.old watch.old.receiver.had
+        → HasWatched S.has_taken watch.new watch.new.receiver.had) }
+    ensures fixed { IfOk result (λ _. StaysFixed S.fixed watch.old watch.new) }
+    ensures theirs { IfOk result (λ _. AreOfSenders watch.new.receiver) }
 {
     let mut stopped = Vec::with_capacity(alloc, done.len())?;
     let mut outboxes = Vec::with_capacity(alloc, done.len())?;
     for (one, outbox) in done {
+        let mut outbox = outbox;
+        outbox.send_rest(rt, relay, &one.hand, watch);
         stopped.push(one)?;
         outboxes.push(outbox)?;
     }
@@ -267,17 +266,4 @@ fn hands_of(alloc: Global, stopped: Vec<Stopped>) -> Result<Vec<Hand>, AllocErro
         .into_iter()
         .map(|one| one.into_hand())
         .collect(alloc)
-}
-
-/// The verdict about a history, where no caller is spent and the verifier that took in some of it
-/// stands.
-fn closing_verdict(watch: Watch, spent: Option<u32>, history: &[Stamped]) -> Option<Verdict>
-    ensures { (h : Header) (taken : List Stamped) → HasWatched h watch taken
-        → IfSome result (λ v. IsClosing h v taken history.now) }
-{
-    if spent.is_some() {
-        return None;
-    }
-    let mut watch = watch;
-    watch.verdict(history)
 }

@@ -1,9 +1,7 @@
 -- What an account has taken in with one event more, and the whole text that it leaves.
 use Rattle.std.proofs.Common.{◌≡◌, ℕ, List, [], ◌∷◌, ◌++◌, Some, None, refl, ap, ◌∙◌, sym, append_assoc, append-nil}
 use Rattle.std.specs.Prelude.{codes, flat_map}
-use Rattle.std.specs.List.{cons_option}
 use Rattle.std.proofs.lemmas.Grind.{flat_map-append}
-use Rattle.std.proofs.lemmas.List.Elements.{filter_map-append}
 use Rattle.vyrd_base.specs.declared.header.Header.{Header}
 use Rattle.vyrd_base.specs.declared.history.Stamped.{Stamped}
 use Rattle.vyrd_base.specs.declared.log.Entry.{Entry}
@@ -11,6 +9,7 @@ use Rattle.vyrd_base.specs.declared.verdict.Verdict.{Verdict}
 use Rattle.vyrd_base.specs.Histories.{logged, log_of}
 use Rattle.vyrd_base.specs.Spelling.{ended_line, header_line, entry_line}
 use Rattle.vyrd_base.specs.VerdictText.{verdict_text}
+use Rattle.vyrd_live.proofs.JudgeLaws.{log_with, log_without, no_log}
 use Rattle.vyrd_text.proofs.WrittenLaws.{whole_log}
 use Rattle.vyrd_mover.specs.HistoryText.{history_header_line, event_line}
 use Rattle.vyrd_mover.proofs.WrittenLaws.{whole_history}
@@ -18,23 +17,6 @@ use Rattle.vyrd_program.specs.declared.show.Show.{Show}
 use Rattle.vyrd_program.specs.declared.show.Show.TheVariants as shown
 use Rattle.vyrd_program.specs.Accounts.{text_so_far}
 use Rattle.vyrd_program.specs.Steps.{run_text}
-
--- the log of a history with one event more
-log_more : (history : List Stamped) (e : Stamped) → log_of (history ++ e ∷ []) ≡ log_of history ++ cons_option (logged e.caller e.did) []
-unfolding log_of
-log_more history e = filter_map-append (λ e. logged e.caller e.did) history (e ∷ [])
-
-pub log_with : (history : List Stamped) (e : Stamped) (entry : Entry) → logged e.caller e.did ≡ Some entry
-    → log_of (history ++ e ∷ []) ≡ log_of history ++ entry ∷ []
-log_with history e entry is = log_more history e ∙ ap (λ o. log_of history ++ cons_option o []) is
-
-pub log_without : (history : List Stamped) (e : Stamped) → logged e.caller e.did ≡ None → log_of (history ++ e ∷ []) ≡ log_of history
-log_without history e none = log_more history e ∙ ap (λ o. log_of history ++ cons_option o []) none ∙ append-nil (log_of history)
-
--- nothing was done yet
-pub no_log : log_of [] ≡ []
-unfolding log_of
-no_log = refl
 
 -- one line more
 line_more : {A : Type 0} (line : A → List ℕ) (first old new : List ℕ) (xs : List A) (x : A) → old ≡ first ++ flat_map (λ x. ended_line (line x)) xs

@@ -2,14 +2,11 @@
 use Rattle.std.proofs.Common.{◌≡◌, ℕ, ◌≤◌, List, [], length, true, false, Option, Some, None, refl, ap, ◌∙◌, sym, subst, arith, inl, inr}
 use Rattle.std.specs.Prelude.{◌≢◌, ◌⊎◌}
 use Rattle.vyrd_check.specs.Checking.{most_lines}
-use Rattle.vyrd_live.specs.declared.run.Run.{Run}
-use Rattle.vyrd_live.specs.declared.run.Overrun.{Overrun}
 use Rattle.vyrd_program.specs.declared.form.Form.{Form}
 use Rattle.vyrd_program.specs.declared.form.Form.TheVariants as asked
 use Rattle.vyrd_program.specs.Outputs.{Appends, AppendsFront, usage_line}
 use Rattle.vyrd_program.specs.Checks.{IsAnswered, IsAnsweredInPart, IsSettled, HasRoomForAnswer}
 use Rattle.vyrd_program.specs.Commands.{IsStatus, IsAnswerStatus, IsAnswer, HasAnswered, HasAnsweredInPart, HasRoom, reads, IsEnough}
-use Rattle.vyrd_program.specs.HandedOut.{HandsOut, HandsOutNothing, IsUnplayed, plays_live}
 
 -- no form has an answer of status 3, 4, 5 or 6
 answer_outside : (form : Form) (n : ℕ) → IsAnswerStatus (Some form) n → (n ≤ 2) ⊎ (7 ≤ n)
@@ -64,26 +61,17 @@ no_usage said form status own is given ready three = by_status (written_status (
     by_status (inr (inr (inl five))) = omega (arith, three, five)
     by_status (inr (inr (inr six))) = omega (arith, three, six.0)
 
--- What was made ready is about the same run.
-same_answer : (form : Form) (input : Option (List ℕ)) (own : ℕ) (text : List ℕ) (run own_run : Option Run) (spent own_spent : Option Overrun)
-    → run ≡ own_run → spent ≡ own_spent → IsAnswer (Some form) input own text own_run own_spent → IsAnswer (Some form) input own text run spent
-same_answer form input own text run own_run spent own_spent same_run same_spent answer =
-    subst (λ run. IsAnswer (Some form) input own text run spent) (sym same_run)
-    (subst (λ spent. IsAnswer (Some form) input own text own_run spent) (sym same_spent) answer)
-
-pub written_answer : (said : Option Form) (form : Form) (input before after : Option (List ℕ)) (status own : ℕ) (text : List ℕ)
-    (run own_run : Option Run) (spent own_spent : Option Overrun) → said ≡ Some form → run ≡ own_run → spent ≡ own_spent
-    → (status ≡ 5) ⊎ (status ≡ own) → (IsAnswerStatus (Some form) own → IsAnswer (Some form) input own text own_run own_spent)
+pub written_answer : (said : Option Form) (form : Form) (input before after : Option (List ℕ)) (status own : ℕ) (text : List ℕ) → said ≡ Some form
+    → (status ≡ 5) ⊎ (status ≡ own) → (IsAnswerStatus (Some form) own → IsAnswer (Some form) input own text)
     → (status ≢ 5 → (status ≡ own) × Appends before after text)
-    → IsAnswerStatus said status → HasAnswered said input status run spent before after
-written_answer said form input before after status own text run own_run spent own_spent is same_run same_spent given ready written answered =
+    → IsAnswerStatus said status → HasAnswered said input status before after
+written_answer said form input before after status own text is given ready written answered =
     let same = same_status said form status own is given answered in
     let own_answered = ready_status said form status own is given answered in
     let other : status ≢ 5 = λ five. no_answer form status (omega (arith, five)) (omega (arith, five)) (subst (λ said. IsAnswerStatus said status) is answered) in
-    subst (λ said. HasAnswered said input status run spent before after) (sym is) (record {
+    subst (λ said. HasAnswered said input status before after) (sym is) (record {
       text = text;
-      answer = subst (λ n. IsAnswer (Some form) input n text run spent) (sym same)
-          (same_answer form input own text run own_run spent own_spent same_run same_spent (ready own_answered));
+      answer = subst (λ n. IsAnswer (Some form) input n text) (sym same) (ready own_answered);
       written = (written other).1;
     })
 
@@ -95,29 +83,28 @@ was_ready form own text (inr (inl four)) unwritten silent = inr (silent (inl fou
 was_ready form own text (inr (inr (inl five))) unwritten silent = absurd (unwritten five)
 was_ready form own text (inr (inr (inr six))) unwritten silent = inr (silent (inr six.0))
 
-pub written_in_part : (said : Option Form) (form : Form) (input before after : Option (List ℕ)) (status own : ℕ) (text : List ℕ)
-    (run own_run : Option Run) (spent own_spent : Option Overrun) → said ≡ Some form → run ≡ own_run → spent ≡ own_spent
+pub written_in_part : (said : Option Form) (form : Form) (input before after : Option (List ℕ)) (status own : ℕ) (text : List ℕ) → said ≡ Some form
     → IsStatus (Some form) own → own ≢ 5 → ((own ≡ 4) ⊎ (own ≡ 6) → text ≡ [])
-    → (IsAnswerStatus (Some form) own → IsAnswer (Some form) input own text own_run own_spent)
+    → (IsAnswerStatus (Some form) own → IsAnswer (Some form) input own text)
     → (text ≡ [] → status ≡ own) → (status ≡ 5 → own ≢ 5 → AppendsFront before after text)
-    → status ≡ 5 → HasAnsweredInPart said input run spent before after
-written_in_part said form input before after status own text run own_run spent own_spent is same_run same_spent status_is unwritten silent ready
-    nothing written five = elim (was_ready form own text status_is unwritten silent) [
-      | inl answered ↦ subst (λ said. HasAnsweredInPart said input run spent before after) (sym is) (record {
+    → status ≡ 5 → HasAnsweredInPart said input before after
+written_in_part said form input before after status own text is status_is unwritten silent ready nothing written five =
+    elim (was_ready form own text status_is unwritten silent) [
+      | inl answered ↦ subst (λ said. HasAnsweredInPart said input before after) (sym is) (record {
         status = own;
         text = text;
-        answer = same_answer form input own text run own_run spent own_spent same_run same_spent (ready answered);
+        answer = ready answered;
         written = written five unwritten;
       })
       | inr empty ↦ absurd (unwritten (sym (nothing empty) ∙ five))
     ]
 
-pub text_fits : (said : Option Form) (form : Form) (input : Option (List ℕ)) (own room : ℕ) (text : List ℕ) (run : Option Run) (spent : Option Overrun)
-    → said ≡ Some form → IsStatus (Some form) own → own ≢ 5 → ((own ≡ 4) ⊎ (own ≡ 6) → text ≡ [])
-    → (IsAnswerStatus (Some form) own → IsAnswer (Some form) input own text run spent)
+pub text_fits : (said : Option Form) (form : Form) (input : Option (List ℕ)) (own room : ℕ) (text : List ℕ) → said ≡ Some form
+    → IsStatus (Some form) own → own ≢ 5 → ((own ≡ 4) ⊎ (own ≡ 6) → text ≡ [])
+    → (IsAnswerStatus (Some form) own → IsAnswer (Some form) input own text)
     → HasRoom said input room → length text ≤ room
-text_fits said form input own room text run spent is status_is unwritten silent ready fits = elim (was_ready form own text status_is unwritten silent) [
-  | inl answered ↦ subst (λ said. HasRoom said input room) is fits own text run spent (ready answered)
+text_fits said form input own room text is status_is unwritten silent ready fits = elim (was_ready form own text status_is unwritten silent) [
+  | inl answered ↦ subst (λ said. HasRoom said input room) is fits own text (ready answered)
   | inr empty ↦ (let none : length text ≡ 0 = ap length empty in omega (arith, none))
 ]
 
@@ -127,44 +114,12 @@ pub enough_taken : (said : Option Form) (form : Form) (before after : Option (Li
 enough_taken said form before after status own is given enough answered =
     subst (λ said. IsEnough said before after) (sym is) (enough (ready_status said form status own is given answered))
 
--- what is handed out of what was made ready
-pub written_out : (said : Option Form) (form : Form) (status own : ℕ) (run own_run : Option Run) (spent own_spent : Option Overrun)
-    → said ≡ Some form → run ≡ own_run → spent ≡ own_spent → (status ≡ 5) ⊎ (status ≡ own) → IsStatus (Some form) own
-    → ((own ≡ 4) ⊎ (own ≡ 6) → HandsOutNothing own_run own_spent) → (plays_live (Some form) ≡ false → HandsOutNothing own_run own_spent)
-    → HandsOut said status run spent
-written_out said form status own run own_run spent own_spent is same_run same_spent given status_is unplayed not_live =
-    subst (λ said. HandsOut said status run spent) (sym is) (record {
-      unplayed = λ why. same (by_status given why);
-      not_live = λ none. same (not_live none);
-    })
-  where
-    same : HandsOutNothing own_run own_spent → HandsOutNothing run spent
-    same nothing = record { no_run = same_run ∙ nothing.no_run; no_overrun = same_spent ∙ nothing.no_overrun }
-
-    by_status : (status ≡ 5) ⊎ (status ≡ own) → IsUnplayed status → HandsOutNothing own_run own_spent
-    by_status (inl five) (inl three) = absurd (omega (arith, five, three))
-    by_status (inl five) (inr (inl four)) = absurd (omega (arith, five, four))
-    by_status (inl five) (inr (inr six)) = absurd (omega (arith, five, six))
-    by_status (inr equal) (inl three) = absurd (no_usage said form status own is (inr equal) status_is three)
-    by_status (inr equal) (inr (inl four)) = unplayed (inl (sym equal ∙ four))
-    by_status (inr equal) (inr (inr six)) = unplayed (inr (sym equal ∙ six))
-
-pub hands_out_nothing : (said : Option Form) (status : ℕ) (run : Option Run) (spent : Option Overrun) → HandsOutNothing run spent
-    → HandsOut said status run spent
-hands_out_nothing said status run spent nothing = record {
-  unplayed = λ why. nothing;
-  not_live = λ none. nothing;
-}
-
 -- What is true of a form that is known isn't false of the form.
 differ : true ≡ false → ⊥
 differ e = cc
 
 pub reads_on : (form known : Form) → form ≡ known → reads (Some known) ≡ true → reads (Some form) ≡ false → ⊥
 reads_on form known is does isnt = differ (sym does ∙ sym (ap (λ form. reads (Some form)) is) ∙ isnt)
-
-pub plays_live_on : (form known : Form) → form ≡ known → plays_live (Some known) ≡ true → plays_live (Some form) ≡ false → ⊥
-plays_live_on form known is does isnt = differ (sym does ∙ sym (ap (λ form. plays_live (Some form)) is) ∙ isnt)
 
 -- the statuses of a form that reads, and of one that doesn't
 pub read_status : (form : Form) (status : ℕ) → reads (Some form) ≡ true → IsAnswerStatus (Some form) status ⊎ (status ≡ 4) ⊎ (status ≡ 6)
@@ -190,21 +145,21 @@ checked_status said status is why = subst (λ said. IsStatus said status) (sym i
 pub checked_untouched : (said : Option Form) → said ≡ Some asked.Check → reads said ≡ false → ⊥
 checked_untouched said is isnt = differ (sym (ap reads is) ∙ isnt)
 
-pub checked_answer : (said : Option Form) (input before after : Option (List ℕ)) (status : ℕ) (run : Option Run) (spent : Option Overrun)
-    → said ≡ Some asked.Check → (status ≤ 2 → IsAnswered most_lines input status before after)
-    → IsAnswerStatus said status → HasAnswered said input status run spent before after
-checked_answer said input before after status run spent is answer answered =
+pub checked_answer : (said : Option Form) (input before after : Option (List ℕ)) (status : ℕ) → said ≡ Some asked.Check
+    → (status ≤ 2 → IsAnswered most_lines input status before after)
+    → IsAnswerStatus said status → HasAnswered said input status before after
+checked_answer said input before after status is answer answered =
     let line = answer (subst (λ said. IsAnswerStatus said status) is answered) in
-    subst (λ said. HasAnswered said input status run spent before after) (sym is) (record {
+    subst (λ said. HasAnswered said input status before after) (sym is) (record {
       text = line.text;
       answer = line.judged;
       written = line.written;
     })
 
-pub checked_in_part : (said : Option Form) (input before after : Option (List ℕ)) (run : Option Run) (spent : Option Overrun)
-    → said ≡ Some asked.Check → IsAnsweredInPart most_lines input before after → HasAnsweredInPart said input run spent before after
-checked_in_part said input before after run spent is part =
-    subst (λ said. HasAnsweredInPart said input run spent before after) (sym is) (record {
+pub checked_in_part : (said : Option Form) (input before after : Option (List ℕ)) → said ≡ Some asked.Check
+    → IsAnsweredInPart most_lines input before after → HasAnsweredInPart said input before after
+checked_in_part said input before after is part =
+    subst (λ said. HasAnsweredInPart said input before after) (sym is) (record {
       status = part.status;
       text = part.text;
       answer = part.judged;
@@ -218,7 +173,7 @@ checked_enough said before after status is enough answered =
 
 pub line_fits : (said : Option Form) (input : Option (List ℕ)) (room : ℕ) → said ≡ Some asked.Check → HasRoom said input room
     → HasRoomForAnswer most_lines input room
-line_fits said input room is fits = λ status text judged. subst (λ said. HasRoom said input room) is fits status text None None judged
+line_fits said input room is fits = λ status text judged. subst (λ said. HasRoom said input room) is fits status text judged
 
 -- words that are none of the forms
 pub usage_status : (said : Option Form) (status : ℕ) → said ≡ None → (status ≡ 3) ⊎ (status ≡ 5) → IsStatus said status
@@ -228,20 +183,20 @@ usage_status said status is why = subst (λ said. IsStatus said status) (sym is)
     by_status (inl three) = inl three
     by_status (inr five) = inr (inr (inl five))
 
-pub usage_answer : (said : Option Form) (input before after : Option (List ℕ)) (status : ℕ) (run : Option Run) (spent : Option Overrun)
-    → said ≡ None → (status ≡ 3 → Appends before after usage_line) → IsAnswerStatus said status → HasAnswered said input status run spent before after
-usage_answer said input before after status run spent is written answered =
+pub usage_answer : (said : Option Form) (input before after : Option (List ℕ)) (status : ℕ) → said ≡ None
+    → (status ≡ 3 → Appends before after usage_line) → IsAnswerStatus said status → HasAnswered said input status before after
+usage_answer said input before after status is written answered =
     let three : status ≡ 3 = subst (λ said. IsAnswerStatus said status) is answered in
-    subst (λ said. HasAnswered said input status run spent before after) (sym is) (record {
+    subst (λ said. HasAnswered said input status before after) (sym is) (record {
       text = usage_line;
       answer = refl;
       written = written three;
     })
 
-pub usage_in_part : (said : Option Form) (input before after : Option (List ℕ)) (run : Option Run) (spent : Option Overrun)
-    → said ≡ None → AppendsFront before after usage_line → HasAnsweredInPart said input run spent before after
-usage_in_part said input before after run spent is written =
-    subst (λ said. HasAnsweredInPart said input run spent before after) (sym is) (record {
+pub usage_in_part : (said : Option Form) (input before after : Option (List ℕ)) → said ≡ None → AppendsFront before after usage_line
+    → HasAnsweredInPart said input before after
+usage_in_part said input before after is written =
+    subst (λ said. HasAnsweredInPart said input before after) (sym is) (record {
       status = 3;
       text = usage_line;
       answer = refl;
@@ -249,7 +204,7 @@ usage_in_part said input before after run spent is written =
     })
 
 pub usage_fits : (said : Option Form) (input : Option (List ℕ)) (room : ℕ) → said ≡ None → HasRoom said input room → length usage_line ≤ room
-usage_fits said input room is fits = subst (λ said. HasRoom said input room) is fits 3 usage_line None None refl
+usage_fits said input room is fits = subst (λ said. HasRoom said input room) is fits 3 usage_line refl
 
 -- the status of a line that was made ready and written
 pub line_status : (status own : ℕ) → (status ≡ 5) ⊎ (status ≡ own) → (own ≤ 2) ⊎ (own ≡ 4) ⊎ (own ≡ 6)

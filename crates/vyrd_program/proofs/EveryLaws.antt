@@ -1,5 +1,5 @@
 -- The answer to a workload of a correct structure is that its run is accepted.
-use Rattle.std.proofs.Common.{◌≡◌, ℕ, ◌≤◌, ◌⊎◌, inl, inr, List, Option, Some, None, Result, Ok, refl, ap, ◌∙◌, subst, arith}
+use Rattle.std.proofs.Common.{◌≡◌, ℕ, ◌≤◌, ◌⊎◌, inl, inr, List, Option, Some, Result, Ok, refl, ap, ◌∙◌, subst, arith}
 use Rattle.std.specs.Prelude.{IfSome}
 use Rattle.vyrd_base.specs.declared.log.Entry.{Entry}
 use Rattle.vyrd_base.specs.declared.history.Stamped.{Stamped}
@@ -15,12 +15,10 @@ use Rattle.vyrd_work.proofs.TextLaws.{reading_sound}
 use Rattle.vyrd_work.proofs.GeneratedLaws.{generated_keeps}
 use Rattle.vyrd_every.specs.Schedules.{IsCorrect, IsCorrectWithFewEvents}
 use Rattle.vyrd_every.proofs.Workloads.{schedule_accepted, not_stuck, few_events}
-use Rattle.vyrd_live.specs.declared.run.Run.{Run}
-use Rattle.vyrd_live.specs.declared.run.Overrun.{Overrun}
 use Rattle.vyrd_program.specs.declared.show.Show.{Show}
 use Rattle.vyrd_program.specs.Outputs.{status_of}
 use Rattle.vyrd_program.specs.Steps.{AnswersInput, IsStepAnswer, IsStepStatus, IsTurnedTo}
-use Rattle.vyrd_program.specs.Runs.{AnswersRun, IsRunAnswer, IsRunStatus, IsLiveRun, IsPlayedAnswer}
+use Rattle.vyrd_program.specs.Runs.{AnswersRun, IsRunAnswer, IsRunStatus, IsLiveRun}
 use Rattle.vyrd_program.specs.CorrectInputs.{SaysCorrect, SaysFewEvents}
 use Rattle.vyrd_program.specs.Generated.{IsGenAnswer, IsGenStatus}
 use Rattle.vyrd_program.proofs.StepLaws.{turned_is_legal, turned_plays}
@@ -42,31 +40,26 @@ step_accepted : (show : Show) (w : Workload) (status : ℕ) (text : List ℕ) �
 step_accepted show w status text limits is (inl told) = told.status_is ∙ turned_accepted w told.history told.verdict limits is told.turned
 step_accepted show w status text limits is (inr stuck) = absurd (not_stuck w limits is stuck.stuck)
 
-live_accepted : (w : Workload) (run : Run) → KeepsLimits w → IsCorrect w → IsLiveRun w run → status_of run.verdict ≡ 0
-live_accepted w run limits is lived =
-    ap status_of (lived.verdict_is
-    ∙ schedule_accepted w run.history.items limits is (record { legal = lived.legal; parts = lived.parts }))
-    ∙ accepted_status (log_of run.history.items)
+live_accepted : (w : Workload) (history : List Stamped) (v : Verdict) → KeepsLimits w → IsCorrect w → IsLiveRun w history v → status_of v ≡ 0
+live_accepted w history v limits is live =
+    ap status_of (live.verdict_is ∙ schedule_accepted w history limits is (record { legal = live.legal; parts = live.parts }))
+    ∙ accepted_status (log_of history)
 
-run_accepted : (show : Show) (w : Workload) (status : ℕ) (text : List ℕ) (run : Option Run) (spent : Option Overrun) → KeepsLimits w → IsCorrect w
-    → IsPlayedAnswer show w status text run spent → (status ≡ 0) ⊎ (status ≡ 9)
-run_accepted show w status text (Some run) None limits is answer = inl (answer.0 ∙ live_accepted w run limits is answer.2)
-run_accepted show w status text None (Some spent) limits is answer = inr answer.0
-run_accepted show w status text (Some run) (Some spent) limits is answer = absurd answer
-run_accepted show w status text None None limits is answer = absurd answer
+run_accepted : (show : Show) (w : Workload) (status : ℕ) (text : List ℕ) → KeepsLimits w → IsCorrect w
+    → IsRunAnswer show (Ok w) status text → (status ≡ 0) ⊎ (status ≡ 9)
+run_accepted show w status text limits is (inl told) = inl (told.status_is ∙ live_accepted w told.history told.verdict limits is told.live)
+run_accepted show w status text limits is (inr spent) = inr spent.status_is
 
 -- the callers of a structure whose operations have few events have room for all of them
-run_unspent : (show : Show) (w : Workload) (status : ℕ) (text : List ℕ) (run : Option Run) (spent : Option Overrun) → KeepsLimits w
-    → IsCorrectWithFewEvents w → IsPlayedAnswer show w status text run spent → status ≡ 9 → ⊥
-run_unspent show w status text (Some run) None limits is answer nine =
-    let none : status ≡ 0 = answer.0 ∙ live_accepted w run limits is.variant answer.2 in
+run_unspent : (show : Show) (w : Workload) (status : ℕ) (text : List ℕ) → KeepsLimits w → IsCorrectWithFewEvents w
+    → IsRunAnswer show (Ok w) status text → status ≡ 9 → ⊥
+run_unspent show w status text limits is (inl told) nine =
+    let none : status ≡ 0 = told.status_is ∙ live_accepted w told.history told.verdict limits is.variant told.live in
     absurd (omega (arith, none, nine))
-run_unspent show w status text None (Some spent) limits is answer nine =
+run_unspent show w status text limits is (inr spent) nine =
     let few = few_events w spent.caller limits is in
-    let long = answer.4 in
+    let long = spent.too_low in
     absurd (omega (arith, few, long))
-run_unspent show w status text (Some run) (Some spent) limits is answer nine = absurd answer
-run_unspent show w status text None None limits is answer nine = absurd answer
 
 -- what was read of an input that tells its bytes
 read_of : (input : Option (List ℕ)) (bytes : List ℕ) (work said : Result Workload Refusal) → input ≡ Some bytes → work_reading bytes ≡ said
@@ -79,18 +72,18 @@ step_is_accepted show input status text says answers =
     step_accepted show says.work status text (reading_sound says.bytes says.work says.read).limits says.correct
     (subst (λ work. IsStepAnswer show work status text) (read_of input says.bytes answers.work (Ok says.work) says.told says.read answers.read) answers.answer)
 
-pub run_is_accepted : (show : Show) (input : Option (List ℕ)) (status : ℕ) (text : List ℕ) (run : Option Run) (spent : Option Overrun) → SaysCorrect input
-    → AnswersRun show input status text run spent → (status ≡ 0) ⊎ (status ≡ 9)
-run_is_accepted show input status text run spent says answers =
-    run_accepted show says.work status text run spent (reading_sound says.bytes says.work says.read).limits says.correct
-    (subst (λ work. IsRunAnswer show work status text run spent) (read_of input says.bytes answers.work (Ok says.work) says.told says.read answers.read) answers.answer)
+pub run_is_accepted : (show : Show) (input : Option (List ℕ)) (status : ℕ) (text : List ℕ) → SaysCorrect input
+    → AnswersRun show input status text → (status ≡ 0) ⊎ (status ≡ 9)
+run_is_accepted show input status text says answers =
+    run_accepted show says.work status text (reading_sound says.bytes says.work says.read).limits says.correct
+    (subst (λ work. IsRunAnswer show work status text) (read_of input says.bytes answers.work (Ok says.work) says.told says.read answers.read) answers.answer)
 
-pub run_is_unspent : (show : Show) (input : Option (List ℕ)) (status : ℕ) (text : List ℕ) (run : Option Run) (spent : Option Overrun) → SaysFewEvents input
-    → AnswersRun show input status text run spent → status ≡ 9 → ⊥
-run_is_unspent show input status text run spent says answers nine =
-    run_unspent show says.work status text run spent (reading_sound says.bytes says.work says.read).limits says.correct
-    (subst (λ work. IsRunAnswer show work status text run spent)
-    (read_of input says.bytes answers.work (Ok says.work) says.told says.read answers.read) answers.answer) nine
+pub run_is_unspent : (show : Show) (input : Option (List ℕ)) (status : ℕ) (text : List ℕ) → SaysFewEvents input
+    → AnswersRun show input status text → status ≡ 9 → ⊥
+run_is_unspent show input status text says answers nine =
+    run_unspent show says.work status text (reading_sound says.bytes says.work says.read).limits says.correct
+    (subst (λ work. IsRunAnswer show work status text) (read_of input says.bytes answers.work (Ok says.work) says.told says.read answers.read) answers.answer)
+    nine
 
 -- generated workloads are of the correct multiset
 generated_is : (n : ℕ) → IsCorrect (generated n)

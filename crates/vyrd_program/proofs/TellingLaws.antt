@@ -1,19 +1,22 @@
--- What an account tells of a run by turns that ended is the answer.
-use Rattle.std.proofs.Common.{◌≡◌, ℕ, List, [], ◌++◌, length, Option, Some, None, ap, ◌∙◌}
+-- What an account tells of a run that ended is the answer.
+use Rattle.std.proofs.Common.{◌≡◌, ℕ, List, [], ◌++◌, length, Option, Some, None, refl, ap, ◌∙◌}
 use Rattle.std.specs.Prelude.{IfSome}
 use Rattle.vyrd_base.specs.Histories.{log_of}
 use Rattle.vyrd_base.specs.Verdicts.{verdict}
 use Rattle.vyrd_base.specs.VerdictText.{verdict_text}
 use Rattle.vyrd_memory.specs.Showing.{HasRun}
+use Rattle.vyrd_trace.specs.Hands.{most_events}
 use Rattle.vyrd_work.specs.Workloads.{Workload}
 use Rattle.vyrd_work.specs.WorkLimits.{KeepsLimits}
 use Rattle.vyrd_work.specs.WorkScripts.{work_scripts}
+use Rattle.vyrd_live.specs.LiveRuns.{LeavesRun}
 use Rattle.vyrd_program.specs.declared.show.Show.{Show}
 use Rattle.vyrd_program.specs.Outputs.{status_of}
 use Rattle.vyrd_program.specs.Accounts.{AccountView, HasTaken}
 use Rattle.vyrd_program.specs.Steps.{run_text, TellsRun}
+use Rattle.vyrd_program.specs.Runs.{TellsLive}
 use Rattle.vyrd_program.specs.Generated.{generated_line, CountsRun}
-use Rattle.vyrd_program.proofs.StepLaws.{is_turned}
+use Rattle.vyrd_program.proofs.StepLaws.{is_turned, is_live}
 
 pub of_some : {A : Type 0} (P : Type 0) (o : Option A) (x : A) → o ≡ Some x → IfSome o (λ _. P) → P
 of_some P None x e p = cc
@@ -44,4 +47,18 @@ counts_run n w a words status text limits run header status_is text_is = record 
   turned = is_turned w run.history limits run.runs;
   status_is = status_is ∙ ap (λ h. status_of (verdict h [] (log_of run.history))) header;
   text_is = text_is ∙ ap (λ h. generated_line n (length run.history) ++ verdict_text (verdict h [] (log_of run.history))) header;
+}
+
+pub tells_live : (show : Show) (w : Workload) (a : AccountView) (words : List ℕ) (status : ℕ) (text : List ℕ) → KeepsLimits w
+    → (run : LeavesRun w.header most_events (work_scripts w) HasTaken a words None) → a.judge.kept.header ≡ w.header → a.show ≡ show
+    → status ≡ status_of (verdict a.judge.kept.header [] (log_of run.history))
+    → text ≡ run_text a.show a.judge.kept.header run.history (verdict a.judge.kept.header [] (log_of run.history))
+    → TellsLive show w status text
+tells_live show w a words status text limits run header shows status_is text_is = record {
+  history = run.history;
+  verdict = verdict w.header [] (log_of run.history);
+  live = is_live w run.history (verdict w.header [] (log_of run.history)) limits run.legal run.played.0 run.played.1 refl;
+  status_is = status_is ∙ ap (λ h. status_of (verdict h [] (log_of run.history))) header;
+  text_is = text_is ∙ ap (λ h. run_text a.show h run.history (verdict h [] (log_of run.history))) header
+      ∙ ap (λ show. run_text show w.header run.history (verdict w.header [] (log_of run.history))) shows;
 }

@@ -6,8 +6,6 @@ use Rattle.vyrd_check.specs.Checking.{most_lines}
 use Rattle.vyrd_work.specs.LongInputs.{longest_input}
 use Rattle.vyrd_mover.specs.LongHistories.{longest_history}
 use Rattle.vyrd_batch.specs.LongBatches.{longest_batch_input}
-use Rattle.vyrd_live.specs.declared.run.Run.{Run}
-use Rattle.vyrd_live.specs.declared.run.Overrun.{Overrun}
 use Rattle.vyrd_program.specs.declared.form.Form.{Form}
 use Rattle.vyrd_program.specs.declared.form.Form.TheVariants as asked
 use Rattle.vyrd_program.specs.Inputs.{IsInputTaken, IsFewTaken}
@@ -29,18 +27,15 @@ IsAnswerStatus (Some (asked.Gen n)) status = IsGenStatus status
 IsAnswerStatus (Some asked.Movers) status = IsMoversStatus status
 IsAnswerStatus (Some asked.Batch) status = IsBatchStatus status
 
--- This status, this text and what is handed out are those of an answer to the input.
-abbrev pub IsAnswer : Option Form → Option (List ℕ) → ℕ → List ℕ → Option Run → Option Overrun
-    → Type 0
-IsAnswer None input status text run spent = text ≡ usage_line
-IsAnswer (Some asked.Check) input status text run spent = IsJudged most_lines input status text
-IsAnswer (Some (asked.Step show)) input status text run spent =
-    AnswersInput show input status text
-IsAnswer (Some (asked.Run show)) input status text run spent =
-    AnswersRun show input status text run spent
-IsAnswer (Some (asked.Gen n)) input status text run spent = IsGenAnswer n status text
-IsAnswer (Some asked.Movers) input status text run spent = AnswersMovers input status text
-IsAnswer (Some asked.Batch) input status text run spent = AnswersBatch input status text
+-- This status and this text are those of an answer to the input.
+abbrev pub IsAnswer : Option Form → Option (List ℕ) → ℕ → List ℕ → Type 0
+IsAnswer None input status text = text ≡ usage_line
+IsAnswer (Some asked.Check) input status text = IsJudged most_lines input status text
+IsAnswer (Some (asked.Step show)) input status text = AnswersInput show input status text
+IsAnswer (Some (asked.Run show)) input status text = AnswersRun show input status text
+IsAnswer (Some (asked.Gen n)) input status text = IsGenAnswer n status text
+IsAnswer (Some asked.Movers) input status text = AnswersMovers input status text
+IsAnswer (Some asked.Batch) input status text = AnswersBatch input status text
 
 -- whether the source is read
 abbrev pub reads : Option Form → Bool
@@ -78,22 +73,22 @@ IsNoFurther (Some (asked.Gen n)) before after = ⊤
 IsNoFurther (Some asked.Movers) before after = IsFewTaken longest_history before after
 IsNoFurther (Some asked.Batch) before after = IsFewTaken longest_batch_input before after
 
--- the sink has taken the text of an answer with this status and with what is handed out
+-- the sink has taken the text of an answer with this status
 pub record HasAnswered (form : Option Form) (input : Option (List ℕ)) (status : ℕ)
-    (run : Option Run) (spent : Option Overrun) (before after : Option (List ℕ)) : Type 0 where
+    (before after : Option (List ℕ)) : Type 0 where
   pub text : List ℕ
-  pub answer : IsAnswer form input status text run spent
+  pub answer : IsAnswer form input status text
   pub written : Appends before after text
 
 -- the sink has taken some of the first bytes of it
-pub record HasAnsweredInPart (form : Option Form) (input : Option (List ℕ)) (run : Option Run)
-    (spent : Option Overrun) (before after : Option (List ℕ)) : Type 0 where
+pub record HasAnsweredInPart (form : Option Form)
+    (input before after : Option (List ℕ)) : Type 0 where
   pub status : ℕ
   pub text : List ℕ
-  pub answer : IsAnswer form input status text run spent
+  pub answer : IsAnswer form input status text
   pub written : AppendsFront before after text
 
 -- the sink has sure room for the text of any answer
 abbrev pub HasRoom : Option Form → Option (List ℕ) → ℕ → Type 0
-HasRoom form input room = (status : ℕ) (text : List ℕ) (run : Option Run) (spent : Option Overrun)
-    → IsAnswer form input status text run spent → length text ≤ room
+HasRoom form input room =
+    (status : ℕ) (text : List ℕ) → IsAnswer form input status text → length text ≤ room

@@ -11,4 +11,3 @@ pub mod CorrectInputs
 pub mod Moved
 pub mod Batches
 pub mod Commands
-pub mod HandedOut

@@ -1,11 +1,10 @@
 //! What the program answers before it writes.
 
-ghost use Rattle.std.specs.Prelude.{◌≡◌, [], None};
+ghost use Rattle.std.specs.Prelude.{◌≡◌, []};
 ghost use Rattle.vyrd_program.specs.Outputs.{status_of};
 
 use std::alloc::Global;
 use vyrd_base::Verdict;
-use vyrd_live::{Overrun, Run};
 
 /// The words are none of the forms.
 pub const USAGE: u8 = 3;
@@ -34,14 +33,11 @@ pub const HISTORY_REFUSED: u8 = 10;
 /// The batch is refused.
 pub const BATCH_REFUSED: u8 = 11;
 
-/// A status, the text that is written with it, and the live run that it is about: one that came to
-/// its end, or one that the limit of events ended.
+/// A status, and the text that is written with it.
 #[derive(Debug, Drop)]
 pub struct Answer {
     pub status: u8,
     pub text: Vec<u8>,
-    pub run: Option<Run>,
-    pub spent: Option<Overrun>,
 }
 
 impl Answer {
@@ -49,14 +45,10 @@ impl Answer {
     pub fn silent(alloc: Global, status: u8) -> Answer
         ensures status { result.status ≡ status }
         ensures text { result.text.items ≡ [] }
-        ensures run { result.run ≡ None }
-        ensures spent { result.spent ≡ None }
     {
         Answer {
             status,
             text: Vec::new(alloc),
-            run: None,
-            spent: None,
         }
     }
 }

@@ -1,7 +1,7 @@
 //! What `batch` answers.
 
 ghost use Rattle.std.specs.Prelude.{◌≡◌, ◌≤◌, ◌<◌, ◌^◌, ◌⊎◌, true, ℕ, List, [], length, Ok, Err};
-ghost use Rattle.std.specs.Prelude.{None, IfOk, OnOk};
+ghost use Rattle.std.specs.Prelude.{IfOk, OnOk};
 ghost use Rattle.vyrd_base.specs.Devices.{HasRisen};
 ghost use Rattle.vyrd_batch.specs.Batches.{batch_logs};
 ghost use Rattle.vyrd_batch.specs.BatchAnswers.{batch_status, batch_text, refused_line};
@@ -39,8 +39,6 @@ pub fn batch<R: Threads + Sync, S: Source>(rt: &R, alloc: Global, source: &mut S
         → IsInputTaken longest_batch_input (S.rest source.old) (S.rest source.new) }
     ensures few { IsFewTaken longest_batch_input (S.rest source.old) (S.rest source.new) }
     ensures silent { result.status ≡ 4 ⊎ result.status ≡ 6 → result.text.items ≡ [] }
-    ensures run { result.run ≡ None }
-    ensures spent { result.spent ≡ None }
     ensures cause { result.status ≡ 4 → HasRisen (S.faults source.old) (S.faults source.new) }
     ensures stopped { result.status ≡ 4 → S.rest source.new ≡ S.left_off source.new }
     ensures failures_alone { (S.faults source.new ≡ S.faults source.old) ⊎ (result.status ≡ 4) }
@@ -118,8 +116,6 @@ fn answer_to<R: Threads + Sync>(
     ensures answer { (input : List ℕ) → IsJudged input judge.old rest.items →
         IfOk result (λ answer. IsBatchAnswer (batch_logs input) answer.status answer.text.items) }
     ensures statuses { IfOk result (λ answer. IsBatchStatus answer.status) }
-    ensures run { IfOk result (λ answer. answer.run ≡ None) }
-    ensures spent { IfOk result (λ answer. answer.spent ≡ None) }
 {
     let mut bytes = rest;
     match judge.finish(rt, &mut bytes) {
@@ -135,16 +131,12 @@ fn tell(alloc: Global, verdicts: &[Verdict]) -> Result<Answer, AllocError>
     ensures status { IfOk result (λ answer. answer.status ≡ batch_status verdicts.now) }
     ensures low { IfOk result (λ answer. answer.status ≤ 2) }
     ensures text { IfOk result (λ answer. answer.text.items ≡ batch_text verdicts.now) }
-    ensures run { IfOk result (λ answer. answer.run ≡ None) }
-    ensures spent { IfOk result (λ answer. answer.spent ≡ None) }
 {
     let mut text = Vec::new(alloc);
     write_verdicts(verdicts, &mut text)?;
     Ok(Answer {
         status: status_of(verdicts),
         text,
-        run: None,
-        spent: None,
     })
 }
 
@@ -152,15 +144,11 @@ fn tell(alloc: Global, verdicts: &[Verdict]) -> Result<Answer, AllocError>
 fn refuse(alloc: Global, log: u64) -> Result<Answer, AllocError>
     ensures status { IfOk result (λ answer. answer.status ≡ 11) }
     ensures text { IfOk result (λ answer. answer.text.items ≡ refused_line log) }
-    ensures run { IfOk result (λ answer. answer.run ≡ None) }
-    ensures spent { IfOk result (λ answer. answer.spent ≡ None) }
 {
     let mut text = Vec::new(alloc);
     write_refusal(log, &mut text)?;
     Ok(Answer {
         status: BATCH_REFUSED,
         text,
-        run: None,
-        spent: None,
     })
 }

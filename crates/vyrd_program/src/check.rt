@@ -1,6 +1,6 @@
 //! What `check` answers.
 
-ghost use Rattle.std.specs.Prelude.{◌≡◌, ◌≤◌, ◌<◌, ◌⊎◌, true, [], None, IfOk};
+ghost use Rattle.std.specs.Prelude.{◌≡◌, ◌≤◌, ◌<◌, ◌⊎◌, true, [], IfOk};
 ghost use Rattle.vyrd_base.specs.Devices.{HasRisen, IsAtEnd};
 ghost use Rattle.vyrd_base.specs.VerdictText.{verdict_text};
 ghost use Rattle.vyrd_check.specs.Checking.{most_lines};
@@ -28,8 +28,6 @@ pub fn check<S: Source>(alloc: Global, max_lines: u64, source: &mut S) -> Answer
     ensures unsettled { result.status ≡ 4
         → IsUnsettled max_lines (S.rest source.old) (S.rest source.new) }
     ensures silent { 2 < result.status → result.text.items ≡ [] }
-    ensures run { result.run ≡ None }
-    ensures spent { result.spent ≡ None }
     ensures cause { result.status ≡ 4 → HasRisen (S.faults source.old) (S.faults source.new) }
     ensures stopped { result.status ≡ 4 → S.rest source.new ≡ S.left_off source.new }
     ensures failures_alone { (S.faults source.new ≡ S.faults source.old) ⊎ (result.status ≡ 4) }
@@ -49,17 +47,10 @@ pub fn check<S: Source>(alloc: Global, max_lines: u64, source: &mut S) -> Answer
 /// The line of a verdict, with its status.
 fn answer_with(alloc: Global, verdict: Verdict) -> Result<Answer, AllocError>
     ensures status { IfOk result (λ answer. answer.status ≡ status_of verdict) }
-    ensures run { IfOk result (λ answer. answer.run ≡ None) }
-    ensures spent { IfOk result (λ answer. answer.spent ≡ None) }
     ensures text { IfOk result (λ answer. answer.text.items ≡ verdict_text verdict) }
 {
     let mut text = Vec::new(alloc);
     write_verdict(&verdict, &mut text)?;
     let status = status_of(verdict);
-    Ok(Answer {
-        status,
-        text,
-        run: None,
-        spent: None,
-    })
+    Ok(Answer { status, text })
 }

@@ -1,13 +1,11 @@
 //! What words of a form are answered, made ready before its first byte is written.
 
-ghost use Rattle.std.specs.Prelude.{◌≡◌, ◌≢◌, ◌≤◌, ◌⊎◌, ℕ, true, false, [], Some, None, IfSome};
+ghost use Rattle.std.specs.Prelude.{◌≡◌, ◌≢◌, ◌≤◌, ◌⊎◌, ℕ, true, false, [], Some};
 ghost use Rattle.vyrd_base.specs.Devices.{HasRisen};
 ghost use Rattle.vyrd_memory.specs.Bounds.{most_ops};
 ghost use Rattle.vyrd_program.specs.declared.form.Form.TheVariants.{Check, Gen};
 ghost use Rattle.vyrd_program.specs.Commands.{IsStatus, IsAnswerStatus, IsAnswer, reads, IsEnough};
 ghost use Rattle.vyrd_program.specs.Commands.{IsNoFurther};
-ghost use Rattle.vyrd_program.specs.HandedOut.{HandsOutNothing, plays_live};
-ghost use Rattle.vyrd_program.specs.Steps.{NamesOnlyRaces};
 
 use crate::answer::Answer;
 use crate::batch::batch;
@@ -36,17 +34,12 @@ pub(crate) fn carry_out<R: Threads + Wait + Sync, S: Source, G: Gate>(
     ensures statuses { IsStatus (Some form) result.status }
     ensures unwritten { result.status ≢ 5 }
     ensures answer { IsAnswerStatus (Some form) result.status
-        → IsAnswer (Some form) (S.rest source.old) result.status result.text.items result.run
-        result.spent }
+        → IsAnswer (Some form) (S.rest source.old) result.status result.text.items }
     ensures consumed { IsAnswerStatus (Some form) result.status
         → IsEnough (Some form) (S.rest source.old) (S.rest source.new) }
     ensures no_further { IsNoFurther (Some form) (S.rest source.old) (S.rest source.new) }
     ensures untouched { reads (Some form) ≡ false → source.new ≡ source.old }
-    ensures races { IfSome result.run (λ run. NamesOnlyRaces run.verdict) }
     ensures silent { (result.status ≡ 4) ⊎ (result.status ≡ 6) → result.text.items ≡ [] }
-    ensures unplayed { (result.status ≡ 4) ⊎ (result.status ≡ 6)
-        → HandsOutNothing result.run result.spent }
-    ensures not_live { plays_live (Some form) ≡ false → HandsOutNothing result.run result.spent }
     ensures cause { result.status ≡ 4 → HasRisen (S.faults source.old) (S.faults source.new) }
     ensures stopped { result.status ≡ 4 → S.rest source.new ≡ S.left_off source.new }
     ensures failures_alone { (S.faults source.new ≡ S.faults source.old) ⊎ (result.status ≡ 4) }

@@ -1,6 +1,6 @@
 //! What `gen` answers.
 
-ghost use Rattle.std.specs.Prelude.{◌≡◌, ◌≤◌, ◌⊎◌, [], None, IfOk};
+ghost use Rattle.std.specs.Prelude.{◌≡◌, ◌≤◌, ◌⊎◌, [], IfOk};
 ghost use Rattle.vyrd_memory.specs.Bounds.{most_ops};
 ghost use Rattle.vyrd_program.specs.Generated.{IsGenAnswer, IsGenStatus};
 
@@ -22,8 +22,6 @@ pub fn answer_generated(alloc: Global, count: u32) -> Answer
     ensures answer { IsGenStatus result.status
         → IsGenAnswer count result.status result.text.items }
     ensures silent { result.status ≡ 6 → result.text.items ≡ [] }
-    ensures run { result.run ≡ None }
-    ensures spent { result.spent ≡ None }
 {
     match try_answer(alloc, count) {
         Ok(answer) => answer,
@@ -35,9 +33,7 @@ pub fn answer_generated(alloc: Global, count: u32) -> Answer
 fn try_answer(alloc: Global, count: u32) -> Result<Answer, AllocError>
     requires some { 1 ≤ count }
     requires few { count ≤ most_ops }
-    ensures answer { IfOk result (λ answer. IsGenAnswer count answer.status answer.text.items) }
-    ensures run { IfOk result (λ answer. answer.run ≡ None) }
-    ensures spent { IfOk result (λ answer. answer.spent ≡ None) }
+    ensures { IfOk result (λ answer. IsGenAnswer count answer.status answer.text.items) }
 {
     let work = generate(alloc, count)?;
     let mut account = Account::new(alloc, work.header, Show::Verdict)?;

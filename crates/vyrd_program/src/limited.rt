@@ -3,7 +3,6 @@
 ghost use Rattle.std.specs.Prelude.{◌≡◌, ◌≤◌, ◌⊎◌, true};
 ghost use Rattle.vyrd_base.specs.Devices.{HasRisen, IsAtEnd};
 ghost use Rattle.vyrd_check.specs.Checking.{most_lines};
-ghost use Rattle.vyrd_program.specs.HandedOut.{HandsOutNothing};
 ghost use Rattle.vyrd_program.specs.Checks.{IsAnswered, IsAnsweredInPart, IsSettled, IsUnsettled};
 ghost use Rattle.vyrd_program.specs.Checks.{IsReadNoFurther, HasRoomForAnswer};
 
@@ -60,8 +59,6 @@ pub fn check_limited<S: Source, K: Sink>(
 
     // 6: there was no memory, and nothing was written.
     ensures memory { result.status ≡ 6 → K.taken sink.new ≡ K.taken sink.old }
-
-    ensures handed_out { HandsOutNothing result.run result.spent }
 
     // No count falls, and over sure devices none rises.
     ensures source_counted { S.faults source.old ≤ S.faults source.new }

@@ -1,6 +1,6 @@
 //! What `movers` answers.
 
-ghost use Rattle.std.specs.Prelude.{◌≡◌, ◌≤◌, ◌⊎◌, ℕ, true, List, [], None, IfOk, OnOk};
+ghost use Rattle.std.specs.Prelude.{◌≡◌, ◌≤◌, ◌⊎◌, ℕ, true, List, [], IfOk, OnOk};
 ghost use Rattle.std.specs.Prelude.{Err};
 ghost use Rattle.vyrd_base.specs.Devices.{HasRisen};
 ghost use Rattle.vyrd_mover.specs.BlocksText.{blocks_text};
@@ -37,8 +37,6 @@ pub fn movers<S: Source>(alloc: Global, source: &mut S) -> Answer
         → IsInputTaken longest_history (S.rest source.old) (S.rest source.new) }
     ensures few { IsFewTaken longest_history (S.rest source.old) (S.rest source.new) }
     ensures silent { result.status ≡ 4 ⊎ result.status ≡ 6 → result.text.items ≡ [] }
-    ensures run { result.run ≡ None }
-    ensures spent { result.spent ≡ None }
     ensures cause { result.status ≡ 4 → HasRisen (S.faults source.old) (S.faults source.new) }
     ensures stopped { result.status ≡ 4 → S.rest source.new ≡ S.left_off source.new }
     ensures failures_alone { (S.faults source.new ≡ S.faults source.old) ⊎ (result.status ≡ 4) }
@@ -91,10 +89,8 @@ fn read_history<S: Source>(
 
 /// The answer to the bytes that were read.
 fn answer_of(alloc: Global, reader: &HistoryReader) -> Result<Answer, AllocError>
-    ensures answer { (bytes : List ℕ) → HasRead reader.now bytes → IfOk result
+    ensures { (bytes : List ℕ) → HasRead reader.now bytes → IfOk result
         (λ answer. IsMoversAnswer (history_reading bytes) answer.status answer.text.items) }
-    ensures run { IfOk result (λ answer. answer.run ≡ None) }
-    ensures spent { IfOk result (λ answer. answer.spent ≡ None) }
 {
     match reader.finish() {
         Ok(said) => tell(alloc, said),
@@ -107,18 +103,11 @@ fn answer_of(alloc: Global, reader: &HistoryReader) -> Result<Answer, AllocError
 fn tell(alloc: Global, blocks: Blocks) -> Result<Answer, AllocError>
     ensures status { IfOk result (λ answer. answer.status ≡ status_of_blocks blocks) }
     ensures text { IfOk result (λ answer. answer.text.items ≡ blocks_text blocks) }
-    ensures run { IfOk result (λ answer. answer.run ≡ None) }
-    ensures spent { IfOk result (λ answer. answer.spent ≡ None) }
 {
     let mut text = Vec::new(alloc);
     write_blocks(blocks, &mut text)?;
     let status = status_of_blocks(blocks);
-    Ok(Answer {
-        status,
-        text,
-        run: None,
-        spent: None,
-    })
+    Ok(Answer { status, text })
 }
 
 /// The status that what is said of blocks ends with.
@@ -135,15 +124,11 @@ fn status_of_blocks(blocks: Blocks) -> u8
 fn refuse(alloc: Global, line: u64, rule: HistoryRule) -> Result<Answer, AllocError>
     ensures status { IfOk result (λ answer. answer.status ≡ 10) }
     ensures text { IfOk result (λ answer. answer.text.items ≡ history_refusal_text line rule) }
-    ensures run { IfOk result (λ answer. answer.run ≡ None) }
-    ensures spent { IfOk result (λ answer. answer.spent ≡ None) }
 {
     let mut text = Vec::new(alloc);
     write_history_refusal(line, rule, &mut text)?;
     Ok(Answer {
         status: HISTORY_REFUSED,
         text,
-        run: None,
-        spent: None,
     })
 }

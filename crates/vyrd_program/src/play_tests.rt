@@ -2,13 +2,14 @@
 
 use crate::case::{BYTE_BY_BYTE, Case};
 use crate::program::vyrd;
+use crate::run::MOST_EVENTS;
 use std::alloc::{AllocError, Global};
 use std::sync::Wait;
 use std::test::*;
 use std::thread::Threads;
 use vyrd_base::{Did, MemorySink, MemorySource, OpenGate, Stamped, Verdict};
-use vyrd_live::run_by_turns;
-use vyrd_work::{AnyMachine, generate};
+use vyrd_live::{run_by_turns, run_live};
+use vyrd_work::{AnyMachine, generate, read_work};
 
 /// The most bytes that a sink takes here. No answer is as long.
 const ROOM: usize = 4096;
@@ -91,7 +92,6 @@ fn write_of_a_log_that_fails(rt: HostRuntime) -> Result<(), Fail> {
     let words = ["run", "--log"];
     let ended = vyrd(&rt, alloc, &words, &mut source, &mut sink, &OpenGate);
     assert_eq!(rt; (ended.status, sink.taken()), (5, b"vyrd 1 mul".as_slice()));
-    assert!(rt; ended.run.is_some());
     Ok(())
 }
 
@@ -134,21 +134,32 @@ fn twenty_live_runs(rt: HostRuntime) -> Result<(), Fail> {
     for size in 1..=20u32 {
         let work = mixed_work(rt.alloc(), size)?;
         assert!(rt;
-            is_legal_live(&rt, rt.alloc(), &work) == Some(true),
+            is_accepted_live(&rt, rt.alloc(), &work) == Some(true),
             "size {size}"
+        );
+        assert!(rt;
+            is_legal_live(&rt, rt.alloc(), &work) == Some(true),
+            "history of size {size}"
         );
     }
     Ok(())
 }
 
-/// Whether the workload's live run is accepted and its history legal.
-fn is_legal_live<R: Threads + Wait + Sync>(rt: &R, alloc: Global, work: &[u8]) -> Option<bool> {
+/// Whether the program accepts a live run of the workload.
+fn is_accepted_live<R: Threads + Wait + Sync>(rt: &R, alloc: Global, work: &[u8]) -> Option<bool> {
     let mut source = MemorySource::new(alloc, work, 64, &[]).ok()?;
     let mut sink = MemorySink::new(alloc, ROOM, ROOM, &[]).ok()?;
-    let ended = vyrd(rt, alloc, &["run"], &mut source, &mut sink, &OpenGate);
-    let status = ended.status;
-    let run = ended.run?;
-    Some(status == 0 && is_legal(alloc, &run.history).ok()?)
+    Some(vyrd(rt, alloc, &["run"], &mut source, &mut sink, &OpenGate).status == 0)
+}
+
+/// Whether another live run of the workload is accepted and leaves a legal history.
+fn is_legal_live<R: Threads + Wait + Sync>(rt: &R, alloc: Global, work: &[u8]) -> Option<bool> {
+    let work = read_work(alloc, work).ok()?;
+    let run = run_live(rt, alloc, &work, MOST_EVENTS, &OpenGate).ok()?;
+    match run.verdict {
+        Verdict::Accepted { .. } => is_legal(alloc, &run.history).ok(),
+        _ => Some(false),
+    }
 }
 
 /// A workload of three callers who share a few keys, on a multiset, a cache, a tree or string

@@ -1,6 +1,6 @@
 //! The top call.
 
-ghost use Rattle.std.specs.Prelude.{◌≡◌, ◌≢◌, ◌≤◌, ◌⊎◌, true, false, ℕ, [], Some, None, IfSome};
+ghost use Rattle.std.specs.Prelude.{◌≡◌, ◌≢◌, ◌≤◌, ◌⊎◌, true, false, ℕ, [], Some, None};
 ghost use Rattle.std.specs.Prelude.{length};
 ghost use Rattle.vyrd_base.specs.Devices.{HasRisen, IsAtEnd};
 ghost use Rattle.vyrd_check.specs.Checking.{most_lines};
@@ -11,9 +11,8 @@ ghost use Rattle.vyrd_program.specs.Outputs.{Appends, AppendsFront, usage_line};
 ghost use Rattle.vyrd_program.specs.Commands.{IsStatus, IsAnswerStatus, HasAnswered};
 ghost use Rattle.vyrd_program.specs.Commands.{HasAnsweredInPart, HasRoom, reads, IsEnough};
 ghost use Rattle.vyrd_program.specs.Commands.{IsNoFurther};
-ghost use Rattle.vyrd_program.specs.HandedOut.{HandsOut};
 ghost use Rattle.vyrd_program.specs.Checks.{IsUnsettled};
-ghost use Rattle.vyrd_program.specs.Steps.{IsStepStatus, NamesOnlyRaces};
+ghost use Rattle.vyrd_program.specs.Steps.{IsStepStatus};
 ghost use Rattle.vyrd_program.specs.Runs.{IsRunStatus};
 ghost use Rattle.vyrd_program.specs.Generated.{IsGenStatus};
 ghost use Rattle.vyrd_program.specs.CorrectInputs.{SaysCorrect, SaysFewEvents};
@@ -27,7 +26,6 @@ use std::alloc::Global;
 use std::sync::Wait;
 use std::thread::Threads;
 use vyrd_base::{Gate, Sink, Source};
-use vyrd_live::Overrun;
 
 /// How many lines a log may have.
 const MAX_LINES: u64 = 268_435_456;
@@ -45,10 +43,6 @@ pub struct Ended {
     /// batch that is refused. Of a history's blocks 0 says that all are reducible, and 1 that one
     /// isn't.
     pub status: u8,
-    /// The live run that the answer is about, under `run`, if it came to its end.
-    pub run: Option<vyrd_live::Run>,
-    /// The live run that the limit of events ended, under `run`.
-    pub spent: Option<Overrun>,
 }
 
 /// Carries out the words that stand after the program's name, over a source and a sink.
@@ -75,11 +69,11 @@ pub fn vyrd<R: Threads + Wait + Sync, S: Source, K: Sink, G: Gate>(
     gate: &G,
 ) -> Ended
     // Which statuses come under which form, and what is written in those of an answer: the text of
-    // the answer to all that the source held, which has the status and what is handed out.
+    // the answer with this status to all that the source held.
     ensures statuses { IsStatus (form_said words.now) result.status }
     ensures answered { IsAnswerStatus (form_said words.now) result.status
-        → HasAnswered (form_said words.now) (S.rest source.old) result.status result.run
-        result.spent (K.taken sink.old) (K.taken sink.new) }
+        → HasAnswered (form_said words.now) (S.rest source.old) result.status (K.taken sink.old)
+        (K.taken sink.new) }
 
     // What is taken of the source: as much as an answer needs, and no more. A log is accepted at
     // the source's end alone, and a read that fails after its verdict is never made.
@@ -106,10 +100,6 @@ pub fn vyrd<R: Threads + Wait + Sync, S: Source, K: Sink, G: Gate>(
     ensures every_gen { (n : ℕ) → form_said words.now ≡ Some (Gen n) → IsGenStatus result.status
         → result.status ≡ 0 }
 
-    // Whatever was played live: if the verdict names a rule, it is that of raced blocks. Of a run by
-    // turns the answer says so.
-    ensures only_races { IfSome result.run (λ run. NamesOnlyRaces run.verdict) }
-
     // 3: the words are none of the forms.
     ensures usage_form { result.status ≡ 3 → form_said words.now ≡ None }
 
@@ -125,14 +115,11 @@ pub fn vyrd<R: Threads + Wait + Sync, S: Source, K: Sink, G: Gate>(
     ensures write_failures_alone { (K.faults sink.new ≡ K.faults sink.old) ⊎ (result.status ≡ 5) }
     ensures write_fault_stops { result.status ≡ 5 → K.taken sink.new ≡ K.left_off sink.new }
     ensures answered_in_part { result.status ≡ 5
-        → HasAnsweredInPart (form_said words.now) (S.rest source.old) result.run result.spent
-        (K.taken sink.old) (K.taken sink.new) }
+        → HasAnsweredInPart (form_said words.now) (S.rest source.old) (K.taken sink.old)
+        (K.taken sink.new) }
 
     // 6: there was no memory, and nothing was written.
     ensures memory { result.status ≡ 6 → K.taken sink.new ≡ K.taken sink.old }
-
-    // No run is handed out but a live one.
-    ensures handed_out { HandsOut (form_said words.now) result.status result.run result.spent }
 
     // If no count of faults has risen, neither a read nor a write has failed.
     ensures complete { ¬ (HasRisen (S.faults source.old) (S.faults source.new))
@@ -163,8 +150,6 @@ pub(crate) fn give<K: Sink>(sink: &mut K, answer: Answer) -> Ended
         × Appends (K.taken sink.old) (K.taken sink.new) answer.text.items }
     ensures in_part { result.status ≡ 5 → answer.status ≢ 5
         → AppendsFront (K.taken sink.old) (K.taken sink.new) answer.text.items }
-    ensures run { result.run ≡ answer.run }
-    ensures spent { result.spent ≡ answer.spent }
     ensures silent { answer.text.items ≡ [] → result.status ≡ answer.status }
     ensures statuses { (result.status ≡ 5) ⊎ (result.status ≡ answer.status) }
     ensures cause { result.status ≡ 5 → answer.status ≢ 5
@@ -180,18 +165,12 @@ pub(crate) fn give<K: Sink>(sink: &mut K, answer: Answer) -> Ended
         Ok(()) => answer.status,
         Err(_) => WRITE_FAULT,
     };
-    Ended {
-        status,
-        run: answer.run,
-        spent: answer.spent,
-    }
+    Ended { status }
 }
 
 /// Writes the usage line.
 fn give_usage<K: Sink>(sink: &mut K) -> Ended
     ensures statuses { (result.status ≡ 3) ⊎ (result.status ≡ 5) }
-    ensures run { result.run ≡ None }
-    ensures spent { result.spent ≡ None }
     ensures given { result.status ≡ 3 → Appends (K.taken sink.old) (K.taken sink.new) usage_line }
     ensures in_part { result.status ≡ 5
         → AppendsFront (K.taken sink.old) (K.taken sink.new) usage_line }
@@ -206,9 +185,5 @@ fn give_usage<K: Sink>(sink: &mut K) -> Ended
         Ok(()) => USAGE,
         Err(_) => WRITE_FAULT,
     };
-    Ended {
-        status,
-        run: None,
-        spent: None,
-    }
+    Ended { status }
 }

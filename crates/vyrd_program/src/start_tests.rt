@@ -5,13 +5,15 @@ ghost use Rattle.vyrd_base.specs.declared.subject.Subject.TheVariants.{Tree};
 ghost use Rattle.vyrd_base.specs.Layout.{plain_words};
 
 use crate::case::{Case, Devices};
-use crate::program::vyrd;
+use crate::run::MOST_EVENTS;
 use std::alloc::{AllocError, Global};
 use std::sync::Wait;
 use std::test::*;
 use std::thread::Threads;
-use vyrd_base::{Header, MemorySink, MemorySource, OpenGate, Subject};
+use vyrd_base::{Header, OpenGate, Subject};
+use vyrd_live::run_live;
 use vyrd_spec::{Spec, TreeSpec};
+use vyrd_work::read_work;
 
 /// The most bytes that a sink takes here. No answer is as long.
 const ROOM: usize = 128;
@@ -74,13 +76,12 @@ fn plain_words_of(
     Ok(Some(plain))
 }
 
-/// The words that forty inserts leave.
+/// The words that a live run of forty inserts leaves.
 fn words_left<R: Threads + Wait + Sync>(rt: &R, alloc: Global) -> Option<Vec<u64>> {
-    let work = forty_inserts(alloc).ok()?;
-    let mut source = MemorySource::new(alloc, work.as_bytes(), 4096, &[]).ok()?;
-    let mut sink = MemorySink::new(alloc, ROOM, ROOM, &[]).ok()?;
-    let ended = vyrd(rt, alloc, &["run"], &mut source, &mut sink, &OpenGate);
-    Some(ended.run?.words)
+    let text = forty_inserts(alloc).ok()?;
+    let work = read_work(alloc, text.as_bytes()).ok()?;
+    let run = run_live(rt, alloc, &work, MOST_EVENTS, &OpenGate).ok()?;
+    Some(run.words)
 }
 
 /// How many keys the state has for which the words stand, if they stand for one.

@@ -1,6 +1,6 @@
 //! What `step` answers.
 
-ghost use Rattle.std.specs.Prelude.{◌≡◌, ◌≤◌, ◌⊎◌, true, [], None, Ok, IfOk};
+ghost use Rattle.std.specs.Prelude.{◌≡◌, ◌≤◌, ◌⊎◌, true, [], Ok, IfOk};
 ghost use Rattle.vyrd_base.specs.Devices.{HasRisen};
 ghost use Rattle.vyrd_work.specs.Workloads.{workload_of};
 ghost use Rattle.vyrd_work.specs.WorkLimits.{KeepsLimits};
@@ -31,8 +31,6 @@ pub fn step<S: Source>(alloc: Global, show: Show, source: &mut S) -> Answer
         → IsInputTaken longest_input (S.rest source.old) (S.rest source.new) }
     ensures few { IsFewTaken longest_input (S.rest source.old) (S.rest source.new) }
     ensures silent { result.status ≡ 4 ⊎ result.status ≡ 6 → result.text.items ≡ [] }
-    ensures run { result.run ≡ None }
-    ensures spent { result.spent ≡ None }
     ensures cause { result.status ≡ 4 → HasRisen (S.faults source.old) (S.faults source.new) }
     ensures stopped { result.status ≡ 4 → S.rest source.new ≡ S.left_off source.new }
     ensures failures_alone { (S.faults source.new ≡ S.faults source.old) ⊎ (result.status ≡ 4) }
@@ -51,10 +49,8 @@ pub fn step<S: Source>(alloc: Global, show: Show, source: &mut S) -> Answer
 
 /// The answer to the bytes of a workload, which aren't kept while it is played.
 fn answer_to(alloc: Global, show: Show, bytes: Vec<u8>) -> Result<Answer, AllocError>
-    ensures answer { IfOk result (λ answer. IsStepAnswer show (work_reading bytes.items)
-        answer.status answer.text.items) }
-    ensures run { IfOk result (λ answer. answer.run ≡ None) }
-    ensures spent { IfOk result (λ answer. answer.spent ≡ None) }
+    ensures { IfOk result (λ answer. IsStepAnswer show (work_reading bytes.items) answer.status
+        answer.text.items) }
 {
     let read = read_work(alloc, &bytes);
     drop(bytes);
@@ -68,10 +64,8 @@ fn answer_to(alloc: Global, show: Show, bytes: Vec<u8>) -> Result<Answer, AllocE
 /// The answer to a workload that keeps its limits.
 fn play(alloc: Global, show: Show, work: Work) -> Result<Answer, AllocError>
     requires { KeepsLimits (workload_of work) }
-    ensures answer { IfOk result (λ answer. IsStepAnswer show (Ok (workload_of work))
-        answer.status answer.text.items) }
-    ensures run { IfOk result (λ answer. answer.run ≡ None) }
-    ensures spent { IfOk result (λ answer. answer.spent ≡ None) }
+    ensures { IfOk result (λ answer. IsStepAnswer show (Ok (workload_of work)) answer.status
+        answer.text.items) }
 {
     let mut account = Account::new(alloc, work.header, show)?;
     match show_by_turns::<AnyMachine, Account>(alloc, work, &mut account)? {

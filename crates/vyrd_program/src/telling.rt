@@ -1,12 +1,10 @@
 //! The texts of the answers to a workload.
 
-ghost use Rattle.std.specs.Prelude.{◌≡◌, ◌++◌, [], true, List, length, Some, None, IfOk};
-ghost use Rattle.std.specs.List.{AllByRecursion};
+ghost use Rattle.std.specs.Prelude.{◌≡◌, ◌++◌, [], List, length, IfOk};
 ghost use Rattle.vyrd_base.specs.declared.history.Stamped.{Stamped};
 ghost use Rattle.vyrd_base.specs.Histories.{log_of};
 ghost use Rattle.vyrd_base.specs.Verdicts.{verdict};
 ghost use Rattle.vyrd_base.specs.VerdictText.{verdict_text};
-ghost use Rattle.vyrd_text.specs.Written.{is_writable};
 ghost use Rattle.vyrd_work.specs.Refusals.{refusal_text};
 ghost use Rattle.vyrd_program.specs.Accounts.{HasTaken};
 ghost use Rattle.vyrd_program.specs.Outputs.{status_of};
@@ -16,63 +14,20 @@ ghost use Rattle.vyrd_program.specs.Generated.{generated_line};
 
 use crate::account::{Account, Told};
 use crate::answer::{Answer, REFUSED, SPENT, STUCK, status_of};
-use crate::show::Show;
 use std::alloc::{AllocError, Global};
-use vyrd_base::Header;
-use vyrd_judge::log_of;
-use vyrd_live::{Overrun, Run};
-use vyrd_mover::write_history;
-use vyrd_text::{LineBuffer, write_log, write_verdict};
+use vyrd_text::{LineBuffer, write_verdict};
 use vyrd_work::{WorkRule, write_refusal};
-
-/// What is to be shown of a live run, with the status of its verdict.
-pub fn tell(alloc: Global, show: Show, header: Header, run: Run) -> Result<Answer, AllocError>
-    requires { AllByRecursion (λ e. is_writable header.subject e ≡ true)
-        (log_of run.history.items) }
-    ensures status { IfOk result (λ answer. answer.status ≡ status_of run.verdict) }
-    ensures text { IfOk result (λ answer. answer.text.items
-        ≡ run_text show header run.history.items run.verdict) }
-    ensures run { IfOk result (λ answer. answer.run ≡ Some run) }
-    ensures spent { IfOk result (λ answer. answer.spent ≡ None) }
-{
-    let text = shown(alloc, show, header, &run)?;
-    Ok(told(text, run))
-}
-
-/// What is to be shown of a run.
-fn shown(alloc: Global, show: Show, header: Header, run: &Run) -> Result<Vec<u8>, AllocError>
-    requires { AllByRecursion (λ e. is_writable header.subject e ≡ true)
-        (log_of run.now.history.items) }
-    ensures { IfOk result
-        (λ text. text.items ≡ run_text show header run.now.history.items run.now.verdict) }
-{
-    let mut text = Vec::new(alloc);
-    match show {
-        Show::Verdict => write_verdict(&run.verdict, &mut text)?,
-        Show::Log => {
-            let entries = log_of(alloc, &run.history)?;
-            write_log(header, &entries, &mut text)?;
-            write_verdict(&run.verdict, &mut text)?;
-        }
-        Show::History => write_history(header, &run.history, &mut text)?,
-    }
-    Ok(text)
-}
 
 /// The answer that a run by turns gets stuck.
 pub fn stuck(alloc: Global) -> Result<Answer, AllocError>
     ensures status { IfOk result (λ answer. answer.status ≡ 8) }
     ensures text { IfOk result (λ answer. answer.text.items ≡ stuck_line) }
-    ensures run { IfOk result (λ answer. answer.run ≡ None) }
-    ensures spent { IfOk result (λ answer. answer.spent ≡ None) }
 {
     let mut text = Vec::new(alloc);
     text.extend_from_slice(b"stuck\n")?;
     Ok(Answer {
         status: STUCK,
         text,
-        run: None,
-        spent: None,
     })
 }
 
@@ -80,41 +35,33 @@ pub fn stuck(alloc: Global) -> Result<Answer, AllocError>
 pub fn refuse(alloc: Global, line: u64, rule: WorkRule) -> Result<Answer, AllocError>
     ensures status { IfOk result (λ answer. answer.status ≡ 7) }
     ensures text { IfOk result (λ answer. answer.text.items ≡ refusal_text line rule) }
-    ensures run { IfOk result (λ answer. answer.run ≡ None) }
-    ensures spent { IfOk result (λ answer. answer.spent ≡ None) }
 {
     let mut text = Vec::new(alloc);
     write_refusal(line, rule, &mut text)?;
     Ok(Answer {
         status: REFUSED,
         text,
-        run: None,
-        spent: None,
     })
 }
 
 /// The answer that the events of a caller are spent.
-pub fn overrun(alloc: Global, spent: Overrun) -> Result<Answer, AllocError>
+pub fn overrun(alloc: Global, caller: u32) -> Result<Answer, AllocError>
     ensures status { IfOk result (λ answer. answer.status ≡ 9) }
-    ensures text { IfOk result (λ answer. answer.text.items ≡ spent_line spent.caller) }
-    ensures run { IfOk result (λ answer. answer.run ≡ None) }
-    ensures spent { IfOk result (λ answer. answer.spent ≡ Some spent) }
+    ensures text { IfOk result (λ answer. answer.text.items ≡ spent_line caller) }
 {
     let mut line = LineBuffer::new();
     line.push(b"events spent by caller ");
-    line.push_number(u64::from(spent.caller));
+    line.push_number(u64::from(caller));
     line.push(b"\n");
     let mut text = Vec::new(alloc);
     text.extend_from_slice(line.as_slice())?;
     Ok(Answer {
         status: SPENT,
         text,
-        run: None,
-        spent: Some(spent),
     })
 }
 
-/// What an account tells of a run by turns, with the status of its verdict.
+/// What an account tells of a run, with the status of its verdict.
 pub fn told_of(account: Account) -> Result<Answer, AllocError>
     ensures status { (history : List Stamped) → HasTaken account history → IfOk result
         (λ answer. answer.status
@@ -122,15 +69,11 @@ pub fn told_of(account: Account) -> Result<Answer, AllocError>
     ensures text { (history : List Stamped) → HasTaken account history → IfOk result
         (λ answer. answer.text.items ≡ run_text account.show account.judge.kept.header history
         (verdict account.judge.kept.header [] (log_of history))) }
-    ensures run { IfOk result (λ answer. answer.run ≡ None) }
-    ensures spent { IfOk result (λ answer. answer.spent ≡ None) }
 {
     let Told { verdict, text, .. } = account.close()?;
     Ok(Answer {
         status: status_of(verdict),
         text,
-        run: None,
-        spent: None,
     })
 }
 
@@ -143,8 +86,6 @@ pub fn generated(alloc: Global, count: u32, account: Account) -> Result<Answer, 
     ensures text { (history : List Stamped) → HasTaken account history → IfOk result
         (λ answer. answer.text.items ≡ generated_line count (length history)
         ++ verdict_text (verdict account.judge.kept.header [] (log_of history))) }
-    ensures run { IfOk result (λ answer. answer.run ≡ None) }
-    ensures spent { IfOk result (λ answer. answer.spent ≡ None) }
 {
     let told = account.close()?;
     let mut text = counts(alloc, count, told.count)?;
@@ -152,25 +93,7 @@ pub fn generated(alloc: Global, count: u32, account: Account) -> Result<Answer, 
     Ok(Answer {
         status: status_of(told.verdict),
         text,
-        run: None,
-        spent: None,
     })
-}
-
-/// This text about a run, with the status of its verdict.
-fn told(text: Vec<u8>, run: Run) -> Answer
-    ensures status { result.status ≡ status_of run.verdict }
-    ensures text { result.text.items ≡ text.items }
-    ensures run { result.run ≡ Some run }
-    ensures spent { result.spent ≡ None }
-{
-    let status = status_of(run.verdict);
-    Answer {
-        status,
-        text,
-        run: Some(run),
-        spent: None,
-    }
 }
 
 /// The line that says how many operations and events there are.

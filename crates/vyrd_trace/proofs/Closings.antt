@@ -1,4 +1,4 @@
--- A table whose records are one at rest has one history, and the lanes are its parts.
+-- A table whose records are one at rest has one history, of which the hands' lanes are the parts.
 use Rattle.std.proofs.Common.{◌≡◌, ℕ, zero, suc, ◌+◌, ◌*◌, ◌/◌, ◌<◌, ◌≤◌, List, [], ◌∷◌, ◌++◌, map, length, get_or, true, Option, Some, None, refl, sym, ap, ◌∙◌, subst, arith, take, drop}
 use Rattle.std.specs.Prelude.{slice_get, slice_index, slice_index_or}
 use Rattle.std.specs.List.{All, sum_by}
@@ -11,7 +11,6 @@ use lib.ListN.{get_elem?}
 use Rattle.atomic_table.specs.Table.{State, Final, Seen}
 use Rattle.vyrd_base.specs.declared.history.Stamped.{Stamped}
 use Rattle.vyrd_base.specs.Places.{numbers_from}
-use Rattle.vyrd_base.specs.Histories.{is_legal}
 use Rattle.vyrd_base.specs.Parts.{part}
 use Rattle.vyrd_trace.specs.Lanes.{last_value, last_values, cells_in}
 use Rattle.vyrd_trace.specs.declared.record.Record.{Record}
@@ -23,7 +22,7 @@ use Rattle.vyrd_trace.specs.Records.{own_lane}
 use Rattle.vyrd_trace.specs.Hands.{HandView}
 use Rattle.vyrd_trace.proofs.Parts.{below, below_more, below_none, below_all}
 use Rattle.vyrd_trace.proofs.HistoryGrows.{numbered}
-use Rattle.vyrd_trace.specs.Closing.{lanes_of, own_lane_of, own_lanes, IsMerge, AreTwice}
+use Rattle.vyrd_trace.specs.Closing.{lanes_of, own_lane_of, own_lanes, IsMerge, AreTwice, HasHistory}
 
 -- each hand's lane is its caller's part
 abbrev pub AreParts : List Stamped → List HandView → Type 0
@@ -66,22 +65,11 @@ module _ (p : Plan) (s : St) (r : Kept p s) (id : ℕ) (v : Record) (hs : List H
     f.3,
   )
 
-  parts : (c : ℕ) → c < length hs → part c G.history ≡ slice_index_or (lanes_of hs) c []
-  parts c l = let f = has c l in ap (λ (x : ℕ). part x G.history) (sym f.2) ∙ f.1.whole ∙ sym f.3
-
   -- no caller has an action in hand
   rests : (c : ℕ) → G.stage c ≡ Rest
   rests c = dite (dec_lt c (length hs))
       (λ l. let f = has c l in ap G.stage (sym f.2) ∙ f.1.rests)
       (λ no. (r.idle c (r.outside c (omega arith))).1)
-
-  pub is_merge : IsMerge G.history (lanes_of hs)
-  is_merge = record {
-    placed = λ i e q. let n = numbered (cells_in p) G.history r.legal i e q in
-        let l = length-map hs (λ (h : HandView). h.lane) in
-        let x = n.1 in (n.0, omega arith);
-    parts = λ c l. parts c (let m = length-map hs (λ (h : HandView). h.lane) in omega arith);
-  }
 
   pub are_parts : AreParts G.history hs
   are_parts k d l = let f = has k l in subst (λ (h : HandView). part h.caller G.history ≡ h.lane) (sym (f.4 d)) f.1.whole
@@ -141,26 +129,46 @@ halved p h words halves twice long half =
     let from : j ≡ 0 + j = omega arith in same ∙ ap (last_value h) from)
     ∙ ap (λ (n : ℕ). map (last_value h) (numbers_from 0 n)) long
 
--- What a closed table has: a legal history that is merged from the lanes, each hand's lane is its caller's part, each word
--- is twice the value, and the history is as long as the lanes together.
-pub closed_facts : (p : Plan) (words : List ℕ) (slots : List (Unit {0})) (id : ℕ) (v : Record) (hs : List HandView)
+-- A closed table has a history: a legal one, of which each hand's lane is its caller's part, and each word is twice the
+-- last value.
+pub has_history : (p : Plan) (words halves : List ℕ) (slots : List (Unit {0})) (id : ℕ) (v : Record) (hs : List HandView)
     → Final (Seen (Kept p) id v) words slots → v.live ≡ true → v.stage ≡ Rest → own_lane v ∷ v.gathered ≡ own_lanes hs
     → length hs ≡ p.callers → ((i : ℕ) (d : HandView) → i < length hs → (slice_index_or hs i d).caller ≡ i)
-    → (h : List Stamped) × IsMerge h (lanes_of hs) × (is_legal (cells_in p) h ≡ true) × AreParts h hs × AreTwice p h words
-    × (length h ≡ sum_by size hs)
-closed_facts p words slots id v hs f live rest all count order =
+    → length halves ≡ p.plain + p.locks
+    → ((k : ℕ) → k < p.plain + p.locks → slice_index halves k ≡ slice_index words (k + 1) / 2) → HasHistory p hs halves
+has_history p words halves slots id v hs f live rest all count order long half =
     let s = f.0 in
     let r = f.1.0 in
     let at = f.1.1 in
     let h = r.ghost_state.history in
-    let m = is_merge p s r id v hs at live rest all count order in (
-      h,
-      m,
-      r.legal,
-      are_parts p s r id v hs at live rest all count order,
-      subst (AreTwice p h) f.2 (are_twice p s r id v hs at live rest all count order),
-      total_length hs h m,
-    )
+    let twice = subst (AreTwice p h) f.2 (are_twice p s r id v hs at live rest all count order) in record {
+      history = h;
+      legal = r.legal;
+      parts = are_parts p s r id v hs at live rest all count order;
+      words_are = halved p h words halves twice long half;
+    }
+
+-- The lanes of all hands are merged in it, and it is as long as they are together.
+pub is_merge : (p : Plan) (words : List ℕ) (hs : List HandView) → length hs ≡ p.callers
+    → ((i : ℕ) (d : HandView) → i < length hs → (slice_index_or hs i d).caller ≡ i) → (one : HasHistory p hs words)
+    → IsMerge one.history (lanes_of hs) × (length one.history ≡ sum_by size hs)
+is_merge p words hs count order one = (merge, total_length hs one.history merge)
+  where
+    many : length (lanes_of hs) ≡ length hs
+    many = length-map hs (λ (h : HandView). h.lane)
+
+    merge : IsMerge one.history (lanes_of hs)
+    merge = record {
+      placed = λ i e q. let n = numbered (cells_in p) one.history one.legal i e q in
+          let x = n.1 in
+          let m = many in (n.0, omega arith);
+      parts = λ c l.
+          let m = many in
+          let inside : c < length hs = omega arith in
+          let at = lane_at hs c inside in
+          ap (λ (x : ℕ). part x one.history) (sym (order c at.0 inside)) ∙ one.parts c at.0 inside
+          ∙ ap (λ (h : HandView). h.lane) (at.3 at.0) ∙ sym at.2;
+    }
 
 -- what a slice of a `Vec` that was lent whole writes back
 pub back : (len : ℕ) (new old : List Stamped) → length new ≡ length old → len ≡ length old → take len (new ++ drop (length new) old) ≡ new

@@ -39,10 +39,11 @@ abbrev pub IsInPlace : List Stamped → Stamped → Type 0
 IsInPlace h e = slice_get h e.number ≡ Some e
 
 -- an event that is written at its number leaves every right place right
-pub write_keeps : (h hist : List Stamped) (e : Stamped) (i : ℕ) → e.number < length hist → IsInPlace h e
-    → slice_get hist i ≡ slice_get h i → slice_get (set hist e.number e) i ≡ slice_get h i
-write_keeps h hist e i inside stands was = dite (ℕ_discrete i e.number)
-    (λ same. ap (slice_get (set hist e.number e)) same ∙ set_same hist e.number e inside ∙ sym stands ∙ ap (slice_get h) (sym same))
+pub write_keeps : (h hist : List Stamped) (e : Stamped) (i : ℕ) → IsInPlace h e → slice_get hist i ≡ slice_get h i
+    → slice_get (set hist e.number e) i ≡ slice_get h i
+write_keeps h hist e i stands was = dite (ℕ_discrete i e.number)
+    (λ same. let at : IsInPlace hist e = ap (slice_get hist) (sym same) ∙ was ∙ ap (slice_get h) same ∙ stands in
+    ap (slice_get (set hist e.number e)) same ∙ set_same hist e.number e (slice_get_within hist e.number e at) ∙ sym stands ∙ ap (slice_get h) (sym same))
     (λ apart. set_other hist e.number i e apart ∙ was)
 
 -- and one event more of the lane stands in its place
@@ -53,8 +54,16 @@ write_places h hist lane k d l stands inside placed =
     let e : Stamped = get_or lane k d in
     All-more (IsInPlace (set hist e.number e)) lane k d l
     (λ j f below. let x : Stamped = slice_index_or (take k lane) j f in let s : IsInPlace h x = All-take (IsInPlace h) k lane stands j f below in
-    write_keeps h hist e x.number inside (stands k d l) (placed j f below ∙ sym s) ∙ s)
+    write_keeps h hist e x.number (stands k d l) (placed j f below ∙ sym s) ∙ s)
     (set_same hist e.number e inside)
+
+-- the number of an event that stands in a list of the same length has a place
+pub has_place : (h hist lane : List Stamped) (k : ℕ) (d : Stamped) → k < length lane → All (IsInPlace h) lane → length h ≡ length hist
+    → (get_or lane k d).number < length hist
+has_place h hist lane k d l stands long =
+    let e : Stamped = get_or lane k d in
+    let inside = slice_get_within h e.number e (stands k d l) in
+    omega arith
 
 pub all_placed : (hist lane : List Stamped) (k : ℕ) → length lane ≤ k → All (IsInPlace hist) (take k lane) → All (IsInPlace hist) lane
 all_placed hist lane k le placed = All-same (IsInPlace hist) lane (take k lane) (sym (take_all k lane le)) placed
@@ -74,12 +83,6 @@ module _ (h : List Stamped) (lanes : List (List Stamped)) (m : IsMerge h lanes) 
       let f = part_in c h k d (subst (λ (q : List Stamped). k < length q) (sym same) below) in
       let got : slice_get h f.0 ≡ Some (slice_index_or lane k d) = f.1 ∙ ap (λ (q : List Stamped). Some (slice_index_or q k d)) same in
       ap (slice_get h) (m.placed f.0 (slice_index_or lane k d) got).0 ∙ got
-
-  -- so their numbers are below its length
-  pub numbers_inside : (c : ℕ) (lane : List Stamped) → c < length lanes → slice_index_or lanes c [] ≡ lane
-      → All (λ (e : Stamped). e.number < length h) lane
-  numbers_inside c lane l is k d below =
-      slice_get_within h (slice_index_or lane k d).number (slice_index_or lane k d) (lane_in_place c lane l is k d below)
 
   -- with the lane of caller c written, the events of all callers up to c stand in their places
   pub merge_step : (c : ℕ) (lane old new : List Stamped) → c < length lanes → slice_index_or lanes c [] ≡ lane

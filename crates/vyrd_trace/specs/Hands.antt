@@ -23,14 +23,15 @@ pub record TracedView : Type 0 where
 abbrev pub sharing : TableId → Plan → TracedView
 sharing table plan = record { table = table; plan = plan }
 
--- a hand: whose it is, the events so far, how many more it has room for, and what it found at its
--- last looks
+-- a hand: whose it is, the events so far, how many of them it no longer keeps, how many more it has
+-- room for, and what it found at its last looks
 pub record HandView : Type 0 where
   pub table : TableId
   pub caller : ℕ
   pub limit : ℕ
   pub spare : ℕ
   pub lane : List Stamped
+  pub forgotten : ℕ
   pub look : Look
 
 -- the table has one word for the next number and one for each cell, and keeps the limits
@@ -55,6 +56,7 @@ with_spare hand spare = record {
   limit = hand.limit;
   spare = spare;
   lane = hand.lane;
+  forgotten = hand.forgotten;
   look = hand.look;
 }
 
@@ -66,6 +68,7 @@ with_look hand look = record {
   limit = hand.limit;
   spare = hand.spare;
   lane = hand.lane;
+  forgotten = hand.forgotten;
   look = look;
 }
 
@@ -77,7 +80,20 @@ with_one_more hand number did look = record {
   limit = hand.limit;
   spare = hand.spare - 1;
   lane = hand.lane ++ stamp number hand.caller did ∷ [];
+  forgotten = hand.forgotten;
   look = look;
+}
+
+-- the hand as it was, but that it keeps none of its events
+abbrev pub with_none_kept : HandView → HandView
+with_none_kept hand = record {
+  table = hand.table;
+  caller = hand.caller;
+  limit = hand.limit;
+  spare = hand.spare;
+  lane = hand.lane;
+  forgotten = length hand.lane;
+  look = hand.look;
 }
 
 -- The word was found at the cell since `before`: it is the last word found, and both it and the
@@ -94,6 +110,7 @@ WasTaken word look = (word % 2 ≡ 1) ⊎ (word ≢ look.first)
 abbrev pub IsNew : TracedView → ℕ → HandView → Type 0
 IsNew traced caller hand =
     IsOf traced hand × (hand.caller ≡ caller) × (hand.spare ≡ 0) × (hand.lane ≡ [])
+    × (hand.forgotten ≡ 0)
 
 -- new hands in the order of their callers, from this one on
 abbrev pub AreNew : TracedView → ℕ → List HandView → Type 0

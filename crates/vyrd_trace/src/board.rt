@@ -1,11 +1,11 @@
 //! The table of words, and the records that all hands begin and end with.
 
-ghost use Rattle.std.specs.Prelude.{◌≡◌, ◌+◌, ◌≤◌, true, [], ◌∷◌, map, vec_len, vec_capacity};
+ghost use Rattle.std.specs.Prelude.{◌≡◌, ◌+◌, ◌≤◌, true, [], ◌∷◌, vec_len, vec_capacity};
 ghost use Rattle.vyrd_trace.specs.declared.record.Stage.TheVariants.{Rest};
 ghost use Rattle.vyrd_trace.specs.Records.{first_record, record_of, own_lane};
 ghost use Rattle.vyrd_trace.specs.Steps.{IsSame};
 ghost use Rattle.vyrd_trace.specs.Hands.{IsSized, AreNew, AreAll, sharing};
-ghost use Rattle.vyrd_trace.specs.Closing.{lanes_of, own_lanes};
+ghost use Rattle.vyrd_trace.specs.Closing.{own_lanes};
 
 use crate::hand::Hand;
 use crate::plan::Plan;
@@ -13,7 +13,6 @@ use crate::record::Record;
 use crate::rule::Trace;
 use atomic_table::{Seat, Table};
 use std::alloc::Global;
-use vyrd_base::Stamped;
 
 /// Word 0 of the table counts the events, and word `i + 1` is that of cell `i`: twice its value,
 /// plus 1 while a hand has claimed it.
@@ -51,26 +50,17 @@ impl Board {
         }
     }
 
-    /// Makes one record of all, and takes the lanes out of the hands, in their order.
-    pub(crate) fn gather_all(
-        &self,
-        mut hands: Vec<Hand>,
-        lanes: &mut Vec<Vec<Stamped>>,
-    ) -> Seat<(), Record>
-        requires hands { AreAll (sharing self.now.table.shared.table_id self.now.table.shared.key)
+    /// Makes one record of those of all hands, in their order.
+    pub(crate) fn gather_all(&self, mut hands: Vec<Hand>) -> Seat<(), Record>
+        requires { AreAll (sharing self.now.table.shared.table_id self.now.table.shared.key)
             hands.items }
-        requires room { (lanes.old.items ≡ []) × (vec_len hands ≤ vec_capacity lanes.old) }
-        ensures lanes { map (λ v. v.items) lanes.new.items ≡ lanes_of hands.items }
-        ensures seat { (result.table_id ≡ self.now.table.shared.table_id)
-            × (result.me.0.live ≡ true) × (result.me.0.stage ≡ Rest)
-            × (own_lane result.me.0 ∷ result.me.0.gathered ≡ own_lanes hands.items) }
+        ensures same { (result.table_id ≡ self.now.table.shared.table_id)
+            × (result.me.0.live ≡ true) × (result.me.0.stage ≡ Rest) }
+        ensures lanes { own_lane result.me.0 ∷ result.me.0.gathered ≡ own_lanes hands.items }
     {
-        let (lane, mut seat) = hands.remove(0).into_parts();
-        lanes.push_reserved(lane);
+        let mut seat = hands.remove(0).into_seat();
         for hand in hands {
-            let (lane, other) = hand.into_parts();
-            self.gather(&mut seat, other);
-            lanes.push_reserved(lane);
+            self.gather(&mut seat, hand.into_seat());
         }
         seat
     }

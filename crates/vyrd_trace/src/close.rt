@@ -8,12 +8,13 @@ ghost use Rattle.vyrd_base.specs.Histories.{is_legal};
 ghost use Rattle.vyrd_base.specs.Parts.{part};
 ghost use Rattle.vyrd_trace.specs.Lanes.{cells_in, last_values};
 ghost use Rattle.vyrd_trace.specs.Hands.{AreAll, most_events};
+ghost use Rattle.vyrd_trace.specs.Closing.{HasHistory};
 
 use crate::board::Board;
 use crate::hand::Hand;
 use crate::merge::merge;
 use crate::traced::Traced;
-use std::alloc::{AllocError, Global};
+use std::alloc::Global;
 use vyrd_base::{Did, Kind, Stamped};
 
 /// What a traced memory leaves: the history of all events, in the order of their numbers, and the
@@ -24,32 +25,11 @@ pub struct Closed {
     pub words: Vec<u64>,
 }
 
-/// There was no memory to close it. Everything comes back as it was.
+/// There was no memory to end or to close it. Everything comes back as it was.
 #[derive(Drop)]
 pub struct Unclosed {
     pub traced: Traced,
     pub hands: Vec<Hand>,
-}
-
-/// The memory that `close` takes before it changes anything.
-struct Room {
-    history: Vec<Stamped>,
-    words: Vec<u64>,
-    lanes: Vec<Vec<Stamped>>,
-}
-
-impl Room {
-    fn new(alloc: Global, total: usize, cells: usize, callers: usize) -> Result<Room, AllocError>
-        ensures history { IfOk result (λ r. vec_len r.history ≡ total) }
-        ensures words { IfOk result (λ r. (r.words.items ≡ []) × (cells ≤ vec_capacity r.words)) }
-        ensures lanes { IfOk result (λ r. (r.lanes.items ≡ []) × (callers ≤ vec_capacity r.lanes)) }
-    {
-        Ok(Room {
-            history: Vec::from_elem(alloc, blank(), total)?,
-            words: Vec::with_capacity(alloc, cells)?,
-            lanes: Vec::with_capacity(alloc, callers)?,
-        })
-    }
 }
 
 /// An event that holds a place until the right one is written over it.
@@ -61,7 +41,7 @@ fn blank() -> Stamped {
     }
 }
 
-/// How many events the hands have.
+/// How many events the hands have made.
 fn count_all(hands: &[Hand]) -> usize
     requires limit { All (λ h. h.limit ≤ most_events) hands.now }
     requires few { length hands.now ≤ 64 }
@@ -69,7 +49,7 @@ fn count_all(hands: &[Hand]) -> usize
 {
     let mut total = 0;
     for hand in hands {
-        total += hand.lane().len();
+        total += hand.made() as usize;
     }
     total
 }
@@ -88,12 +68,13 @@ fn halve_words(closed: &atomic_table::Closed<(), Global>, cells: usize, words: &
 
 impl Traced {
     /// Ends the sharing, and puts the lanes together. `hands` are all hands of this memory, in the
-    /// order of their callers.
+    /// order of their callers, and keep all their events.
     ///
-    /// It takes its memory first, for the whole history, and is `Unclosed` only if there was none.
-    /// The time is linear in the events and the cells.
+    /// It takes memory for the whole history and for the last values, and is `Unclosed` only if
+    /// there was none. The time is linear in the events and the cells.
     pub fn close(self, hands: Vec<Hand>) -> Result<Closed, Unclosed>
-        requires { AreAll self hands.items }
+        requires all { AreAll self hands.items }
+        requires kept { All (λ h. h.forgotten ≡ 0) hands.items }
         ensures legal { IfOk result
             (λ closed. is_legal (cells_in self.plan) closed.history.items ≡ true) }
         ensures parts { IfOk result (λ closed.
@@ -104,25 +85,39 @@ impl Traced {
             (λ left. (left.traced ≡ self) × (left.hands.items ≡ hands.items)) }
     {
         let total = count_all(hands.as_slice());
-        let cells = self.board.table.word_count() - 1;
-        let Ok(room) = Room::new(self.board.alloc, total, cells, hands.len()) else {
+        let Ok(mut history) = Vec::from_elem(self.board.alloc, blank(), total) else {
             return Err(Unclosed {
                 traced: self,
                 hands,
             });
         };
-        let Room {
-            mut history,
-            mut words,
-            mut lanes,
-        } = room;
+        merge(history.as_mut_slice(), hands.as_slice());
+        let words = self.end(hands)?;
+        Ok(Closed { history, words })
+    }
+
+    /// Ends the sharing as `close` does, of hands that may have forgotten their events, and hands
+    /// out the last values alone. It takes memory for these, and none for lanes.
+    pub fn end(self, hands: Vec<Hand>) -> Result<Vec<u64>, Unclosed>
+        requires { AreAll self hands.items }
+        ensures history { IfOk result
+            (λ words. HasHistory self.plan hands.items words.items) }
+        ensures unclosed { IfErr result
+            (λ left. (left.traced ≡ self) × (left.hands.items ≡ hands.items)) }
+    {
+        let cells = self.board.table.word_count() - 1;
+        let Ok(mut words) = Vec::with_capacity(self.board.alloc, cells) else {
+            return Err(Unclosed {
+                traced: self,
+                hands,
+            });
+        };
         let Traced { board } = self;
-        let seat = board.gather_all(hands, &mut lanes);
+        let seat = board.gather_all(hands);
         let Board { alloc: _, table } = board;
         let closed = table.close_with(seat);
         halve_words(&closed, cells, &mut words);
         closed.free();
-        merge(history.as_mut_slice(), lanes.as_slice());
-        Ok(Closed { history, words })
+        Ok(words)
     }
 }

@@ -1,11 +1,11 @@
 //! A hand: one caller's lane, with the seat that its events are drawn with.
 
-ghost use Rattle.std.specs.Prelude.{◌≡◌, ◌+◌, ◌<◌, ◌≤◌, max, length, true, [], ◌∷◌, ◌++◌, IfOk};
-ghost use Rattle.std.specs.Prelude.{IfErr, Err, vec_len, vec_capacity};
+ghost use Rattle.std.specs.Prelude.{◌≡◌, ◌+◌, ◌<◌, ◌≤◌, max, length, drop, true, [], ◌∷◌, ◌++◌};
+ghost use Rattle.std.specs.Prelude.{IfOk, IfErr, Err, vec_len, vec_capacity};
 ghost use Rattle.vyrd_trace.specs.declared.hand.Reserve.TheVariants.{Memory, Spent};
 ghost use Rattle.vyrd_trace.specs.declared.record.Stage.TheVariants.{Rest};
 ghost use Rattle.vyrd_trace.specs.Lanes.{stamp};
-ghost use Rattle.vyrd_trace.specs.Hands.{with_spare};
+ghost use Rattle.vyrd_trace.specs.Hands.{with_spare, with_none_kept, most_events};
 
 use crate::record::Record;
 use atomic_table::Seat;
@@ -36,20 +36,24 @@ impl fmt::Display for Reserve {
 impl Error for Reserve {}
 
 /// One caller's events so far, and the right to make more. Between calls it has no action in hand
-/// and claims no cell.
+/// and claims no cell. Events that were passed on it may forget: they stay a part of its lane.
 #[derive(Drop)]
 pub struct Hand {
     pub(crate) caller: u32,
     pub(crate) limit: u64,
     pub(crate) spare: u64,
+    /// How many of the first events it no longer keeps.
+    pub(crate) forgotten: u64,
+    /// The events that it keeps.
     pub(crate) lane: Vec<Stamped>,
     pub(crate) seat: Seat<(), Record>,
 }
 
 impl Model for Hand {
-    ghost use Rattle.std.specs.Prelude.{◌≡◌, ◌+◌, ◌≤◌, true, [], vec_len, vec_capacity};
+    ghost use Rattle.std.specs.Prelude.{◌≡◌, ◌+◌, ◌≤◌, length, drop, true, []};
+    ghost use Rattle.std.specs.Prelude.{vec_len, vec_capacity};
     ghost use Rattle.vyrd_trace.specs.declared.record.Stage.TheVariants.{Rest};
-    ghost use Rattle.vyrd_trace.specs.Hands.{HandView};
+    ghost use Rattle.vyrd_trace.specs.Hands.{HandView, most_events};
 
     ghost Value = { HandView };
 
@@ -58,14 +62,18 @@ impl Model for Hand {
       caller = h.caller;
       limit = h.limit;
       spare = h.spare;
-      lane = h.lane.items;
+      lane = h.seat.me.0.lane;
+      forgotten = h.forgotten;
       look = h.seat.me.0.look;
     } };
 
-    ghost invariant = { λ h. (h.seat.me.0.caller ≡ h.caller) × (h.seat.me.0.lane ≡ h.lane.items)
+    ghost invariant = { λ h. (h.seat.me.0.caller ≡ h.caller)
+        × (drop h.forgotten h.seat.me.0.lane ≡ h.lane.items)
+        × (h.forgotten + vec_len h.lane ≡ length h.seat.me.0.lane)
         × (h.seat.me.0.live ≡ true) × (h.seat.me.0.stage ≡ Rest) × (h.seat.me.0.gathered ≡ [])
         × (h.seat.me.1 ≡ []) × (vec_len h.lane + h.spare ≤ vec_capacity h.lane)
-        × (vec_len h.lane + h.spare ≤ h.limit) };
+        × (h.forgotten + (vec_len h.lane + h.spare) ≤ h.limit)
+        × (h.limit ≤ most_events) };
 }
 
 impl Hand {
@@ -76,12 +84,38 @@ impl Hand {
         self.caller
     }
 
-    /// The events so far, in the order in which this hand made them.
+    /// The events that it keeps, in the order in which this hand made them.
     pub fn lane(&self) -> &[Stamped]
-        ensures events { result.now ≡ self.now.lane }
+        ensures events { result.now ≡ drop self.now.forgotten self.now.lane }
         ensures limited { length result.now ≤ self.now.limit }
     {
         self.lane.as_slice()
+    }
+
+    /// How many events this hand has made, which is at most 16,777,216.
+    pub fn made(&self) -> u64
+        ensures made { result ≡ length self.now.lane }
+        ensures limited { (result ≤ self.now.limit) × (self.now.limit ≤ most_events) }
+    {
+        // So the sum, which is within the limit too, fits.
+        prove!(self.forgotten <= self.limit);
+        self.forgotten + self.lane.len() as u64
+    }
+
+    /// How many of its first events it no longer keeps.
+    pub fn forgotten(&self) -> u64
+        ensures count { result ≡ self.now.forgotten }
+        ensures within { self.now.forgotten ≤ length self.now.lane }
+    {
+        self.forgotten
+    }
+
+    /// Lets go of the events made so far. Their room stays, and takes those to come.
+    pub fn forget(&mut self)
+        ensures { self.new ≡ with_none_kept self.old }
+    {
+        self.forgotten += self.lane.len() as u64;
+        self.lane.clear();
     }
 
     /// Makes the spare room at least `n` events, of which each action that isn't busy uses one. It
@@ -94,8 +128,7 @@ impl Hand {
         ensures refused { IfErr result (λ _. self.new ≡ self.old) }
         ensures enough { result ≡ Err Memory → self.old.spare < n }
     {
-        let len = self.lane.len() as u64;
-        if n > self.limit - len {
+        if n > self.limit - self.made() {
             return Err(Reserve::Spent);
         }
         if n > self.spare {
@@ -107,29 +140,31 @@ impl Hand {
         Ok(())
     }
 
-    /// The lane and the seat.
-    pub(crate) fn into_parts(self) -> (Vec<Stamped>, Seat<(), Record>)
-        ensures lane { result.0.items ≡ self.lane }
-        ensures seat { (result.1.table_id ≡ self.table) × (result.1.me.1 ≡ []) }
-        ensures record { (result.1.me.0.caller ≡ self.caller) × (result.1.me.0.lane ≡ self.lane)
-            × (result.1.me.0.gathered ≡ []) × (result.1.me.0.live ≡ true)
-            × (result.1.me.0.stage ≡ Rest) }
+    /// The seat, which has the whole lane.
+    pub(crate) fn into_seat(self) -> Seat<(), Record>
+        ensures seat { (result.table_id ≡ self.table) × (result.me.1 ≡ []) }
+        ensures record { (result.me.0.caller ≡ self.caller) × (result.me.0.lane ≡ self.lane)
+            × (result.me.0.gathered ≡ []) × (result.me.0.live ≡ true)
+            × (result.me.0.stage ≡ Rest) }
     {
-        let Hand { lane, seat, .. } = self;
-        (lane, seat)
+        let Hand { seat, .. } = self;
+        seat
     }
 
     /// A hand with an empty lane.
     pub(crate) fn fresh(alloc: Global, caller: u32, limit: u64, seat: Seat<(), Record>) -> Hand
-        requires { (seat.me.0.caller ≡ caller) × (seat.me.0.lane ≡ []) × (seat.me.0.live ≡ true)
-            × (seat.me.0.stage ≡ Rest) × (seat.me.0.gathered ≡ []) × (seat.me.1 ≡ []) }
+        requires limit { limit ≤ most_events }
+        requires seat { (seat.me.0.caller ≡ caller) × (seat.me.0.lane ≡ [])
+            × (seat.me.0.live ≡ true) × (seat.me.0.stage ≡ Rest) × (seat.me.0.gathered ≡ [])
+            × (seat.me.1 ≡ []) }
         ensures { (result.table ≡ seat.table_id) × (result.caller ≡ caller) × (result.limit ≡ limit)
-            × (result.spare ≡ 0) × (result.lane ≡ []) }
+            × (result.spare ≡ 0) × (result.lane ≡ []) × (result.forgotten ≡ 0) }
     {
         Hand {
             caller,
             limit,
             spare: 0,
+            forgotten: 0,
             lane: Vec::new(alloc),
             seat,
         }

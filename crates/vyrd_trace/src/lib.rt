@@ -6,6 +6,10 @@
 //! every schedule [`Traced::close`] puts the lanes together into one legal history: each load read
 //! what the last store before it wrote, each lock was free when it was taken, and each hand's lane
 //! is its caller's part of it. No action takes memory or waits.
+//!
+//! Events that were passed on needn't be kept: a hand forgets them by [`Hand::forget`], and goes on
+//! acting. Then [`Traced::end`] says that there is such a history of all that the hands have done,
+//! and hands out its last values alone.
 #![tactic(auto)]
 
 mod actions;

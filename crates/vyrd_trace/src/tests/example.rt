@@ -75,7 +75,8 @@ fn take_again<R: Wait>(rt: &R, traced: &Traced, hand: &mut Hand, lock: u32) -> u
 fn insert<R: Wait>(rt: &R, traced: &Traced, hand: &mut Hand, value: u32) -> u64
     requires hand { IsOf traced.now hand.old × (9 ≤ hand.old.spare) }
     requires cells { (traced.now.plan.plain ≡ 2) × (traced.now.plan.locks ≡ 1) }
-    ensures { IsOf traced.now hand.new × (hand.new.caller ≡ hand.old.caller) }
+    ensures { IsOf traced.now hand.new × (hand.new.caller ≡ hand.old.caller)
+        × (hand.new.forgotten ≡ hand.old.forgotten) }
 {
     let args = Args {
         a: value,
@@ -102,7 +103,8 @@ fn insert<R: Wait>(rt: &R, traced: &Traced, hand: &mut Hand, value: u32) -> u64
 fn insert_with<R: Wait>(rt: &R, traced: &Traced, mut hand: Hand, value: u32) -> (Hand, u64)
     requires hand { IsOf traced.now hand × (9 ≤ hand.spare) }
     requires cells { (traced.now.plan.plain ≡ 2) × (traced.now.plan.locks ≡ 1) }
-    ensures { IsOf traced.now result.0 × (result.0.caller ≡ hand.caller) }
+    ensures { IsOf traced.now result.0 × (result.0.caller ≡ hand.caller)
+        × (result.0.forgotten ≡ hand.forgotten) }
 {
     let reply = insert(rt, traced, &mut hand, value);
     (hand, reply)
@@ -117,8 +119,10 @@ fn insert_at_once<R: Threads + Wait + Sync>(
     requires first { IsOf traced.now first × (9 ≤ first.spare) }
     requires second { IsOf traced.now second × (9 ≤ second.spare) }
     requires cells { (traced.now.plan.plain ≡ 2) × (traced.now.plan.locks ≡ 1) }
-    ensures first { IsOf traced.now result.0.0 × (result.0.0.caller ≡ first.caller) }
-    ensures second { IsOf traced.now result.1.0 × (result.1.0.caller ≡ second.caller) }
+    ensures first { IsOf traced.now result.0.0 × (result.0.0.caller ≡ first.caller)
+        × (result.0.0.forgotten ≡ first.forgotten) }
+    ensures second { IsOf traced.now result.1.0 × (result.1.0.caller ≡ second.caller)
+        × (result.1.0.forgotten ≡ second.forgotten) }
 {
     join(
         rt,

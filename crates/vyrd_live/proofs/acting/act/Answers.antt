@@ -37,14 +37,15 @@ pub send-requires : goal.send-requires
 send-requires g c =
     let hand = c.in_default.ensures.busy ∙ ap (λ (v : HandView). with_look v c.try_act.new.hand.look) c.loop.invariant.hand in
     sent_same c.args.relay.now c.loop.outbox.sender c.loop.outbox.place c.args.hand.now c.try_act.new.hand
-    (ap (λ (v : HandView). v.caller) hand) (ap (λ (v : HandView). v.lane) hand) c.loop.invariant.sent
+    (ap (λ (v : HandView). v.caller) hand) (ap (λ (v : HandView). v.lane) hand) (ap (λ (v : HandView). v.forgotten) hand) c.loop.invariant.sent
 
 pub loop-preserved : goal.loop-preserved
 loop-preserved g c =
     let hand = c.in_default.ensures.busy ∙ ap (λ (v : HandView). with_look v c.try_act.new.hand.look) c.loop.invariant.hand in record {
       hand = hand;
       sent = sent_same c.args.relay.now c.send.new.self.sender c.send.new.self.place c.try_act.new.hand c.args.hand.now
-          (sym (ap (λ (v : HandView). v.caller) hand)) (sym (ap (λ (v : HandView). v.lane) hand)) c.send.ensures;
+          (sym (ap (λ (v : HandView). v.caller) hand)) (sym (ap (λ (v : HandView). v.lane) hand)) (sym (ap (λ (v : HandView). v.forgotten) hand))
+          c.send.ensures.sent;
     }
 
 pub returns-in-Some-try_act-clause-acted : goal.returns-in-Some-try_act-clause-acted

@@ -1,18 +1,21 @@
-use Rattle.std.proofs.Common.{rules}
+use Rattle.std.proofs.Common.{◌∙◌, rules}
+use Rattle.vyrd_memory.specs.Showing.{HasRun}
 use Rattle.vyrd_memory.specs.Turns.{GetsStuck}
 use Rattle.vyrd_work.specs.Workloads.{workload_of}
 use Rattle.vyrd_work.specs.WorkScripts.{work_scripts}
 use Rattle.vyrd_every.proofs.Workloads.{not_stuck}
-use Rattle.vyrd_live.specs.TurnRuns.{IsRunByTurns}
-use Rattle.vyrd_live.proofs.TurnLaws.{turns_accepted}
+use Rattle.vyrd_live.specs.Recorded.{HasRecorded}
+use Rattle.vyrd_live.proofs.TurnLaws.{run_recorded, turns_accepted}
 use Rattle.vyrd_live.proofs.by_turns.run_by_turns.Goals as goal
 
 pub returns-in-Ok-clause-every_schedule : goal.returns-in-Ok-clause-every_schedule
 returns-in-Ok-clause-every_schedule g c = λ is.
     let w = workload_of c.args.work.now in
-    let run = c.in_ok-judged-in-Ok.field-0 in
-    let by_turns : IsRunByTurns w run = search rules in
-    turns_accepted w run c.requires.limits is by_turns
+    let run = c.in_ok-finish-in-Ok.field-0 in
+    let has_run : HasRun (work_scripts w) w.turns w.header HasRecorded c.show_turns.new.sink c.in-Ok.words.items = search rules in
+    turns_accepted w run c.requires.limits is
+    (run_recorded w c.show_turns.new.sink c.in-Ok.words.items run has_run (c.in-Ok.ensures.fixed ∙ c.in_ok-recording.ensures.header)
+    c.in_ok-finish-in-Ok.ensures.history c.in_ok-finish-in-Ok.ensures.words c.in_ok-finish-in-Ok.ensures.verdict)
 
 pub returns-in-Err-Stuck-clause-every_schedule : goal.returns-in-Err-Stuck-clause-every_schedule
 returns-in-Err-Stuck-clause-every_schedule g c = λ is.

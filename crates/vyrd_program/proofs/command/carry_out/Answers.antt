@@ -2,7 +2,7 @@
 use Rattle.std.proofs.Common.{sym, subst, refl, Some}
 use Rattle.vyrd_program.specs.declared.form.Form.TheVariants as asked
 use Rattle.vyrd_program.specs.Commands.{IsStatus, IsAnswerStatus, IsAnswer, IsEnough, IsNoFurther}
-use Rattle.vyrd_program.proofs.CommandLaws.{read_status, made_status, reads_on, plays_live_on}
+use Rattle.vyrd_program.proofs.CommandLaws.{read_status, made_status, reads_on}
 use Rattle.vyrd_program.proofs.command.carry_out.Goals as goal
 
 pub returns-in-Step-clause-statuses : goal.returns-in-Step-clause-statuses
@@ -10,7 +10,7 @@ returns-in-Step-clause-statuses g c = subst (λ form. IsStatus (Some form) c.ste
 
 pub returns-in-Step-clause-answer : goal.returns-in-Step-clause-answer
 returns-in-Step-clause-answer g c =
-    subst (λ form. IsAnswerStatus (Some form) c.step.result.status → IsAnswer (Some form) (g.S.Source.rest c.args.source.now) c.step.result.status c.step.result.text.items c.step.result.run c.step.result.spent)
+    subst (λ form. IsAnswerStatus (Some form) c.step.result.status → IsAnswer (Some form) (g.S.Source.rest c.args.source.now) c.step.result.status c.step.result.text.items)
     (sym c.in-Step.is) c.step.ensures.answers
 
 pub returns-in-Step-clause-consumed : goal.returns-in-Step-clause-consumed
@@ -29,7 +29,7 @@ returns-in-Run-clause-statuses g c = subst (λ form. IsStatus (Some form) c.run.
 
 pub returns-in-Run-clause-answer : goal.returns-in-Run-clause-answer
 returns-in-Run-clause-answer g c =
-    subst (λ form. IsAnswerStatus (Some form) c.run.result.status → IsAnswer (Some form) (g.S.Source.rest c.args.source.now) c.run.result.status c.run.result.text.items c.run.result.run c.run.result.spent)
+    subst (λ form. IsAnswerStatus (Some form) c.run.result.status → IsAnswer (Some form) (g.S.Source.rest c.args.source.now) c.run.result.status c.run.result.text.items)
     (sym c.in-Run.is) c.run.ensures.answers
 
 pub returns-in-Run-clause-consumed : goal.returns-in-Run-clause-consumed
@@ -43,15 +43,12 @@ returns-in-Run-clause-no_further g c = subst (λ form. IsNoFurther (Some form) (
 pub returns-in-Run-clause-untouched : goal.returns-in-Run-clause-untouched
 returns-in-Run-clause-untouched g c = λ isnt. absurd (reads_on c.args.form (asked.Run c.in-Run.show) c.in-Run.is refl isnt)
 
-pub returns-in-Run-clause-not_live : goal.returns-in-Run-clause-not_live
-returns-in-Run-clause-not_live g c = λ isnt. absurd (plays_live_on c.args.form (asked.Run c.in-Run.show) c.in-Run.is refl isnt)
-
 pub returns-in-Gen-clause-statuses : goal.returns-in-Gen-clause-statuses
 returns-in-Gen-clause-statuses g c = subst (λ form. IsStatus (Some form) c.answer_generated.result.status) (sym c.in-Gen.is) (made_status (asked.Gen c.in-Gen.count) c.answer_generated.result.status c.answer_generated.ensures.statuses)
 
 pub returns-in-Gen-clause-answer : goal.returns-in-Gen-clause-answer
 returns-in-Gen-clause-answer g c =
-    subst (λ form. IsAnswerStatus (Some form) c.answer_generated.result.status → IsAnswer (Some form) (g.S.Source.rest c.args.source.now) c.answer_generated.result.status c.answer_generated.result.text.items c.answer_generated.result.run c.answer_generated.result.spent)
+    subst (λ form. IsAnswerStatus (Some form) c.answer_generated.result.status → IsAnswer (Some form) (g.S.Source.rest c.args.source.now) c.answer_generated.result.status c.answer_generated.result.text.items)
     (sym c.in-Gen.is) c.answer_generated.ensures.answer
 
 pub returns-in-Gen-clause-consumed : goal.returns-in-Gen-clause-consumed
@@ -65,7 +62,7 @@ returns-in-Movers-clause-statuses g c = subst (λ form. IsStatus (Some form) c.m
 
 pub returns-in-Movers-clause-answer : goal.returns-in-Movers-clause-answer
 returns-in-Movers-clause-answer g c =
-    subst (λ form. IsAnswerStatus (Some form) c.movers.result.status → IsAnswer (Some form) (g.S.Source.rest c.args.source.now) c.movers.result.status c.movers.result.text.items c.movers.result.run c.movers.result.spent)
+    subst (λ form. IsAnswerStatus (Some form) c.movers.result.status → IsAnswer (Some form) (g.S.Source.rest c.args.source.now) c.movers.result.status c.movers.result.text.items)
     (sym c.in-Movers.is) c.movers.ensures.answers
 
 pub returns-in-Movers-clause-consumed : goal.returns-in-Movers-clause-consumed
@@ -84,7 +81,7 @@ returns-in-Batch-clause-statuses g c = subst (λ form. IsStatus (Some form) c.ba
 
 pub returns-in-Batch-clause-answer : goal.returns-in-Batch-clause-answer
 returns-in-Batch-clause-answer g c =
-    subst (λ form. IsAnswerStatus (Some form) c.batch.result.status → IsAnswer (Some form) (g.S.Source.rest c.args.source.now) c.batch.result.status c.batch.result.text.items c.batch.result.run c.batch.result.spent)
+    subst (λ form. IsAnswerStatus (Some form) c.batch.result.status → IsAnswer (Some form) (g.S.Source.rest c.args.source.now) c.batch.result.status c.batch.result.text.items)
     (sym c.in-Batch.is) c.batch.ensures.answers
 
 pub returns-in-Batch-clause-consumed : goal.returns-in-Batch-clause-consumed

@@ -10,8 +10,8 @@ use Rattle.vyrd_program.proofs.StepLaws.{of_match}
 use Rattle.vyrd_program.proofs.TellingLaws.{of_some, counts_run}
 use Rattle.vyrd_program.proofs.generate.try_answer.Goals as goal
 
-pub returns-in-Some-clause-answer : goal.returns-in-Some-clause-answer
-returns-in-Some-clause-answer c =
+pub returns-in-Some : goal.returns-in-Some
+returns-in-Some c =
     let w = workload_of c.in_ok-work.work in
     let a = c.show_by_turns.new.sink in
     let run = of_match (GetsStuck (work_scripts w) w.turns) (λ words. HasRun (work_scripts w) w.turns w.header HasTaken a words.items)

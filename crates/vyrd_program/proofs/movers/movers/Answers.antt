@@ -9,7 +9,7 @@ returns-in-Ok-answer_of-clause-answers g c = λ answered.
     record {
       history = history_reading had.bytes;
       read = history_is_input (g.S.Source.rest c.args.source.now) (g.S.Source.rest c.read_history.new.source) had.bytes had.input;
-      answer = c.in-Ok-answer_of.ensures.answer had.bytes had.read;
+      answer = c.in-Ok-answer_of.ensures had.bytes had.read;
     }
 
 pub returns-in-Ok-answer_of-clause-consumed : goal.returns-in-Ok-answer_of-clause-consumed

@@ -2,7 +2,7 @@
 use Rattle.std.proofs.Common.{◌≡◌, ap, ◌∙◌, sym, subst, Some, false}
 use Rattle.vyrd_program.specs.Forms.{form_said}
 use Rattle.vyrd_program.specs.Commands.{reads, IsEnough, IsNoFurther}
-use Rattle.vyrd_program.proofs.CommandLaws.{written_status, no_usage, written_answer, written_in_part, text_fits, enough_taken, written_out, hands_out_nothing, checked_status, checked_untouched, checked_answer, checked_in_part, checked_enough, line_fits, usage_status, usage_answer, usage_in_part, usage_fits}
+use Rattle.vyrd_program.proofs.CommandLaws.{written_status, no_usage, written_answer, written_in_part, text_fits, enough_taken, checked_status, checked_untouched, checked_answer, checked_in_part, checked_enough, line_fits, usage_status, usage_answer, usage_in_part, usage_fits}
 use Rattle.vyrd_program.proofs.EveryWritten.{step_written, run_written, run_has_room, gen_written}
 use Rattle.vyrd_program.proofs.program.vyrd.Goals as goal
 
@@ -15,9 +15,8 @@ returns-in-Some-Check-clause-statuses g c =
 pub returns-in-Some-Check-clause-answered : goal.returns-in-Some-Check-clause-answered
 returns-in-Some-Check-clause-answered g c =
     let is = sym c.form_of.ensures.form ∙ c.in-Some-Check.is ∙ ap Some c.in-Some-Check.field-0-is in
-    let ended = c.check_limited.result in
     checked_answer (form_said c.args.words.now) (g.S.Source.rest c.args.source.now) (g.K.Sink.taken c.args.sink.now) (g.K.Sink.taken c.check_limited.new.sink)
-    ended.status ended.run ended.spent is c.check_limited.ensures.verdict
+    c.check_limited.result.status is c.check_limited.ensures.verdict
 
 pub returns-in-Some-Check-clause-consumed : goal.returns-in-Some-Check-clause-consumed
 returns-in-Some-Check-clause-consumed g c =
@@ -39,14 +38,8 @@ returns-in-Some-Check-clause-untouched g c = λ isnt.
 pub returns-in-Some-Check-clause-answered_in_part : goal.returns-in-Some-Check-clause-answered_in_part
 returns-in-Some-Check-clause-answered_in_part g c = λ five.
     let is = sym c.form_of.ensures.form ∙ c.in-Some-Check.is ∙ ap Some c.in-Some-Check.field-0-is in
-    let ended = c.check_limited.result in
     checked_in_part (form_said c.args.words.now) (g.S.Source.rest c.args.source.now) (g.K.Sink.taken c.args.sink.now) (g.K.Sink.taken c.check_limited.new.sink)
-    ended.run ended.spent is (c.check_limited.ensures.answered_in_part five)
-
-pub returns-in-Some-Check-clause-handed_out : goal.returns-in-Some-Check-clause-handed_out
-returns-in-Some-Check-clause-handed_out g c =
-    let ended = c.check_limited.result in
-    hands_out_nothing (form_said c.args.words.now) ended.status ended.run ended.spent c.check_limited.ensures.handed_out
+    is (c.check_limited.ensures.answered_in_part five)
 
 pub returns-in-Some-Check-clause-sink_sure : goal.returns-in-Some-Check-clause-sink_sure
 returns-in-Some-Check-clause-sink_sure g c = λ room.
@@ -65,10 +58,8 @@ pub returns-in-Some-clause-answered : goal.returns-in-Some-clause-answered
 returns-in-Some-clause-answered g c =
     let is = sym c.form_of.ensures.form ∙ c.in-Some.is in
     let answer = c.carry_out-answer.result in
-    let ended = c.give.result in
     written_answer (form_said c.args.words.now) c.in-Some.form (g.S.Source.rest c.args.source.now) (g.K.Sink.taken c.args.sink.now) (g.K.Sink.taken c.give.new.sink)
-    ended.status answer.status answer.text.items ended.run answer.run ended.spent answer.spent is c.give.ensures.run c.give.ensures.spent
-    c.give.ensures.statuses c.carry_out-answer.ensures.answer c.give.ensures.given
+    c.give.result.status answer.status answer.text.items is c.give.ensures.statuses c.carry_out-answer.ensures.answer c.give.ensures.given
 
 pub returns-in-Some-clause-consumed : goal.returns-in-Some-clause-consumed
 returns-in-Some-clause-consumed g c =
@@ -92,28 +83,28 @@ returns-in-Some-clause-every_step g c = λ show known.
     let is = sym c.form_of.ensures.form ∙ c.in-Some.is in
     let answer = c.carry_out-answer.result in
     step_written (form_said c.args.words.now) c.in-Some.form show (g.S.Source.rest c.args.source.now) c.give.result.status answer.status answer.text.items
-    answer.run answer.spent is known c.carry_out-answer.ensures.answer c.give.ensures.statuses
+    is known c.carry_out-answer.ensures.answer c.give.ensures.statuses
 
 pub returns-in-Some-clause-every_run : goal.returns-in-Some-clause-every_run
 returns-in-Some-clause-every_run g c = λ show known.
     let is = sym c.form_of.ensures.form ∙ c.in-Some.is in
     let answer = c.carry_out-answer.result in
     run_written (form_said c.args.words.now) c.in-Some.form show (g.S.Source.rest c.args.source.now) c.give.result.status answer.status answer.text.items
-    answer.run answer.spent is known c.carry_out-answer.ensures.answer c.give.ensures.statuses
+    is known c.carry_out-answer.ensures.answer c.give.ensures.statuses
 
 pub returns-in-Some-clause-run_has_room : goal.returns-in-Some-clause-run_has_room
 returns-in-Some-clause-run_has_room g c = λ show known.
     let is = sym c.form_of.ensures.form ∙ c.in-Some.is in
     let answer = c.carry_out-answer.result in
     run_has_room (form_said c.args.words.now) c.in-Some.form show (g.S.Source.rest c.args.source.now) c.give.result.status answer.status answer.text.items
-    answer.run answer.spent is known c.carry_out-answer.ensures.answer c.give.ensures.statuses
+    is known c.carry_out-answer.ensures.answer c.give.ensures.statuses
 
 pub returns-in-Some-clause-every_gen : goal.returns-in-Some-clause-every_gen
 returns-in-Some-clause-every_gen g c = λ n known.
     let is = sym c.form_of.ensures.form ∙ c.in-Some.is in
     let answer = c.carry_out-answer.result in
     gen_written (form_said c.args.words.now) c.in-Some.form n (g.S.Source.rest c.args.source.now) c.give.result.status answer.status answer.text.items
-    answer.run answer.spent is known c.carry_out-answer.ensures.answer c.give.ensures.statuses (c.form_of.ensures.few n (c.form_of.ensures.form ∙ known))
+    is known c.carry_out-answer.ensures.answer c.give.ensures.statuses (c.form_of.ensures.few n (c.form_of.ensures.form ∙ known))
 
 pub returns-in-Some-clause-usage_form : goal.returns-in-Some-clause-usage_form
 returns-in-Some-clause-usage_form g c = λ three.
@@ -125,27 +116,16 @@ pub returns-in-Some-clause-answered_in_part : goal.returns-in-Some-clause-answer
 returns-in-Some-clause-answered_in_part g c =
     let is = sym c.form_of.ensures.form ∙ c.in-Some.is in
     let answer = c.carry_out-answer.result in
-    let ended = c.give.result in
     written_in_part (form_said c.args.words.now) c.in-Some.form (g.S.Source.rest c.args.source.now) (g.K.Sink.taken c.args.sink.now) (g.K.Sink.taken c.give.new.sink)
-    ended.status answer.status answer.text.items ended.run answer.run ended.spent answer.spent is c.give.ensures.run c.give.ensures.spent
-    c.carry_out-answer.ensures.statuses c.carry_out-answer.ensures.unwritten c.carry_out-answer.ensures.silent c.carry_out-answer.ensures.answer
+    c.give.result.status answer.status answer.text.items is c.carry_out-answer.ensures.statuses c.carry_out-answer.ensures.unwritten c.carry_out-answer.ensures.silent c.carry_out-answer.ensures.answer
     c.give.ensures.silent c.give.ensures.in_part
-
-pub returns-in-Some-clause-handed_out : goal.returns-in-Some-clause-handed_out
-returns-in-Some-clause-handed_out g c =
-    let is = sym c.form_of.ensures.form ∙ c.in-Some.is in
-    let answer = c.carry_out-answer.result in
-    let ended = c.give.result in
-    written_out (form_said c.args.words.now) c.in-Some.form ended.status answer.status ended.run answer.run ended.spent answer.spent is
-    c.give.ensures.run c.give.ensures.spent c.give.ensures.statuses c.carry_out-answer.ensures.statuses c.carry_out-answer.ensures.unplayed
-    c.carry_out-answer.ensures.not_live
 
 pub returns-in-Some-clause-sink_sure : goal.returns-in-Some-clause-sink_sure
 returns-in-Some-clause-sink_sure g c = λ room.
     let is = sym c.form_of.ensures.form ∙ c.in-Some.is in
     let answer = c.carry_out-answer.result in
     c.give.ensures.sure (text_fits (form_said c.args.words.now) c.in-Some.form (g.S.Source.rest c.args.source.now) answer.status
-    (g.K.Sink.sure_room c.args.sink.now) answer.text.items answer.run answer.spent is
+    (g.K.Sink.sure_room c.args.sink.now) answer.text.items is
     c.carry_out-answer.ensures.statuses c.carry_out-answer.ensures.unwritten c.carry_out-answer.ensures.silent c.carry_out-answer.ensures.answer room)
 
 -- words that are none of the forms
@@ -157,9 +137,8 @@ returns-in-None-clause-statuses g c =
 pub returns-in-None-clause-answered : goal.returns-in-None-clause-answered
 returns-in-None-clause-answered g c =
     let is = sym c.form_of.ensures.form ∙ c.in-None.is in
-    let ended = c.give_usage.result in
     usage_answer (form_said c.args.words.now) (g.S.Source.rest c.args.source.now) (g.K.Sink.taken c.args.sink.now) (g.K.Sink.taken c.give_usage.new.sink)
-    ended.status ended.run ended.spent is c.give_usage.ensures.given
+    c.give_usage.result.status is c.give_usage.ensures.given
 
 pub returns-in-None-clause-consumed : goal.returns-in-None-clause-consumed
 returns-in-None-clause-consumed g c = λ answered.
@@ -174,15 +153,8 @@ returns-in-None-clause-no_further g c =
 pub returns-in-None-clause-answered_in_part : goal.returns-in-None-clause-answered_in_part
 returns-in-None-clause-answered_in_part g c = λ five.
     let is = sym c.form_of.ensures.form ∙ c.in-None.is in
-    let ended = c.give_usage.result in
     usage_in_part (form_said c.args.words.now) (g.S.Source.rest c.args.source.now) (g.K.Sink.taken c.args.sink.now) (g.K.Sink.taken c.give_usage.new.sink)
-    ended.run ended.spent is (c.give_usage.ensures.in_part five)
-
-pub returns-in-None-clause-handed_out : goal.returns-in-None-clause-handed_out
-returns-in-None-clause-handed_out g c =
-    let ended = c.give_usage.result in
-    hands_out_nothing (form_said c.args.words.now) ended.status ended.run ended.spent
-    (record { no_run = c.give_usage.ensures.run; no_overrun = c.give_usage.ensures.spent })
+    is (c.give_usage.ensures.in_part five)
 
 pub returns-in-None-clause-sink_sure : goal.returns-in-None-clause-sink_sure
 returns-in-None-clause-sink_sure g c = λ room.

@@ -1,15 +1,11 @@
-use Rattle.std.proofs.Common.{subst}
 use Rattle.vyrd_work.specs.WorkReading.{work_reading}
-use Rattle.vyrd_program.specs.Runs.{IsRunAnswer}
 use Rattle.vyrd_program.proofs.StepLaws.{reading_is_input}
 use Rattle.vyrd_program.proofs.run.run.Goals as goal
 
 pub returns-in-Ok-answer_to-clause-answers : goal.returns-in-Ok-answer_to-clause-answers
 returns-in-Ok-answer_to-clause-answers g c = λ answered.
-    let answer = c.in-Ok-answer_to.answer in
     record {
       work = work_reading c.in-Ok.bytes.items;
       read = reading_is_input (g.S.Source.rest c.args.source.now) (g.S.Source.rest c.read_input.new.source) c.in-Ok.bytes.items c.in-Ok.ensures.read;
-      answer = subst (λ bytes. IsRunAnswer c.args.show
-          (work_reading bytes) answer.status answer.text.items answer.run answer.spent) c.deref.ensures.value c.in-Ok-answer_to.ensures.answer;
+      answer = c.in-Ok-answer_to.ensures;
     }

@@ -7,5 +7,5 @@ returns-in-Ok-answer_to-clause-answers g c = λ answered.
     record {
       work = work_reading c.in-Ok.bytes.items;
       read = reading_is_input (g.S.Source.rest c.args.source.now) (g.S.Source.rest c.read_input.new.source) c.in-Ok.bytes.items c.in-Ok.ensures.read;
-      answer = c.in-Ok-answer_to.ensures.answer;
+      answer = c.in-Ok-answer_to.ensures;
     }

@@ -1,4 +1,4 @@
-use Rattle.std.proofs.Common.{◌≡◌, ℕ, List, take, Some}
+use Rattle.std.proofs.Common.{◌≡◌, ℕ, List, length, take, Some}
 use Rattle.std.specs.Prelude.{slice_get}
 use Rattle.std.specs.List.{All}
 use Rattle.vyrd_base.specs.declared.history.Stamped.{Stamped}
@@ -9,5 +9,6 @@ invariant-loop-event l = record {
   kept : (h : List Stamped) (i : ℕ) → All (λ (e : Stamped). slice_get h e.number ≡ Some e) l.lane
       → slice_get l.initial.history i ≡ slice_get h i → slice_get l.history i ≡ slice_get h i;
   placed : (h : List Stamped) → All (λ (e : Stamped). slice_get h e.number ≡ Some e) l.lane
+      → length h ≡ length l.initial.history
       → All (λ (e : Stamped). slice_get l.history e.number ≡ Some e) (take l.event-index l.lane);
 }

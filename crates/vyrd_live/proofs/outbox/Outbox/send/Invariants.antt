@@ -1,4 +1,4 @@
-use Rattle.std.proofs.Common.{◌-◌, length}
+use Rattle.std.proofs.Common.{◌-◌}
 use Rattle.vyrd_live.specs.Sending.{HasSent}
 use Rattle.vyrd_live.proofs.outbox.Outbox.send.Given as goal
 
@@ -6,4 +6,4 @@ abbrev pub invariant-loop-self : goal.invariant-loop-self
 invariant-loop-self g l = HasSent l.relay l.self.sender l.self.place l.hand
 
 abbrev pub decreases-loop-self : goal.decreases-loop-self
-decreases-loop-self g l = length l.lane - l.self.place
+decreases-loop-self g l = l.made - l.self.place

@@ -1,10 +1,8 @@
 -- One sender more is taken in.
-use Rattle.std.proofs.Common.{◌≡◌, ◌++◌, [], ◌∷◌, List, refl, ap, ◌∙◌, sym, subst, arith, rules}
-use Rattle.std.specs.List.{All}
+use Rattle.std.proofs.Common.{◌≡◌, ◌++◌, [], ◌∷◌, List, refl, ap, ◌∙◌, sym, rules}
 use Rattle.std.proofs.lemmas.List.{map-append}
 use Rattle.std.proofs.lemmas.List.Elements.{All-rest}
 use Rattle.vyrd_relay.specs.declared.known.Lane.{Lane}
-use Rattle.vyrd_relay.specs.Knowledge.{HasBeginning}
 use Rattle.vyrd_relay.specs.Ends.{ReceiverView, lane_sent}
 use Rattle.vyrd_live.specs.declared.outbox.Outbox.{Outbox}
 use Rattle.vyrd_live.proofs.watch.Watch.settle.Goals as goal
@@ -15,9 +13,8 @@ loop-outbox-init g c = record {
   queue = refl;
   senders = refl;
   had = refl;
-  verifier = (refl, refl);
+  rest = (refl, refl);
   settled = c.requires.first;
-  beginnings = subst (All (HasBeginning c.args.self.now.receiver.had)) (sym c.requires.first) (λ k d l. absurd (omega arith));
 }
 
 pub loop-outbox-preserved : goal.loop-outbox-preserved
@@ -31,8 +28,7 @@ loop-outbox-preserved g c =
       queue = ap (λ (r : ReceiverView). r.queue) s ∙ inv.queue;
       senders = ap (λ (r : ReceiverView). r.senders) s ∙ inv.senders;
       had = ap (λ (r : ReceiverView). r.had) s ∙ inv.had;
-      verifier = inv.verifier;
+      rest = inv.rest;
       settled = ap (λ (r : ReceiverView). r.settled) s ∙ ap (λ (ls : List Lane). ls ++ lane ∷ []) inv.settled
           ∙ sym (map-append (λ (x : Outbox). lane_sent x.sender) c.loop-outbox.yielded (o ∷ []));
-      beginnings = c.settle.ensures.beginnings;
     }

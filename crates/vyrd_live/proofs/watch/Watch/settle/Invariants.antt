@@ -1,6 +1,5 @@
 use Rattle.std.proofs.Common.{◌≡◌}
 use Rattle.std.specs.List.{All}
-use Rattle.vyrd_relay.specs.Knowledge.{HasBeginning}
 use Rattle.vyrd_live.specs.Beside.{lanes_sent}
 use Rattle.vyrd_live.proofs.watch.Watch.settle.Given as goal
 
@@ -10,7 +9,6 @@ invariant-loop-outbox g l = record {
   queue : l.self.receiver.queue ≡ l.initial.self.receiver.queue;
   senders : l.self.receiver.senders ≡ l.initial.self.receiver.senders;
   had : l.self.receiver.had ≡ l.initial.self.receiver.had;
-  verifier : (l.self.stands ≡ l.initial.self.stands) × (l.self.verifier ≡ l.initial.self.verifier);
+  rest : (l.self.stands ≡ l.initial.self.stands) × (l.self.sequencer ≡ l.initial.self.sequencer);
   settled : l.self.receiver.settled ≡ lanes_sent l.yielded;
-  beginnings : All (HasBeginning l.self.receiver.had) l.self.receiver.settled;
 }

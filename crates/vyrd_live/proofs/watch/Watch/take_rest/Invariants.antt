@@ -1,10 +1,13 @@
-use Rattle.std.proofs.Common.{◌-◌, ◌++◌, take, drop, List}
-use Rattle.vyrd_base.specs.declared.header.Header.{Header}
-use Rattle.vyrd_base.specs.declared.history.Stamped.{Stamped}
-use Rattle.vyrd_live.specs.Beside.{HasWatched}
+use Rattle.std.proofs.Common.{◌≡◌}
+use Rattle.vyrd_live.specs.Beside.{HasWatched, StaysFixed, AreOfSenders, lanes_sent}
 use Rattle.vyrd_live.proofs.watch.Watch.take_rest.Given as goal
 
--- the events before this place are taken in
-abbrev pub invariant-loop-place : goal.invariant-loop-place
-invariant-loop-place l = (h : Header) (taken : List Stamped) → HasWatched h l.fn.self taken
-    → HasWatched h l.self (taken ++ take (l.place - l.fn.self.verifier.kept.next) (drop l.fn.self.verifier.kept.next l.history))
+abbrev pub invariant-loop : goal.invariant-loop
+invariant-loop g l = record {
+  queue : l.self.receiver.queue ≡ l.relay.queue;
+  senders : l.self.receiver.senders ≡ l.fn.self.receiver.senders;
+  settled : l.self.receiver.settled ≡ lanes_sent l.fn.outboxes.items;
+  watched : HasWatched g.S.EventSink.has_taken l.fn.self l.fn.self.receiver.had → HasWatched g.S.EventSink.has_taken l.self l.self.receiver.had;
+  fixed : StaysFixed g.S.EventSink.fixed l.fn.self l.self;
+  theirs : AreOfSenders l.self.receiver;
+}

@@ -1,20 +1,12 @@
 use Rattle.std.proofs.Common.{◌∙◌}
 use Rattle.vyrd_live.proofs.watch.Watch.watch.Goals as goal
 
-pub loop-preserved-then-not-take_next : goal.loop-preserved-then-not-take_next
-loop-preserved-then-not-take_next g c =
-    let inv = c.loop.invariant in
-    let t = c.take_next.ensures in record {
-      same = record { queue = t.same.queue ∙ inv.same.queue; senders = t.same.senders ∙ inv.same.senders; settled = t.same.settled ∙ inv.same.settled };
-      watched = λ h before. t.watched h (inv.watched h before);
-      theirs = t.theirs;
-    }
-
 pub loop-preserved : goal.loop-preserved
 loop-preserved g c =
     let inv = c.loop.invariant in
-    let t = c.take_next.ensures in record {
+    let t = c.take_when_allowed.ensures in record {
       same = record { queue = t.same.queue ∙ inv.same.queue; senders = t.same.senders ∙ inv.same.senders; settled = t.same.settled ∙ inv.same.settled };
-      watched = λ h before. t.watched h (inv.watched h before);
+      watched = λ before. t.watched (inv.watched before);
+      fixed = λ now. let b = t.fixed now in let a = inv.fixed b.0 in (a.0, b.1 ∙ a.1);
       theirs = t.theirs;
     }

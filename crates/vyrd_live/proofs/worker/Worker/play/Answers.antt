@@ -10,7 +10,7 @@ use Rattle.vyrd_live.specs.Acts.{HasActed, MayAct}
 use Rattle.vyrd_live.proofs.RoomLaws.{room_for_one}
 use Rattle.vyrd_live.proofs.FitLaws.{next_may}
 use Rattle.vyrd_live.proofs.SendingLaws.{sent_same, sent_before}
-use Rattle.vyrd_live.proofs.WorkLaws.{working_first, working_with_room, working_turn, same_hand, one_longer, worked_to_the_end}
+use Rattle.vyrd_live.proofs.WorkLaws.{working_first, working_with_room, working_turn, working_kept, same_hand, one_longer, worked_to_the_end}
 use Rattle.vyrd_live.proofs.worker.Worker.play.Given as given
 use Rattle.vyrd_live.proofs.worker.Worker.play.Goals as goal
 
@@ -63,38 +63,50 @@ loop-self-preserved g c =
     let room = subst (λ h. HasRoomAhead h
     (g.M.Machine.script c.loop-self.self.machine) c.make_room.new.self.hand) c.loop-self.invariant.header c.in-Ok.ensures.room in
     let same = same_hand (next_act (g.M.Machine.script c.loop-self.self.machine)) made.0 c.loop-self.self.hand c.make_room.new.self.hand c.make_event.new.self.hand
-    c.in-Ok.ensures.hand made.2 in record {
-      header = c.make_event.ensures.header ∙ ap g.M.Machine.header_of machine ∙ c.loop-self.invariant.header;
-      hand_of = (same.0 ∙ c.loop-self.invariant.hand_of.0, same.1 ∙ c.loop-self.invariant.hand_of.1);
-      caller = same.2 ∙ c.loop-self.invariant.caller;
+    c.in-Ok.ensures.hand made.2 in
+    let kept = c.pass_on.ensures.hand in
+    let passed = c.pass_on.ensures.machine in record {
+      header = ap g.M.Machine.header_of passed ∙ c.make_event.ensures.header ∙ ap g.M.Machine.header_of machine ∙ c.loop-self.invariant.header;
+      hand_of = (
+        ap (λ (v : HandView). v.table) kept ∙ same.0 ∙ c.loop-self.invariant.hand_of.0,
+        ap (λ (v : HandView). v.limit) kept ∙ same.1 ∙ c.loop-self.invariant.hand_of.1,
+      );
+      caller = ap (λ (v : HandView). v.caller) kept ∙ same.2 ∙ c.loop-self.invariant.caller;
       falls =
           let before = ap (λ (v : HandView). length v.lane) c.in-Ok.ensures.hand in
           let ahead = ap g.M.Machine.ahead machine in
           let later = c.make_event.ensures.falls in
           let now = c.loop-self.invariant.falls in
+          let last = ap (λ (v : HandView). length v.lane) kept in
+          let rest = ap g.M.Machine.ahead passed in
           omega (
             arith,
+            last,
+            rest,
             one_longer (next_act (g.M.Machine.script c.loop-self.self.machine)) made.0 c.make_room.new.self.hand c.make_event.new.self.hand made.2,
             before,
             ahead,
             later,
             now,
           );
-      working = working_turn h (g.M.Machine.script c.args.self.now.machine) (g.M.Machine.script c.loop-self.self.machine)
+      working = subst (λ m. IsWorking h (g.M.Machine.script c.args.self.now.machine) (g.M.Machine.script m) c.pass_on.new.self.hand) (sym passed)
+          (working_kept h (g.M.Machine.script c.args.self.now.machine) (g.M.Machine.script c.make_event.new.self.machine) c.pass_on.new.self.hand.forgotten
+          c.make_event.new.self.hand c.pass_on.new.self.hand kept
+          (working_turn h (g.M.Machine.script c.args.self.now.machine) (g.M.Machine.script c.loop-self.self.machine)
           (g.M.Machine.script c.make_event.new.self.machine)
           c.loop-self.self.hand c.make_room.new.self.hand c.make_event.new.self.hand
-          (g.met.M.Machine.rests c.loop-self.self.machine) c.in-Ok.ensures.hand room made c.loop-self.invariant.working;
-      sent = c.send.ensures;
+          (g.met.M.Machine.rests c.loop-self.self.machine) c.in-Ok.ensures.hand room made c.loop-self.invariant.working));
+      sent = c.pass_on.ensures.sent;
     }
 
 pub make_event-requires-clause-sent : goal.make_event-requires-clause-sent
 make_event-requires-clause-sent g c κs within =
     let hand = c.in-Ok.ensures.hand in
     sent_same c.args.relay.now c.loop-self.outbox.sender c.loop-self.outbox.place c.loop-self.self.hand c.make_room.new.self.hand
-    (ap (λ (v : HandView). v.caller) hand) (ap (λ (v : HandView). v.lane) hand) c.loop-self.invariant.sent
+    (ap (λ (v : HandView). v.caller) hand) (ap (λ (v : HandView). v.lane) hand) (ap (λ (v : HandView). v.forgotten) hand) c.loop-self.invariant.sent
 
-pub send-requires : goal.send-requires
-send-requires g c =
+pub pass_on-requires : goal.pass_on-requires
+pass_on-requires g c =
     let machine = c.in-Ok.ensures.machine in
     let made = subst (λ m. (answer : ℕ) × (g.M.Machine.script c.make_event.new.self.machine ≡ after_answer (g.M.Machine.script m) answer)
     × HasActed (next_act (g.M.Machine.script m)) answer c.make_room.new.self.hand c.make_event.new.self.hand) machine c.make_event.ensures.made in

@@ -1,9 +1,0 @@
-use Rattle.std.proofs.Common.{sym}
-use Rattle.vyrd_live.proofs.TakenLaws.{taking_after}
-use Rattle.vyrd_live.proofs.verifier.advance.Goals as goal
-
-pub returns-clause-followed : goal.returns-clause-followed
-returns-clause-followed c =
-    let e = c.in-Some.ensures in
-    λ taken. taking_after c.args.judge.now c.show.new.judge c.args.reorder.now c.next_in_order.new.self taken
-    c.in-Some.event (sym e.item) e.next e.rest c.in_ok-show.ensures.followed
