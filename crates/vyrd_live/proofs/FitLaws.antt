@@ -26,7 +26,7 @@ use Rattle.vyrd_trace.specs.declared.look.Look.{Look}
 use Rattle.vyrd_trace.specs.Lanes.{last_value}
 use Rattle.vyrd_trace.specs.Hands.{HandView, Holds, with_spare, with_one_more}
 use Rattle.vyrd_trace.proofs.Holding.{holds-taken, holds-still, holds-beside}
-use Rattle.vyrd_live.specs.Sending.{with_forgotten}
+use Rattle.vyrd_trace.specs.Hands.{with_forgotten}
 use Rattle.vyrd_live.specs.Acts.{MayAct, HasActed}
 use Rattle.vyrd_live.specs.Working.{IsMemoryOf, FitsHand}
 

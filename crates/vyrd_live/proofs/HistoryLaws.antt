@@ -11,7 +11,7 @@ use Rattle.vyrd_base.specs.Parts.{part}
 use Rattle.vyrd_base.proofs.TestLaws.{same_of}
 use Rattle.vyrd_trace.proofs.HistoryGrows.{numbered as number_at}
 use Rattle.vyrd_trace.proofs.Parts.{part_in, in_part}
-use Rattle.vyrd_live.specs.Taken.{numbered, in_order_below}
+use Rattle.vyrd_verifier.specs.Taken.{numbered, in_order_below}
 use Rattle.vyrd_live.specs.Beside.{HasShownInOrder}
 
 -- what is found stands in the list, with its number

@@ -6,9 +6,8 @@ pub mod Parts
 pub mod EndingLaws
 pub mod WorkerLists
 pub mod FreshWorkers
-pub mod TakenLaws
 pub mod SendingLaws
 pub mod HistoryLaws
 pub mod TurnLaws
 pub mod PlayLaws
-pub mod JudgeLaws
+pub mod BesideLaws

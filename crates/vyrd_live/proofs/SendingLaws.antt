@@ -6,10 +6,10 @@ use Rattle.std.proofs.lemmas.List.Elements.{All-push}
 use Rattle.vyrd_base.specs.declared.history.Stamped.{Stamped}
 use Rattle.vyrd_memory.specs.declared.act.Act.{Act}
 use Rattle.vyrd_trace.specs.Lanes.{stamp}
-use Rattle.vyrd_trace.specs.Hands.{HandView}
+use Rattle.vyrd_trace.specs.Hands.{HandView, with_forgotten}
 use Rattle.vyrd_relay.specs.Ends.{RelayView, SenderView, lane_sent}
 use Rattle.vyrd_live.specs.Acts.{HasActed}
-use Rattle.vyrd_live.specs.Sending.{HasSent, with_forgotten}
+use Rattle.vyrd_live.specs.Sending.{HasSent}
 
 -- the lane is as it was
 pub sent_same : (relay : RelayView) (sender : SenderView) (place : ℕ) (hand after : HandView) → after.caller ≡ hand.caller → after.lane ≡ hand.lane

@@ -16,7 +16,7 @@ use Rattle.vyrd_live.specs.Working.{dids_of, IsWorking, HasRoomAhead}
 use Rattle.vyrd_live.specs.Acts.{HasActed}
 use Rattle.vyrd_live.proofs.Lanes.{dids_of-snoc, length-dids}
 use Rattle.vyrd_live.proofs.RoomLaws.{began_with_room, still_in_time}
-use Rattle.vyrd_live.specs.Sending.{with_forgotten}
+use Rattle.vyrd_trace.specs.Hands.{with_forgotten}
 use Rattle.vyrd_live.proofs.FitLaws.{fits_on, fits_with_room, fits_kept, fits_fresh, nothing_left}
 
 -- the answer that an act got is the one that its event gave

@@ -7,7 +7,7 @@ use Rattle.vyrd_relay.specs.Ends.{ReceiverView, lane_sent}
 use Rattle.vyrd_live.specs.declared.watch.Watch.{Watch}
 use Rattle.vyrd_live.specs.declared.outbox.Outbox.{Outbox}
 use Rattle.vyrd_live.specs.declared.worker.Stopped.{Stopped}
-use Rattle.vyrd_live.specs.Taken.{numbered, in_order_below, has_failed, HasTakenIn}
+use Rattle.vyrd_verifier.specs.Taken.{numbered, in_order_below, has_failed, HasTakenIn}
 
 -- the sequencer has taken in these events, unless it was set aside
 abbrev pub HasWatched : {S F : Type 0} → (S → List Stamped → Type 0) → Watch S F → List Stamped
@@ -26,6 +26,15 @@ pub record IsSameReceiver (before after : ReceiverView) : Type 0 where
   pub queue : after.queue ≡ before.queue
   pub senders : after.senders ≡ before.senders
   pub settled : after.settled ≡ before.settled
+
+-- From one moment to a later one the receiver is the same, what came meanwhile was taken in, and
+-- what no event changes of the sink stays.
+pub record GoesOn {S F : Type 0} (has_taken : S → List Stamped → Type 0) (fixed : S → F)
+    (before after : Watch S F) : Type 0 where
+  pub same : IsSameReceiver before.receiver after.receiver
+  pub watched : HasWatched has_taken before before.receiver.had
+      → HasWatched has_taken after after.receiver.had
+  pub fixed_is : StaysFixed fixed before after
 
 -- all that the receiver had is of the senders of its relay
 abbrev pub AreOfSenders : ReceiverView → Type 0

@@ -5,8 +5,6 @@ pub mod Endings
 pub mod Acts
 pub mod Working
 pub mod Workers
-pub mod Judging
-pub mod Taken
 pub mod Sending
 pub mod Beside
 pub mod Recorded

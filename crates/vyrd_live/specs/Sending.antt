@@ -5,18 +5,6 @@ use Rattle.vyrd_base.specs.declared.history.Stamped.{Stamped}
 use Rattle.vyrd_trace.specs.Hands.{HandView}
 use Rattle.vyrd_relay.specs.Ends.{RelayView, SenderView}
 
--- the hand as it was, but that it no longer keeps this many of its lane's first events
-abbrev pub with_forgotten : HandView → ℕ → HandView
-with_forgotten hand forgotten = record {
-  table = hand.table;
-  caller = hand.caller;
-  limit = hand.limit;
-  spare = hand.spare;
-  lane = hand.lane;
-  forgotten = forgotten;
-  look = hand.look;
-}
-
 -- The sender, which is of this relay and of the hand's caller, has sent as many of the lane's first
 -- events as `place` says, those that the hand has forgotten among them. All events of the lane are
 -- the caller's.

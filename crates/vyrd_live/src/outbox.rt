@@ -1,8 +1,9 @@
 //! What a worker sends on of its lane.
 
 ghost use Rattle.std.specs.Prelude.{◌≡◌, true, length};
-ghost use Rattle.vyrd_live.specs.Sending.{HasSent, with_forgotten};
-ghost use Rattle.vyrd_live.specs.Beside.{HasWatched, StaysFixed, IsSameReceiver, AreOfSenders};
+ghost use Rattle.vyrd_trace.specs.Hands.{with_forgotten};
+ghost use Rattle.vyrd_live.specs.Sending.{HasSent};
+ghost use Rattle.vyrd_live.specs.Beside.{GoesOn};
 
 use crate::signals::Signals;
 use crate::watch::Watch;
@@ -90,14 +91,9 @@ impl Outbox {
     )
         requires sent { HasSent relay.now self.old.sender self.old.place hand.now }
         requires receiver { watch.old.receiver.queue ≡ relay.now.queue }
-        requires theirs { AreOfSenders watch.old.receiver }
         ensures sent { HasSent relay.now self.new.sender self.new.place hand.now }
         ensures all { self.new.place ≡ length hand.now.lane }
-        ensures same { IsSameReceiver watch.old.receiver watch.new.receiver }
-        ensures watched { HasWatched S.has_taken watch.old watch.old.receiver.had
-            → HasWatched S.has_taken watch.new watch.new.receiver.had }
-        ensures fixed { StaysFixed S.fixed watch.old watch.new }
-        ensures theirs { AreOfSenders watch.new.receiver }
+        ensures goes_on { GoesOn S.has_taken S.fixed watch.old watch.new }
     {
         for _ in rt.forever() {
             if self.send(rt, relay, hand) {

@@ -7,11 +7,10 @@ ghost use Rattle.vyrd_base.specs.Verdicts.{verdict};
 ghost use Rattle.vyrd_live.specs.Recorded.{HasRecorded};
 
 use crate::run::Run;
-use crate::run_judge::RunJudge;
 use std::alloc::{AllocError, Global};
-use std::marker::Model;
 use vyrd_base::{Header, Stamped};
 use vyrd_memory::EventSink;
+use vyrd_verifier::RunJudge;
 
 /// Keeps the history of a run, and judges its log while the events come in, in their order.
 #[derive(Drop)]

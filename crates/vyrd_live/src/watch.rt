@@ -4,11 +4,10 @@ ghost use Rattle.std.specs.Prelude.{◌≡◌, true, false, List, [], ◌∷◌,
 ghost use Rattle.std.specs.List.{All};
 ghost use Rattle.vyrd_base.specs.declared.history.Stamped.{Stamped};
 ghost use Rattle.vyrd_relay.specs.Ends.{HasAll};
-ghost use Rattle.vyrd_live.specs.Beside.{HasWatched, StaysFixed, IsSameReceiver, AreOfSenders};
+ghost use Rattle.vyrd_live.specs.Beside.{HasWatched, StaysFixed, GoesOn, AreOfSenders};
 ghost use Rattle.vyrd_live.specs.Beside.{lanes_sent, HasShownInOrder};
 
 use crate::outbox::Outbox;
-use crate::sequencer::Sequencer;
 use crate::signals::Signals;
 use std::alloc::{AllocError, Global};
 use std::sync::Wait;
@@ -16,6 +15,7 @@ use std::thread;
 use vyrd_base::{Gate, Stamped};
 use vyrd_memory::EventSink;
 use vyrd_relay::{Receiver, Relay};
+use vyrd_verifier::Sequencer;
 
 /// The end of the relay, with the sequencer that takes in what comes there.
 #[derive(Drop)]
@@ -62,13 +62,8 @@ impl<S: EventSink + Drop> Watch<S> {
         gate: &G,
         signals: &Signals,
     ) -> Watch<S>
-        requires receiver { self.receiver.queue ≡ relay.now.queue }
-        requires theirs { AreOfSenders self.receiver }
-        ensures same { IsSameReceiver self.receiver result.receiver }
-        ensures watched { HasWatched S.has_taken self self.receiver.had
-            → HasWatched S.has_taken result result.receiver.had }
-        ensures fixed { StaysFixed S.fixed self result }
-        ensures theirs { AreOfSenders result.receiver }
+        requires { self.receiver.queue ≡ relay.now.queue }
+        ensures goes_on { GoesOn S.has_taken S.fixed self result }
     {
         let mut watch = self;
         watch.watch(rt, relay, gate, signals);
@@ -77,13 +72,8 @@ impl<S: EventSink + Drop> Watch<S> {
 
     /// Takes in what comes, until the workers have ended. What is in the relay then stays there.
     fn watch<R: Wait, G: Gate>(&mut self, rt: &R, relay: &Relay, gate: &G, signals: &Signals)
-        requires receiver { self.old.receiver.queue ≡ relay.now.queue }
-        requires theirs { AreOfSenders self.old.receiver }
-        ensures same { IsSameReceiver self.old.receiver self.new.receiver }
-        ensures watched { HasWatched S.has_taken self.old self.old.receiver.had
-            → HasWatched S.has_taken self.new self.new.receiver.had }
-        ensures fixed { StaysFixed S.fixed self.old self.new }
-        ensures theirs { AreOfSenders self.new.receiver }
+        requires { self.old.receiver.queue ≡ relay.now.queue }
+        ensures goes_on { GoesOn S.has_taken S.fixed self.old self.new }
     {
         signals.begin();
         for _ in rt.forever() {
@@ -107,13 +97,8 @@ impl<S: EventSink + Drop> Watch<S> {
         gate: &G,
         signals: &Signals,
     ) -> bool
-        requires receiver { self.old.receiver.queue ≡ relay.now.queue }
-        requires theirs { AreOfSenders self.old.receiver }
-        ensures same { IsSameReceiver self.old.receiver self.new.receiver }
-        ensures watched { HasWatched S.has_taken self.old self.old.receiver.had
-            → HasWatched S.has_taken self.new self.new.receiver.had }
-        ensures fixed { StaysFixed S.fixed self.old self.new }
-        ensures theirs { AreOfSenders self.new.receiver }
+        requires { self.old.receiver.queue ≡ relay.now.queue }
+        ensures goes_on { GoesOn S.has_taken S.fixed self.old self.new }
     {
         let Some(event) = relay.pop(rt, &mut self.receiver) else {
             return false;
@@ -128,15 +113,11 @@ impl<S: EventSink + Drop> Watch<S> {
     /// Takes in the event that comes next, and answers whether there was one. If there was none,
     /// all was had that the senders sent which were taken in.
     pub(crate) fn take_next<R: Wait>(&mut self, rt: &R, relay: &Relay) -> bool
-        requires receiver { self.old.receiver.queue ≡ relay.now.queue }
-        requires theirs { AreOfSenders self.old.receiver }
-        ensures same { IsSameReceiver self.old.receiver self.new.receiver }
-        ensures watched { HasWatched S.has_taken self.old self.old.receiver.had
-            → HasWatched S.has_taken self.new self.new.receiver.had }
-        ensures fixed { StaysFixed S.fixed self.old self.new }
-        ensures theirs { AreOfSenders self.new.receiver }
+        requires { self.old.receiver.queue ≡ relay.now.queue }
+        ensures goes_on { GoesOn S.has_taken S.fixed self.old self.new }
         ensures all { result ≡ false
             → All (HasAll self.new.receiver.had) self.new.receiver.settled }
+        ensures theirs { result ≡ false → AreOfSenders self.new.receiver }
     {
         let Some(event) = relay.pop(rt, &mut self.receiver) else {
             return false;
@@ -189,7 +170,6 @@ impl<S: EventSink + Drop> Watch<S> {
     /// Takes in all that the workers, which have ended, have sent and that is still in the relay.
     pub(crate) fn take_rest<R: Wait>(&mut self, rt: &R, relay: &Relay, outboxes: Vec<Outbox>)
         requires receiver { self.old.receiver.queue ≡ relay.now.queue }
-        requires theirs { AreOfSenders self.old.receiver }
         requires first { self.old.receiver.settled ≡ [] }
         requires senders { All (λ o. o.sender.queue ≡ relay.now.queue) outboxes.items }
         ensures senders { self.new.receiver.senders ≡ self.old.receiver.senders }

@@ -5,12 +5,12 @@ ghost use Rattle.vyrd_memory.specs.declared.act.Act.TheVariants.{Done};
 ghost use Rattle.vyrd_memory.specs.Scripts.{next_act, after_answer, is_between};
 ghost use Rattle.vyrd_memory.specs.Bounds.{EndsWithin};
 ghost use Rattle.vyrd_trace.specs.declared.hand.Reserve.TheVariants as reserve;
-ghost use Rattle.vyrd_trace.specs.Hands.{IsOf, with_spare};
+ghost use Rattle.vyrd_trace.specs.Hands.{IsOf, with_spare, with_forgotten};
 ghost use Rattle.vyrd_live.specs.Rooms.{HasNoRoom};
 ghost use Rattle.vyrd_live.specs.Acts.{MayAct, HasActed};
 ghost use Rattle.vyrd_live.specs.Working.{HasRoomAhead};
 ghost use Rattle.vyrd_live.specs.Workers.{IsFresh, HasWorked};
-ghost use Rattle.vyrd_live.specs.Sending.{HasSent, with_forgotten};
+ghost use Rattle.vyrd_live.specs.Sending.{HasSent};
 
 use crate::acting::act;
 use crate::outbox::Outbox;

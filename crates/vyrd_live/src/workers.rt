@@ -9,8 +9,7 @@ ghost use Rattle.vyrd_live.specs.Endings.{IsFirstSpent};
 ghost use Rattle.vyrd_live.specs.LiveRuns.{LeavesRun};
 ghost use Rattle.vyrd_live.specs.Workers.{IsFresh, HasWorked, AreMadeFor, plan_of};
 ghost use Rattle.vyrd_live.specs.Sending.{HasSent};
-ghost use Rattle.vyrd_live.specs.Beside.{HasWatched, StaysFixed, IsSameReceiver, AreOfSenders};
-ghost use Rattle.vyrd_live.specs.Beside.{lanes_sent, lanes_made};
+ghost use Rattle.vyrd_live.specs.Beside.{GoesOn, lanes_sent, lanes_made};
 
 use crate::outbox::Outbox;
 use crate::run::Played;
@@ -26,8 +25,8 @@ use vyrd_memory::{EventSink, Machine};
 use vyrd_relay::{Relay, Sender};
 use vyrd_trace::{Hand, Traced};
 
-/// How many events may be on their way to the sink at a time. A worker that finds the relay full in
-/// the middle of an operation goes on, and sends later.
+/// How many events the relay holds. A worker that finds it full within an operation goes on, and
+/// sends them later: after the operation it waits for room.
 const RELAY_CAPACITY: u64 = 8192;
 
 /// Plays all workers, shows what they do to a sink that has taken nothing, and ends their memory.
@@ -124,7 +123,6 @@ fn beside<R: Threads + Wait + Sync, G: Gate, M: Machine + Send, S: EventSink + D
         jobs.items }
     requires sent { All (λ j. HasSent relay.now j.1.sender j.1.place j.0.hand) jobs.items }
     requires receiver { watch.receiver.queue ≡ relay.now.queue }
-    requires theirs { AreOfSenders watch.receiver }
     ensures count { IfOk result (λ r. vec_len r.0 ≡ vec_len jobs) }
     ensures each { IfOk result (λ r. (i : ℕ) (j : _) (d : _) → i < vec_len jobs
         → HasWorked M.header_of M.script M.ahead traced.now
@@ -132,11 +130,7 @@ fn beside<R: Threads + Wait + Sync, G: Gate, M: Machine + Send, S: EventSink + D
         (slice_index_or r.0.items i d).0.hand (slice_index_or r.0.items i d).0.ending) }
     ensures sent { IfOk result
         (λ r. All (λ d. HasSent relay.now d.1.sender d.1.place d.0.hand) r.0.items) }
-    ensures same { IfOk result (λ r. IsSameReceiver watch.receiver r.1.receiver) }
-    ensures watched { IfOk result (λ r. HasWatched S.has_taken watch watch.receiver.had
-        → HasWatched S.has_taken r.1 r.1.receiver.had) }
-    ensures fixed { IfOk result (λ r. StaysFixed S.fixed watch r.1) }
-    ensures theirs { IfOk result (λ r. AreOfSenders r.1.receiver) }
+    ensures goes_on { IfOk result (λ r. GoesOn S.has_taken S.fixed watch r.1) }
 {
     let signals = Signals::new();
     let told = &signals;
@@ -145,12 +139,8 @@ fn beside<R: Threads + Wait + Sync, G: Gate, M: Machine + Send, S: EventSink + D
     let (watch, done) = join(
         rt,
         move || -> Watch<S>
-            requires { (watch.receiver.queue ≡ relay.now.queue) × AreOfSenders watch.receiver }
-            ensures same { IsSameReceiver watch.receiver result.receiver }
-            ensures watched { HasWatched S.has_taken watch watch.receiver.had
-                → HasWatched S.has_taken result result.receiver.had }
-            ensures fixed { StaysFixed S.fixed watch result }
-            ensures theirs { AreOfSenders result.receiver }
+            requires { watch.receiver.queue ≡ relay.now.queue }
+            ensures { GoesOn S.has_taken S.fixed watch result }
         { watch.watched(rt, relay, gate, told) },
         move || -> Result<Vec<(Stopped, Outbox)>, AllocError>
             requires { All (λ j. IsFresh M.header_of M.script traced.now j.0.machine j.0.hand)
@@ -219,15 +209,10 @@ fn part_all<R: Wait, S: EventSink + Drop>(
 ) -> Result<(Vec<Stopped>, Vec<Outbox>), AllocError>
     requires sent { All (λ d. HasSent relay.now d.1.sender d.1.place d.0.hand) done.items }
     requires receiver { watch.old.receiver.queue ≡ relay.now.queue }
-    requires theirs { AreOfSenders watch.old.receiver }
     ensures stopped { IfOk result (λ r. r.0.items ≡ map (λ d. d.0) done.items) }
     ensures lanes { IfOk result (λ r. lanes_sent r.1.items ≡ lanes_made r.0.items) }
     ensures senders { IfOk result (λ r. All (λ o. o.sender.queue ≡ relay.now.queue) r.1.items) }
-    ensures same { IfOk result (λ _. IsSameReceiver watch.old.receiver watch.new.receiver) }
-    ensures watched { IfOk result (λ _. HasWatched S.has_taken watch.old watch.old.receiver.had
-        → HasWatched S.has_taken watch.new watch.new.receiver.had) }
-    ensures fixed { IfOk result (λ _. StaysFixed S.fixed watch.old watch.new) }
-    ensures theirs { IfOk result (λ _. AreOfSenders watch.new.receiver) }
+    ensures goes_on { IfOk result (λ _. GoesOn S.has_taken S.fixed watch.old watch.new) }
 {
     let mut stopped = Vec::with_capacity(alloc, done.len())?;
     let mut outboxes = Vec::with_capacity(alloc, done.len())?;

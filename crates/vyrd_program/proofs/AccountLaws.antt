@@ -9,7 +9,7 @@ use Rattle.vyrd_base.specs.declared.verdict.Verdict.{Verdict}
 use Rattle.vyrd_base.specs.Histories.{logged, log_of}
 use Rattle.vyrd_base.specs.Spelling.{ended_line, header_line, entry_line}
 use Rattle.vyrd_base.specs.VerdictText.{verdict_text}
-use Rattle.vyrd_live.proofs.JudgeLaws.{log_with, log_without, no_log}
+use Rattle.vyrd_verifier.proofs.JudgeLaws.{log_with, log_without, no_log}
 use Rattle.vyrd_text.proofs.WrittenLaws.{whole_log}
 use Rattle.vyrd_mover.specs.HistoryText.{history_header_line, event_line}
 use Rattle.vyrd_mover.proofs.WrittenLaws.{whole_history}

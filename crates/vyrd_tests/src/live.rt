@@ -10,7 +10,8 @@ use std::sync::atomic::{AtomicBool, AtomicU64, Ordering};
 use std::test::Fail;
 use std::thread::Threads;
 use vyrd_base::{Args, Did, Gate, Header, Kind, Method, OpenGate, Stamped, Subject, Verdict, Why};
-use vyrd_live::{LiveFault, Run, Verifier, run_live};
+use vyrd_live::{LiveFault, Run, run_live};
+use vyrd_verifier::Verifier;
 use vyrd_work::read_work;
 
 /// How often a gate is asked, or looks for another caller, before it gives up.

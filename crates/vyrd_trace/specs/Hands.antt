@@ -84,15 +84,15 @@ with_one_more hand number did look = record {
   look = look;
 }
 
--- the hand as it was, but that it keeps none of its events
-abbrev pub with_none_kept : HandView → HandView
-with_none_kept hand = record {
+-- the hand as it was, but that it no longer keeps this many of its lane's first events
+abbrev pub with_forgotten : HandView → ℕ → HandView
+with_forgotten hand forgotten = record {
   table = hand.table;
   caller = hand.caller;
   limit = hand.limit;
   spare = hand.spare;
   lane = hand.lane;
-  forgotten = length hand.lane;
+  forgotten = forgotten;
   look = hand.look;
 }
 

@@ -5,7 +5,7 @@ ghost use Rattle.std.specs.Prelude.{IfOk, IfErr, Err, vec_len, vec_capacity};
 ghost use Rattle.vyrd_trace.specs.declared.hand.Reserve.TheVariants.{Memory, Spent};
 ghost use Rattle.vyrd_trace.specs.declared.record.Stage.TheVariants.{Rest};
 ghost use Rattle.vyrd_trace.specs.Lanes.{stamp};
-ghost use Rattle.vyrd_trace.specs.Hands.{with_spare, with_none_kept, most_events};
+ghost use Rattle.vyrd_trace.specs.Hands.{with_spare, with_forgotten, most_events};
 
 use crate::record::Record;
 use atomic_table::Seat;
@@ -112,7 +112,7 @@ impl Hand {
 
     /// Lets go of the events made so far. Their room stays, and takes those to come.
     pub fn forget(&mut self)
-        ensures { self.new ≡ with_none_kept self.old }
+        ensures { self.new ≡ with_forgotten self.old (length self.old.lane) }
     {
         self.forgotten += self.lane.len() as u64;
         self.lane.clear();

@@ -9,6 +9,7 @@ use Rattle.vyrd_live.specs.declared.worker.Stopped.{Stopped}
 use Rattle.vyrd_live.specs.declared.outbox.Outbox.{Outbox}
 use Rattle.vyrd_live.specs.Sending.{HasSent}
 use Rattle.vyrd_live.specs.Beside.{lanes_sent, lanes_made}
+use Rattle.vyrd_live.proofs.BesideLaws.{goes_on_then}
 use Rattle.vyrd_live.proofs.PlayLaws.{Done}
 use Rattle.vyrd_live.proofs.SendingLaws.{sent_whole}
 use Rattle.vyrd_live.proofs.workers.part_all.Goals as goal
@@ -34,12 +35,5 @@ loop-one-preserved g c =
           ∙ sym (map-append (λ (s : Stopped). record { caller = s.hand.caller; items = s.hand.lane }) c.loop-one.stopped.items (one ∷ []))
           ∙ sym (ap lanes_made ends);
       senders = subst (All of) (sym outs) (All-push of c.loop-one.outboxes.items o inv.senders t.sent.queue);
-      same = record {
-        queue = t.same.queue ∙ inv.same.queue;
-        senders = t.same.senders ∙ inv.same.senders;
-        settled = t.same.settled ∙ inv.same.settled;
-      };
-      watched = λ before. t.watched (inv.watched before);
-      fixed = λ now. let b = t.fixed now in let a = inv.fixed b.0 in (a.0, b.1 ∙ a.1);
-      theirs = t.theirs;
+      goes_on = goes_on_then g.S.EventSink.has_taken g.S.EventSink.fixed _ _ _ inv.goes_on t.goes_on;
     }

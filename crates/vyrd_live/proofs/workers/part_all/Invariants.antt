@@ -2,7 +2,7 @@
 use Rattle.std.proofs.Common.{◌≡◌, map}
 use Rattle.std.specs.List.{All}
 use Rattle.vyrd_live.specs.Sending.{HasSent}
-use Rattle.vyrd_live.specs.Beside.{HasWatched, StaysFixed, IsSameReceiver, AreOfSenders, lanes_sent, lanes_made}
+use Rattle.vyrd_live.specs.Beside.{GoesOn, lanes_sent, lanes_made}
 use Rattle.vyrd_live.proofs.workers.part_all.Given as goal
 
 abbrev pub invariant-loop-one : goal.invariant-loop-one
@@ -11,9 +11,5 @@ invariant-loop-one g l = record {
   stopped : l.stopped.items ≡ map (λ d. d.0) l.yielded;
   lanes : lanes_sent l.outboxes.items ≡ lanes_made l.stopped.items;
   senders : All (λ o. o.sender.queue ≡ l.relay.queue) l.outboxes.items;
-  same : IsSameReceiver l.initial.watch.receiver l.watch.receiver;
-  watched : HasWatched g.S.EventSink.has_taken l.initial.watch l.initial.watch.receiver.had
-      → HasWatched g.S.EventSink.has_taken l.watch l.watch.receiver.had;
-  fixed : StaysFixed g.S.EventSink.fixed l.initial.watch l.watch;
-  theirs : AreOfSenders l.watch.receiver;
+  goes_on : GoesOn g.S.EventSink.has_taken g.S.EventSink.fixed l.initial.watch l.watch;
 }

@@ -81,11 +81,11 @@ returns-clause-played g c =
     let parts = subst (All (λ (hand : HandView). part hand.caller h.history ≡ hand.lane)) c.in_ok-hands.ensures h.parts in
     let sent = subst (All (HasAll had)) c.in_ok-stopped.ensures.lanes c.take_rest.ensures.all in
     let senders : c.take_rest.new.self.receiver.senders ≡ c.args.traced.plan.callers =
-    c.take_rest.ensures.senders ∙ c.in_ok-stopped.ensures.same.senders ∙ c.in_ok-done.ensures.same.senders
+    c.take_rest.ensures.senders ∙ c.in_ok-stopped.ensures.goes_on.same.senders ∙ c.in_ok-done.ensures.goes_on.same.senders
     ∙ ap (λ (r : ReceiverView). r.senders) (c.in_ok-watch.ensures.receiver ∙ c.in_ok-relay.ensures.receiver)
     ∙ c.callers.ensures ∙ sym (ap (λ (p : Plan). p.callers) plan) in
     let theirs = subst (λ n. All (λ (e : Stamped). e.caller < n) had) senders c.take_rest.ensures.theirs in
-    let watched = c.take_rest.ensures.watched (c.in_ok-stopped.ensures.watched (c.in_ok-done.ensures.watched c.in_ok-watch.ensures.watched)) in
+    let watched = c.take_rest.ensures.watched (c.in_ok-stopped.ensures.goes_on.watched (c.in_ok-done.ensures.goes_on.watched c.in_ok-watch.ensures.watched)) in
     record {
       history = h.history;
       taken = all_shown has_taken (cells_in c.args.traced.plan) c.in-Some.sink had h.history h.legal

@@ -1,12 +1,9 @@
-use Rattle.std.proofs.Common.{◌∙◌}
+use Rattle.std.proofs.Common.{refl}
+use Rattle.vyrd_live.proofs.BesideLaws.{goes_on_same, goes_on_then}
 use Rattle.vyrd_live.proofs.watch.Watch.watch.Goals as goal
 
+pub loop-init : goal.loop-init
+loop-init g c = goes_on_same g.S.EventSink.has_taken g.S.EventSink.fixed _ _ refl refl refl
+
 pub loop-preserved : goal.loop-preserved
-loop-preserved g c =
-    let inv = c.loop.invariant in
-    let t = c.take_when_allowed.ensures in record {
-      same = record { queue = t.same.queue ∙ inv.same.queue; senders = t.same.senders ∙ inv.same.senders; settled = t.same.settled ∙ inv.same.settled };
-      watched = λ before. t.watched (inv.watched before);
-      fixed = λ now. let b = t.fixed now in let a = inv.fixed b.0 in (a.0, b.1 ∙ a.1);
-      theirs = t.theirs;
-    }
+loop-preserved g c = goes_on_then g.S.EventSink.has_taken g.S.EventSink.fixed _ _ _ c.loop.invariant c.take_when_allowed.ensures.goes_on

@@ -2,7 +2,7 @@ use Rattle.std.proofs.Common.{◌∙◌, sym, subst, ap, ◌++◌, [], refl}
 use Rattle.vyrd_base.specs.Spelling.{ended_line, header_line}
 use Rattle.vyrd_mover.specs.HistoryText.{history_header_line}
 use Rattle.vyrd_judge.specs.Following.{HasFollowed}
-use Rattle.vyrd_live.proofs.JudgeLaws.{no_log}
+use Rattle.vyrd_verifier.proofs.JudgeLaws.{no_log}
 use Rattle.vyrd_program.proofs.AccountLaws.{nothing_begun, log_begun, history_begun}
 use Rattle.vyrd_program.proofs.account.Account.new.Goals.{in-Verdict, in-Log+in_ok-write_header-in-Log, in-History+in_ok-write_history_header-in-History}
 use Rattle.vyrd_program.proofs.account.Account.new.Goals as goal

@@ -1,6 +1,6 @@
 use Rattle.std.proofs.Common.{sym}
-use Rattle.vyrd_live.proofs.TakenLaws.{taking_after}
-use Rattle.vyrd_live.proofs.sequencer.advance.Goals as goal
+use Rattle.vyrd_verifier.proofs.TakenLaws.{taking_after}
+use Rattle.vyrd_verifier.proofs.sequencer.advance.Goals as goal
 
 pub returns-clause-followed : goal.returns-clause-followed
 returns-clause-followed g c =

@@ -1,8 +1,8 @@
 use Rattle.std.proofs.Common.{◌∙◌, [], refl, sym, subst}
 use Rattle.vyrd_base.specs.Histories.{log_of}
-use Rattle.vyrd_live.specs.Judging.{HasJudged}
-use Rattle.vyrd_live.proofs.JudgeLaws.{judged_with, judged_without}
-use Rattle.vyrd_live.proofs.run_judge.RunJudgeEventSink.take.Goals as goal
+use Rattle.vyrd_verifier.specs.Judging.{HasJudged}
+use Rattle.vyrd_verifier.proofs.JudgeLaws.{judged_with, judged_without}
+use Rattle.vyrd_verifier.proofs.run_judge.RunJudgeEventSink.take.Goals as goal
 
 pub returns-in_ok-feed-clause-taken : goal.returns-in_ok-feed-clause-taken
 returns-in_ok-feed-clause-taken c = λ history judged.

@@ -5,9 +5,9 @@ use Rattle.std.specs.Result.{OnOk, OnErr}
 use Rattle.vyrd_base.specs.declared.history.Stamped.{Stamped}
 use Rattle.vyrd_base.proofs.TestLaws.{same_of}
 use Rattle.vyrd_relay.specs.Numbers.{Kept, held, has}
-use Rattle.vyrd_live.specs.Taken.{in_order_below, IsTaking}
-use Rattle.vyrd_live.proofs.TakenLaws.{taking_with, taking_turn, has_with, has_passed}
-use Rattle.vyrd_live.proofs.sequencer.place.Goals as goal
+use Rattle.vyrd_verifier.specs.Taken.{in_order_below, IsTaking}
+use Rattle.vyrd_verifier.proofs.TakenLaws.{taking_with, taking_turn, has_with, has_passed}
+use Rattle.vyrd_verifier.proofs.sequencer.place.Goals as goal
 
 shown : {S T E : Type 0} (has_taken : S → List Stamped → Type 0) (r : Result T E) (sink sink' : S) (k after : Kept) (taken : List Stamped) (e : Stamped)
     → has k e.number ≡ false → e.number ≡ k.next → after.next ≡ k.next + 1 → ((n : ℕ) → k.next < n → held after n ≡ held k n)

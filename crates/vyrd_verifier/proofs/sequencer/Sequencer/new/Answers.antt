@@ -1,6 +1,6 @@
 use Rattle.std.proofs.Common.{refl}
-use Rattle.vyrd_live.proofs.TakenLaws.{taking_none, taken_first}
-use Rattle.vyrd_live.proofs.sequencer.Sequencer.new.Goals as goal
+use Rattle.vyrd_verifier.proofs.TakenLaws.{taking_none, taken_first}
+use Rattle.vyrd_verifier.proofs.sequencer.Sequencer.new.Goals as goal
 
 pub returns-clause-taken : goal.returns-clause-taken
 returns-clause-taken g c =

@@ -2,8 +2,8 @@ use Rattle.std.proofs.Common.{◌≡◌, ℕ, ◌+◌, ◌-◌, ◌^◌, false, 
 use Rattle.std.specs.Prelude.{if◌then◌else◌}
 use Rattle.vyrd_base.specs.declared.history.Stamped.{Stamped}
 use Rattle.vyrd_relay.specs.Numbers.{held, has}
-use Rattle.vyrd_live.specs.Taken.{IsTaking}
-use Rattle.vyrd_live.proofs.sequencer.follow.Given as goal
+use Rattle.vyrd_verifier.specs.Taken.{IsTaking}
+use Rattle.vyrd_verifier.proofs.sequencer.follow.Given as goal
 
 abbrev pub invariant-loop-more : goal.invariant-loop-more
 invariant-loop-more g l = record {

@@ -1,9 +1,9 @@
 -- The event was taken in with all whose turn it was, or it alone is left out.
 use Rattle.std.proofs.Common.{◌≡◌, Option, Some, None, false, refl, ap, sym, subst, ◌∙◌}
 use Rattle.std.specs.Prelude.{is_some}
-use Rattle.vyrd_live.specs.Taken.{has_number, HasTakenIn}
-use Rattle.vyrd_live.proofs.TakenLaws.{taken_more, taken_same}
-use Rattle.vyrd_live.proofs.sequencer.Sequencer.take_in.Goals as goal
+use Rattle.vyrd_verifier.specs.Taken.{has_number, HasTakenIn}
+use Rattle.vyrd_verifier.proofs.TakenLaws.{taken_more, taken_same}
+use Rattle.vyrd_verifier.proofs.sequencer.Sequencer.take_in.Goals as goal
 
 none_of : {A : Type 0} (o : Option A) → false ≡ is_some o → o ≡ None
 none_of None e = refl

@@ -5,7 +5,7 @@ ghost use Rattle.std.specs.Prelude.{◌++◌, None, is_some, Ok, IfOk, OnOk, OnE
 ghost use Rattle.std.specs.Result.{is_err};
 ghost use Rattle.vyrd_base.specs.declared.history.Stamped.{Stamped};
 ghost use Rattle.vyrd_relay.specs.Numbers.{held, has};
-ghost use Rattle.vyrd_live.specs.Taken.{numbered, has_failed, has_number, IsTaking, HasTakenIn};
+ghost use Rattle.vyrd_verifier.specs.Taken.{numbered, has_failed, has_number, IsTaking, HasTakenIn};
 
 use std::alloc::{AllocError, Global};
 use std::marker::Model;
@@ -35,7 +35,7 @@ pub struct Sequencer<S: EventSink + Drop> {
 
 impl<S: EventSink + Drop> Model for Sequencer<S> {
     ghost use Rattle.std.specs.Prelude.{◌≡◌, None};
-    ghost use Rattle.vyrd_live.specs.Taken.{SequencerView};
+    ghost use Rattle.vyrd_verifier.specs.Taken.{SequencerView};
 
     ghost Value = { SequencerView S };
 

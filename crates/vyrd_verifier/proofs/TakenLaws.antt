@@ -7,7 +7,7 @@ use mathlib.Core.Logic.{dite}
 use native.Mathlib.Decide.{ℕ_discrete, dec_lt}
 use Rattle.vyrd_base.specs.declared.history.Stamped.{Stamped}
 use Rattle.vyrd_relay.specs.Numbers.{Kept, held, has}
-use Rattle.vyrd_live.specs.Taken.{numbered, in_order_below, SequencerView, has_failed, has_number, AreKept, is_in, IsTaking, HasTakenIn}
+use Rattle.vyrd_verifier.specs.Taken.{numbered, in_order_below, SequencerView, has_failed, has_number, AreKept, is_in, IsTaking, HasTakenIn}
 
 -- an event more at the end is found where none with its number was there
 pub numbered_new : (n : ℕ) (taken : List Stamped) (e : Stamped) → numbered n taken ≡ None → e.number ≡ n → numbered n (taken ++ e ∷ []) ≡ Some e

@@ -6,7 +6,7 @@ use Rattle.vyrd_base.specs.declared.history.Stamped.{Stamped}
 use Rattle.vyrd_base.specs.declared.log.Entry.{Entry}
 use Rattle.vyrd_base.specs.Histories.{logged, log_of}
 use Rattle.vyrd_judge.specs.Following.{HasFollowed}
-use Rattle.vyrd_live.specs.Judging.{RunJudgeView, HasJudged}
+use Rattle.vyrd_verifier.specs.Judging.{RunJudgeView, HasJudged}
 
 -- the log of a history with one event more
 log_more : (history : List Stamped) (e : Stamped) → log_of (history ++ e ∷ []) ≡ log_of history ++ cons_option (logged e.caller e.did) []

@@ -6,9 +6,9 @@ ghost use Rattle.std.specs.Result.{is_err};
 ghost use Rattle.vyrd_base.specs.declared.history.Stamped.{Stamped};
 ghost use Rattle.vyrd_base.specs.Histories.{log_of};
 ghost use Rattle.vyrd_base.specs.Verdicts.{verdict_so_far, verdict};
-ghost use Rattle.vyrd_live.specs.Judging.{HasJudged};
-ghost use Rattle.vyrd_live.specs.Taken.{numbered, in_order_below, has_failed, has_number};
-ghost use Rattle.vyrd_live.specs.Taken.{HasTakenIn};
+ghost use Rattle.vyrd_verifier.specs.Judging.{HasJudged};
+ghost use Rattle.vyrd_verifier.specs.Taken.{numbered, in_order_below, has_failed, has_number};
+ghost use Rattle.vyrd_verifier.specs.Taken.{HasTakenIn};
 
 use crate::run_judge::RunJudge;
 use crate::sequencer::Sequencer;
@@ -32,8 +32,8 @@ pub struct Verifier {
 
 impl Model for Verifier {
     ghost use Rattle.std.specs.Prelude.{◌≡◌, None, false};
-    ghost use Rattle.vyrd_live.specs.Judging.{RunJudgeView};
-    ghost use Rattle.vyrd_live.specs.Taken.{SequencerView};
+    ghost use Rattle.vyrd_verifier.specs.Judging.{RunJudgeView};
+    ghost use Rattle.vyrd_verifier.specs.Taken.{SequencerView};
 
     ghost Value = { SequencerView RunJudgeView };
 

@@ -2,7 +2,7 @@ use Rattle.std.proofs.Common.{◌≡◌, ◌≢◌, ◌∙◌, ℕ, None, Ok, Er
 use Rattle.std.specs.Prelude.{Result}
 use Rattle.std.specs.Result.{OnErr}
 use Rattle.vyrd_relay.specs.Numbers.{Kept, held}
-use Rattle.vyrd_live.proofs.sequencer.follow.Goals as goal
+use Rattle.vyrd_verifier.proofs.sequencer.follow.Goals as goal
 
 pub loop-more-preserved : goal.loop-more-preserved
 loop-more-preserved g c =

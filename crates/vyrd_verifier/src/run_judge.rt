@@ -6,7 +6,7 @@ ghost use Rattle.vyrd_base.specs.declared.header.Header.{Header};
 ghost use Rattle.vyrd_base.specs.declared.history.Stamped.{Stamped};
 ghost use Rattle.vyrd_base.specs.Histories.{log_of};
 ghost use Rattle.vyrd_base.specs.Verdicts.{verdict, verdict_so_far};
-ghost use Rattle.vyrd_live.specs.Judging.{HasJudged};
+ghost use Rattle.vyrd_verifier.specs.Judging.{HasJudged};
 
 use std::alloc::{AllocError, Global};
 use std::marker::Model;
@@ -24,7 +24,7 @@ pub struct RunJudge {
 
 impl Model for RunJudge {
     ghost use Rattle.std.specs.Prelude.{◌≤◌};
-    ghost use Rattle.vyrd_live.specs.Judging.{RunJudgeView};
+    ghost use Rattle.vyrd_verifier.specs.Judging.{RunJudgeView};
 
     ghost Value = { RunJudgeView };
 
