@@ -20,6 +20,7 @@ use Rattle.vyrd_memory.specs.declared.op.Turn.{Turn}
 use Rattle.vyrd_memory.specs.Scripts.{Script, stop, next_act, left_after}
 use Rattle.vyrd_memory.specs.Turns.{script_of, part_of, act_of, event_now, with_event, after_turn, after_turns, after_rounds, turns_of, run_for, is_done, are_done}
 use Rattle.vyrd_memory.specs.Turns.{is_held_up, are_stuck, RunsTo, GetsStuck}
+use Rattle.vyrd_memory.specs.StuckThere.{AreStuckThere}
 use Rattle.vyrd_memory.specs.Playing.{IsReady, IsPlaying, HasPlayed, HaveComeToRest, Scene, memory_after, rounds_over}
 use Rattle.vyrd_memory.proofs.PlayLaws.{act_is}
 use Rattle.vyrd_memory.proofs.PlayedLaws.{after_turns-append, turns_grow}
@@ -163,4 +164,21 @@ gets_stuck h header_of script turns a b c start none first rest undone =
           || is_held_up (newest_first c.history) (act_of scripts i (newest_first c.history))) (numbers_below (length scripts)))
           (ap not (sym (done_is h script scripts c.machines c.words c.history end) ∙ undone))
           (all_held_up scripts (newest_first c.history) 0 (length scripts) still);
+    }
+
+-- and the machines stand there
+pub stuck_there : {M : Type 0} (h : Header) (header_of : M → Header) (script : M → Script) (turns : List Turn) (a b c : Scene M)
+    → IsPlaying h script (map script a.machines) a.machines a.words a.history → a.history ≡ [] → HasPlayed h header_of script (turns_of turns) a b
+    → HaveComeToRest h header_of script b c → list_all (λ m. is_done (next_act (script m))) c.machines ≡ false
+    → AreStuckThere script (map script a.machines) turns c.machines
+unfolding gets_stuck
+stuck_there h header_of script turns a b c start none first rest undone =
+    let scripts = map script a.machines in
+    let end = rest.played.plays scripts (first.plays scripts start) in
+    let stuck = gets_stuck h header_of script turns a b c start none first rest undone in
+    record {
+      rounds = stuck.rounds;
+      stuck = stuck.stuck;
+      left = λ i m is. end.left i m is
+          ∙ ap (λ earlier. left_after (script_of scripts i) (part_of i earlier)) (history_is h header_of script turns a b c start none first rest);
     }

@@ -8,6 +8,7 @@ ghost use Rattle.vyrd_base.specs.Layout.{plain_words, lock_words};
 ghost use Rattle.vyrd_memory.specs.declared.turns.StepFault.TheVariants.{Stuck};
 ghost use Rattle.vyrd_memory.specs.Scripts.{next_act, answer_of};
 ghost use Rattle.vyrd_memory.specs.Turns.{turns_of, is_done, RunsTo, GetsStuck};
+ghost use Rattle.vyrd_memory.specs.StuckThere.{AreStuckThere};
 ghost use Rattle.vyrd_base.specs.declared.history.Stamped.{Stamped};
 ghost use Rattle.vyrd_memory.specs.Playing.{event_in, words_after_event, IsWithin, IsReady};
 ghost use Rattle.vyrd_memory.specs.Playing.{memory_after, total};
@@ -259,6 +260,9 @@ fn play<M: Machine, S: EventSink>(
         (GetsStuck (map M.script machines.old) turns.now)
         (λ w. HasRun (map M.script machines.old) turns.now header.now S.has_taken sink.new
         w.items)) }
+    ensures left { IfOk result (λ words. MatchOption words
+        (AreStuckThere M.script (map M.script machines.old) turns.now machines.new)
+        (λ _. list_all (λ m. is_done (next_act (M.script m))) machines.new ≡ true)) }
     ensures fixed { IfOk result (λ _. S.fixed sink.new ≡ S.fixed sink.old) }
 {
     let mut words = zeros(alloc, header)?;
@@ -277,7 +281,9 @@ fn play<M: Machine, S: EventSink>(
 ///
 /// The sink, which has taken nothing, takes each event as it is made; no event is kept beside it.
 /// The answer is the memory at the end: the plain words, and then the locks. The events are a
-/// function of the machines' scripts and the turns. Nothing is known of the sink after an error.
+/// function of the machines' scripts and the turns. After `Stuck` the machines are where their
+/// scripts are held up, and tell which locks they wait for. Nothing is known of the sink after an
+/// error.
 pub fn show_turns<M: Machine, S: EventSink>(
     alloc: Global,
     header: Header,
@@ -292,7 +298,11 @@ pub fn show_turns<M: Machine, S: EventSink>(
     ensures run { IfOk result (λ words. HasRun (map M.script machines.old) turns.now header
         S.has_taken sink.new words.items) }
     ensures fixed { IfOk result (λ _. S.fixed sink.new ≡ S.fixed sink.old) }
+    ensures done { IfOk result
+        (λ _. list_all (λ m. is_done (next_act (M.script m))) machines.new ≡ true) }
     ensures stuck { result ≡ Err Stuck → GetsStuck (map M.script machines.old) turns.now }
+    ensures stuck_there { result ≡ Err Stuck
+        → AreStuckThere M.script (map M.script machines.old) turns.now machines.new }
 {
     match play(alloc, &header, machines, turns, sink) {
         Ok(Some(words)) => Ok(words),
@@ -316,7 +326,11 @@ pub fn run_turns<M: Machine>(
         (λ ran. RunsTo (map M.script machines.old) turns.now ran.history.items) }
     ensures words { IfOk result
         (λ ran. ran.words.items ≡ memory_after header (newest_first ran.history.items)) }
+    ensures done { IfOk result
+        (λ _. list_all (λ m. is_done (next_act (M.script m))) machines.new ≡ true) }
     ensures stuck { result ≡ Err Stuck → GetsStuck (map M.script machines.old) turns.now }
+    ensures stuck_there { result ≡ Err Stuck
+        → AreStuckThere M.script (map M.script machines.old) turns.now machines.new }
 {
     let mut history = Vec::new(alloc);
     let words = show_turns(alloc, header, machines, turns, &mut history)?;
