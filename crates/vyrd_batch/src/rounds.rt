@@ -103,7 +103,8 @@ impl BatchJudge {
     /// Judges the last logs, if `bytes` are all that come after the logs that were judged.
     ///
     /// `Refused` comes exactly when the input isn't a batch, with the number of the first log that
-    /// isn't framed, counted from 0. `Memory` may come at any time.
+    /// isn't framed, counted from 0. The verdicts are then those about the logs before it. `Memory`
+    /// may come at any time.
     pub fn finish<R: Threads + Sync>(
         &mut self,
         rt: &R,
@@ -115,6 +116,12 @@ impl BatchJudge {
         ensures refused { (input : List ℕ) (log : ℕ) → IsJudged input self.old bytes.old.items
             → result ≡ Err (Refused log)
             → batch_logs input ≡ Err log }
+        ensures kept { (input : List ℕ) (log : ℕ) → IsJudged input self.old bytes.old.items
+            → result ≡ Err (Refused log)
+            → IsJudged input self.new bytes.new.items }
+        ensures count { (input : List ℕ) (log : ℕ) → IsJudged input self.old bytes.old.items
+            → result ≡ Err (Refused log)
+            → length self.new.verdicts ≡ log }
     {
         self.judge(rt, bytes)?;
         self.end(bytes)
@@ -129,6 +136,9 @@ impl BatchJudge {
         ensures refused { (input : List ℕ) (log : ℕ) → IsJudged input self.now bytes.now
             → result ≡ Err (Refused log)
             → batch_logs input ≡ Err log }
+        ensures count { (input : List ℕ) (log : ℕ) → IsJudged input self.now bytes.now
+            → result ≡ Err (Refused log)
+            → length self.now.verdicts ≡ log }
     {
         let Some(_) = self.place else {
             return Err(BatchFault::Refused { log: 0 });

@@ -32,3 +32,12 @@ returns-clause-verdicts c = λ input j.
     let judged : AreJudgedTo s.place input s.verdicts.items bytes = subst (λ b. IsJudged input b bytes) (sym c.self.view_is) j in
     rw (← c.self.view_is) (judged_all input bytes s.verdicts.items c.in-Some.field-0
     (subst (λ place. AreJudgedTo place input s.verdicts.items bytes) c.in-Some.is judged) (c.if-not-is_word.ensures.0 refl))
+
+pub returns-in_default-clause-count : goal.returns-in_default-clause-count
+returns-in_default-clause-count c = λ input log j is.
+    let s = c.self.inside in
+    let bytes = c.args.bytes.now in
+    let judged : AreJudgedTo s.place input s.verdicts.items bytes = subst (λ b. IsJudged input b bytes) (sym c.self.view_is) j in
+    let same : 0 ≡ log = cc in
+    let none = (subst (λ place. AreJudgedTo place input s.verdicts.items bytes) c.in_default.is judged).1 in
+    rw (← c.self.view_is) (ap length none ∙ same)
