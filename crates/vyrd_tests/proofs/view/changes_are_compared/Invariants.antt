@@ -1,4 +1,0 @@
-use Rattle.vyrd_tests.proofs.view.changes_are_compared.Given as goal
-
-abbrev pub ghosts-differences : goal.ghosts-differences
-ghosts-differences g a = record { name = a.blank.name; parts = a.blank.parts }
