@@ -15,6 +15,14 @@ mod judge;
 #[cfg(test)]
 mod mover;
 #[cfg(test)]
+mod observers;
+#[cfg(test)]
+mod plain;
+#[cfg(test)]
+mod shadow;
+#[cfg(test)]
+mod shape;
+#[cfg(test)]
 mod spec;
 #[cfg(test)]
 mod text;

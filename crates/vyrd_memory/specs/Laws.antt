@@ -1,5 +1,4 @@
--- What is proved of the scripts that a player plays, and of the visits that the tests play. Impls
--- in src/ name these laws. Here stand proofs alone: no contract says what they define.
+-- What is proved of the scripts that a player plays. Impls in src/ name these laws. Here stand
+-- proofs alone: no contract says what they define.
 pub mod Underway
 pub mod Player
-pub mod Visits

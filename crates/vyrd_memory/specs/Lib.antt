@@ -11,5 +11,4 @@ pub mod Playing
 pub mod Showing
 pub mod Runs
 pub mod LaneRules
-pub mod Visits
 pub mod Laws

@@ -15,8 +15,6 @@ mod machine;
 mod op;
 mod player;
 mod progress;
-#[cfg(test)]
-mod tests;
 mod turns;
 mod underway;
 

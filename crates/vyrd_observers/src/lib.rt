@@ -11,8 +11,6 @@
 #![tactic(auto)]
 
 mod leaving;
-#[cfg(test)]
-mod tests;
 mod trail;
 mod trails;
 mod watch;

@@ -19,8 +19,6 @@ mod front;
 mod judge;
 mod outcome;
 mod scan;
-#[cfg(test)]
-mod tests;
 mod violation;
 
 pub use judge::judge_log;

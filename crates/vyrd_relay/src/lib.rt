@@ -17,8 +17,6 @@ mod relay;
 mod reorder;
 mod rule;
 mod sender;
-#[cfg(test)]
-mod tests;
 
 pub use receiver::Receiver;
 pub use relay::{Full, Relay};

@@ -11,8 +11,6 @@
 mod block;
 pub mod laws;
 mod shadow;
-#[cfg(test)]
-mod tests;
 mod writes;
 
 pub use shadow::Shadow;

@@ -10,7 +10,5 @@ mod holders;
 mod phase;
 mod shape;
 mod stamps;
-#[cfg(test)]
-mod tests;
 
 pub use shape::{Shape, ShapeFault};

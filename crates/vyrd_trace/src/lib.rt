@@ -23,8 +23,6 @@ mod plays;
 mod record;
 mod rule;
 mod steps;
-#[cfg(test)]
-mod tests;
 mod traced;
 
 pub use actions::{Busy, Seen};

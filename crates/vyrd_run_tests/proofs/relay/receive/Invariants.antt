@@ -1,0 +1,5 @@
+use Rattle.std.proofs.Common.{◌≡◌}
+use Rattle.vyrd_run_tests.proofs.relay.receive.Given as goal
+
+abbrev pub invariant-loop : goal.invariant-loop
+invariant-loop g l = l.receiver.queue ≡ l.initial.receiver.queue

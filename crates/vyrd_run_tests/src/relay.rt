@@ -1,0 +1,143 @@
+//! Each public call once with ample memory, with the answers at a full and an empty queue, and two
+//! threads.
+
+ghost use Rattle.std.specs.Prelude.{◌≡◌, ◌+◌, ◌<◌, ◌≤◌, ◌^◌, [], length, IfOk};
+
+use std::alloc::{AllocError, Global};
+use std::sync::Wait;
+use std::test::Fail;
+use std::thread;
+use std::thread::{Threads, join};
+use vyrd_base::{Did, Stamped};
+use vyrd_relay::{Full, Receiver, Relay, Reorder, Sender};
+
+/// An event of caller 0.
+fn event(number: u64) -> Stamped
+    ensures caller { result.caller ≡ 0 }
+    ensures number { result.number ≡ number }
+{
+    Stamped {
+        number,
+        caller: 0,
+        did: Did::Read(1, number),
+    }
+}
+
+/// A relay with one sender.
+fn one(alloc: Global, capacity: u64) -> Result<(Relay, Sender, Receiver), AllocError>
+    requires { (1 ≤ capacity) × (capacity ≤ 65536) }
+    ensures sender { IfOk result
+        (λ r. r.1 ≡ record { queue = r.0.queue; senders = 1; caller = 0; sent = [] }) }
+    ensures receiver { IfOk result (λ r. r.2.queue ≡ r.0.queue) }
+{
+    let (relay, mut senders, receiver) = Relay::new(alloc, capacity, 1)?;
+    let Some(sender) = senders.pop() else {
+        return Err(AllocError);
+    };
+    Ok((relay, sender, receiver))
+}
+
+#[test]
+fn relay_and_reorder(rt: HostRuntime) -> Result<(), Fail> {
+    let (relay, mut sender, mut receiver) = one(rt.alloc(), 1)?;
+    let first = relay.push_next(&rt, &mut sender, event(7));
+    let second = relay.push_next(&rt, &mut sender, event(8));
+    assert!(rt; first == Ok(()) && second == Err(Full));
+    let popped = relay.pop(&rt, &mut receiver);
+    let none = relay.pop(&rt, &mut receiver);
+    assert!(rt; popped == Some(event(7)) && none == None);
+    assert!(rt; relay.settle(&rt, &mut receiver, sender) == 1);
+
+    let mut reorder = Reorder::new(rt.alloc())?;
+    reorder.put(event(1))?;
+    let early = reorder.next_in_order();
+    assert!(rt; early == None && reorder.had(1));
+    if !reorder.had(0) {
+        reorder.put(event(0))?;
+    }
+    let first = reorder.next_in_order();
+    let second = reorder.next_in_order();
+    let third = reorder.next_in_order();
+    assert!(rt; first == Some(event(0)) && second == Some(event(1)) && third == None);
+    assert!(rt; reorder.had(0) && !reorder.had(2));
+    Ok(())
+}
+
+/// Sends that many events, waiting for room.
+fn send_all<R: Wait>(rt: &R, relay: &Relay, sender: Sender, count: u64) -> Sender
+    requires sender { (sender.queue ≡ relay.now.queue) × (sender.caller ≡ 0) × (sender.sent ≡ []) }
+    requires few { count < 2 ^ 32 }
+    ensures { result.queue ≡ relay.now.queue }
+{
+    let mut sender = sender;
+    for number in 0..count {
+        send(rt, relay, &mut sender, number);
+    }
+    sender
+}
+
+/// Sends one event, waiting for room.
+fn send<R: Wait>(rt: &R, relay: &Relay, sender: &mut Sender, number: u64)
+    requires sender { (sender.old.queue ≡ relay.now.queue) × (sender.old.caller ≡ 0) }
+    requires few { length sender.old.sent < 2 ^ 62 }
+    ensures same { (sender.new.queue ≡ sender.old.queue) × (sender.new.caller ≡ sender.old.caller) }
+    ensures one { length sender.new.sent ≡ length sender.old.sent + 1 }
+{
+    for _ in rt.forever() {
+        if relay.push_next(rt, sender, event(number)).is_ok() {
+            return;
+        }
+        thread::yield_now();
+    }
+    unreachable!()
+}
+
+/// Receives that many events, and answers whether their numbers were 0, 1, 2 and so on.
+fn receive_all<R: Wait>(rt: &R, relay: &Relay, receiver: Receiver, count: u64) -> bool
+    requires { receiver.queue ≡ relay.now.queue }
+{
+    let mut receiver = receiver;
+    let mut right = true;
+    for number in 0..count {
+        right = right && receive(rt, relay, &mut receiver) == event(number);
+    }
+    right
+}
+
+/// Receives one event, waiting for it.
+fn receive<R: Wait>(rt: &R, relay: &Relay, receiver: &mut Receiver) -> Stamped
+    requires { receiver.old.queue ≡ relay.now.queue }
+    ensures { receiver.new.queue ≡ receiver.old.queue }
+{
+    for _ in rt.forever() {
+        if let Some(event) = relay.pop(rt, receiver) {
+            return event;
+        }
+        thread::yield_now();
+    }
+    unreachable!()
+}
+
+fn send_and_receive<R: Threads + Wait + Sync>(
+    rt: &R,
+    relay: &Relay,
+    sender: Sender,
+    receiver: Receiver,
+) -> bool
+    requires sender { (sender.queue ≡ relay.now.queue) × (sender.caller ≡ 0) × (sender.sent ≡ []) }
+    requires receiver { receiver.queue ≡ relay.now.queue }
+{
+    join(
+        rt,
+        || send_all(rt, relay, sender, 100_000),
+        || receive_all(rt, relay, receiver, 100_000),
+    )
+    .1
+}
+
+#[test]
+fn two_threads_keep_the_order(rt: HostRuntime) -> Result<(), Fail> {
+    let (relay, sender, receiver) = one(rt.alloc(), 64)?;
+    assert!(rt; send_and_receive(&rt, &relay, sender, receiver));
+    Ok(())
+}
