@@ -1,7 +1,7 @@
 //! Events that come in any order, and are shown to a sink in theirs.
 
-ghost use Rattle.std.specs.Prelude.{◌≡◌, ◌≢◌, ℕ, ◌+◌, ◌<◌, ◌≤◌, ◌^◌, true, false, List, [], ◌∷◌};
-ghost use Rattle.std.specs.Prelude.{◌++◌, None, is_some, Ok, IfOk, OnOk, OnErr};
+ghost use Rattle.std.specs.Prelude.{◌≡◌, ◌≢◌, ◌⊎◌, ℕ, ◌+◌, ◌<◌, ◌≤◌, ◌^◌, true, false, List, []};
+ghost use Rattle.std.specs.Prelude.{◌∷◌, ◌++◌, None, is_some, Ok, IfOk, OnOk, OnErr};
 ghost use Rattle.std.specs.Result.{is_err};
 ghost use Rattle.vyrd_base.specs.declared.history.Stamped.{Stamped};
 ghost use Rattle.vyrd_relay.specs.Numbers.{held, has};
@@ -86,12 +86,17 @@ impl<S: EventSink + Drop> Sequencer<S> {
         }
     }
 
-    /// Takes in an event if that may be done, and answers whether it was: the number has to be
-    /// below 2^62 and new, and there has to be memory.
+    /// Takes in an event if that may be done, and answers whether it was taken in. It wasn't if the
+    /// number is 2^62 or more, or was taken in before, or if there is no memory.
     pub fn try_take_in(&mut self, item: Stamped) -> bool
         ensures taken { (taken : List Stamped) → HasTakenIn S.has_taken self.old taken
             → result ≡ true
             → HasTakenIn S.has_taken self.new (taken ++ item ∷ []) }
+        ensures refused { (taken : List Stamped) → HasTakenIn S.has_taken self.old taken
+            → result ≡ false
+            → HasTakenIn S.has_taken self.new taken }
+        ensures cause { result ≡ false → (2 ^ 62 ≤ item.number)
+            ⊎ (has_number self.old item.number ≡ true) ⊎ (has_failed self.new ≡ true) }
         ensures going { result ≡ true → has_failed self.new ≡ false }
         ensures fixed { result ≡ true → S.fixed self.new.sink ≡ S.fixed self.old.sink }
     {
