@@ -42,8 +42,8 @@ abbrev pub HavePlayed : Header → ℕ → List Script → List Stamped → Opti
 HavePlayed h limit scripts history None = PlayToTheEnd scripts history × AllHadRoom h limit history
 HavePlayed h limit scripts history (Some caller) = IsOverrun h limit scripts caller history
 
--- What a live run of these scripts leaves: there is one legal history, which the sink has taken, and
--- these are the words at its end.
+-- What a live run of these scripts leaves: there is one legal history, which the sink has taken,
+-- and these are the words at its end.
 pub record LeavesRun {S : Type 0} (h : Header) (limit : ℕ) (scripts : List Script)
     (has_taken : S → List Stamped → Type 0) (sink : S) (words : List ℕ)
     (spent : Option ℕ) : Type 0 where

@@ -2,12 +2,12 @@
 
 use std::sync::atomic::{AtomicBool, AtomicU64, Ordering};
 
-/// A caller waits with its next operation while its last event is this many numbers or more ahead of
-/// the events that the sink has taken. So few are held at a time for the order's sake.
+/// A caller waits with its next operation while its last event is this many numbers or more ahead
+/// of the events that the sink has taken. So few are held at a time for the order's sake.
 const AHEAD: u64 = 4096;
 
-/// The callers are told how far the sink has come each time that it has taken this many events more.
-/// What is told more often is read more often.
+/// The callers are told how far the sink has come each time that it has taken this many events
+/// more. What is told more often is read more often.
 const TOLD: u64 = 64;
 
 /// Three flags, each of which may be raised once, and how far the sink has come.
@@ -40,8 +40,8 @@ impl Signals {
         self.begun.load(Ordering::SeqCst)
     }
 
-    /// A worker has ended and leaves events that are sent after the joins. Until then the sink can't
-    /// come past them, and nobody must wait for it.
+    /// A worker has ended and leaves events that are sent after the joins. Until then the sink
+    /// can't come past them, and nobody must wait for it.
     pub(crate) fn leave(&self) {
         self.left.store(true, Ordering::SeqCst);
     }

@@ -61,10 +61,10 @@ impl<M: Machine> Worker<M> {
     /// Plays the machine until all of its operations are done, or until the next one has no room.
     ///
     /// It asks the gate before each event. Before an operation it makes room for all of the
-    /// operation's events, so that it stops only between operations. While it waits it sends what the
-    /// relay has room for. After an operation it waits until all is sent, as long as the events are
-    /// taken in beside it, and lets go of them. It may wait forever: for the gate, for a lock that
-    /// nobody gives back, or for room in the relay.
+    /// operation's events, so that it stops only between operations. While it waits it sends what
+    /// the relay has room for. After an operation it waits until all is sent, as long as the events
+    /// are taken in beside it, and lets go of them. It may wait forever: for the gate, for a lock
+    /// that nobody gives back, or for room in the relay.
     pub(crate) fn work<R: Wait, G: Gate>(
         self,
         rt: &R,

@@ -1,5 +1,5 @@
--- Machines in the middle of a run by turns, with the plain memory that they have so far and the sink
--- that takes their events.
+-- Machines in the middle of a run by turns, with the plain memory that they have so far and the
+-- sink that takes their events.
 use Rattle.std.specs.Prelude.{◌≡◌, ℕ, List, length}
 use Rattle.vyrd_base.specs.declared.header.Header.{Header}
 use Rattle.vyrd_base.specs.declared.history.Stamped.{Stamped}
@@ -18,8 +18,8 @@ pub record Stage (M S : Type 0) : Type 0 where
 abbrev pub stage : {M S : Type 0} → List M → List ℕ → S → Stage M S
 stage machines words sink = record { machines = machines; words = words; sink = sink }
 
--- between two moments, the first of them after this history, these callers have had their turns, and
--- the sink has taken their events
+-- between two moments, the first of them after this history, these callers have had their turns,
+-- and the sink has taken their events
 pub record IsShown {M S : Type 0} (h : Header) (header_of : M → Header) (script : M → Script)
     (has_taken : S → List Stamped → Type 0) (callers : List ℕ) (before now : Stage M S)
     (history : List Stamped) : Type 0 where

@@ -37,8 +37,8 @@ stuck_line = codes "stuck\n"
 abbrev pub NamesOnlyRaces : Verdict → Type 0
 NamesOnlyRaces v = (line : ℕ) (rule : Rule) → v ≡ Malformed line rule → rule ≡ BlockRaced
 
--- The run by turns of the workload ends with this history, and this is the verdict about its log. If
--- it names a rule, it is that of raced blocks.
+-- The run by turns of the workload ends with this history, and this is the verdict about its log.
+-- If it names a rule, it is that of raced blocks.
 pub record IsTurnedTo (w : Workload) (history : List Stamped) (v : Verdict) : Type 0 where
   pub runs : RunsTo (work_scripts w) w.turns history
   pub verdict_is : v ≡ verdict w.header [] (log_of history)

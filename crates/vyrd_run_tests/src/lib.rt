@@ -1,8 +1,8 @@
 //! Tests of the public calls of the crates that play a workload, a module for each.
 //!
 //! They show what no clause says: worked cases as tables, the acts of each operation one by one,
-//! each call on its happy path. They stand in a crate of their own since a crate is proved once more
-//! with its tests.
+//! each call on its happy path. They stand in a crate of their own since a crate is proved once
+//! more with its tests.
 #![tactic(auto)]
 
 #[cfg(test)]
@@ -21,5 +21,7 @@ mod relay;
 mod trace;
 #[cfg(test)]
 mod tree;
+#[cfg(test)]
+mod verifier;
 #[cfg(test)]
 mod work;

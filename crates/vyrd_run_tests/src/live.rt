@@ -1,7 +1,6 @@
-//! Live runs of small workloads, with gates that hold callers in the middle of their work, and a
-//! verifier by itself.
+//! Live runs of small workloads, with gates that hold callers in the middle of their work.
 
-ghost use Rattle.std.specs.Prelude.{◌≡◌, ◌<◌, ◌≤◌, ◌^◌};
+ghost use Rattle.std.specs.Prelude.{◌≤◌};
 ghost use Rattle.vyrd_trace.specs.Hands.{most_events};
 
 use std::alloc::{AllocError, Global};
@@ -9,9 +8,8 @@ use std::sync::Wait;
 use std::sync::atomic::{AtomicBool, AtomicU64, Ordering};
 use std::test::Fail;
 use std::thread::Threads;
-use vyrd_base::{Args, Did, Gate, Header, Kind, Method, OpenGate, Stamped, Subject, Verdict, Why};
+use vyrd_base::{Gate, OpenGate, Verdict, Why};
 use vyrd_live::{LiveFault, Run, run_live};
-use vyrd_verifier::Verifier;
 use vyrd_work::read_work;
 
 /// How often a gate is asked, or looks for another caller, before it gives up.
@@ -262,59 +260,5 @@ fn verifier_beside_the_worker(rt: HostRuntime) -> Result<(), Fail> {
     };
     assert_eq!(rt; run.verdict, accepted);
     assert!(rt; !gate.gave_up.load(Ordering::SeqCst));
-    Ok(())
-}
-
-/// A mark of caller 0.
-fn marked(number: u64, kind: Kind) -> Stamped
-    ensures { result.number ≡ number }
-{
-    Stamped {
-        number,
-        caller: 0,
-        did: Did::Marked(kind),
-    }
-}
-
-/// Takes in an event, if none with its number was taken in.
-fn take_new(verifier: &mut Verifier, event: Stamped) -> Result<Option<Verdict>, AllocError>
-    requires { event.number < 2 ^ 62 }
-{
-    if verifier.had(event.number) {
-        return Ok(None);
-    }
-    verifier.take_in(event)
-}
-
-/// A delete of a key that isn't there replies 1. Its events are taken in last first, and this is
-/// answered after each of them.
-fn answers_backwards(
-    verifier: &mut Verifier,
-) -> Result<(Option<Verdict>, Option<Verdict>, Option<Verdict>), AllocError> {
-    let five = Args { a: 5, b: 0, c: 0 };
-    let reply = take_new(verifier, marked(2, Kind::Return(1)))?;
-    let commit = take_new(verifier, marked(1, Kind::Commit))?;
-    let call = take_new(verifier, marked(0, Kind::Call(Method::MsDelete, five)))?;
-    Ok((reply, commit, call))
-}
-
-#[test]
-fn events_taken_in_backwards(rt: HostRuntime) -> Result<(), Fail> {
-    let Some(header) = Header::new(1, Subject::Multiset, 1, 1) else {
-        panic!(rt; "no header")
-    };
-    let refused = Verdict::Violation {
-        line: 3,
-        why: Why::Reply(1),
-    };
-    let mut verifier = Verifier::new(rt.alloc(), header)?;
-    let Ok((reply, commit, call)) = answers_backwards(&mut verifier) else {
-        panic!(rt; "no memory")
-    };
-    assert_eq!(rt; reply, None);
-    assert_eq!(rt; commit, None);
-    assert_eq!(rt; call, Some(refused));
-    assert_eq!(rt; verifier.finish()?, refused);
-    assert!(rt; verifier.had(2) && !verifier.had(3));
     Ok(())
 }
