@@ -1,6 +1,8 @@
 //! Why the logs of a batch weren't found.
 
 use std::alloc::AllocError;
+use std::error::Error;
+use std::fmt;
 
 /// Why the logs of a batch weren't found.
 #[derive(Clone, Copy, Debug, PartialEq, Eq)]
@@ -11,6 +13,19 @@ pub enum BatchFault {
     /// There was no memory for the spans.
     Memory,
 }
+
+impl fmt::Display for BatchFault {
+    fn fmt<W: fmt::Write>(&self, f: &mut fmt::Formatter<W>) -> fmt::Result {
+        match self {
+            BatchFault::Refused { log } => {
+                write!(f, "after {log} logs stands neither a log nor the end")
+            }
+            BatchFault::Memory => write!(f, "out of memory"),
+        }
+    }
+}
+
+impl Error for BatchFault {}
 
 impl From<AllocError> for BatchFault {
     ghost use Rattle.std.specs.Prelude.{◌≡◌};

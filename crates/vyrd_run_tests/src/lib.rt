@@ -10,6 +10,8 @@ mod buffers;
 #[cfg(test)]
 mod cache;
 #[cfg(test)]
+mod errors;
+#[cfg(test)]
 mod live;
 #[cfg(test)]
 mod memory;
