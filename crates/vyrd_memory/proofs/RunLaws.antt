@@ -147,7 +147,7 @@ runs_to h header_of script turns a b c start none first rest done =
       end.words_are,
     )
 
-pub gets_stuck : {M : Type 0} (h : Header) (header_of : M → Header) (script : M → Script) (turns : List Turn) (a b c : Scene M)
+gets_stuck : {M : Type 0} (h : Header) (header_of : M → Header) (script : M → Script) (turns : List Turn) (a b c : Scene M)
     → IsPlaying h script (map script a.machines) a.machines a.words a.history → a.history ≡ [] → HasPlayed h header_of script (turns_of turns) a b
     → HaveComeToRest h header_of script b c → list_all (λ m. is_done (next_act (script m))) c.machines ≡ false
     → GetsStuck (map script a.machines) turns
@@ -177,8 +177,7 @@ stuck_there h header_of script turns a b c start none first rest undone =
     let end = rest.played.plays scripts (first.plays scripts start) in
     let stuck = gets_stuck h header_of script turns a b c start none first rest undone in
     record {
-      rounds = stuck.rounds;
-      stuck = stuck.stuck;
+      stuck = stuck;
       left = λ i m is. end.left i m is
           ∙ ap (λ earlier. left_after (script_of scripts i) (part_of i earlier)) (history_is h header_of script turns a b c start none first rest);
     }

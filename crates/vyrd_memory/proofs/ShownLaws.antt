@@ -8,12 +8,12 @@ use Rattle.vyrd_base.specs.Places.{numbers_below}
 use Rattle.vyrd_memory.specs.declared.op.Turn.{Turn}
 use Rattle.vyrd_memory.specs.Scripts.{Script, next_act}
 use Rattle.vyrd_memory.specs.Bounds.{most_ahead}
-use Rattle.vyrd_memory.specs.Turns.{turns_of, is_done, GetsStuck}
+use Rattle.vyrd_memory.specs.Turns.{turns_of, is_done}
 use Rattle.vyrd_memory.specs.StuckThere.{AreStuckThere}
 use Rattle.vyrd_memory.specs.Playing.{rounds_over, scene, total, IsPlaying}
 use Rattle.vyrd_memory.specs.Showing.{Stage, HasShown, ComesToRest, HasRun}
 use Rattle.vyrd_memory.proofs.PlayedLaws.{played_more, rounds_more, come_to_rest}
-use Rattle.vyrd_memory.proofs.RunLaws.{runs_to, gets_stuck, stuck_there}
+use Rattle.vyrd_memory.proofs.RunLaws.{runs_to, stuck_there}
 
 -- further turns
 pub shown_more : {M S : Type 0} (h : Header) (header_of : M → Header) (script : M → Script) (has_taken : S → List Stamped → Type 0)
@@ -84,19 +84,6 @@ has_run h header_of script has_taken turns a b c start none first rest done =
     let run = runs_to h header_of script turns (scene a.machines a.words []) (scene b.machines b.words before.later)
     (scene c.machines c.words now.later) start refl before.played now.rest done in
     record { history = now.later; taken = now.taken; runs = run.0; words_are = run.1 }
-
-pub is_stuck : {M S : Type 0} (h : Header) (header_of : M → Header) (script : M → Script) (has_taken : S → List Stamped → Type 0)
-    (turns : List Turn) (a b c : Stage M S)
-    → IsPlaying h script (map script a.machines) a.machines a.words [] → has_taken a.sink []
-    → HasShown h header_of script has_taken (turns_of turns) a b
-    → ((history : List Stamped) → has_taken b.sink history → ComesToRest h header_of script has_taken b c history)
-    → list_all (λ m. is_done (next_act (script m))) c.machines ≡ false
-    → GetsStuck (map script a.machines) turns
-is_stuck h header_of script has_taken turns a b c start none first rest undone =
-    let before = first.shown [] none in
-    let now = rest before.later before.taken in
-    gets_stuck h header_of script turns (scene a.machines a.words []) (scene b.machines b.words before.later)
-    (scene c.machines c.words now.later) start refl before.played now.rest undone
 
 pub are_stuck_there : {M S : Type 0} (h : Header) (header_of : M → Header) (script : M → Script) (has_taken : S → List Stamped → Type 0)
     (turns : List Turn) (a b c : Stage M S)

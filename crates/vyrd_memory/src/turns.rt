@@ -1,13 +1,13 @@
 //! The run by turns: machines over plain memory, one event at a time.
 
-ghost use Rattle.std.specs.Prelude.{◌≡◌, ◌<◌, ◌≤◌, ◌+◌, ◌^◌, true, false, IfOk, MatchOption, Ok, Err};
-ghost use Rattle.std.specs.Prelude.{All, [], ◌∷◌, ℕ, List, length, vec_len, map, replicate, Some};
+ghost use Rattle.std.specs.Prelude.{◌≡◌, ◌<◌, ◌≤◌, ◌+◌, ◌^◌, true, false, MatchOption, IfOk};
+ghost use Rattle.std.specs.Prelude.{All, [], ◌∷◌, ℕ, List, length, vec_len, map, replicate, Ok, Err, IfSome};
 ghost use Rattle.std.specs.List.{list_all};
 ghost use Rattle.vyrd_base.specs.Places.{newest_first, numbers_below};
 ghost use Rattle.vyrd_base.specs.Layout.{plain_words, lock_words};
 ghost use Rattle.vyrd_memory.specs.declared.turns.StepFault.TheVariants.{Stuck};
 ghost use Rattle.vyrd_memory.specs.Scripts.{next_act, answer_of};
-ghost use Rattle.vyrd_memory.specs.Turns.{turns_of, is_done, RunsTo, GetsStuck};
+ghost use Rattle.vyrd_memory.specs.Turns.{turns_of, is_done, RunsTo};
 ghost use Rattle.vyrd_memory.specs.StuckThere.{AreStuckThere};
 ghost use Rattle.vyrd_base.specs.declared.history.Stamped.{Stamped};
 ghost use Rattle.vyrd_memory.specs.Playing.{event_in, words_after_event, IsWithin, IsReady};
@@ -257,11 +257,10 @@ fn play<M: Machine, S: EventSink>(
     requires turns { All (λ turn. turn.caller < header.now.callers) turns.now }
     requires none { S.has_taken sink.old [] }
     ensures runs { IfOk result (λ words. MatchOption words
-        (GetsStuck (map M.script machines.old) turns.now)
+        (AreStuckThere M.script (map M.script machines.old) turns.now machines.new)
         (λ w. HasRun (map M.script machines.old) turns.now header.now S.has_taken sink.new
         w.items)) }
-    ensures left { IfOk result (λ words. MatchOption words
-        (AreStuckThere M.script (map M.script machines.old) turns.now machines.new)
+    ensures done { IfOk result (λ words. IfSome words
         (λ _. list_all (λ m. is_done (next_act (M.script m))) machines.new ≡ true)) }
     ensures fixed { IfOk result (λ _. S.fixed sink.new ≡ S.fixed sink.old) }
 {
@@ -300,8 +299,7 @@ pub fn show_turns<M: Machine, S: EventSink>(
     ensures fixed { IfOk result (λ _. S.fixed sink.new ≡ S.fixed sink.old) }
     ensures done { IfOk result
         (λ _. list_all (λ m. is_done (next_act (M.script m))) machines.new ≡ true) }
-    ensures stuck { result ≡ Err Stuck → GetsStuck (map M.script machines.old) turns.now }
-    ensures stuck_there { result ≡ Err Stuck
+    ensures stuck { result ≡ Err Stuck
         → AreStuckThere M.script (map M.script machines.old) turns.now machines.new }
 {
     match play(alloc, &header, machines, turns, sink) {
@@ -328,8 +326,7 @@ pub fn run_turns<M: Machine>(
         (λ ran. ran.words.items ≡ memory_after header (newest_first ran.history.items)) }
     ensures done { IfOk result
         (λ _. list_all (λ m. is_done (next_act (M.script m))) machines.new ≡ true) }
-    ensures stuck { result ≡ Err Stuck → GetsStuck (map M.script machines.old) turns.now }
-    ensures stuck_there { result ≡ Err Stuck
+    ensures stuck { result ≡ Err Stuck
         → AreStuckThere M.script (map M.script machines.old) turns.now machines.new }
 {
     let mut history = Vec::new(alloc);

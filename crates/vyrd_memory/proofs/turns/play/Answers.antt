@@ -4,7 +4,7 @@ use Rattle.vyrd_memory.specs.Bounds.{most_ahead}
 use Rattle.vyrd_memory.specs.Playing.{total}
 use Rattle.vyrd_memory.specs.Showing.{stage}
 use Rattle.vyrd_memory.proofs.RunLaws.{ready_start, playing_start}
-use Rattle.vyrd_memory.proofs.ShownLaws.{has_run, is_stuck, are_stuck_there, total_few}
+use Rattle.vyrd_memory.proofs.ShownLaws.{has_run, are_stuck_there, total_few}
 use Rattle.vyrd_memory.proofs.turns.play.Goals as goal
 
 pub repeat_all-requires-clause-ready : goal.repeat_all-requires-clause-ready
@@ -37,23 +37,18 @@ returns-then-are_done g c = record {
       (stage c.play_rounds.new.machines c.play_rounds.new.words.items c.play_rounds.new.sink)
       (playing_start c.args.header.now g.M.Machine.script c.args.machines.now c.in_ok-words.words.items [] refl c.in_ok-words.ensures)
       c.requires.none c.in_ok-repeat_all.ensures.shown c.in_ok-play_rounds.ensures.rest (sym c.are_done.ensures ∙ c.if-are_done.true);
-  left = sym c.are_done.ensures ∙ c.if-are_done.true;
+  done = sym c.are_done.ensures ∙ c.if-are_done.true;
   fixed = c.in_ok-play_rounds.ensures.fixed ∙ c.in_ok-repeat_all.ensures.fixed;
 }
 
 pub returns-else-are_done : goal.returns-else-are_done
 returns-else-are_done g c = record {
-  runs = is_stuck c.args.header.now g.M.Machine.header_of g.M.Machine.script g.S.EventSink.has_taken c.args.turns.now
+  runs = are_stuck_there c.args.header.now g.M.Machine.header_of g.M.Machine.script g.S.EventSink.has_taken c.args.turns.now
       (stage c.args.machines.now c.in_ok-words.words.items c.args.sink.now)
       (stage c.repeat_all.new.machines c.repeat_all.new.words.items c.repeat_all.new.sink)
       (stage c.play_rounds.new.machines c.play_rounds.new.words.items c.play_rounds.new.sink)
       (playing_start c.args.header.now g.M.Machine.script c.args.machines.now c.in_ok-words.words.items [] refl c.in_ok-words.ensures)
       c.requires.none c.in_ok-repeat_all.ensures.shown c.in_ok-play_rounds.ensures.rest (sym c.are_done.ensures ∙ c.if-are_done.false);
-  left = are_stuck_there c.args.header.now g.M.Machine.header_of g.M.Machine.script g.S.EventSink.has_taken c.args.turns.now
-      (stage c.args.machines.now c.in_ok-words.words.items c.args.sink.now)
-      (stage c.repeat_all.new.machines c.repeat_all.new.words.items c.repeat_all.new.sink)
-      (stage c.play_rounds.new.machines c.play_rounds.new.words.items c.play_rounds.new.sink)
-      (playing_start c.args.header.now g.M.Machine.script c.args.machines.now c.in_ok-words.words.items [] refl c.in_ok-words.ensures)
-      c.requires.none c.in_ok-repeat_all.ensures.shown c.in_ok-play_rounds.ensures.rest (sym c.are_done.ensures ∙ c.if-are_done.false);
+  done = tt;
   fixed = c.in_ok-play_rounds.ensures.fixed ∙ c.in_ok-repeat_all.ensures.fixed;
 }
