@@ -4,7 +4,7 @@ use Rattle.vyrd_base.specs.declared.history.Stamped.{Stamped}
 use Rattle.vyrd_relay.specs.Ends.{ReceiverView, with_popped}
 use Rattle.vyrd_verifier.specs.Taken.{SequencerView, has_failed, HasTakenIn}
 use Rattle.vyrd_live.specs.declared.watch.Watch.{Watch}
-use Rattle.vyrd_live.specs.Beside.{HasWatched, StaysFixed, GoesOn}
+use Rattle.vyrd_live.specs.Beside.{HasWatched, StaysFixed, TakesIn, GoesOn}
 
 module _ {S F : Type 0} (has_taken : S → List Stamped → Type 0) (fixed : S → F) where
   -- nothing came
@@ -16,11 +16,13 @@ module _ {S F : Type 0} (has_taken : S → List Stamped → Type 0) (fixed : S �
       senders = ap (λ (r : ReceiverView). r.senders) receiver;
       settled = ap (λ (r : ReceiverView). r.settled) receiver;
     };
-    watched = λ before now.
-        let b = before (sym stands ∙ now) in
-        subst (λ (x : SequencerView S × List Stamped). (has_failed x.0 ≡ false) × HasTakenIn has_taken x.0 x.1)
-        (λ i. (sym sequencer i, sym (ap (λ (r : ReceiverView). r.had) receiver) i)) b;
-    fixed_is = λ now. (sym stands ∙ now, ap (λ (q : SequencerView S). fixed q.sink) sequencer);
+    takes_in = record {
+      watched = λ before now.
+          let b = before (sym stands ∙ now) in
+          subst (λ (x : SequencerView S × List Stamped). (has_failed x.0 ≡ false) × HasTakenIn has_taken x.0 x.1)
+          (λ i. (sym sequencer i, sym (ap (λ (r : ReceiverView). r.had) receiver) i)) b;
+      fixed_is = λ now. (sym stands ∙ now, ap (λ (q : SequencerView S). fixed q.sink) sequencer);
+    };
   }
 
   -- one event came, and was taken in
@@ -33,11 +35,20 @@ module _ {S F : Type 0} (has_taken : S → List Stamped → Type 0) (fixed : S �
       senders = ap (λ (r : ReceiverView). r.senders) receiver;
       settled = ap (λ (r : ReceiverView). r.settled) receiver;
     };
-    watched = λ before. subst (HasWatched has_taken after) (sym (ap (λ (r : ReceiverView). r.had) receiver)) (watched before);
-    fixed_is = fixed_is;
+    takes_in = record {
+      watched = λ before. subst (HasWatched has_taken after) (sym (ap (λ (r : ReceiverView). r.had) receiver)) (watched before);
+      fixed_is = fixed_is;
+    };
   }
 
   -- one step after another
+  pub takes_in_then : (first next last : Watch S F) → TakesIn has_taken fixed first next → TakesIn has_taken fixed next last
+      → TakesIn has_taken fixed first last
+  takes_in_then first next last a b = record {
+    watched = λ before. b.watched (a.watched before);
+    fixed_is = λ now. let y = b.fixed_is now in let x = a.fixed_is y.0 in (x.0, y.1 ∙ x.1);
+  }
+
   pub goes_on_then : (first next last : Watch S F) → GoesOn has_taken fixed first next → GoesOn has_taken fixed next last
       → GoesOn has_taken fixed first last
   goes_on_then first next last a b = record {
@@ -46,6 +57,5 @@ module _ {S F : Type 0} (has_taken : S → List Stamped → Type 0) (fixed : S �
       senders = b.same.senders ∙ a.same.senders;
       settled = b.same.settled ∙ a.same.settled;
     };
-    watched = λ before. b.watched (a.watched before);
-    fixed_is = λ now. let y = b.fixed_is now in let x = a.fixed_is y.0 in (x.0, y.1 ∙ x.1);
+    takes_in = takes_in_then first next last a.takes_in b.takes_in;
   }

@@ -27,14 +27,19 @@ pub record IsSameReceiver (before after : ReceiverView) : Type 0 where
   pub senders : after.senders ≡ before.senders
   pub settled : after.settled ≡ before.settled
 
--- From one moment to a later one the receiver is the same, what came meanwhile was taken in, and
--- what no event changes of the sink stays.
-pub record GoesOn {S F : Type 0} (has_taken : S → List Stamped → Type 0) (fixed : S → F)
+-- from one moment to a later one what came was taken in, and what no event changes of the sink
+-- stays
+pub record TakesIn {S F : Type 0} (has_taken : S → List Stamped → Type 0) (fixed : S → F)
     (before after : Watch S F) : Type 0 where
-  pub same : IsSameReceiver before.receiver after.receiver
   pub watched : HasWatched has_taken before before.receiver.had
       → HasWatched has_taken after after.receiver.had
   pub fixed_is : StaysFixed fixed before after
+
+-- what came was taken in, and the receiver is the same
+pub record GoesOn {S F : Type 0} (has_taken : S → List Stamped → Type 0) (fixed : S → F)
+    (before after : Watch S F) : Type 0 where
+  pub same : IsSameReceiver before.receiver after.receiver
+  pub takes_in : TakesIn has_taken fixed before after
 
 -- all that the receiver had is of the senders of its relay
 abbrev pub AreOfSenders : ReceiverView → Type 0

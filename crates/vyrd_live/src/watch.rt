@@ -1,11 +1,13 @@
 //! The end of the relay, where the events of a live run are put in order.
 
-ghost use Rattle.std.specs.Prelude.{◌≡◌, true, false, List, [], ◌∷◌, ◌++◌, IfOk, IfSome};
+ghost use Rattle.std.specs.Prelude.{◌≡◌, ◌⊎◌, ◌≤◌, ◌-◌, ◌^◌, true, false, List, [], ◌∷◌, ◌++◌};
+ghost use Rattle.std.specs.Prelude.{IfOk, IfSome, IfNone};
 ghost use Rattle.std.specs.List.{All};
 ghost use Rattle.vyrd_base.specs.declared.history.Stamped.{Stamped};
-ghost use Rattle.vyrd_relay.specs.Ends.{HasAll};
-ghost use Rattle.vyrd_live.specs.Beside.{HasWatched, StaysFixed, GoesOn, AreOfSenders};
-ghost use Rattle.vyrd_live.specs.Beside.{lanes_sent, HasShownInOrder};
+ghost use Rattle.vyrd_relay.specs.Ends.{with_popped, HasAll, WasEmpty};
+ghost use Rattle.vyrd_verifier.specs.Taken.{has_failed, has_number};
+ghost use Rattle.vyrd_live.specs.Beside.{HasWatched, StaysFixed, TakesIn, GoesOn};
+ghost use Rattle.vyrd_live.specs.Beside.{AreOfSenders, lanes_sent, HasShownInOrder};
 
 use crate::outbox::Outbox;
 use crate::signals::Signals;
@@ -43,6 +45,8 @@ impl<S: EventSink + Drop> Watch<S> {
         ensures receiver { IfOk result (λ w. w.receiver ≡ receiver) }
         ensures watched { IfOk result (λ w. HasWatched S.has_taken w w.receiver.had) }
         ensures sink { IfOk result (λ w. w.sequencer.sink ≡ sink) }
+        ensures begun { IfOk result
+            (λ w. (w.stands ≡ true) × (w.taken ≡ 0) × (w.callers ≡ callers)) }
     {
         let sequencer = Sequencer::new(alloc, sink)?;
         Ok(Watch {
@@ -99,6 +103,9 @@ impl<S: EventSink + Drop> Watch<S> {
     ) -> bool
         requires { self.old.receiver.queue ≡ relay.now.queue }
         ensures goes_on { GoesOn S.has_taken S.fixed self.old self.new }
+        ensures one { result ≡ true → (event : Stamped)
+            × (self.new.receiver ≡ with_popped self.old.receiver event) }
+        ensures none { result ≡ false → WasEmpty self.old.receiver }
     {
         let Some(event) = relay.pop(rt, &mut self.receiver) else {
             return false;
@@ -115,6 +122,9 @@ impl<S: EventSink + Drop> Watch<S> {
     pub(crate) fn take_next<R: Wait>(&mut self, rt: &R, relay: &Relay) -> bool
         requires { self.old.receiver.queue ≡ relay.now.queue }
         ensures goes_on { GoesOn S.has_taken S.fixed self.old self.new }
+        ensures one { result ≡ true → (event : Stamped)
+            × (self.new.receiver ≡ with_popped self.old.receiver event) }
+        ensures none { result ≡ false → WasEmpty self.old.receiver }
         ensures all { result ≡ false
             → All (HasAll self.new.receiver.had) self.new.receiver.settled }
         ensures theirs { result ≡ false → AreOfSenders self.new.receiver }
@@ -132,6 +142,10 @@ impl<S: EventSink + Drop> Watch<S> {
         ensures watched { (taken : List Stamped) → HasWatched S.has_taken self.old taken
             → HasWatched S.has_taken self.new (taken ++ event ∷ []) }
         ensures fixed { StaysFixed S.fixed self.old self.new }
+        ensures set_aside { self.old.stands ≡ true → self.new.stands ≡ false
+            → (2 ^ 62 ≤ event.number) ⊎ (has_number self.old.sequencer event.number ≡ true)
+            ⊎ (has_failed self.new.sequencer ≡ true) }
+        ensures callers { self.new.callers ≡ self.old.callers }
     {
         if self.stands {
             self.stands = self.sequencer.try_take_in(event);
@@ -140,7 +154,10 @@ impl<S: EventSink + Drop> Watch<S> {
     }
 
     /// The least number that the sink wants and hasn't taken: none, if it was set aside.
-    fn next(&self) -> u64 {
+    fn next(&self) -> u64
+        ensures wanted { self.now.stands ≡ true → result ≡ self.now.sequencer.kept.next }
+        ensures set_aside { self.now.stands ≡ false → result ≡ 2 ^ 64 - 1 }
+    {
         if self.stands {
             self.sequencer.next()
         } else {
@@ -174,9 +191,7 @@ impl<S: EventSink + Drop> Watch<S> {
         requires senders { All (λ o. o.sender.queue ≡ relay.now.queue) outboxes.items }
         ensures senders { self.new.receiver.senders ≡ self.old.receiver.senders }
         ensures all { All (HasAll self.new.receiver.had) (lanes_sent outboxes.items) }
-        ensures watched { HasWatched S.has_taken self.old self.old.receiver.had
-            → HasWatched S.has_taken self.new self.new.receiver.had }
-        ensures fixed { StaysFixed S.fixed self.old self.new }
+        ensures takes_in { TakesIn S.has_taken S.fixed self.old self.new }
         ensures theirs { AreOfSenders self.new.receiver }
     {
         self.settle(rt, relay, outboxes);
@@ -195,6 +210,7 @@ impl<S: EventSink + Drop> Watch<S> {
             → IfSome result (λ sink. HasShownInOrder S.has_taken sink taken) }
         ensures sink { IfSome result (λ sink. sink ≡ self.sequencer.sink) }
         ensures stands { IfSome result (λ _. self.stands ≡ true) }
+        ensures set_aside { IfNone result (self.stands ≡ false) }
     {
         let Watch {
             sequencer,

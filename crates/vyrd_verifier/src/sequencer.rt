@@ -97,6 +97,8 @@ impl<S: EventSink + Drop> Sequencer<S> {
             → HasTakenIn S.has_taken self.new taken }
         ensures cause { result ≡ false → (2 ^ 62 ≤ item.number)
             ⊎ (has_number self.old item.number ≡ true) ⊎ (has_failed self.new ≡ true) }
+        ensures new { result ≡ true
+            → (item.number < 2 ^ 62) × (has_number self.old item.number ≡ false) }
         ensures going { result ≡ true → has_failed self.new ≡ false }
         ensures fixed { result ≡ true → S.fixed self.new.sink ≡ S.fixed self.old.sink }
     {

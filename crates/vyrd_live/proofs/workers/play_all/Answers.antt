@@ -85,7 +85,8 @@ returns-clause-played g c =
     ∙ ap (λ (r : ReceiverView). r.senders) (c.in_ok-watch.ensures.receiver ∙ c.in_ok-relay.ensures.receiver)
     ∙ c.callers.ensures ∙ sym (ap (λ (p : Plan). p.callers) plan) in
     let theirs = subst (λ n. All (λ (e : Stamped). e.caller < n) had) senders c.take_rest.ensures.theirs in
-    let watched = c.take_rest.ensures.watched (c.in_ok-stopped.ensures.goes_on.watched (c.in_ok-done.ensures.goes_on.watched c.in_ok-watch.ensures.watched)) in
+    let watched = c.take_rest.ensures.takes_in.watched
+    (c.in_ok-stopped.ensures.goes_on.takes_in.watched (c.in_ok-done.ensures.goes_on.takes_in.watched c.in_ok-watch.ensures.watched)) in
     record {
       history = h.history;
       taken = all_shown has_taken (cells_in c.args.traced.plan) c.in-Some.sink had h.history h.legal

@@ -6,3 +6,6 @@ pub returns-clause-goes_on : goal.returns-clause-goes_on
 returns-clause-goes_on g c =
     goes_on_with g.S.EventSink.has_taken g.S.EventSink.fixed _ _ c.in-Some.event (c.take_in.ensures.same ∙ c.in-Some.ensures.item)
     (c.take_in.ensures.watched c.args.self.now.receiver.had) c.take_in.ensures.fixed
+
+pub returns-clause-one : goal.returns-clause-one
+returns-clause-one g c = λ _. (c.in-Some.event, c.take_in.ensures.same ∙ c.in-Some.ensures.item)

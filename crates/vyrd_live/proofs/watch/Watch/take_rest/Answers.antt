@@ -1,4 +1,5 @@
 use Rattle.std.proofs.Common.{◌∙◌}
+use Rattle.vyrd_live.proofs.BesideLaws.{takes_in_then}
 use Rattle.vyrd_live.proofs.watch.Watch.take_rest.Goals as goal
 
 pub loop-preserved : goal.loop-preserved
@@ -8,6 +9,5 @@ loop-preserved g c =
       queue = t.same.queue ∙ inv.queue;
       senders = t.same.senders ∙ inv.senders;
       settled = t.same.settled ∙ inv.settled;
-      watched = λ before. t.watched (inv.watched before);
-      fixed = λ now. let b = t.fixed_is now in let a = inv.fixed b.0 in (a.0, b.1 ∙ a.1);
+      takes_in = takes_in_then g.S.EventSink.has_taken g.S.EventSink.fixed _ _ _ inv.takes_in t.takes_in;
     }

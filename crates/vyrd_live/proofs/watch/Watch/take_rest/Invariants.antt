@@ -1,5 +1,5 @@
 use Rattle.std.proofs.Common.{◌≡◌}
-use Rattle.vyrd_live.specs.Beside.{HasWatched, StaysFixed, lanes_sent}
+use Rattle.vyrd_live.specs.Beside.{TakesIn, lanes_sent}
 use Rattle.vyrd_live.proofs.watch.Watch.take_rest.Given as goal
 
 abbrev pub invariant-loop : goal.invariant-loop
@@ -7,6 +7,5 @@ invariant-loop g l = record {
   queue : l.self.receiver.queue ≡ l.relay.queue;
   senders : l.self.receiver.senders ≡ l.fn.self.receiver.senders;
   settled : l.self.receiver.settled ≡ lanes_sent l.fn.outboxes.items;
-  watched : HasWatched g.S.EventSink.has_taken l.fn.self l.fn.self.receiver.had → HasWatched g.S.EventSink.has_taken l.self l.self.receiver.had;
-  fixed : StaysFixed g.S.EventSink.fixed l.fn.self l.self;
+  takes_in : TakesIn g.S.EventSink.has_taken g.S.EventSink.fixed l.fn.self l.self;
 }
