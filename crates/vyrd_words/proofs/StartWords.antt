@@ -75,13 +75,13 @@ start_few h (s ∷ starting) may =
     let rest = rising h s starting first.0.word (second_true (not (is_out_of_range h s || false)) (do_follow h (Some s) starting) follows) in
     omega (arith, rest)
 
-few_words : (subject : Subject) (size : ℕ) → size ≤ 1024 → plain_words_of subject size < 2 ^ 32
+few_words : (subject : Subject) (size : ℕ) → size ≤ 1024 → plain_words_of subject size < 2 ^ 16
 few_words Multiset size few = omega (arith, few)
 few_words Cache size few = omega (arith, few)
 few_words Tree size few = omega (arith, few)
 few_words Buffers size few = omega (arith, few)
 
-pub plain_words_few : (h : Header) → plain_words h < 2 ^ 32
+pub plain_words_few : (h : Header) → plain_words h < 2 ^ 16
 plain_words_few h =
     few_words h.subject h.size (at_most_of h.size 1024 (second_true _ _ (first_true _ _ (first_true _ _ (second_true (is_known_version h.version) _ h.within)))))
 

@@ -420,6 +420,7 @@ fn put(writes: &mut VecDeque<Write>, place: usize, changed: &[u32], words: &[u64
     requires place { place ≤ length writes.old.items }
     requires room { deque_len writes.old + length changed.now ≤ deque_capacity writes.old }
     requires changed { All (λ w. w < length words.now) changed.now }
+    requires few { length words.now < 2 ^ 16 }
     ensures writes { writes.new.items ≡ take place writes.old.items ++ written words.now changed.now
         ++ drop place writes.old.items }
 {
@@ -432,6 +433,7 @@ fn put(writes: &mut VecDeque<Write>, place: usize, changed: &[u32], words: &[u64
 fn put_one(writes: &mut VecDeque<Write>, place: usize, word: u32, value: u64)
     requires place { place ≤ length writes.old.items }
     requires room { deque_len writes.old < deque_capacity writes.old }
+    requires word { word < 2 ^ 16 }
     ensures items { writes.new.items ≡ insert writes.old.items place (word, value) }
     ensures len { deque_len writes.new ≡ deque_len writes.old + 1 }
     ensures capacity { deque_capacity writes.old ≤ deque_capacity writes.new }

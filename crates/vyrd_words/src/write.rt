@@ -1,42 +1,38 @@
 //! A write that waits.
 
-ghost use Rattle.std.specs.Prelude.{◌≡◌};
+ghost use Rattle.std.specs.Prelude.{◌≡◌, ◌<◌, ◌^◌};
 
 use std::marker::Model;
 
-/// How many values one half of a word has.
-const HALF: u64 = 1 << 32;
-
-/// A write to a word that takes effect after a commit that waits. It takes 12 bytes of memory, with
-/// the value in two halves: what waits is what grows while an execution stays open and others
-/// commit.
+/// A write to a word that takes effect after a commit that waits. It takes 10 bytes of memory, with
+/// the value in bytes: what waits is what grows while an execution stays open and others commit.
 #[derive(Drop)]
 pub(crate) struct Write {
-    word: u32,
-    low: u32,
-    high: u32,
+    word: u16,
+    value: [u8; 8],
 }
 
-const _: () = prove!(size_of::<Write>() == 12);
+const _: () = prove!(size_of::<Write>() == 10);
 
 impl Model for Write {
-    ghost use Rattle.std.specs.Prelude.{ℕ, ◌+◌, ◌*◌, ◌^◌};
+    ghost use Rattle.std.specs.Prelude.{ℕ};
+    ghost use Rattle.std.specs.Int.{from_le_bytes, w64};
 
     ghost Value = { ℕ × ℕ };
 
-    ghost view = { λ w. (w.word, w.high * 2 ^ 32 + w.low) };
+    ghost view = { λ w. (w.word, from_le_bytes w64 w.value) };
 }
 
 impl Write {
-    /// A write of this value.
+    /// A write of this value to a word whose number is below 2^16, as those of all logs are.
     #[inline(always)]
     pub fn new(word: u32, value: u64) -> Write
+        requires { word < 2 ^ 16 }
         ensures { result ≡ (word, value) }
     {
         Write {
-            word,
-            low: (value % HALF) as u32,
-            high: (value / HALF) as u32,
+            word: word as u16,
+            value: value.to_le_bytes(),
         }
     }
 
@@ -45,7 +41,7 @@ impl Write {
     pub fn word(&self) -> u32
         ensures { result ≡ self.now.0 }
     {
-        self.word
+        u32::from(self.word)
     }
 
     /// The value that the word has from then on.
@@ -53,6 +49,6 @@ impl Write {
     pub fn value(&self) -> u64
         ensures { result ≡ self.now.1 }
     {
-        u64::from(self.high) * HALF + u64::from(self.low)
+        u64::from_le_bytes(self.value)
     }
 }
