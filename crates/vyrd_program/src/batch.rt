@@ -118,7 +118,10 @@ fn answer_to<R: Threads + Sync>(
     ensures statuses { IfOk result (λ answer. IsBatchStatus answer.status) }
 {
     let mut bytes = rest;
-    match judge.finish(rt, &mut bytes) {
+    let finished = judge.finish(rt, &mut bytes);
+    // No byte is kept while the text is made.
+    drop(bytes);
+    match finished {
         Ok(()) => tell(alloc, judge.verdicts()),
         Err(BatchFault::Refused { log }) => refuse(alloc, log),
         Err(BatchFault::Memory) => Err(AllocError),
