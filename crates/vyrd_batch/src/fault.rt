@@ -7,8 +7,8 @@ use std::fmt;
 /// Why the logs of a batch weren't found.
 #[derive(Clone, Copy, Debug, PartialEq, Eq)]
 pub enum BatchFault {
-    /// The bytes aren't a batch. This many logs are framed in them, and then neither a log nor the
-    /// end stands there.
+    /// The bytes aren't a batch: neither this log nor the end stands where it should. Logs count
+    /// from 0.
     Refused { log: u64 },
     /// There was no memory for the spans.
     Memory,
@@ -17,9 +17,7 @@ pub enum BatchFault {
 impl fmt::Display for BatchFault {
     fn fmt<W: fmt::Write>(&self, f: &mut fmt::Formatter<W>) -> fmt::Result {
         match self {
-            BatchFault::Refused { log } => {
-                write!(f, "after {log} logs stands neither a log nor the end")
-            }
+            BatchFault::Refused { log } => write!(f, "batch refused at log {log}"),
             BatchFault::Memory => write!(f, "out of memory"),
         }
     }

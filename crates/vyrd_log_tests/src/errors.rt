@@ -30,10 +30,7 @@ fn errors_say_what_is_wrong(rt: HostRuntime) -> Result<(), Fail> {
     let history = format!(in alloc; "{history}")?;
     assert_eq!(rt; history.as_str(), "line 12: BadHeader");
     let batch = format!(in alloc; "{}", BatchFault::Refused { log: 3 })?;
-    assert_eq!(rt;
-        batch.as_str(),
-        "after 3 logs stands neither a log nor the end"
-    );
+    assert_eq!(rt; batch.as_str(), "batch refused at log 3");
     Ok(())
 }
 
