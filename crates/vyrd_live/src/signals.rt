@@ -56,8 +56,10 @@ impl Signals {
         self.ended.load(Ordering::SeqCst)
     }
 
-    /// The sink has taken all events with numbers below this one, or wants none any more.
-    pub(crate) fn advance(&self, next: u64) {
+    /// The sink has taken all events with numbers below this one. With none, it takes no more, and
+    /// nobody waits for it.
+    pub(crate) fn advance(&self, next: Option<u64>) {
+        let next = next.unwrap_or(u64::MAX);
         if next.saturating_sub(self.next.load(Ordering::SeqCst)) >= TOLD {
             self.next.store(next, Ordering::SeqCst);
         }

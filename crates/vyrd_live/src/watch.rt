@@ -1,11 +1,12 @@
 //! The end of the relay, where the events of a live run are put in order.
 
-ghost use Rattle.std.specs.Prelude.{◌≡◌, ◌⊎◌, ◌≤◌, ◌-◌, ◌^◌, true, false, List, [], ◌∷◌, ◌++◌};
+ghost use Rattle.std.specs.Prelude.{◌≡◌, true, false, List, [], ◌∷◌, ◌++◌};
 ghost use Rattle.std.specs.Prelude.{IfOk, IfSome, IfNone};
+ghost use Rattle.std.specs.Bool.{then_some};
 ghost use Rattle.std.specs.List.{All};
 ghost use Rattle.vyrd_base.specs.declared.history.Stamped.{Stamped};
 ghost use Rattle.vyrd_relay.specs.Ends.{with_popped, HasAll, WasEmpty};
-ghost use Rattle.vyrd_verifier.specs.Taken.{has_failed, has_number};
+ghost use Rattle.vyrd_verifier.specs.Taken.{MayRefuse};
 ghost use Rattle.vyrd_live.specs.Beside.{HasWatched, StaysFixed, TakesIn, GoesOn};
 ghost use Rattle.vyrd_live.specs.Beside.{AreOfSenders, lanes_sent, HasShownInOrder};
 
@@ -143,8 +144,7 @@ impl<S: EventSink + Drop> Watch<S> {
             → HasWatched S.has_taken self.new (taken ++ event ∷ []) }
         ensures fixed { StaysFixed S.fixed self.old self.new }
         ensures set_aside { self.old.stands ≡ true → self.new.stands ≡ false
-            → (2 ^ 62 ≤ event.number) ⊎ (has_number self.old.sequencer event.number ≡ true)
-            ⊎ (has_failed self.new.sequencer ≡ true) }
+            → MayRefuse self.old.sequencer self.new.sequencer event.number }
         ensures callers { self.new.callers ≡ self.old.callers }
     {
         if self.stands {
@@ -153,16 +153,14 @@ impl<S: EventSink + Drop> Watch<S> {
         }
     }
 
-    /// The least number that the sink wants and hasn't taken: none, if it was set aside.
-    fn next(&self) -> u64
-        ensures wanted { self.now.stands ≡ true → result ≡ self.now.sequencer.kept.next }
-        ensures set_aside { self.now.stands ≡ false → result ≡ 2 ^ 64 - 1 }
+    /// The least number that the sequencer waits for. There is none if it was set aside.
+    fn next(&self) -> Option<u64>
+        ensures { result ≡ then_some self.now.stands self.now.sequencer.kept.next }
     {
-        if self.stands {
-            self.sequencer.next()
-        } else {
-            u64::MAX
+        if !self.stands {
+            return None;
         }
+        Some(self.sequencer.next())
     }
 
     /// Takes in the senders of the workers, which have ended: what was had of each is a beginning

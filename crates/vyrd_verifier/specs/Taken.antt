@@ -1,7 +1,7 @@
 -- The events that a sequencer has taken in, in the order in which they came, and what it keeps of
 -- them.
-use Rattle.std.specs.Prelude.{◌≡◌, ℕ, zero, suc, ◌<◌, ◌≤◌, ◌==◌, not, ◌&&◌, Bool, true, false, List}
-use Rattle.std.specs.Prelude.{[], ◌∷◌, ◌++◌, Option, Some, None, is_some, if◌then◌else◌}
+use Rattle.std.specs.Prelude.{◌≡◌, ◌⊎◌, ℕ, zero, suc, ◌<◌, ◌≤◌, ◌^◌, ◌==◌, not, ◌&&◌}
+use Rattle.std.specs.Prelude.{Bool, true, false, List, [], ◌∷◌, ◌++◌, Option, Some, None, is_some, if◌then◌else◌}
 use Rattle.std.specs.Option.{option_to_list}
 use Rattle.vyrd_base.specs.declared.history.Stamped.{Stamped}
 use Rattle.vyrd_relay.specs.Numbers.{Kept, held, has}
@@ -35,6 +35,11 @@ is_in kept (Some r) n = has kept n && not (n == r)
 -- whether an event with this number was taken in
 abbrev pub has_number : {S : Type 0} → SequencerView S → ℕ → Bool
 has_number q n = is_in q.kept q.refused n
+
+-- An event with this number may be refused: the number is 2^62 or more, or was taken in before, or
+-- there is no memory.
+abbrev pub MayRefuse : {S : Type 0} (old new : SequencerView S) → ℕ → Type 0
+MayRefuse old new n = (2 ^ 62 ≤ n) ⊎ (has_number old n ≡ true) ⊎ (has_failed new ≡ true)
 
 -- Of the events that came so far those before `next` were handed out, and the others are held.
 pub record AreKept (kept : Kept) (taken : List Stamped) : Type 0 where

@@ -1,11 +1,12 @@
 //! Events that come in any order, and are shown to a sink in theirs.
 
-ghost use Rattle.std.specs.Prelude.{◌≡◌, ◌≢◌, ◌⊎◌, ℕ, ◌+◌, ◌<◌, ◌≤◌, ◌^◌, true, false, List, []};
+ghost use Rattle.std.specs.Prelude.{◌≡◌, ◌≢◌, ℕ, ◌+◌, ◌<◌, ◌^◌, true, false, List, []};
 ghost use Rattle.std.specs.Prelude.{◌∷◌, ◌++◌, None, is_some, Ok, IfOk, OnOk, OnErr};
 ghost use Rattle.std.specs.Result.{is_err};
 ghost use Rattle.vyrd_base.specs.declared.history.Stamped.{Stamped};
 ghost use Rattle.vyrd_relay.specs.Numbers.{held, has};
-ghost use Rattle.vyrd_verifier.specs.Taken.{numbered, has_failed, has_number, IsTaking, HasTakenIn};
+ghost use Rattle.vyrd_verifier.specs.Taken.{numbered, has_failed, has_number, MayRefuse};
+ghost use Rattle.vyrd_verifier.specs.Taken.{IsTaking, HasTakenIn};
 
 use std::alloc::{AllocError, Global};
 use std::marker::Model;
@@ -95,8 +96,7 @@ impl<S: EventSink + Drop> Sequencer<S> {
         ensures refused { (taken : List Stamped) → HasTakenIn S.has_taken self.old taken
             → result ≡ false
             → HasTakenIn S.has_taken self.new taken }
-        ensures cause { result ≡ false → (2 ^ 62 ≤ item.number)
-            ⊎ (has_number self.old item.number ≡ true) ⊎ (has_failed self.new ≡ true) }
+        ensures cause { result ≡ false → MayRefuse self.old self.new item.number }
         ensures new { result ≡ true
             → (item.number < 2 ^ 62) × (has_number self.old item.number ≡ false) }
         ensures going { result ≡ true → has_failed self.new ≡ false }
