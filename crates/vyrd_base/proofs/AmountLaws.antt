@@ -138,3 +138,13 @@ IsAmounts-push s k a greater some is = record {
   rising = rising_push k a s (recursion_from_All (λ entry. entry.0 < k) s greater) is.rising;
   some = some_push k a s some is.some;
 }
+
+-- an amount that is set to what it is
+pub same_amount : (s : Amounts) (q : ℕ) → IsAmounts s → with_amount s q (amount_of s q) ≡ s
+same_amount s q is =
+    same_amounts (with_amount s q (amount_of s q)) s (IsAmounts-with_amount s q (amount_of s q) is) is
+    (λ r. amount_of-with_amount s q (amount_of s q) r ∙ by_key r (r == q) refl)
+  where
+    by_key : (r : ℕ) (same : Bool) → (r == q) ≡ same → cond same (amount_of s q) (amount_of s r) ≡ amount_of s r
+    by_key r true e = ap (amount_of s) (sym (same_of r q e))
+    by_key r false e = refl

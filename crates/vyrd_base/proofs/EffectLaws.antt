@@ -129,9 +129,6 @@ other_inner c d kind earlier other =
     let commit = other_answer c d commit_or_open kind earlier other in
     λ i. unwrap_or (block i) false && unwrap_or (commit i) false
 
-pub other_block : (c d : ℕ) (kind : Kind) (earlier : List Entry) → (d == c) ≡ false → has_block c (entry d kind ∷ earlier) ≡ has_block c earlier
-other_block c d kind earlier other = ap (λ o. unwrap_or o false) (other_answer c d open_or_close kind earlier other)
-
 pub outside_inner : (c : ℕ) (earlier : List Entry) → has_block c earlier ≡ false → has_inner_commit c earlier ≡ false
 outside_inner c earlier outside = ap (λ b. b && committed_since_open c earlier) outside
 
@@ -232,7 +229,7 @@ has_block_of c earlier inner = first_true (has_block c earlier) (committed_since
 abbrev InnerIsCommitted : ℕ → List Entry → Type 0
 InnerIsCommitted c earlier = has_inner_commit c earlier ≡ true → has_committed c earlier ≡ true
 
-own_committed : (c : ℕ) (kind : Kind) (earlier : List Entry) → has_committed c (entry c kind ∷ earlier)
+pub own_committed : (c : ℕ) (kind : Kind) (earlier : List Entry) → has_committed c (entry c kind ∷ earlier)
     ≡ unwrap_or (option_or (commit_or_call kind) (first_answer (by_caller c commit_or_call) earlier)) false
 own_committed c kind earlier = ap (λ o. unwrap_or o false) (own_answer c commit_or_call kind earlier)
 

@@ -48,3 +48,5 @@ pub mod KeptLaws
 pub mod CommitLaws
 pub mod StateLaws
 pub mod VerdictParts
+pub mod CellLaws
+pub mod UpdateLaws

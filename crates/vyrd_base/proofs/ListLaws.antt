@@ -1,11 +1,11 @@
--- Lists that a loop builds, one element more, lists with one element changed, and options without a
--- value.
-use Rattle.std.proofs.Common.{◌≡◌, ℕ, zero, suc, ◌+◌, ◌<◌, List, [], ◌∷◌, ◌++◌, length, take, drop, set, slice_get, Option, Some, None, refl, ap, ◌∙◌, arith}
+-- Lists that a loop builds, one element more, lists with one element changed, and options with and
+-- without a value.
+use Rattle.std.proofs.Common.{◌≡◌, ℕ, zero, suc, ◌+◌, ◌<◌, false, List, [], ◌∷◌, ◌++◌, length, take, drop, set, slice_get, Option, Some, None, refl, ap, ◌∙◌, sym, arith}
 use Rattle.std.proofs.lemmas.List.{take_more}
-use Rattle.std.proofs.lemmas.Option.{slice_get_within, get_or_from_slice_get}
-use Rattle.std.specs.Prelude.{get_or, filter_map, replicate}
+use Rattle.std.proofs.lemmas.Option.{slice_get_within, slice_get-get_or, get_or_from_slice_get}
+use Rattle.std.specs.Prelude.{get_or, filter_map, replicate, is_some, IsSome}
 use Rattle.std.specs.Option.{option_or}
-use Rattle.std.specs.List.{cons_option}
+use Rattle.std.specs.List.{cons_option, AllByRecursion}
 
 cons_front : {A : Type 0} (o : Option A) (xs ys : List A) → cons_option o (xs ++ ys) ≡ cons_option o xs ++ ys
 cons_front None xs ys = refl
@@ -64,3 +64,24 @@ take_one_more xs n x here =
 pub is_none : {A : Type 0} (o : Option A) → ((x : A) → o ≡ Some x → ⊥) → o ≡ None
 is_none None not = refl
 is_none (Some x) not = absurd (not x refl)
+
+pub isnt_some : {A : Type 0} (o : Option A) → is_some o ≡ false → o ≡ None
+isnt_some None e = refl
+isnt_some (Some x) e = cc
+
+pub none_isnt_some : {A : Type 0} (o : Option A) → o ≡ None → IsSome o → ⊥
+none_isnt_some None e some = cc
+none_isnt_some (Some x) e some = cc
+
+-- the last element of a list, and the element at a place within it
+pub slice_get-last : {A : Type 0} (xs : List A) (x : A) → slice_get (xs ++ x ∷ []) (length xs) ≡ Some x
+slice_get-last [] x = refl
+slice_get-last (y ∷ xs) x = slice_get-last xs x
+
+pub slice_get-is : {A : Type 0} (xs : List A) (i : ℕ) (x : A) → i < length xs → x ≡ get_or xs i x → slice_get xs i ≡ Some x
+slice_get-is xs i x within is = slice_get-get_or xs i x within ∙ ap Some (sym is)
+
+-- what holds of each element holds with one more of which it holds
+pub all_push : {A : Type 0} (P : A → Type 0) (xs : List A) (x : A) → AllByRecursion P xs → P x → AllByRecursion P (xs ++ x ∷ [])
+all_push P [] x all here = (here, tt)
+all_push P (y ∷ xs) x all here = (all.0, all_push P xs x all.1 here)

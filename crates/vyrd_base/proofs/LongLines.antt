@@ -1,5 +1,5 @@
 -- No line with more than 64 bytes spells anything.
-use Rattle.std.proofs.Common.{◌≡◌, ℕ, suc, zero, ◌+◌, ◌<◌, ◌≤◌, ◌^◌, Bool, true, false, cond, ◌&&◌, List, [], ◌∷◌, map, take, length, Option, Some, None, Err, refl, ap, arith, length-append}
+use Rattle.std.proofs.Common.{◌≡◌, ℕ, suc, zero, ◌+◌, ◌<◌, ◌≤◌, ◌^◌, Bool, true, false, cond, ◌&&◌, List, [], ◌∷◌, ◌++◌, map, take, length, Option, Some, None, Err, refl, ap, arith, length-append}
 use Rattle.std.specs.Prelude.{nat_lt, nat_le, codes, decimal, ok_or}
 use Rattle.std.specs.Option.{option_and_then}
 use Rattle.std.specs.List.{join_with_byte}
@@ -182,3 +182,7 @@ long_from line (a ∷ b ∷ c ∷ d ∷ e ∷ more) long = long_spelled line (nu
 pub long_header : (line : List ℕ) → 64 < length line → header_in line ≡ Err BadHeader
 unfolding header_in
 long_header line long = long_from line (fields_of line) long
+
+-- a line of more than 64 bytes is no shorter with more
+pub longer : (line more : List ℕ) → 64 < length line → 64 < length (line ++ more)
+longer line more long = omega (arith, long, length-append line more)

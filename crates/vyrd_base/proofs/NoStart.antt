@@ -19,7 +19,8 @@ use Rattle.vyrd_base.specs.Commits.{states_of}
 use Rattle.vyrd_base.specs.Verdicts.{line_of, states_along, first_fault, shape_verdict, start_verdict, begun_verdict, verdict_so_far, is_call_open, end_verdict}
 use Rattle.vyrd_base.proofs.StartLaws.{zeroed_words}
 
-zeros_from : (k n : ℕ) → map (value_after [] []) (numbers_from k n) ≡ replicate n 0
+-- words without any effect are 0
+pub zeros_from : (k n : ℕ) → map (value_after [] []) (numbers_from k n) ≡ replicate n 0
 zeros_from k zero = refl
 zeros_from k (suc n) = ap (λ ws. 0 ∷ ws) (zeros_from (k + 1) n)
 

@@ -1,7 +1,9 @@
 -- How the places of a list, and the first answer in it, grow with the list.
-use Rattle.std.proofs.Common.{◌≡◌, ℕ, zero, suc, ◌+◌, ◌<◌, ◌≤◌, List, [], ◌∷◌, ◌++◌, length, map, Option, Some, None, refl, ap, ◌∙◌, sym, arith}
+use Rattle.std.proofs.Common.{◌≡◌, ℕ, zero, suc, ◌+◌, ◌<◌, ◌≤◌, Bool, true, List, [], ◌∷◌, ◌++◌, length, map, get_or, Option, Some, None, refl, ap, ◌∙◌, sym, arith}
 use Rattle.std.specs.Option.{option_or}
+use Rattle.std.specs.List.{list_all}
 use Rattle.vyrd_base.specs.Places.{Place, places_after, first_answer, newest_first_onto, newest_first, numbers_from, numbers_below}
+use Rattle.vyrd_base.proofs.TestLaws.{both_true}
 
 -- a place with more after it
 abbrev pub with_later : {A : Type 0} → List A → Place A → Place A
@@ -51,9 +53,12 @@ pub numbers_below-push : (n : ℕ) → numbers_below (n + 1) ≡ numbers_below n
 numbers_below-push n = let e : 0 + n ≡ n = omega arith in numbers_from-push 0 n ∙ ap (λ x. numbers_from 0 n ++ x ∷ []) e
 
 -- a function's values at n numbers in a row are n
-pub length-mapped : (f : ℕ → ℕ) (k n : ℕ) → length (map f (numbers_from k n)) ≡ n
+pub length-mapped : {A : Type 0} (f : ℕ → A) (k n : ℕ) → length (map f (numbers_from k n)) ≡ n
 length-mapped f k zero = refl
 length-mapped f k (suc n) = ap suc (length-mapped f (k + 1) n)
+
+pub length_below : {A : Type 0} (f : ℕ → A) (n : ℕ) → length (map f (numbers_below n)) ≡ n
+length_below f n = length-mapped f 0 n
 
 -- two functions that agree at n numbers in a row
 pub map_alike_from : {A : Type 0} (f g : ℕ → A) (k n : ℕ) → ((i : ℕ) → k ≤ i → i < k + n → f i ≡ g i) → map f (numbers_from k n) ≡ map g (numbers_from k n)
@@ -64,3 +69,19 @@ map_alike_from f g k (suc n) same =
 
 pub map_alike : {A : Type 0} (f g : ℕ → A) (n : ℕ) → ((i : ℕ) → i < n → f i ≡ g i) → map f (numbers_below n) ≡ map g (numbers_below n)
 map_alike f g n same = map_alike_from f g 0 n (λ i from to. same i (omega arith))
+
+-- a function's value at the number at a place
+pub at_map : {A : Type 0} (f : ℕ → A) (k n i : ℕ) (d : A) → i < n → get_or (map f (numbers_from k n)) i d ≡ f (k + i)
+at_map f k zero i d low = absurd (omega (arith, low))
+at_map f k (suc n) zero d low = let here : k ≡ k + 0 = omega arith in ap f here
+at_map f k (suc n) (suc i) d low = let there : k + 1 + i ≡ k + suc i = omega arith in at_map f (k + 1) n i d (omega (arith, low)) ∙ ap f there
+
+pub element_below : {A : Type 0} (f : ℕ → A) (n i : ℕ) (d : A) → i < n → get_or (map f (numbers_below n)) i d ≡ f i
+element_below f n i d low = let there : 0 + i ≡ i = omega arith in at_map f 0 n i d low ∙ ap f there
+
+-- a test that each number passes, all do
+pub pass_all : (test : ℕ → Bool) (k n : ℕ) → ((i : ℕ) → k ≤ i → i < k + n → test i ≡ true) → list_all test (numbers_from k n) ≡ true
+pass_all test k zero each = refl
+pass_all test k (suc n) each =
+    both_true (test k) (list_all test (numbers_from (k + 1) n)) (each k (omega arith) (omega arith))
+    (pass_all test (k + 1) n (λ i from to. each i (omega arith) (omega arith)))

@@ -9,11 +9,10 @@ use Rattle.std.proofs.lemmas.Bool.Decides.{nat_tests}
 use Rattle.std.proofs.Math.Bool.{Bool-set}
 use Rattle.vyrd_base.specs.declared.header.Header.{Header}
 use Rattle.vyrd_base.specs.declared.subject.Subject.{Subject}
-use Rattle.vyrd_base.specs.declared.subject.Subject.TheVariants.{Multiset, Cache, Tree, Buffers}
 use Rattle.vyrd_base.specs.declared.log.Entry.{Entry}
 use Rattle.vyrd_base.specs.declared.log.StartWord.{StartWord}
 use Rattle.vyrd_base.specs.declared.verdict.Rule.TheVariants.{TooManyLines, StartRange, StartOrder, UnknownVersion, BadHeader}
-use Rattle.vyrd_base.specs.Layout.{plain_words, plain_words_of}
+use Rattle.vyrd_base.specs.Layout.{plain_words}
 use Rattle.vyrd_base.specs.Limits.{is_within, is_known_version}
 use Rattle.vyrd_base.specs.Starts.{is_out_of_range, is_out_of_order, start_rule, do_follow, may_start}
 use Rattle.vyrd_base.specs.Spelling.{ended_line, start_line, entry_line, end_line, header_line, subject_name, log_text, is_entry_of}
@@ -23,8 +22,8 @@ use Rattle.vyrd_base.specs.Verdicts.{verdict_so_far, end_verdict, accepted, verd
 use Rattle.vyrd_base.specs.TextVerdicts.{known_verdict, text_verdict}
 use Rattle.vyrd_base.proofs.SplitLaws.{lacks, split_at, split-join, lacks-join, number_of_decimal, bytes_same}
 use Rattle.vyrd_base.proofs.LineLaws.{is_plain_field, plain_number, plain_spaces, plain_line_feeds, entry_line_whole, entry_in-entry_line, entry_line_isnt_end, is_start, start_line_whole, start_in-start_line, start_in-entry_line, start_in-end_line}
-use Rattle.vyrd_base.proofs.HeaderLaws.{sized, size_in_32_bits, callers_in_32_bits}
-use Rattle.vyrd_base.proofs.TestLaws.{both_true, first_true, second_true, neither_true, above_of, at_most_of, is_below}
+use Rattle.vyrd_base.proofs.HeaderLaws.{sized, size_in_32_bits, callers_in_32_bits, few_words}
+use Rattle.vyrd_base.proofs.TestLaws.{both_true, first_true, second_true, neither_true, above_of, is_below}
 use Rattle.vyrd_base.proofs.SubjectLaws.{plain_subject, subject_read}
 use Rattle.vyrd_base.proofs.ListLaws.{or_none}
 
@@ -76,16 +75,6 @@ module _ (input : Input) (subject : Subject) where
       one_line n e (entry_line next) (tail_lines entries) (omega arith) all.0
       ∙ ap (entry_before n (Some e)) (tail_read (n + 1) (next ∷ entries) (omega arith) all.1)
 
--- the plain words of a header have numbers of 32 bits
-few_words : (subject : Subject) (size : ℕ) → size ≤ 1024 → plain_words_of subject size ≤ 2 ^ 32
-few_words Multiset size h = omega arith
-few_words Cache size h = omega arith
-few_words Tree size h = omega arith
-few_words Buffers size h = omega arith
-
-low_size : (h : Header) → h.size ≤ 1024
-low_size h = at_most_of h.size 1024 (second_true (nat_le 1 h.size) _ (first_true _ _ (first_true _ _ (second_true (is_known_version h.version) _ h.within))))
-
 below_then : (word words : ℕ) → nat_le words word ≡ false → words ≤ 2 ^ 32 → nat_lt word (2 ^ 32) ≡ true
 below_then word words e h = is_below word (2 ^ 32) (let low = above_of words word e in omega arith)
 
@@ -97,7 +86,7 @@ pub spelled_start : (h : Header) (s : StartWord) → is_out_of_range h s ≡ fal
 spelled_start h s e =
     let first = neither_true (nat_le (plain_words h) s.word || s.value == 0) (nat_le (2 ^ 63) s.value) e in
     let word = neither_true (nat_le (plain_words h) s.word) (s.value == 0) first.0 in
-    both_true _ _ (below_then s.word (plain_words h) word.0 (few_words h.subject h.size (low_size h))) (value_then s.value first.1)
+    both_true _ _ (below_then s.word (plain_words h) word.0 (omega (arith, few_words h))) (value_then s.value first.1)
 
 -- a starting word that follows the last one
 pub record DoesFollow (h : Header) (last : Option StartWord) (s : StartWord) : Type 0 where

@@ -18,8 +18,8 @@ use Rattle.vyrd_base.specs.FirstVersion.{old_effects_at, old_effects, old_value_
 use Rattle.vyrd_base.specs.Verdicts.{is_call_open}
 use Rattle.vyrd_base.proofs.PlaceLaws.{first_answer-append}
 use Rattle.vyrd_base.proofs.Fronts.{break_after}
-use Rattle.vyrd_base.proofs.BlockLaws.{entry, by_same, own_answer, other_answer, no_answer, wrote, block_value, own_value, own_wrote, other_writes, wrote_is}
-use Rattle.vyrd_base.proofs.ListLaws.{both_none}
+use Rattle.vyrd_base.proofs.BlockLaws.{entry, by_same, own_answer, other_answer, no_answer, wrote, block_value, own_value, own_wrote, other_writes, wrote_is, open_call-quiet}
+use Rattle.vyrd_base.proofs.ListLaws.{both_none, isnt_some}
 use Rattle.vyrd_base.proofs.TestLaws.{above_of, same_number, flipped}
 
 pub well_formed_after : (h : Header) (earlier xs : List Entry) → WellFormed h earlier → break_after h earlier xs ≡ None
@@ -183,10 +183,6 @@ record Closes (w c : ℕ) (kind : Kind) (earlier : List Entry) : Type 0 where
   effect : old_effects_at earlier c kind ≡ block_writes c earlier
   logged : logged_value w kind ≡ None
 
-some_of : {A : Type 0} (o : Option A) → false ≡ is_some o → o ≡ None
-some_of None e = refl
-some_of (Some a) e = cc
-
 -- the end of a block
 close_sound : (h : Header) (w c : ℕ) (kind : Kind) (earlier : List Entry) → c < h.callers → has_block c earlier ≡ true
     → Closes w c kind earlier → Sound h w earlier → Sound h w (entry c kind ∷ earlier)
@@ -216,7 +212,7 @@ close_sound h w c kind earlier low_c inside closes sound = record {
         → unwrap_or (option_or (block_value c w earlier) (first_answer (given_to w) (old_effects earlier))) 0 ≡ last_logged w earlier
     by_held none true holding = ap (λ o. unwrap_or (option_or o (first_answer (given_to w) (old_effects earlier))) 0) (sound.held c low_c holding)
     by_held none false free_c =
-        ap (λ o. unwrap_or (option_or o (first_answer (given_to w) (old_effects earlier))) 0) (some_of (block_value c w earlier) (sym free_c ∙ is_held))
+        ap (λ o. unwrap_or (option_or o (first_answer (given_to w) (old_effects earlier))) 0) (isnt_some (block_value c w earlier) (sym is_held ∙ free_c))
         ∙ sound.free (λ d low. by_same c d
         (λ same. subst (λ x. holds_word x w earlier ≡ false) same free_c)
         (λ other. sym (holds_other d c w kind earlier other) ∙ none d low))
@@ -327,10 +323,7 @@ is_some_of : {A : Type 0} (o : Option A) → is_none o ≡ false → is_some o �
 is_some_of None e = cc
 is_some_of (Some a) e = refl
 
--- an entry that neither calls nor returns, nor begins a block
-same_call : (c d : ℕ) (kind : Kind) (earlier : List Entry) → call_or_return kind ≡ None → open_call c (entry d kind ∷ earlier) ≡ open_call c earlier
-same_call c d kind earlier e = ap option_flatten (no_answer c d call_or_return kind earlier e)
-
+-- an open block stands in a call, with one more entry of its caller
 own_in_call : (h : Header) (c : ℕ) (kind : Kind) (earlier : List Entry) → broken_rule h earlier (entry c kind) ≡ None
     → BlockInCall c earlier → BlockInCall c (entry c kind ∷ earlier)
 own_in_call h c (Call method args) earlier kept so =
@@ -338,15 +331,15 @@ own_in_call h c (Call method args) earlier kept so =
 own_in_call h c (Return reply) earlier kept so = λ inside.
     absurd (never (all_kept (checks_at h earlier (entry c (Return reply))) kept).1.1.0
     (sym (ap (λ o. unwrap_or o false) (no_answer c c open_or_close (Return reply) earlier refl)) ∙ inside))
-own_in_call h c (Write word value) earlier kept so = λ inside. ap is_some (same_call c c (Write word value) earlier refl)
+own_in_call h c (Write word value) earlier kept so = λ inside. ap is_some (open_call-quiet c c (Write word value) earlier refl)
     ∙ is_some_of (open_call c earlier) (all_kept (checks_at h earlier (entry c (Write word value))) kept).1.0
-own_in_call h c Commit earlier kept so = λ inside. ap is_some (same_call c c Commit earlier refl)
+own_in_call h c Commit earlier kept so = λ inside. ap is_some (open_call-quiet c c Commit earlier refl)
     ∙ is_some_of (open_call c earlier) (all_kept (checks_at h earlier (entry c Commit)) kept).1.0
-own_in_call h c BlockOpen earlier kept so = λ inside. ap is_some (same_call c c BlockOpen earlier refl)
+own_in_call h c BlockOpen earlier kept so = λ inside. ap is_some (open_call-quiet c c BlockOpen earlier refl)
     ∙ is_some_of (open_call c earlier) (all_kept (checks_at h earlier (entry c BlockOpen)) kept).1.0
-own_in_call h c BlockClose earlier kept so = λ inside. ap is_some (same_call c c BlockClose earlier refl)
+own_in_call h c BlockClose earlier kept so = λ inside. ap is_some (open_call-quiet c c BlockClose earlier refl)
     ∙ is_some_of (open_call c earlier) (all_kept (checks_at h earlier (entry c BlockClose)) kept).1.0
-own_in_call h c BlockCommit earlier kept so = λ inside. ap is_some (same_call c c BlockCommit earlier refl)
+own_in_call h c BlockCommit earlier kept so = λ inside. ap is_some (open_call-quiet c c BlockCommit earlier refl)
     ∙ is_some_of (open_call c earlier) (all_kept (checks_at h earlier (entry c BlockCommit)) kept).1.0
 
 pub block_in_call : (h : Header) (c : ℕ) (earlier : List Entry) → WellFormed h earlier → BlockInCall c earlier

@@ -11,7 +11,6 @@ use Rattle.vyrd_base.specs.declared.subject.Subject.{Subject}
 use Rattle.vyrd_base.specs.declared.subject.Subject.TheVariants.{Multiset, Cache, Tree, Buffers}
 use Rattle.vyrd_base.specs.Places.{numbers_from, numbers_below}
 use Rattle.vyrd_base.specs.Layout.{plain_words, lock_words}
-use Rattle.vyrd_base.specs.Limits.{is_known_version}
 use Rattle.vyrd_base.specs.Amounts.{plus_amount, collected}
 use Rattle.vyrd_base.specs.Specification.{start}
 use Rattle.vyrd_base.specs.TreeView.{entries_of, entry_parts, node_parts, right_of, damage, chain_parts_from}
@@ -20,7 +19,8 @@ use Rattle.vyrd_base.specs.Views.{slot_parts, chunk_at, chunk_parts, parts_of, v
 use Rattle.vyrd_base.specs.Trees.{nodes, left_of, low_of, is_linked, is_bounded, rises, keys_at, has_sound_keys, is_leaf_entry, begins_with, has_sound_entries, is_only_first, is_sound_node, is_tree}
 use Rattle.vyrd_base.specs.Represented.{is_sound_slot, is_sound_chunk, is_sound, state_of_words}
 use Rattle.vyrd_base.proofs.ListLaws.{zeros}
-use Rattle.vyrd_base.proofs.TestLaws.{first_true, second_true, at_most_of, is_same, is_below}
+use Rattle.vyrd_base.proofs.HeaderLaws.{some_size}
+use Rattle.vyrd_base.proofs.TestLaws.{is_same, is_below}
 
 -- two lists of words that have the same word in each place, and 0 past their ends
 abbrev pub SameWords : List ℕ → List ℕ → Type 0
@@ -207,14 +207,10 @@ no_words_empty Buffers size some = no_buffers size 0 size
 no_words_empty Tree zero some = absurd (omega (arith, some))
 no_words_empty Tree (suc size) some = refl
 
-at_least_one : (h : Header) → 1 ≤ h.size
-at_least_one h =
-    at_most_of 1 h.size (first_true (nat_le 1 h.size) _ (first_true _ _ (first_true _ _ (second_true (is_known_version h.version) _ h.within))))
-
 zeros_show_nothing : (h : Header) (k : ℕ) → view_of_words h (replicate k 0) ≡ []
 unfolding view_of_words
 zeros_show_nothing h k =
-    ap collected (parts_same (replicate k 0) [] (zeros k) h.subject h.size) ∙ no_words_empty h.subject h.size (at_least_one h)
+    ap collected (parts_same (replicate k 0) [] (zeros k) h.subject h.size) ∙ no_words_empty h.subject h.size (some_size h)
 
 -- zeroed words stand for the empty state
 pub zeroed_words : (h : Header) → state_of_words h (replicate (plain_words h + lock_words h) 0) ≡ Some start
@@ -222,7 +218,7 @@ zeroed_words h =
     ap (state_of_words h) (sym (replicate-append-replicate (plain_words h) (lock_words h) 0))
     ∙ with_free_locks h (replicate (plain_words h) 0) (length-replicate (plain_words h) 0)
     ∙ ap (λ b. then_some b (view_of_words h (replicate (plain_words h) 0)))
-    (sound_same (replicate (plain_words h) 0) [] (zeros (plain_words h)) h.subject h.size ∙ no_words_sound h.subject h.size (at_least_one h))
+    (sound_same (replicate (plain_words h) 0) [] (zeros (plain_words h)) h.subject h.size ∙ no_words_sound h.subject h.size (some_size h))
     ∙ ap Some (zeros_show_nothing h (plain_words h))
 
 pub ruleset start_laws = (zeroed_words)

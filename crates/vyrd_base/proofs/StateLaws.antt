@@ -28,10 +28,6 @@ pub before_call-other : (c d : ℕ) (kind : Kind) (earlier : List Entry) → (d 
 before_call-other c d kind earlier other = ap (λ b. cond (b && is_call kind) earlier (entries_before_call c earlier)) other
 
 -- an entry that neither begins nor ends an execution
-pub open_call-quiet : (c d : ℕ) (kind : Kind) (earlier : List Entry) → call_or_return kind ≡ None
-    → open_call c (entry d kind ∷ earlier) ≡ open_call c earlier
-open_call-quiet c d kind earlier quiet = ap option_flatten (no_answer c d call_or_return kind earlier quiet)
-
 pub next_reply-quiet : (c d : ℕ) (kind : Kind) (later : List Entry) → returned kind ≡ None → next_reply c (entry d kind ∷ later) ≡ next_reply c later
 next_reply-quiet c d kind later quiet = no_answer c d returned kind later quiet
 

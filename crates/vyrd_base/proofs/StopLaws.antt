@@ -215,15 +215,3 @@ pub text_verdict-no_header : (max : ℕ) (bytes : List ℕ) (f : TextFault) → 
     → (reading (input_of max true) bytes).fault ≡ Some f → text_verdict max bytes ≡ Malformed f.line f.rule
 unfolding text_verdict
 text_verdict-no_header max bytes f none at = without_header (reading (input_of max true) bytes) f none at
-
--- a whole text without a header has a fault
-pub headless_has_fault : (max : ℕ) (bytes : List ℕ) → (reading (input_of max true) bytes).header ≡ None
-    → (f : TextFault) × ((reading (input_of max true) bytes).fault ≡ Some f)
-headless_has_fault max bytes none = by_cases (reading_stops max bytes)
-  where
-    by_cases : TextStops (reading (input_of max true) bytes) → (f : TextFault) × ((reading (input_of max true) bytes).fault ≡ Some f)
-    by_cases (headed h is s) = absurd (none_is_some (sym none ∙ is))
-      where
-        none_is_some : None ≡ Some h → ⊥
-        none_is_some e = cc
-    by_cases (headless f absent at) = (f, at)

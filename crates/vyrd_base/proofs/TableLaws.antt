@@ -213,13 +213,6 @@ module _ (shift : ℕ) (places : List (ℕ × ℕ)) (rest : Amounts) (table : Is
           let none_old : part_given r (pair_at places i) ≡ 0 = elsewhere r (pair_at places i) (λ taken same. apart (sym same ∙ own taken)) in
           now ∙ ap (λ n. amount_of rest r + n) (let kept : given r written ≡ given r places = omega (arith, moved, none_new, none_old) in kept) ∙ sym then
 
--- a place that has the key's name
-pub found_table : (shift : ℕ) (places : List (ℕ × ℕ)) (rest : Amounts) (i q a : ℕ) → IsTable shift places rest → IsFoundAt shift places q (Some i)
-    → IsTable shift (set places i (q, a)) rest
-found_table shift places rest i q a table found =
-    written_table shift places rest table i q a (omega (arith, table.room q, found.0.1)) found.0 found.2
-    (others_of shift places rest table q i found) (λ taken. found.1) (rest_found shift places rest table q i found)
-
 pub found_amounts : (shift : ℕ) (places : List (ℕ × ℕ)) (rest : Amounts) (i q a : ℕ) → IsTable shift places rest → IsFoundAt shift places q (Some i)
     → amounts_in (set places i (q, a)) rest ≡ with_amount (amounts_in places rest) q a
 found_amounts shift places rest i q a table found =

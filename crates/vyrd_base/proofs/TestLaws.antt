@@ -69,6 +69,9 @@ pub second_true : (a b : Bool) → (a && b) ≡ true → b ≡ true
 second_true true b e = e
 second_true false b e = cc
 
+pub both_of : (a b : Bool) → (a && b) ≡ true → (a ≡ true) × (b ≡ true)
+both_of a b e = (first_true a b e, second_true a b e)
+
 -- neither of two truths
 pub neither_true : (a b : Bool) → (a || b) ≡ false → (a ≡ false) × (b ≡ false)
 neither_true true b e = cc

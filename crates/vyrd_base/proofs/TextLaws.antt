@@ -185,7 +185,7 @@ same_characters f g (suc n) fs gs same i low =
     by_place each false apart = each i (let isnt = apart_of i n apart in omega (arith, low, isnt))
 
 -- Of any number, a text or not.
-powers_at_most : (k text : ℕ) → powers_within k text ≤ k
+pub powers_at_most : (k text : ℕ) → powers_within k text ≤ k
 powers_at_most zero text = omega arith
 powers_at_most (suc k) text = by_power (powers_at_most k text) (nat_le (256 ^ k) text)
   where

@@ -12,7 +12,7 @@ use Rattle.vyrd_base.specs.Places.{Place}
 use Rattle.vyrd_base.specs.Callers.{open_call, has_block, has_committed, has_inner_commit}
 use Rattle.vyrd_base.specs.Layout.{plain_words}
 use Rattle.vyrd_base.specs.Shape.{◌breaks◌, first_broken, checks_at, broken_rule, is_observing, is_held_by_other}
-use Rattle.vyrd_base.specs.Words.{block_writes, writes_ahead, effects_at, effects, effects_of_others, words_with, words_at, words_after}
+use Rattle.vyrd_base.specs.Words.{block_writes, writes_ahead, effects_at, effects, effects_of_others, words_with, words_at}
 use Rattle.vyrd_base.specs.FirstVersion.{old_broken_rule, old_effects_at, old_effects, old_words_after}
 use Rattle.vyrd_base.specs.Front.{WellFormed}
 use Rattle.vyrd_base.proofs.BlockLaws.{entry, by_same}
@@ -71,11 +71,6 @@ pub first_words_at : (h : Header) (place : Place Entry) → h.version ≡ 1 → 
     → words_at h [] place ≡ old_words_after h (place.here ∷ place.earlier)
 unfolding words_at old_words_after
 first_words_at h place first wf = ap (words_with h []) (first_effects h (place.here ∷ place.earlier) place.later first wf)
-
-pub first_words_after : (h : Header) (earlier : List Entry) → h.version ≡ 1 → WellFormed h earlier
-    → words_after h [] earlier ≡ old_words_after h earlier
-unfolding words_after old_words_after
-first_words_after h earlier first wf = ap (words_with h []) (first_effects h earlier [] first wf)
 
 or_none : (a b : Bool) → b ≡ false → (a || b) ≡ a
 or_none true b e = refl

@@ -9,7 +9,7 @@ use Rattle.vyrd_base.specs.Spelling.{ended_line}
 use Rattle.vyrd_base.specs.TextVerdicts.{text_verdict}
 use Rattle.vyrd_check.specs.Checking.{most_lines}
 use Rattle.vyrd_batch.specs.declared.span.Span.{Span}
-use Rattle.vyrd_batch.specs.Batches.{most_logs, logs_end_within, first_word, log_word, last_line, Cut, first_line, log_at, span_before, logs_from, batch_reading, bytes_of, logs_of, batch_logs, LiesWithin}
+use Rattle.vyrd_batch.specs.Batches.{most_logs, first_word, log_word, last_line, Cut, first_line, log_at, span_before, logs_from, batch_reading, bytes_of, logs_of, batch_logs, LiesWithin}
 use Rattle.vyrd_batch.specs.BatchAnswers.{verdicts_of}
 use Rattle.vyrd_batch.specs.Rounds.{logs_before, logs_on, IsCut, IsNoLog, AreJudged, AreJudgedTo}
 use Rattle.vyrd_batch.proofs.LineFacts.{size_within, is_log}
@@ -94,20 +94,6 @@ moved_len front bytes place taken len within =
 
 count_more : (spans : List Span) (span : Span) → length (spans ++ span ∷ []) ≡ length spans + 1
 count_more spans span = length-append spans (span ∷ [])
-
-pub cut_none : (bytes : List ℕ) (log place : ℕ) (spans : List Span) → spans ≡ [] → log ≤ most_logs → place ≤ logs_end_within → IsCut bytes log place spans 0
-cut_none bytes log place spans none few near = subst (λ spans. IsCut bytes log place spans 0) (sym none) (record {
-  few = omega arith;
-  near = omega arith;
-  within = omega arith;
-  inside = tt;
-  goes_on = λ front more len.
-      let whole = front ++ (bytes ++ more) in
-      let logs : log ≡ log + 0 = omega arith in
-      let here : place ≡ place + 0 = omega arith in
-      none_first (logs_on whole log place (bytes ++ more))
-      ∙ (λ i. logs_before [] (logs_on whole (logs i) (here i) (bytes ++ more)));
-})
 
 -- one more log
 pub cut_more : (bytes : List ℕ) (log place : ℕ) (spans new : List Span) (span : Span) (taken : ℕ) → IsCut bytes log place spans taken

@@ -17,9 +17,6 @@ use Rattle.vyrd_batch.specs.Batches.{most_logs, most_bytes, logs_end_within, fir
 use Rattle.vyrd_batch.proofs.LineFacts.{size_within, is_log}
 use Rattle.vyrd_batch.proofs.LogFacts.{logs_end, at_line, behind_first_line}
 
-same_size : (a b : ℕ) → ◌≡◌ {A = Option ℕ} (Some a) (Some b) → a ≡ b
-same_size a b e = cc
-
 -- bytes that were cut
 pub cut_is : (bytes : List ℕ) (cut : Cut) → first_line bytes ≡ Some cut → bytes ≡ cut.line ++ 10 ∷ cut.rest
 cut_is [] cut e = cc
@@ -47,7 +44,7 @@ size_is line size e = by_test (nat_le guess most_bytes && bytes_eq (log_word gue
 
     by_test : (t : Bool) → (nat_le guess most_bytes && bytes_eq (log_word guess) line) ≡ t → cond t (Some guess) None ≡ Some size → SaysSize line size
     by_test true is e =
-        let same : guess ≡ size = same_size guess size e in
+        let same : guess ≡ size = same_Some guess size e in
         let word : log_word guess ≡ line = (bytes_eq-Decides (log_word guess) line).0 (second_true (nat_le guess most_bytes) _ is) in
         record { is = sym word ∙ ap log_word same; small = subst (λ n. n ≤ most_bytes) same (at_most_of guess most_bytes (first_true _ _ is)) }
     by_test false is e = cc

@@ -10,6 +10,7 @@ use Rattle.vyrd_base.specs.Amounts.{Amounts, amount_of, with_amount}
 use Rattle.vyrd_base.specs.Buffers.{text_length, has_room, joined}
 use Rattle.vyrd_base.specs.Specification.{after_append}
 use Rattle.vyrd_base.proofs.TextLaws.{length_at_most, one_character}
+use Rattle.vyrd_base.proofs.ListLaws.{none_isnt_some}
 use Rattle.vyrd_memory.specs.declared.op.Op.{Op}
 use Rattle.vyrd_memory.specs.declared.op.Variant.TheVariants.{Correct}
 use Rattle.vyrd_memory.specs.Scripts.{Script}
@@ -19,26 +20,22 @@ use Rattle.vyrd_buffers.specs.Procedures.{append, append_from, cut}
 use Rattle.vyrd_buffers.specs.Laws.Alone.{append_alone, append_from_alone, cut_alone}
 use Rattle.vyrd_buffers.specs.Laws.Alone.Done.{Appends}
 
-no_state : (o : Option Amounts) → o ≡ None → IsSome o → ⊥
-no_state None e some = cc
-no_state (Some state) e some = cc
-
 -- an append that is allowed to reply 0 has no room, and one that has no room is allowed no other reply
 without_room : (state : Amounts) (b more : ℕ) → IsSome (after_append 0 state b more) → has_room (amount_of state b) more ≡ false
 without_room state b more some = by_room (has_room (amount_of state b) more) some
   where
     by_room : (room : Bool) → IsSome (then_some (not room) state) → room ≡ false
-    by_room true some = absurd (no_state None refl some)
+    by_room true some = absurd (none_isnt_some {A = Amounts} None refl some)
     by_room false some = refl
 
 only_zero : (reply : ℕ) (state : Amounts) (b more : ℕ) → has_room (amount_of state b) more ≡ false → IsSome (after_append reply state b more)
     → reply ≡ 0
 only_zero zero state b more full some = refl
 only_zero (suc zero) state b more full some =
-    absurd (no_state (then_some (has_room (amount_of state b) more) (with_amount state b (joined (amount_of state b) more)))
+    absurd (none_isnt_some (then_some (has_room (amount_of state b) more) (with_amount state b (joined (amount_of state b) more)))
     (ap (λ room. then_some room (with_amount state b (joined (amount_of state b) more))) full) some)
-only_zero (suc (suc zero)) state b more full some = absurd (no_state None refl some)
-only_zero (suc (suc (suc reply))) state b more full some = absurd (no_state None refl some)
+only_zero (suc (suc zero)) state b more full some = absurd (none_isnt_some {A = Amounts} None refl some)
+only_zero (suc (suc (suc reply))) state b more full some = absurd (none_isnt_some {A = Amounts} None refl some)
 
 -- so it gives up exactly when there is no room
 append_meets : (h : Header) (op : Op) (script : Script) (c : ℕ) (memory : Memory) (state : Amounts) (b more : ℕ) → Appends op state b more
@@ -96,5 +93,5 @@ cut_never_gives_up h memory state c b n is low e = subst (GivesUpWhere ⊥) (sym
 
     refuses : m.outcome.reply ≡ 0 → ⊥
     refuses none =
-        no_state (state_in h m.outcome.memory) (m.after
+        none_isnt_some (state_in h m.outcome.memory) (m.after
         ∙ ap (λ reply. state_after false op reply state) none) m.goes_on

@@ -1,6 +1,5 @@
 -- That no operation gives up: the specification refuses the reply 0.
-use Rattle.std.proofs.Common.{◌≡◌, ℕ, true, false, Option, None, Some, refl, ap, ◌∙◌, sym, subst}
-use Rattle.std.specs.Prelude.{IsSome}
+use Rattle.std.proofs.Common.{◌≡◌, ℕ, true, false, None, Some, refl, ap, ◌∙◌, sym, subst}
 use Rattle.vyrd_base.specs.declared.header.Header.{Header}
 use Rattle.vyrd_base.specs.declared.subject.Subject.TheVariants.{Cache}
 use Rattle.vyrd_base.specs.declared.subject.Method.{Method}
@@ -11,6 +10,7 @@ use Rattle.vyrd_base.specs.declared.subject.Args.{Args}
 use Rattle.vyrd_base.specs.Amounts.{Amounts}
 use Rattle.vyrd_base.specs.Specification.{next_state}
 use Rattle.vyrd_base.specs.Subjects.{subject_of, is_observer, are_args}
+use Rattle.vyrd_base.proofs.ListLaws.{none_isnt_some}
 use Rattle.vyrd_memory.specs.declared.op.Op.{Op}
 use Rattle.vyrd_memory.specs.declared.op.Variant.TheVariants.{Correct}
 use Rattle.vyrd_memory.specs.Arguments.{are_small}
@@ -38,10 +38,6 @@ refused BuCut args state of changes = cc
 refused BuLength args state of changes = cc
 refused BuRead args state of changes = cc
 
-no_state : (o : Option Amounts) → o ≡ None → IsSome o → ⊥
-no_state None e some = cc
-no_state (Some state) e some = cc
-
 pub never_gives_up : (h : Header) (memory : Memory) (state : Amounts) (c : ℕ) (op : Op)
     → h.subject ≡ Cache → subject_of op.method ≡ Cache → is_observer op.method ≡ false
     → are_args h.size op.method op.args ≡ true → are_small op.args ≡ true
@@ -54,7 +50,7 @@ never_gives_up h memory state c op is of changes fit small e =
 
     refuses : m.outcome.reply ≡ 0 → ⊥
     refuses zero =
-        no_state (state_in h m.outcome.memory)
+        none_isnt_some (state_in h m.outcome.memory)
         (m.after ∙ ap (λ b. state_after b op m.outcome.reply state) changes
         ∙ ap (λ reply. next_state op.method op.args reply state) zero
         ∙ refused op.method op.args state of changes) m.goes_on

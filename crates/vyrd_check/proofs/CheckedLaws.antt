@@ -5,7 +5,7 @@ use Rattle.std.proofs.lemmas.Bool.Decides.{nat_tests}
 use Rattle.vyrd_base.specs.declared.verdict.Verdict.{Verdict}
 use Rattle.vyrd_base.specs.TextVerdicts.{text_verdict, text_verdict_so_far}
 use Rattle.vyrd_base.proofs.TextLasts.{text_verdict_lasts, text_verdict_stands}
-use Rattle.vyrd_check.specs.Checking.{IsLimit, IsUndecided, CheckerState, FollowsBy, HasChecked}
+use Rattle.vyrd_check.specs.Checking.{IsLimit, CheckerState, FollowsBy, HasChecked}
 
 -- the verdict that is kept is that of the bytes so far
 pub so_far_is : (c : CheckerState) (bytes : List ℕ) → HasChecked c bytes → c.so_far ≡ text_verdict_so_far c.kept.reader.max_lines bytes
@@ -31,10 +31,6 @@ checked_whole c bytes v limit there checked =
     let max = c.kept.reader.max_lines in
     let here : text_verdict_so_far max bytes ≡ Some v = subst (FollowsBy c.kept bytes) there checked.follows in
     sym (ap (text_verdict max) (sym (append-nil bytes)) ∙ text_verdict_stands max bytes [] v limit.low here)
-
--- where no verdict stands
-pub still_undecided : (c : CheckerState) (bytes : List ℕ) → c.so_far ≡ None → HasChecked c bytes → IsUndecided c.kept bytes
-still_undecided c bytes none checked = subst (FollowsBy c.kept bytes) none checked.follows
 
 empty_of : (xs : List ℕ) → true ≡ (length xs == 0) → xs ≡ []
 empty_of xs e = let none : length xs ≡ 0 = grind (arith, nat_tests) in by_length xs none

@@ -1,5 +1,5 @@
 -- Which states an observer has seen: the commits along the log, and the states from a caller's call on.
-use Rattle.std.proofs.Common.{◌≡◌, ℕ, zero, suc, ◌+◌, ◌≤◌, Bool, true, false, cond, ◌||◌, List, [], ◌∷◌, ◌++◌, length, refl, ap, ◌∙◌, sym, subst, arith}
+use Rattle.std.proofs.Common.{◌≡◌, ℕ, zero, suc, ◌+◌, ◌≤◌, Bool, true, false, cond, ◌||◌, List, [], ◌∷◌, ◌++◌, length, refl, ap, ◌∙◌, sym, arith}
 use Rattle.std.specs.Prelude.{◌==◌, ◌&&◌}
 use Rattle.std.specs.List.{cons_option, list_any}
 use Rattle.vyrd_base.specs.declared.log.Kind.TheVariants.{Write}
@@ -44,16 +44,6 @@ passed_step c did log passed state e = by_test (commits_now did) ∙ sym (count_
     by_test : (b : Bool) → length (cond b (passed ++ state ∷ []) passed) ≡ cond b 1 0 + commit_count log
     by_test true = omega (arith, length_more passed state, e)
     by_test false = omega (arith, e)
-
--- the call stands before the commits that follow it
-pub call_before : (c : ℕ) (log : List Entry) → commit_count (entries_before_call c log) ≤ commit_count log
-call_before c [] = omega arith
-call_before c (e ∷ log) = subst (λ n. commit_count (entries_before_call c (e ∷ log)) ≤ n) (sym (commit_count-cons e log)) (by_test (e.caller == c && is_call e.kind) (call_before c log))
-  where
-    by_test : (b : Bool) → commit_count (entries_before_call c log) ≤ commit_count log
-        → commit_count (cond b log (entries_before_call c log)) ≤ cond (is_commit e.kind) 1 0 + commit_count log
-    by_test true low = omega arith
-    by_test false low = omega (arith, low)
 
 -- the caller's last call is the same after an event that isn't a call of its own
 pub call_other : (c d : ℕ) (did : Did) (log : List Entry) → (c == d) ≡ false → entries_before_call d (cons_option (logged c did) log) ≡ entries_before_call d log

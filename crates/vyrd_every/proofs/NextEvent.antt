@@ -4,6 +4,7 @@ use Rattle.std.proofs.Common.{◌≡◌, ℕ, ◌<◌, ◌≤◌, ◌⊎◌, inl
 use Rattle.std.specs.Prelude.{◌==◌, ◌&&◌}
 use Rattle.std.specs.List.{cons_option}
 use Rattle.std.proofs.lemmas.List.{append-nil}
+use Rattle.std.proofs.lemmas.Option.{same_Some}
 use Rattle.vyrd_base.specs.declared.header.Header.{Header}
 use Rattle.vyrd_base.specs.declared.log.Kind.{Kind}
 use Rattle.vyrd_base.specs.declared.log.Kind.TheVariants.{Call, Return, Write, Commit, BlockOpen, BlockClose, BlockCommit}
@@ -20,17 +21,18 @@ use Rattle.vyrd_base.specs.Histories.{cells_of, value_in, may_do, is_plain, logg
 use Rattle.vyrd_base.specs.Front.{WellFormed}
 use Rattle.vyrd_base.proofs.BlockLaws.{by_same, wrote}
 use Rattle.vyrd_base.proofs.TestLaws.{second_true, same_of, same_number}
+use Rattle.vyrd_base.proofs.StateLaws.{commits_before_call}
 use Rattle.vyrd_memory.specs.declared.act.Act.TheVariants.{Mark}
 use Rattle.vyrd_memory.specs.Alone.{Memory}
 use Rattle.vyrd_memory.specs.Scripts.{Script, after_answer, answer_of, left_after, Plays}
 use Rattle.vyrd_memory.specs.Soundness.{Situation, holds, may_act, after_act}
 use Rattle.vyrd_memory.specs.Turns.{part_of, script_of}
 use Rattle.vyrd_memory.specs.Runs.{AreSoundScripts}
-use Rattle.vyrd_memory.proofs.Situations.{act_of_event, situation_after, KeepsTo, sound_keeps}
-use Rattle.vyrd_memory.proofs.LegalEvents.{caller_low, does, are_answers}
+use Rattle.vyrd_memory.proofs.Situations.{act_of_event, situation_after, KeepsTo}
+use Rattle.vyrd_memory.proofs.LegalEvents.{caller_low, does}
 use Rattle.vyrd_memory.proofs.Agreements.{Agrees, agrees}
 use Rattle.vyrd_memory.proofs.KeptRules.{write_kept, mark_kept}
-use Rattle.vyrd_memory.proofs.LegalRuns.{IsRun}
+use Rattle.vyrd_memory.proofs.LegalRuns.{IsRun, run_keeps}
 use Rattle.vyrd_every.specs.Structures.{Structure, Fits, shown_by}
 use Rattle.vyrd_every.specs.Locals.{Locals, Access, shown_after, called_after, answer_at}
 use Rattle.vyrd_every.specs.RightScripts.{WillReturn, Commits, Sees, Answers, Reaches, ActsRight}
@@ -39,7 +41,7 @@ use Rattle.vyrd_every.proofs.Acts.{never}
 use Rattle.vyrd_every.proofs.Logs.{held_by_none, write_unraced, IsNoWrite, mark_unraced}
 use Rattle.vyrd_every.proofs.Raw.{raw_is_shown, one_holder}
 use Rattle.vyrd_every.proofs.Ones.{OwnStep, own_step, other_step, still_apart}
-use Rattle.vyrd_every.proofs.Answered.{commits_now, calls_now, passed_after, passed_step, call_before, call_other, call_own, answer_more, answer_last}
+use Rattle.vyrd_every.proofs.Answered.{commits_now, calls_now, passed_after, passed_step, call_other, call_own, answer_more, answer_last}
 
 -- what a commit leads to
 pub record Committing (c : ℕ) (log : List Entry) (rest : Script) (state next : Amounts) : Type 0 where
@@ -86,11 +88,6 @@ run_before h scripts e earlier run = record { legal = run.legal.1; plays = λ d.
     by_test d true plays = plays.1
     by_test d false plays = plays
 
-pub keeps_in : (h : Header) (scripts : List Script) (earlier : List Stamped) (d : ℕ) → AreSoundScripts h scripts → IsRun h scripts earlier → d < h.callers
-    → KeepsTo h (part_of d earlier)
-keeps_in h scripts earlier d sound run low =
-    sound_keeps h (script_of scripts d) (part_of d earlier) (sound.sound d low) (run.plays d) (are_answers (cells_of h) earlier d run.legal)
-
 -- a word whose guard the caller holds isn't held by another caller's block
 free_word : (S : Structure) (scripts : List Script) (earlier : List Stamped) (locals : ℕ → Locals) (passed : List Amounts) (state : Amounts) (c d cell : ℕ)
     → Fits S → AreSoundScripts S.header scripts → IsRun S.header scripts earlier → Invariant S scripts earlier locals passed state
@@ -100,7 +97,7 @@ free_word S scripts earlier locals passed state c d cell is sound run holds low_
     by_test : (b : Bool) → holds_word d cell (log_in earlier) ≡ b → b ≡ false
     by_test true e =
         let same : c ≡ d =
-        one_holder S c d earlier cell is run.legal (keeps_in S.header scripts earlier c sound run low_c) (keeps_in S.header scripts earlier d sound run low_d) access
+        one_holder S c d earlier cell is run.legal (run_keeps S.header scripts earlier c sound run low_c) (run_keeps S.header scripts earlier d sound run low_d) access
         ((holds.each d low_d).covers cell e) in
         absurd (never apart (subst (λ x. (x == c) ≡ true) same (same_number c)))
     by_test false e = refl
@@ -203,9 +200,6 @@ SeenBy k c log states = (called : Called) → k.called ≡ Some called → (repl
 pub same_called : (x y : Called) → ◌≡◌ {A = Option Called} (Some x) (Some y) → x ≡ y
 same_called x y e = cc
 
-pub same_reply : (x y : ℕ) → ◌≡◌ {A = Option ℕ} (Some x) (Some y) → x ≡ y
-same_reply x y e = cc
-
 pub no_reply : (o : Option ℕ) (reply : ℕ) → o ≡ None → o ≡ Some reply → ⊥
 no_reply o reply e f = cc
 
@@ -233,10 +227,10 @@ seen_own S c (Gave lock) k next log shown passed more state answers called m cou
     by_answer (inl same) = seen_quiet c (Gave lock) k next log (passed ++ state ∷ []) more refl called same seen
     by_answer (inr sees) = λ its is reply answer.
         let call : sees.called ≡ its = same_called sees.called its (sym (called ∙ sees.is_called) ∙ is) in
-        let one : sees.reply ≡ reply = same_reply sees.reply reply (sym sees.answer ∙ answer) in
+        let one : sees.reply ≡ reply = same_Some sees.reply reply (sym sees.answer ∙ answer) in
         answer_more (passed ++ state ∷ []) more (commit_count (entries_before_call c log)) its reply
         (answer_last passed state (commit_count (entries_before_call c log)) its reply
-        (subst (λ n. commit_count (entries_before_call c log) ≤ n) (sym count) (call_before c log))
+        (subst (λ n. commit_count (entries_before_call c log) ≤ n) (sym count) (commits_before_call c log))
         (subst (λ x. answer_in state x.method x.args ≡ reply) call (sees.seen state m ∙ one)))
 seen_own S c (Marked (Call method args)) k next log shown passed more state answers called m count seen =
     λ its is reply answer. absurd (no_reply next.answered reply answers answer)
@@ -292,8 +286,8 @@ next_event S scripts earlier number c did locals passed state is sound run holds
         (other_step S (script_of scripts d) (part_of d earlier) (log_in earlier) c d did s (locals c) (locals d) (holds.each d low_d) other own.shows
         own.does.guarantee
         (λ cell access_c access_d. never other (subst (λ x. (c == x) ≡ true)
-        (one_holder S c d earlier cell is before.legal (keeps_in S.header scripts earlier c sound before low)
-        (keeps_in S.header scripts earlier d sound before low_d) access_c access_d) (same_number c)))
+        (one_holder S c d earlier cell is before.legal (run_keeps S.header scripts earlier c sound before low)
+        (run_keeps S.header scripts earlier d sound before low_d) access_c access_d) (same_number c)))
         (holds.apart c d low low_d other))));
     apart = λ a b low_a low_b other slot mine its. two_apart a b low_a low_b other slot (c == a) refl (c == b) refl mine its;
     means = subst (λ m. S.Represents m after.0) (sym own.shows) after.1;
@@ -329,7 +323,7 @@ next_event S scripts earlier number c did locals passed state is sound run holds
     mine = holds.each c low
 
     keeps : KeepsTo S.header (did ∷ part_of c earlier)
-    keeps = subst (KeepsTo S.header) (part_own number c did earlier) (keeps_in S.header scripts (e ∷ earlier) c sound run low)
+    keeps = subst (KeepsTo S.header) (part_own number c did earlier) (run_keeps S.header scripts (e ∷ earlier) c sound run low)
 
     may : may_act S.header s (act_of_event did) ≡ true
     may = keeps.0
@@ -338,7 +332,7 @@ next_event S scripts earlier number c did locals passed state is sound run holds
     agree = agrees S.header c earlier keeps.1
 
     agree_now : Agrees c (after_act s (act_of_event did)) log
-    agree_now = subst (λ p. Agrees c (situation_after p) log) (part_own number c did earlier) (agrees S.header c (e ∷ earlier) (keeps_in S.header scripts (e ∷ earlier) c sound run low))
+    agree_now = subst (λ p. Agrees c (situation_after p) log) (part_own number c did earlier) (agrees S.header c (e ∷ earlier) (run_keeps S.header scripts (e ∷ earlier) c sound run low))
 
     plays : Plays (script_of scripts c) (did ∷ part_of c earlier)
     plays = subst (Plays (script_of scripts c)) (part_own number c did earlier) (run.plays c)

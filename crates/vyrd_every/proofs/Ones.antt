@@ -12,7 +12,7 @@ use Rattle.vyrd_base.specs.Places.{first_answer}
 use Rattle.vyrd_base.specs.Callers.{by_caller, write_or_open, has_block, holds_word}
 use Rattle.vyrd_base.specs.Histories.{logged}
 use Rattle.vyrd_base.proofs.BlockLaws.{entry, wrote, own_block, own_wrote}
-use Rattle.vyrd_base.proofs.TestLaws.{first_true, second_true, same_of}
+use Rattle.vyrd_base.proofs.TestLaws.{same_of, both_of}
 use Rattle.vyrd_memory.specs.declared.act.Act.{Act}
 use Rattle.vyrd_memory.specs.Alone.{Memory}
 use Rattle.vyrd_memory.specs.Scripts.{Script, stop, step, next_act, after_answer, event_of, answer_of, left_after}
@@ -47,9 +47,6 @@ stepped S s k shown did (step act rest) right e =
         × ((now : Memory) → Rely S (after_act s a) next (shown_after s k shown a) now → DoesRight S (after_act s a) next now (rest (answer_at shown a)))
 
 -- a word that the caller's block has written after its own event
-pub holds_parts : (a b : Bool) → (a && b) ≡ true → (a ≡ true) × (b ≡ true)
-holds_parts a b e = (first_true a b e, second_true a b e)
-
 covers_step : (S : Structure) (c : ℕ) (did : Did) (s : Situation) (log : List Entry) → Agrees c s log
     → Agrees c (after_act s (act_of_event did)) (cons_option (logged c did) log) → may_act S.header s (act_of_event did) ≡ true → Reaches S s (act_of_event did)
     → ((w : ℕ) → holds_word c w log ≡ true → Access S s w)
@@ -63,9 +60,9 @@ covers_step S c (Took lock) s log a b may reaches covers w e =
     or_true true y f = refl
     or_true false y f = f
 covers_step S c (Gave lock) s log a b may reaches covers w e =
-    absurd (never (a.in_block ∙ reaches) (holds_parts (has_block c log) (wrote c w log) e).0)
+    absurd (never (a.in_block ∙ reaches) (both_of (has_block c log) (wrote c w log) e).0)
 covers_step S c (Wrote cell value) s log a b may reaches covers w e =
-    let parts = holds_parts (has_block c (entry c (Write cell value) ∷ log)) (wrote c w (entry c (Write cell value) ∷ log)) e in
+    let parts = both_of (has_block c (entry c (Write cell value) ∷ log)) (wrote c w (entry c (Write cell value) ∷ log)) e in
     by_place (sym (own_block c (Write cell value) log) ∙ parts.0) (cell == w) refl (sym (own_wrote c w (Write cell value) log) ∙ parts.1)
   where
     by_place : has_block c log ≡ true → (t : Bool) → (cell == w) ≡ t
@@ -73,19 +70,19 @@ covers_step S c (Wrote cell value) s log a b may reaches covers w e =
     by_place inside true f g = subst (Access S s) (same_of cell w f) reaches
     by_place inside false f g = covers w ((λ i. inside i && wrote c w log) ∙ g)
 covers_step S c (Marked (Call method args)) s log a b may reaches covers w e =
-    absurd (never b.in_block (holds_parts (has_block c (entry c (Call method args) ∷ log)) (wrote c w (entry c (Call method args) ∷ log)) e).0)
+    absurd (never b.in_block (both_of (has_block c (entry c (Call method args) ∷ log)) (wrote c w (entry c (Call method args) ∷ log)) e).0)
 covers_step S c (Marked (Return reply)) s log a b may reaches covers w e =
-    absurd (never b.in_block (holds_parts (has_block c (entry c (Return reply) ∷ log)) (wrote c w (entry c (Return reply) ∷ log)) e).0)
+    absurd (never b.in_block (both_of (has_block c (entry c (Return reply) ∷ log)) (wrote c w (entry c (Return reply) ∷ log)) e).0)
 covers_step S c (Marked (Write word value)) s log a b may reaches covers w e = absurd reaches
 covers_step S c (Marked Commit) s log a b may reaches covers w e =
     absurd (never (b.in_block ∙ not-true s.in_block (four_true (is_some s.called) (not (observes s)) (not s.committed) (not s.in_block) may).3)
-    (holds_parts (has_block c (entry c Commit ∷ log)) (wrote c w (entry c Commit ∷ log)) e).0)
+    (both_of (has_block c (entry c Commit ∷ log)) (wrote c w (entry c Commit ∷ log)) e).0)
 covers_step S c (Marked BlockOpen) s log a b may reaches covers w e =
-    absurd (never (own_wrote c w BlockOpen log) (holds_parts (has_block c (entry c BlockOpen ∷ log)) (wrote c w (entry c BlockOpen ∷ log)) e).1)
+    absurd (never (own_wrote c w BlockOpen log) (both_of (has_block c (entry c BlockOpen ∷ log)) (wrote c w (entry c BlockOpen ∷ log)) e).1)
 covers_step S c (Marked BlockClose) s log a b may reaches covers w e =
-    absurd (never b.in_block (holds_parts (has_block c (entry c BlockClose ∷ log)) (wrote c w (entry c BlockClose ∷ log)) e).0)
+    absurd (never b.in_block (both_of (has_block c (entry c BlockClose ∷ log)) (wrote c w (entry c BlockClose ∷ log)) e).0)
 covers_step S c (Marked BlockCommit) s log a b may reaches covers w e =
-    absurd (never b.in_block (holds_parts (has_block c (entry c BlockCommit ∷ log)) (wrote c w (entry c BlockCommit ∷ log)) e).0)
+    absurd (never b.in_block (both_of (has_block c (entry c BlockCommit ∷ log)) (wrote c w (entry c BlockCommit ∷ log)) e).0)
 
 -- the caller's own event
 pub record OwnStep (S : Structure) (script : Script) (part : List Did) (log : List Entry) (c : ℕ) (did : Did) (k : Locals) : Type 0 where

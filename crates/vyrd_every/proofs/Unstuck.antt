@@ -12,6 +12,7 @@ use Rattle.vyrd_base.specs.declared.history.Stamped.{Stamped}
 use Rattle.vyrd_base.specs.Places.{first_answer, numbers_from}
 use Rattle.vyrd_base.specs.Histories.{Cells, cells_of, is_plain, is_lock, made_of, value_in, may_do}
 use Rattle.vyrd_base.proofs.TestLaws.{first_true, second_true, same_number, below_of}
+use Rattle.vyrd_base.proofs.CellLaws.{plain_isnt}
 use Rattle.vyrd_memory.specs.declared.act.Act.{Act}
 use Rattle.vyrd_memory.specs.declared.act.Act.TheVariants.{Load, Store, Take, Give, Mark, Done}
 use Rattle.vyrd_memory.specs.declared.op.Turn.{Turn}
@@ -20,7 +21,7 @@ use Rattle.vyrd_memory.specs.Soundness.{Situation, IsSound, holds, may_act}
 use Rattle.vyrd_memory.specs.Turns.{part_of, script_of, act_of, is_done, are_done, is_held_up, are_stuck, after_turns, turns_of, run_for, GetsStuck}
 use Rattle.vyrd_memory.proofs.NumberLists.{all_pass}
 use Rattle.vyrd_memory.proofs.Situations.{situation_after, sound_keeps}
-use Rattle.vyrd_memory.proofs.LegalEvents.{AreLegal, does, caller_low, plain_isnt, value_with, are_answers}
+use Rattle.vyrd_memory.proofs.LegalEvents.{AreLegal, does, caller_low, value_with, are_answers}
 use Rattle.vyrd_memory.proofs.HeldLocks.{held_is}
 use Rattle.vyrd_memory.proofs.LegalRuns.{IsRun, run_sound, turns_run, rounds_run}
 use Rattle.vyrd_every.proofs.Acts.{never}

@@ -1,8 +1,6 @@
 -- The laws, of workloads.
 use Rattle.std.proofs.Common.{◌≡◌, ℕ, ◌+◌, ◌*◌, ◌<◌, ◌≤◌, Bool, true, false, List, [], ◌∷◌, Option, Some, None, option_map, length, refl, ap, ◌∙◌, sym, subst, arith}
-use Rattle.std.specs.Prelude.{nat_le}
 use Rattle.std.specs.Option.{option_or}
-use Rattle.std.proofs.lemmas.Bool.Decides.{nat_tests}
 use Rattle.std.specs.List.{AllByRecursion}
 use Rattle.vyrd_base.specs.declared.header.Header.{Header}
 use Rattle.vyrd_base.specs.declared.subject.Subject.{Subject}
@@ -12,14 +10,13 @@ use Rattle.vyrd_base.specs.declared.log.Entry.{Entry}
 use Rattle.vyrd_base.specs.declared.history.Stamped.{Stamped}
 use Rattle.vyrd_base.specs.declared.verdict.Why.{Why}
 use Rattle.vyrd_base.specs.declared.verdict.Verdict.TheVariants.{Violation}
-use Rattle.vyrd_base.specs.Limits.{is_known_version}
 use Rattle.vyrd_base.specs.Places.{Place, places, position_of, first_answer, newest_first}
 use Rattle.vyrd_base.specs.Front.{first_break}
 use Rattle.vyrd_base.specs.Amounts.{Amounts}
 use Rattle.vyrd_base.specs.Faults.{fault_at}
 use Rattle.vyrd_base.specs.Histories.{log_of}
 use Rattle.vyrd_base.specs.Verdicts.{line_of, violation_at, states_along, first_fault, is_call_open, accepted, verdict}
-use Rattle.vyrd_base.proofs.TestLaws.{first_true, second_true}
+use Rattle.vyrd_base.proofs.HeaderLaws.{some_size}
 use Rattle.vyrd_memory.specs.declared.op.Op.{Op}
 use Rattle.vyrd_memory.specs.Bounds.{bound_in, bounds_of}
 use Rattle.vyrd_memory.specs.declared.op.Variant.TheVariants.{Correct}
@@ -100,18 +97,11 @@ buffer_scripts_right w limits subject correct = record {
       (λ op callable. buffers_right w.header op subject callable);
 }
 
--- a header's size is 1 or more
-some_size : (h : Header) → 0 < h.size
-some_size h = at_least (first_true _ _ (first_true _ _ (first_true _ _ (second_true (is_known_version h.version) _ h.within))))
-  where
-    at_least : nat_le 1 h.size ≡ true → 0 < h.size
-    at_least e = grind (arith, nat_tests)
-
 trees_right : (w : Workload) → KeepsLimits w → IsCorrectTree w → Keeping w.header (work_scripts w)
 trees_right w limits is = tree_keeping w.header (work_scripts w) (record {
   version = limits.version;
   subject = is.subject;
-  some = some_size w.header;
+  some = omega (arith, some_size w.header);
   sound = scripts_sound w limits;
   right = λ c low g m tree. tree_script_right w c g m limits is low tree;
 })

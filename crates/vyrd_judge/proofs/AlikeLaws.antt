@@ -10,11 +10,13 @@ use Rattle.vyrd_base.specs.Layout.{plain_words}
 use Rattle.vyrd_base.specs.Words.{effects_at, given_to, value_at_start, value_after, words_with}
 use Rattle.vyrd_base.specs.Commits.{is_commit}
 use Rattle.vyrd_base.proofs.PlaceLaws.{first_answer-append}
-use Rattle.vyrd_base.proofs.TestLaws.{same_of, lower_isnt}
+use Rattle.vyrd_base.proofs.TestLaws.{same_of}
 use Rattle.vyrd_shadow.specs.Blocks.{with_writes}
 use Rattle.vyrd_base.proofs.EffectWords.{one_write}
+use Rattle.vyrd_base.proofs.ListLaws.{or_none}
 use Rattle.vyrd_words.specs.Cuts.{with_part, first_with}
 use Rattle.vyrd_words.specs.Effects.{effect_parts, with_effects, cut_if, given_last, ActAlike, AllActAlike, HasParts}
+use Rattle.vyrd_words.proofs.CutLaws.{with_part_none}
 
 writes_onto : (h : Header) (starting : List StartWord) (effects writes : List (ℕ × ℕ))
     → with_writes (words_with h starting effects) writes ≡ words_with h starting (newest_first_onto effects writes)
@@ -50,11 +52,7 @@ words_alike h starting before effects writes alike =
 
 -- so do two lists of writes one after the other
 last-append : (w : ℕ) (xs ys : List (ℕ × ℕ)) → given_last w (xs ++ ys) ≡ option_or (given_last w ys) (given_last w xs)
-last-append w [] ys = or_none (given_last w ys)
-  where
-    or_none : (o : Option ℕ) → o ≡ option_or o None
-    or_none None = refl
-    or_none (Some v) = refl
+last-append w [] ys = sym (or_none (given_last w ys))
 last-append w (x ∷ xs) ys =
     ap (λ o. option_or o (given_to w x)) (last-append w xs ys) ∙ sym (or_assoc (given_last w ys) (given_last w xs) (given_to w x))
 
@@ -97,13 +95,6 @@ alike_cut true since parts all = pushed since parts all
     pushed (x ∷ xs) [] a = absurd a
     pushed (x ∷ xs) (y ∷ ys) a = (a.0, pushed xs ys a.1)
 
--- no part has that many after it
-beyond : (behind : ℕ) (writes : List (ℕ × ℕ)) (since : List (List (ℕ × ℕ))) → length since ≤ behind → with_part behind writes since ≡ since
-beyond behind writes [] short = refl
-beyond behind writes (old ∷ since) short =
-    ap (λ b. cond b ((old ++ writes) ∷ since) (old ∷ with_part behind writes since)) (lower_isnt (length since) behind (omega (arith, short)))
-    ∙ ap (λ xs. old ∷ xs) (beyond behind writes since (omega (arith, short)))
-
 -- The words and the writes since go on as the parts do.
 pub has_parts_more : (h : Header) (starting : List StartWord) (first : List ℕ) (since parts : List (List (ℕ × ℕ))) (behind : ℕ)
     (writes effects : List (ℕ × ℕ)) (b : Bool) → ActAlike writes effects → HasParts h starting first since parts
@@ -123,7 +114,7 @@ has_parts_more h starting first since (part ∷ parts) behind writes effects b a
         (cond t ((effects ++ part) ∷ parts) (part ∷ with_effects behind effects parts))
     by_test true here = (
       ap (λ words. with_writes words writes) has.0 ∙ words_alike h starting part effects writes alike,
-      subst (λ s. AllActAlike s parts) (sym (beyond behind writes since (at_most here))) has.1,
+      subst (λ s. AllActAlike s parts) (sym (with_part_none behind writes since (at_most here))) has.1,
     )
       where
         at_most : (length since == behind) ≡ true → length since ≤ behind

@@ -203,8 +203,6 @@ uncommitted h e earlier later keeps quiet = by_kind e.kind keeps quiet
     by_kind BlockOpen keeps' none = refl
     by_kind BlockClose keeps' none = refl
 
--- where the first of some rules is broken nowhere
-
 -- All before a place is judged: what is known there, however the log goes on.
 pub record IsJudged (h : Header) (starting : List StartWord) (log : List Entry) (state : Amounts) (made : ℕ) (watches : List Seen)
     (first : List ℕ) (since : List (List (ℕ × ℕ))) (earlier later : List Entry) : Type 0 where

@@ -5,7 +5,6 @@ pub mod AnyLaws
 pub mod HistoryLaws
 pub mod OnlineLaws
 pub mod FollowerLaws
-pub mod CallerLaws
 pub mod QueueLaws
 pub mod JudgingLaws
 pub mod HeadLaws

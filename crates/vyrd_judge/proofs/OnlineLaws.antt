@@ -1,7 +1,6 @@
 -- What the online judge answers, by what it keeps.
-use Rattle.std.proofs.Common.{◌≡◌, inl, inr, Bool, true, false, List, [], ◌++◌, Option, Some, None, Result, Ok, Err, refl, ap, subst, ◌∙◌, sym}
+use Rattle.std.proofs.Common.{◌≡◌, inl, inr, Bool, true, false, List, [], ◌++◌, Option, Some, None, Result, Ok, Err, refl, subst, ◌∙◌, sym}
 use Rattle.std.specs.Prelude.{◌⊎◌, OnErr}
-use Rattle.vyrd_base.specs.declared.header.Header.{Header}
 use Rattle.vyrd_base.specs.declared.log.Entry.{Entry}
 use Rattle.vyrd_base.specs.declared.log.StartWord.{StartWord}
 use Rattle.vyrd_base.specs.declared.verdict.Verdict.{Verdict}
@@ -48,15 +47,6 @@ pub none_stands : {j : JudgeView} {starting : List StartWord} {log : List Entry}
 none_stands {j} {starting} {log} is f =
     let all = faultless_of is f in
     so_far_kept j.kept.header starting log all.taken_in.begun all.taken_in.kept ∙ all.faultless
-
--- with one more entry
-pub followed_with : (k : Kept) (h : Header) (starting : List StartWord) (log : List Entry)
-    (v : Option Verdict)
-    → k.header ≡ h → (v ≡ None → IsFaultless k starting log) → v ≡ verdict_so_far h starting log
-    → FollowsBy k starting log v
-followed_with k h starting log None same faultless is = faultless refl
-followed_with k h starting log (Some v) same faultless is =
-    ap (λ g. verdict_so_far g starting log) same ∙ sym is
 
 -- before the first entry
 pub faultless_first : {k : Kept} {starting : List StartWord}

@@ -4,10 +4,11 @@ use Rattle.std.specs.Prelude.{◌==◌, ◌≢◌, ◌||◌, not, option_map, is
 use Rattle.std.specs.Option.{option_or, option_flatten, option_map_or}
 use Rattle.std.specs.Bool.{then_some}
 use Rattle.std.specs.List.{cons_option}
-use Rattle.std.proofs.lemmas.Option.{slice_get_within, get_or_from_slice_get}
+use Rattle.std.proofs.lemmas.Option.{slice_get_within, get_or_from_slice_get, none-some}
 use Rattle.std.proofs.Math.Logic.{∥∥₁_elim}
 use Rattle.std.proofs.Math.Bool.{Bool-set}
 use Rattle.std.proofs.lemmas.Option.{same_Some}
+use Rattle.std.proofs.lemmas.List.{append-nil}
 use Rattle.vyrd_base.specs.declared.header.Header.{Header}
 use Rattle.vyrd_base.specs.declared.subject.Method.{Method}
 use Rattle.vyrd_base.specs.declared.subject.Args.{Args}
@@ -20,7 +21,7 @@ use Rattle.vyrd_base.specs.Subjects.{is_observer}
 use Rattle.vyrd_base.specs.Shape.{checks_at, is_observing}
 use Rattle.vyrd_base.specs.Verdicts.{is_return}
 use Rattle.vyrd_base.specs.Commits.{returned}
-use Rattle.vyrd_base.proofs.BlockLaws.{entry, by_same, own_answer, other_answer, no_answer}
+use Rattle.vyrd_base.proofs.BlockLaws.{entry, by_same, own_answer, other_answer, no_answer, open_call-quiet}
 use Rattle.vyrd_base.proofs.ShadowLaws.{all_kept, caller_kept}
 use Rattle.vyrd_base.proofs.TestLaws.{below_of, is_below, at_most_of, is_at_most, same_of, is_same, apart_of}
 use Rattle.vyrd_words.proofs.WordsLaws.{keeps_as}
@@ -32,19 +33,15 @@ use Rattle.vyrd_words.specs.HasWords.{Keeps}
 use Rattle.vyrd_base.specs.Entries.{place_of}
 use Rattle.vyrd_judge.specs.Queued.{IsCaller, IsPending, IsUnreturned, HasQueued, HasTakenUp, MayQueue, CanLeave}
 use Rattle.vyrd_judge.specs.Waiting.{commit_of, waiting_of, waiting_at, replied_event, replied}
-use Rattle.vyrd_base.proofs.StateLaws.{open_call-other, open_call-quiet}
+use Rattle.vyrd_base.proofs.StateLaws.{open_call-other}
 use Rattle.vyrd_base.proofs.CommitLaws.{Commits as Committing, alone, with_block, commits_inside, commits_unreturned}
 use Rattle.vyrd_base.proofs.KeptLaws.{commit_kept, block_commit_runs, return_kept}
-use Rattle.vyrd_base.proofs.ListLaws.{slice_get-set_same, slice_get-set_other}
-
-no_some : {A : Type 0} {a : A} → None ≡ Some a → ⊥
-no_some e = cc
+use Rattle.vyrd_base.proofs.ListLaws.{slice_get-set_same, slice_get-set_other, slice_get-last}
 
 apart : false ≡ true → ⊥
 apart e = cc
 
 -- what the rules say of an entry, by its kind
-
 call_is_free : {h : Header} {c : ℕ} {method : Method} {args : Args} {earlier : List Entry} → Keeps h earlier (entry c (Call method args))
     → open_call c earlier ≡ None
 call_is_free {h} {c} {method} {args} {earlier} keeps = free (open_call c earlier)
@@ -157,11 +154,7 @@ map_one {A = A} f (x ∷ xs) zero y low here others = ap (λ z. z ∷ map f xs) 
 map_one f (x ∷ xs) (suc i) y low here others = ap (λ z. z ∷ map f xs) (others 0 x (omega arith) refl)
     ∙ ap (λ zs. x ∷ zs) (map_one f xs i y (omega (arith, low)) here (λ j z far at. others (suc j) z (λ same. far (omega (arith, same))) at))
 
--- the last element of a list, and those before it
-slice_get-last : {A : Type 0} (xs : List A) (x : A) → slice_get (xs ++ x ∷ []) (length xs) ≡ Some x
-slice_get-last [] x = refl
-slice_get-last (y ∷ xs) x = slice_get-last xs x
-
+-- the elements of a list before the last one
 slice_get-front : {A : Type 0} (xs : List A) (x : A) (i : ℕ) → i < length xs → slice_get (xs ++ x ∷ []) i ≡ slice_get xs i
 slice_get-front [] x i low = absurd (omega (arith, low))
 slice_get-front (y ∷ xs) x zero low = refl
@@ -171,7 +164,7 @@ slice_get-front (y ∷ xs) x (suc i) low = slice_get-front xs x i (omega (arith,
 by_place : {A P : Type 0} (xs : List A) (x : A) (i : ℕ) (y : A) → slice_get (xs ++ x ∷ []) i ≡ Some y
     → (slice_get xs i ≡ Some y → P) → (i ≡ length xs → x ≡ y → P) → P
 by_place [] x zero y here before last = last refl (same_Some _ _ here)
-by_place [] x (suc i) y here before last = absurd (no_some here)
+by_place [] x (suc i) y here before last = absurd (none-some _ here)
 by_place (z ∷ xs) x zero y here before last = before here
 by_place (z ∷ xs) x (suc i) y here before last = by_place xs x i y here before (λ p q. last (ap suc p) q)
 
@@ -192,13 +185,9 @@ quiet_up {h} {waiting} {taken} {callers} {earlier} c kind inside quiet silent no
     };
     count = omega (arith, q.count);
   };
-  waiting = sym (unreplied (entry c kind) silent waiting) ∙ no_more (map (replied (entry c kind)) waiting)
+  waiting = sym (unreplied (entry c kind) silent waiting) ∙ sym (append-nil (map (replied (entry c kind)) waiting))
       ∙ ap (λ o. map (replied (entry c kind)) waiting ++ cons_option o []) (sym none);
 }
-  where
-    no_more : (xs : List Waiting) → xs ≡ xs ++ []
-    no_more [] = refl
-    no_more (x ∷ xs) = ap (λ ys. x ∷ ys) (no_more xs)
 
 pub write_up : {h : Header} {waiting : List Waiting} {taken : ℕ} {callers : List Caller} {earlier : List Entry} (c word value : ℕ)
     → HasQueued h waiting taken callers earlier → HasTakenUp h waiting waiting taken callers (entry c (Write word value)) earlier
@@ -237,7 +226,7 @@ call_queued {h} {waiting} {taken} {callers} {earlier} {c} {method} {args} caller
       (sym (committed-other d c (Call method args) earlier other) ∙ committed)
       (sym (slice_get-set_other callers c d caller (apart_of c d other)) ∙ at));
   unreturned = λ i commit k at event. let u = q.unreturned i commit k at event in by_same c commit.caller
-      (λ same. absurd (no_some (sym (call_is_free keeps) ∙ ap (λ x. open_call x earlier) same ∙ u.opened)))
+      (λ same. absurd (none-some _ (sym (call_is_free keeps) ∙ ap (λ x. open_call x earlier) same ∙ u.opened)))
       (λ other. record {
         opened = open_call-other commit.caller c (Call method args) earlier other ∙ u.opened;
         mutates = u.mutates;
@@ -269,10 +258,6 @@ pushed {h} {waiting} {taken} {callers} {e} {earlier} x isnt few q = record {
       (λ last same. absurd (isnt k (ap (λ w. w.event) same ∙ event)));
   count = omega (arith, few, length-append waiting (x ∷ []));
 }
-
-no_more : {A : Type 0} (xs : List A) → xs ++ [] ≡ xs
-no_more [] = refl
-no_more (x ∷ xs) = ap (λ ys. x ∷ ys) (no_more xs)
 
 pub call_up : {h : Header} {old new : List Waiting} {taken taken' : ℕ} {callers callers' : List Caller} {earlier : List Entry} (c position : ℕ) (method : Method)
     (args : Args) → c < length callers → position ≡ length earlier → Keeps h earlier (entry c (Call method args)) → HasQueued h old taken callers earlier
@@ -317,7 +302,7 @@ call_up {h} {old} {new} {taken} {taken'} {callers} {callers'} {earlier} c positi
         begins_isnt : {m : Method} {a : Args} → Begins method args ≡ Commits m a None → ⊥
         begins_isnt p = cc
     by_method false mutates = record {
-      queued = as_named (new_is ∙ ap (λ b. old ++ cons_option (then_some b x) []) mutates ∙ no_more old) queued;
+      queued = as_named (new_is ∙ ap (λ b. old ++ cons_option (then_some b x) []) mutates ∙ append-nil old) queued;
       waiting = waiting_is;
     }
 
@@ -332,10 +317,10 @@ return_queued : {h : Header} {waiting : List Waiting} {taken : ℕ} {callers : L
     → HasQueued h waiting taken callers (entry c (Return reply) ∷ earlier)
 return_queued {h} {waiting} {taken} {callers} {earlier} c reply none pending unreturned called few = record {
   called = λ d k low is. by_same c d
-      (λ same. absurd (no_some (sym (open_call-own c (Return reply) earlier None refl) ∙ ap (λ x. open_call x (entry c (Return reply) ∷ earlier)) same ∙ is)))
+      (λ same. absurd (none-some _ (sym (open_call-own c (Return reply) earlier None refl) ∙ ap (λ x. open_call x (entry c (Return reply) ∷ earlier)) same ∙ is)))
       (λ other. called d k low (sym (open_call-other d c (Return reply) earlier other) ∙ is));
   pending = λ d k caller low is committed at. by_same c d
-      (λ same. absurd (no_some (sym (open_call-own c (Return reply) earlier None refl) ∙ ap (λ x. open_call x (entry c (Return reply) ∷ earlier)) same ∙ is)))
+      (λ same. absurd (none-some _ (sym (open_call-own c (Return reply) earlier None refl) ∙ ap (λ x. open_call x (entry c (Return reply) ∷ earlier)) same ∙ is)))
       (λ other. pending d k caller low other (sym (open_call-other d c (Return reply) earlier other) ∙ is)
       (sym (committed-other d c (Return reply) earlier other) ∙ committed) at);
   unreturned = λ i commit k at event. let u = unreturned i commit k at event in by_same c commit.caller
@@ -407,7 +392,7 @@ mutator_up {h} {old} {new} {taken} {taken'} {callers} {callers'} {earlier} c rep
   waiting = new_is ∙ sym (map_one (replied e) old i x low
       (λ w at. let it : p.commit ≡ w = same_Some _ _ (sym p.here ∙ at) in ap (replied e) (sym it) ∙ replied_here)
       (λ j w far at. reply_other c reply w (λ m a event own. far (only j w (record { method = m; args = a }) at event own))))
-      ∙ sym (no_more (map (replied e) old))
+      ∙ sym (append-nil (map (replied e) old))
       ∙ ap (λ b. map (replied e) old ++ cons_option (option_map (waiting_of (place_of e earlier [])) (then_some b (Returns reply))) []) (sym observing);
 }
   where
@@ -610,15 +595,6 @@ queue_left {h} {waiting} {taken} {callers} {earlier} x xs is can q = record {
           event = p.event;
         }
 
--- before the first entry
-pub queue_first : (h : Header) (callers : List Caller) → HasQueued h [] 0 callers []
-queue_first h callers = record {
-  called = λ c k low is. absurd (no_some is);
-  pending = λ c k caller low is committed at. absurd (no_some is);
-  unreturned = λ i commit k at event. absurd (no_some at);
-  count = omega arith;
-}
-
 -- what may follow: its caller, how many entries wait, and where a reply goes
 pub queue_caller : {h : Header} {waiting : List Waiting} {taken : ℕ} {callers : List Caller} {e : Entry} {position : ℕ}
     → MayQueue h waiting taken callers e position → e.caller < h.callers
@@ -658,17 +634,9 @@ pub known_caller : {h : Header} {waiting : List Waiting} {taken : ℕ} {callers 
     → Keeps h earlier e → open_call e.caller earlier ≡ Some called → HasQueued h waiting taken callers earlier → IsCaller callers e.caller called
 known_caller {h} {earlier = earlier} {e} {called} keeps opened q = q.called e.caller called (caller_kept h earlier e keeps.rules) opened
 
--- the entry by its kind
-pub keeps_kind : {h : Header} {earlier : List Entry} {e : Entry} {kind : Kind} → e.kind ≡ kind → Keeps h earlier e → Keeps h earlier (entry e.caller kind)
-keeps_kind is keeps = keeps_as is keeps
-
 pub taken_kind : {h : Header} {old new : List Waiting} {taken : ℕ} {callers : List Caller} {earlier : List Entry} (e : Entry) {kind : Kind} → e.kind ≡ kind
     → HasTakenUp h old new taken callers (entry e.caller kind) earlier → HasTakenUp h old new taken callers e earlier
 taken_kind {h} {old} {new} {taken} {callers} {earlier} e is up = subst (λ k. HasTakenUp h old new taken callers (entry e.caller k) earlier) (sym is) up
-
-pub ok_in : {T E P S : Type 0} (r : Result T E) → OnOk r P → (P → S) → OnOk r S
-ok_in (Ok x) p f = f p
-ok_in (Err x) p f = tt
 
 -- a return is taken in, whichever it is
 pub return_up : {T E : Type 0} {h : Header} {old : List Waiting} {taken : ℕ} {callers : List Caller} {earlier : List Entry} (r : Result T E)

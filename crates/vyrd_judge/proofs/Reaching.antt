@@ -18,14 +18,14 @@ use Rattle.vyrd_base.specs.Amounts.{Amounts}
 use Rattle.vyrd_base.specs.Specification.{answer_in}
 use Rattle.vyrd_base.specs.Commits.{is_commit, Committed, committed_at, commits_after, state_after, states_from, commit_count}
 use Rattle.vyrd_base.specs.Faults.{states_since_call}
-use Rattle.vyrd_base.proofs.BlockLaws.{entry, by_same, own_answer}
+use Rattle.vyrd_base.proofs.BlockLaws.{entry, by_same, own_answer, open_call-quiet}
 use Rattle.vyrd_base.proofs.TestLaws.{same_number}
 use Rattle.vyrd_base.specs.Entries.{has_method}
 use Rattle.vyrd_observers.specs.Watching.{Seen, SeesAnswer}
 use Rattle.vyrd_judge.specs.Reached.{IsWatched}
 use Rattle.vyrd_judge.specs.Reached.{Reached}
 use Rattle.vyrd_observers.specs.Watching.{AllSee}
-use Rattle.vyrd_base.proofs.StateLaws.{open_call-other, before_call-other, open_call-quiet, before_call-quiet, count-commit, window-quiet, window-commit, window-call, state_here, going-quiet, going-commit}
+use Rattle.vyrd_base.proofs.StateLaws.{open_call-other, before_call-other, before_call-quiet, count-commit, window-quiet, window-commit, window-call, state_here, going-quiet, going-commit}
 
 -- an open observer is watched on where the entry leaves its window
 watched_on : {states : List Amounts} {c : ℕ} {e : Entry} {earlier : List Entry} {called : Called} {seen : Seen}
@@ -81,9 +81,6 @@ reached_changed h states c kind earlier later state watches new quiet others may
         watched_on (window-quiet states d (entry c kind) earlier quiet (before_call-other d c kind earlier other)) old.2,
       ));
 }
-
-flattened : Option (Option Called) → Option Called
-flattened o = option_flatten o
 
 opened_call : (c : ℕ) (method : Method) (args : Args) (earlier : List Entry)
     → opened c (Call method args) earlier ≡ Some (record { method = method; args = args })

@@ -84,7 +84,7 @@ impl Queue {
 
     /// A call is remembered, and waits if it is an observer's.
     #[inline(always)]
-    #[tactic(auto, using(crate::proofs::CallerLaws::few_callers))]
+    #[tactic(auto, using(vyrd_base::proofs::HeaderLaws::few_callers))]
     fn call(
         &mut self,
         caller: u32,
@@ -114,7 +114,7 @@ impl Queue {
 
     /// A commit waits, and its caller knows its number.
     #[inline(always)]
-    #[tactic(auto, using(crate::proofs::CallerLaws::few_callers))]
+    #[tactic(auto, using(vyrd_base::proofs::HeaderLaws::few_callers))]
     fn commit(&mut self, caller: u32, position: u64) -> Result<(), AllocError>
         requires caller { caller < self.old.header.callers }
         requires few { self.old.taken + length self.old.waiting.items < 2 ^ 62 }
@@ -147,7 +147,7 @@ impl Queue {
 
     /// An observer's return waits. A mutator's goes to its commit.
     #[inline(always)]
-    #[tactic(auto, using(crate::proofs::CallerLaws::few_callers))]
+    #[tactic(auto, using(vyrd_base::proofs::HeaderLaws::few_callers))]
     fn give_back(&mut self, caller: u32, position: u64, reply: u64) -> Result<(), AllocError>
         requires caller { caller < self.old.header.callers }
         requires pending { (called : Caller) → slice_get self.old.callers.items caller ≡ Some called

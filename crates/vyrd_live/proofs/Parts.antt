@@ -51,9 +51,3 @@ pub part_all : (c : ℕ) (xs : List Stamped) → All (λ (e : Stamped). e.caller
 part_all c [] own = refl
 part_all c (x ∷ xs) own = ap (λ (b : Bool). cond b (x ∷ part c xs) (part c xs)) (eq-eqb x.caller c (own 0 x (omega arith)))
     ∙ ap (λ (l : List Stamped). x ∷ l) (part_all c xs (λ k d l. own (suc k) d (omega arith)))
-
--- events that are none of this caller
-pub part_none : (c : ℕ) (xs : List Stamped) → All (λ (e : Stamped). e.caller ≢ c) xs → part c xs ≡ []
-part_none c [] apart = refl
-part_none c (x ∷ xs) apart = ap (λ (b : Bool). cond b (x ∷ part c xs) (part c xs)) (ne_eqb x.caller c (apart 0 x (omega arith)))
-    ∙ part_none c xs (λ k d l. apart (suc k) d (omega arith))

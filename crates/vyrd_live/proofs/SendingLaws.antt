@@ -1,12 +1,12 @@
 -- What was sent of a lane that grows.
-use Rattle.std.proofs.Common.{◌≡◌, ℕ, length, take, List, [], ◌∷◌, ◌++◌, ◌≤◌, refl, ap, ◌∙◌, sym, subst, arith, length-append}
+use Rattle.std.proofs.Common.{◌≡◌, ℕ, length, take, List, [], ◌∷◌, ◌++◌, refl, ap, ◌∙◌, sym, subst, arith, length-append}
 use Rattle.std.specs.List.{All}
 use Rattle.std.proofs.lemmas.List.{take-append-le, take_all}
 use Rattle.std.proofs.lemmas.List.Elements.{All-push}
 use Rattle.vyrd_base.specs.declared.history.Stamped.{Stamped}
 use Rattle.vyrd_memory.specs.declared.act.Act.{Act}
 use Rattle.vyrd_trace.specs.Lanes.{stamp}
-use Rattle.vyrd_trace.specs.Hands.{HandView, with_forgotten}
+use Rattle.vyrd_trace.specs.Hands.{HandView}
 use Rattle.vyrd_relay.specs.Ends.{RelayView, SenderView, lane_sent}
 use Rattle.vyrd_live.specs.Acts.{HasActed}
 use Rattle.vyrd_live.specs.Sending.{HasSent}
@@ -55,18 +55,6 @@ sent_nothing relay sender hand queue caller sent empty kept = record {
   sent = sent;
   own = subst (All (λ (e : Stamped). e.caller ≡ hand.caller)) (sym empty) (λ k d l. absurd (omega arith));
 }
-
--- the hand keeps less of its lane
-pub sent_kept : (relay : RelayView) (sender : SenderView) (place forgotten : ℕ) (hand after : HandView) → after ≡ with_forgotten hand forgotten
-    → forgotten ≤ place → HasSent relay sender place hand → HasSent relay sender place after
-sent_kept relay sender place forgotten hand after is gone s = subst (HasSent relay sender place) (sym is) (record {
-  queue = s.queue;
-  caller = s.caller;
-  gone = gone;
-  within = s.within;
-  sent = s.sent;
-  own = s.own;
-})
 
 -- what was sent of a lane to its end is the lane
 pub sent_whole : (relay : RelayView) (sender : SenderView) (place : ℕ) (hand : HandView) → HasSent relay sender place hand

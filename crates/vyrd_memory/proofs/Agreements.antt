@@ -21,6 +21,7 @@ use Rattle.vyrd_base.specs.Histories.{logged}
 use Rattle.vyrd_base.proofs.HistoryLaws.{log_entry}
 use Rattle.vyrd_base.proofs.BlockLaws.{entry, own_answer, other_answer, own_block}
 use Rattle.vyrd_base.proofs.TestLaws.{first_true, second_true}
+use Rattle.vyrd_base.proofs.EffectLaws.{own_committed}
 use Rattle.vyrd_memory.specs.Soundness.{Situation, holds_none, observes, is_at_rest, may_act, may_mark, after_act, after_mark}
 use Rattle.vyrd_memory.specs.Turns.{part_of}
 use Rattle.vyrd_memory.proofs.Situations.{act_of_event, situation_after, KeepsTo}
@@ -79,41 +80,37 @@ own_method : (c : ℕ) (kind : Kind) (log : List Entry)
     ≡ option_map (λ called. called.method) (option_flatten (option_or (call_or_return kind) (first_answer (by_caller c call_or_return) log)))
 own_method c kind log = ap (λ o. option_map (λ (called : Called). called.method) (option_flatten o)) (own_answer c call_or_return kind log)
 
-own_commit : (c : ℕ) (kind : Kind) (log : List Entry)
-    → has_committed c (entry c kind ∷ log) ≡ unwrap_or (option_or (commit_or_call kind) (first_answer (by_caller c commit_or_call) log)) false
-own_commit c kind log = ap (λ o. unwrap_or o false) (own_answer c commit_or_call kind log)
-
 own_mark : (h : Header) (c : ℕ) (kind : Kind) (s : Situation) (log : List Entry) → may_mark h s kind ≡ true → Agrees c s log
     → Agrees c (after_mark s kind) (entry c kind ∷ log)
 own_mark h c (Call method args) s log may a = record {
   called = own_method c (Call method args) log;
-  committed = own_commit c (Call method args) log;
+  committed = own_committed c (Call method args) log;
   in_block = own_block c (Call method args) log ∙ a.in_block ∙ (may_call h s method args may).2.in_block;
 }
 own_mark h c (Return reply) s log may a = record {
   called = own_method c (Return reply) log;
-  committed = own_commit c (Return reply) log;
+  committed = own_committed c (Return reply) log;
   in_block = own_block c (Return reply) log ∙ a.in_block ∙ (may_return h s reply may).1;
 }
 own_mark h c (Write word value) s log may a = cc
 own_mark h c Commit s log may a = record {
   called = own_method c Commit log ∙ a.called;
-  committed = own_commit c Commit log;
+  committed = own_committed c Commit log;
   in_block = own_block c Commit log ∙ a.in_block;
 }
 own_mark h c BlockOpen s log may a = record {
   called = own_method c BlockOpen log ∙ a.called;
-  committed = own_commit c BlockOpen log ∙ a.committed;
+  committed = own_committed c BlockOpen log ∙ a.committed;
   in_block = own_block c BlockOpen log;
 }
 own_mark h c BlockClose s log may a = record {
   called = own_method c BlockClose log ∙ a.called;
-  committed = own_commit c BlockClose log ∙ a.committed;
+  committed = own_committed c BlockClose log ∙ a.committed;
   in_block = own_block c BlockClose log;
 }
 own_mark h c BlockCommit s log may a = record {
   called = own_method c BlockCommit log ∙ a.called;
-  committed = own_commit c BlockCommit log;
+  committed = own_committed c BlockCommit log;
   in_block = own_block c BlockCommit log;
 }
 
@@ -122,7 +119,7 @@ own_event : (h : Header) (c : ℕ) (did : Did) (s : Situation) (log : List Entry
 own_event h c (Read cell value) s log may a = a
 own_event h c (Wrote cell value) s log may a = record {
   called = own_method c (Write cell value) log ∙ a.called;
-  committed = own_commit c (Write cell value) log ∙ a.committed;
+  committed = own_committed c (Write cell value) log ∙ a.committed;
   in_block = own_block c (Write cell value) log ∙ a.in_block;
 }
 own_event h c (Took lock) s log may a = record { called = a.called; committed = a.committed; in_block = a.in_block }

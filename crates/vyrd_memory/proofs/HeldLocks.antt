@@ -14,10 +14,11 @@ use Rattle.vyrd_base.specs.declared.history.Stamped.{Stamped}
 use Rattle.vyrd_base.specs.Places.{first_answer}
 use Rattle.vyrd_base.specs.Histories.{Cells, cells_of, is_plain, is_lock, made_of, value_in, may_do}
 use Rattle.vyrd_base.proofs.TestLaws.{first_true, second_true, same_number, same_of}
+use Rattle.vyrd_base.proofs.CellLaws.{plain_isnt}
 use Rattle.vyrd_memory.specs.Soundness.{Situation, is_nil, holds, may_act, may_mark, after_act, after_mark}
 use Rattle.vyrd_memory.specs.Turns.{part_of}
 use Rattle.vyrd_memory.proofs.Situations.{act_of_event, situation_after, KeepsTo}
-use Rattle.vyrd_memory.proofs.LegalEvents.{AreLegal, does, plain_isnt, value_with}
+use Rattle.vyrd_memory.proofs.LegalEvents.{AreLegal, does, value_with}
 use Rattle.vyrd_memory.proofs.Agreements.{three_true, may_call, may_return, keeps_before}
 
 -- numbers of holders

@@ -1,6 +1,6 @@
 -- The part of one caller that plays a sound script keeps the rules, whatever the others do.
-use Rattle.std.proofs.Common.{◌≡◌, ℕ, ◌<◌, Bool, true, false, cond, List, [], ◌∷◌, Option, Some, None, refl, ap, ◌∙◌, sym, subst, arith}
-use Rattle.std.specs.Prelude.{◌==◌, is_some, is_none, filter_map}
+use Rattle.std.proofs.Common.{◌≡◌, ℕ, ◌<◌, Bool, true, false, cond, List, [], ◌∷◌, Some, None, refl, ap, ◌∙◌, sym, subst, arith}
+use Rattle.std.specs.Prelude.{◌==◌, is_none, filter_map}
 use Rattle.std.specs.List.{cons_option}
 use Rattle.std.proofs.lemmas.Bool.Decides.{nat_tests}
 use Rattle.vyrd_base.specs.declared.header.Header.{Header}
@@ -12,6 +12,7 @@ use Rattle.vyrd_base.specs.Places.{newest_first}
 use Rattle.vyrd_base.specs.Callers.{open_call}
 use Rattle.vyrd_base.specs.Histories.{logged, log_of}
 use Rattle.vyrd_base.proofs.HistoryLaws.{log_entry}
+use Rattle.vyrd_base.proofs.ListLaws.{isnt_some}
 use Rattle.vyrd_memory.specs.Scripts.{Script, left_after, Plays, PlaysToTheEnd}
 use Rattle.vyrd_memory.specs.Soundness.{Situation, at_rest, may_act, IsSound}
 use Rattle.vyrd_memory.specs.Turns.{part_of}
@@ -74,16 +75,12 @@ lane_keeps h c script history low sound plays small =
     (events_keep h c (newest_first history) low
     (sound_keeps h script (part_of c (newest_first history)) sound plays (are_answers (part_of c (newest_first history)) small)))
 
-none_there : {A : Type 0} (o : Option A) → is_some o ≡ false → o ≡ None
-none_there None e = refl
-none_there (Some x) e = cc
-
 pub lane_is_closed : (h : Header) (c : ℕ) (script : Script) (history : List Stamped) → c < h.callers → IsSound h at_rest script
     → PlaysToTheEnd script (part_of c (newest_first history)) → AreSmallReads (part_of c (newest_first history))
     → open_call c (newest_first (log_of history)) ≡ None
 lane_is_closed h c script history low sound plays small =
     ap (open_call c) (newest_log history)
-    ∙ none_there (open_call c (filter_map log_entry (newest_first history)))
+    ∙ isnt_some (open_call c (filter_map log_entry (newest_first history)))
     (isnt_open c (situation_after part) (filter_map log_entry (newest_first history)) (agrees h c (newest_first history) keeps)
     (ap (λ s. is_none s.called) at_end))
   where

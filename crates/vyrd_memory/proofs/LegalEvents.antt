@@ -1,6 +1,6 @@
 -- Legal histories, the newest event first: each event may come after the events before it.
 use Rattle.std.proofs.Common.{◌≡◌, ℕ, ◌+◌, ◌<◌, ◌^◌, Bool, true, false, cond, ◌&&◌, List, [], ◌∷◌, Some, None, refl, arith}
-use Rattle.std.specs.Prelude.{◌==◌, nat_lt, nat_le, unwrap_or, length}
+use Rattle.std.specs.Prelude.{◌==◌, nat_lt, unwrap_or, length}
 use Rattle.std.specs.Option.{option_or}
 use Rattle.std.specs.List.{list_all, cons_option}
 use Rattle.std.proofs.lemmas.Bool.Decides.{nat_tests}
@@ -10,6 +10,7 @@ use Rattle.vyrd_base.specs.declared.history.Stamped.{Stamped}
 use Rattle.vyrd_base.specs.Places.{places_after, first_answer, newest_first_onto, newest_first}
 use Rattle.vyrd_base.specs.Histories.{Cells, is_plain, is_lock, made_of, value_in, may_do, is_legal_at, is_legal}
 use Rattle.vyrd_base.proofs.TestLaws.{both_true, first_true, second_true}
+use Rattle.vyrd_base.proofs.CellLaws.{plain_isnt}
 use Rattle.vyrd_memory.specs.Scripts.{IsAnswer, answer_of}
 use Rattle.vyrd_memory.specs.Turns.{part_of}
 use Rattle.vyrd_memory.proofs.Situations.{act_of_event, AreAnswers}
@@ -61,13 +62,6 @@ caller_low cells earlier e may =
 
 pub does : (cells : Cells) (earlier : List Stamped) (e : Stamped) → may_come cells earlier e ≡ true → may_do cells earlier e.caller e.did ≡ true
 does cells earlier e may = second_true (e.number == length earlier && nat_lt e.caller cells.callers) (may_do cells earlier e.caller e.did) may
-
--- a plain cell isn't a lock
-pub plain_isnt : (cells : Cells) (cell lock : ℕ) → is_plain cells cell ≡ true → is_lock cells lock ≡ true → (cell == lock) ≡ false
-plain_isnt cells cell lock plain is =
-    let low : nat_lt cell cells.plain ≡ true = plain in
-    let high : nat_le cells.plain lock ≡ true = first_true (nat_le cells.plain lock) (nat_lt lock (cells.plain + cells.locks)) is in
-    grind (arith, nat_tests)
 
 -- the cell's value after one more event
 abbrev pub value_with : List Stamped → ℕ → ℕ → Did → ℕ

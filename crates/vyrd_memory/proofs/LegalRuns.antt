@@ -113,7 +113,7 @@ pub run_sound : (h : Header) (scripts : List Script) (earlier : List Stamped) (c
 run_sound h scripts earlier c sound run low =
     sound_left h (script_of scripts c) (part_of c earlier) (sound.sound c low) (run.plays c) (are_answers (cells_of h) earlier c run.legal)
 
-run_keeps : (h : Header) (scripts : List Script) (earlier : List Stamped) (c : ℕ) → AreSoundScripts h scripts
+pub run_keeps : (h : Header) (scripts : List Script) (earlier : List Stamped) (c : ℕ) → AreSoundScripts h scripts
     → IsRun h scripts earlier → c < h.callers
     → KeepsTo h (part_of c earlier)
 run_keeps h scripts earlier c sound run low =

@@ -11,11 +11,11 @@ use Rattle.vyrd_base.specs.Layout.{plain_words, lock_words}
 use Rattle.vyrd_base.specs.Amounts.{Amounts, IsAmounts}
 use Rattle.vyrd_base.specs.Views.{view_of_words, parts_of}
 use Rattle.vyrd_base.specs.Represented.{is_sound, state_of_words}
-use Rattle.vyrd_base.proofs.PlaceLaws.{length-mapped}
+use Rattle.vyrd_base.proofs.PlaceLaws.{length-mapped, pass_all}
 use Rattle.vyrd_base.proofs.TestLaws.{both_true, first_true, second_true, then_some_true}
 use Rattle.vyrd_base.proofs.SumLaws.{IsAmounts-collected}
 use Rattle.vyrd_memory.specs.Alone.{Memory, words_in, state_in, with_cell}
-use Rattle.vyrd_memory.proofs.NumberLists.{element_below, drop-from, all_pass, pass_all}
+use Rattle.vyrd_memory.proofs.NumberLists.{element_below, drop-from, all_pass}
 
 -- the words are sound, the locks are free, and the state is what the words show
 pub record Represents (h : Header) (memory : Memory) (state : Amounts) : Type 0 where

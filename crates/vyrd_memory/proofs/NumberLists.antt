@@ -4,7 +4,7 @@ use Rattle.std.specs.Prelude.{◌≢◌, ◌==◌, slice_index, drop, flat_map}
 use Rattle.std.proofs.lemmas.Bool.Decides.{nat_tests}
 use Rattle.std.specs.List.{list_all}
 use Rattle.vyrd_base.specs.Places.{numbers_from, numbers_below}
-use Rattle.vyrd_base.proofs.TestLaws.{both_true, first_true, second_true}
+use Rattle.vyrd_base.proofs.TestLaws.{first_true, second_true}
 
 -- the element at a place is what the function gives for that number
 pub element_from : (f : ℕ → ℕ) (k n i : ℕ) → i < n → slice_index (map f (numbers_from k n)) i ≡ f (k + i)
@@ -35,13 +35,6 @@ all_pass test k (suc n) all i from to =
     by_place true e later = let same : i ≡ k = grind (arith, nat_tests) in ap test same
         ∙ first_true (test k) (list_all test (numbers_from (k + 1) n)) all
     by_place false e later = later (grind (arith, nat_tests))
-
--- a test that each passes, all do
-pub pass_all : (test : ℕ → Bool) (k n : ℕ) → ((i : ℕ) → k ≤ i → i < k + n → test i ≡ true) → list_all test (numbers_from k n) ≡ true
-pass_all test k zero each = refl
-pass_all test k (suc n) each =
-    both_true (test k) (list_all test (numbers_from (k + 1) n)) (each k (omega arith) (omega arith))
-    (pass_all test (k + 1) n (λ i from to. each i (omega arith) (omega arith)))
 
 -- what two functions give alike
 pub flat_map_alike : {A : Type 0} (f g : ℕ → List A) (k n : ℕ) → ((i : ℕ) → k ≤ i → i < k + n → f i ≡ g i)

@@ -1,12 +1,12 @@
 -- One event of a run by turns, in the plain memory and in the history.
 use Rattle.std.proofs.Common.{◌≡◌, ℕ, zero, suc, ◌+◌, ◌<◌, ◌^◌, Bool, true, false, cond, not, ◌&&◌, List, [], ◌∷◌, ◌++◌, map, Option, Some, None, refl, ap, ◌∙◌, sym}
 use Rattle.std.proofs.Common.{subst, arith}
-use Rattle.std.specs.Prelude.{◌≢◌, ◌==◌, nat_lt, nat_le, is_some, length, slice_get, slice_index, set, get_or, unwrap_or}
+use Rattle.std.specs.Prelude.{◌≢◌, ◌==◌, nat_lt, nat_le, is_some, length, slice_get, slice_index, set, unwrap_or}
 use Rattle.std.specs.Option.{option_or}
 use Rattle.std.specs.List.{cons_option}
 use Rattle.std.proofs.lemmas.Bool.Decides.{nat_tests}
 use Rattle.std.proofs.lemmas.List.{length-set, get_or-set_same, get_or-set_other}
-use Rattle.std.proofs.lemmas.Option.{same_Some, slice_get_within, slice_get-get_or}
+use Rattle.std.proofs.lemmas.Option.{same_Some, slice_get_within}
 use Rattle.std.proofs.Math.Logic.{∥∥₁_elim}
 use Rattle.std.proofs.Math.Bool.{Bool-set}
 use Rattle.vyrd_base.specs.declared.header.Header.{Header}
@@ -306,10 +306,6 @@ event_is h script scripts machines words history c m playing here is =
     ap (event_now (newest_first history)) (act_is h script scripts machines words history c m playing here)
     ∙ sym (same_event h (newest_first history) (next_act (script m)) is)
     ∙ ap (λ words. event_in words (next_act (script m))) (sym playing.words_are)
-
--- the element at a place that is within the list
-pub element_here : {M : Type 0} (machines : List M) (c : ℕ) (m : M) → c < length machines → m ≡ get_or machines c m → slice_get machines c ≡ Some m
-element_here machines c m low is = slice_get-get_or machines c m low ∙ ap Some (sym is)
 
 -- a turn with an event is the turn of the definition
 pub turn_is : {M : Type 0} (h : Header) (header_of : M → Header) (script : M

@@ -5,7 +5,7 @@ use Rattle.vyrd_base.specs.declared.header.Header.{Header}
 use Rattle.vyrd_base.specs.declared.history.Stamped.{Stamped}
 use Rattle.vyrd_base.specs.Places.{newest_first, numbers_below}
 use Rattle.vyrd_base.specs.declared.history.Did.{Did}
-use Rattle.vyrd_base.proofs.PlaceLaws.{numbers_below-push, length-newest_first}
+use Rattle.vyrd_base.proofs.PlaceLaws.{length-newest_first}
 use Rattle.vyrd_memory.specs.declared.op.Turn.{Turn}
 use Rattle.vyrd_memory.specs.Scripts.{Script}
 use Rattle.vyrd_memory.specs.Turns.{act_of, event_now, with_event, after_turn, after_turns, turns_of}
@@ -26,10 +26,6 @@ played_more h header_of script xs ys zs a b c first second e = record {
   history = λ scripts is. second.history scripts (first.plays scripts is) ∙ ap (after_turns scripts ys) (first.history scripts is)
       ∙ sym (after_turns-append scripts xs ys (newest_first a.history)) ∙ ap (λ zs. after_turns scripts zs (newest_first a.history)) (sym e);
 }
-
--- one caller more, and one turn more
-pub next_number : (i : ℕ) → numbers_below (i + 1) ≡ numbers_below i ++ i ∷ []
-next_number i = numbers_below-push i
 
 pub one_more : {A : Type 0} (n : ℕ) (x : A) → replicate (n + 1) x ≡ replicate n x ++ x ∷ []
 one_more zero x = refl

@@ -1,7 +1,8 @@
 //! The run by turns: machines over plain memory, one event at a time.
 
 ghost use Rattle.std.specs.Prelude.{◌≡◌, ◌<◌, ◌≤◌, ◌+◌, ◌^◌, true, false, MatchOption, IfOk};
-ghost use Rattle.std.specs.Prelude.{All, [], ◌∷◌, ℕ, List, length, vec_len, map, replicate, Ok, Err, IfSome};
+ghost use Rattle.std.specs.Prelude.{All, [], ◌∷◌, ℕ, List, length, vec_len, map, replicate};
+ghost use Rattle.std.specs.Prelude.{Ok, Err, IfSome};
 ghost use Rattle.std.specs.List.{list_all};
 ghost use Rattle.vyrd_base.specs.Places.{newest_first, numbers_below};
 ghost use Rattle.vyrd_base.specs.Layout.{plain_words, lock_words};

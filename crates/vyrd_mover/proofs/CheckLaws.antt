@@ -1,9 +1,10 @@
 -- If no block is broken, each block can be gathered.
 use Rattle.std.proofs.Common.{◌≡◌, ℕ, Bool, true, cond, List, [], ◌∷◌, ◌++◌, Option, Some, None, refl, ap, ◌∙◌, sym}
-use Rattle.std.specs.Option.{option_or, option_map, option_and_then, is_none}
+use Rattle.std.specs.Option.{option_map, option_and_then, is_none}
 use Rattle.vyrd_base.specs.declared.history.Stamped.{Stamped}
 use Rattle.vyrd_base.specs.Places.{Place, places, places_after, newest_first, newest_first_onto, first_answer}
 use Rattle.vyrd_base.specs.Histories.{Cells, is_legal}
+use Rattle.vyrd_base.proofs.ListLaws.{both_none}
 use Rattle.vyrd_mover.specs.declared.blocks.Blocks.TheVariants.{Reducible}
 use Rattle.vyrd_mover.specs.RaceFree.{is_race_free}
 use Rattle.vyrd_mover.specs.Movers.{has_cut}
@@ -19,18 +20,14 @@ pub answer_is : (cells : Cells) (history : List Stamped) (s : Surveyed) → HasS
 unfolding blocks_of
 answer_is cells history s is = λ i. said_of (is.broken [] i) (is.blocks [] i)
 
-neither : {A : Type 0} (o p : Option A) → option_or o p ≡ None → (o ≡ None) × (p ≡ None)
-neither None p e = (refl, e)
-neither (Some x) p e = cc
-
 -- no answer at any place
 none_at : {B : Type 0} (f : Place Stamped → Option B) (earlier before : List Stamped) (x : Stamped) (later : List Stamped)
     → first_answer f (places_after earlier (before ++ x ∷ later)) ≡ None
     → f (record { earlier = newest_first_onto earlier before; here = x; later = later }) ≡ None
 none_at f earlier [] x later e =
-    let both = neither (f (record { earlier = earlier; here = x; later = later })) (first_answer f (places_after (x ∷ earlier) later)) e in both.0
+    let both = both_none (f (record { earlier = earlier; here = x; later = later })) (first_answer f (places_after (x ∷ earlier) later)) e in both.0
 none_at f earlier (y ∷ before) x later e =
-    let both = neither (f (record { earlier = earlier; here = y; later = before ++ x ∷ later })) (first_answer f (places_after (y ∷ earlier) (before ++ x ∷ later))) e in
+    let both = both_none (f (record { earlier = earlier; here = y; later = before ++ x ∷ later })) (first_answer f (places_after (y ∷ earlier) (before ++ x ∷ later))) e in
     none_at f (y ∷ earlier) before x later both.1
 
 said_reducible : (o : Option (ℕ × ℕ)) (count n : ℕ) → said_of o count ≡ Reducible n → o ≡ None

@@ -1,12 +1,13 @@
 -- Race-free cells as facts about runs over a memory.
-use Rattle.std.proofs.Common.{◌≡◌, ℕ, ◌+◌, ◌<◌, ◌≤◌, true, false, not, ◌||◌, ◌⊎◌, inl, inr, List, [], ◌∷◌, refl, ap, sym, subst, arith}
+use Rattle.std.proofs.Common.{◌≡◌, ℕ, ◌+◌, ◌<◌, true, false, not, ◌||◌, ◌⊎◌, inl, inr, List, [], ◌∷◌, refl, ap, sym, subst, arith}
 use Rattle.std.specs.Prelude.{◌==◌, nat_le}
 use Rattle.std.specs.List.{list_all, list_any}
 use Rattle.std.proofs.lemmas.Bool.{or_left, or_right, not-true}
 use Rattle.vyrd_base.specs.declared.history.Stamped.{Stamped}
 use Rattle.vyrd_base.specs.Places.{places_after, numbers_from, numbers_below}
 use Rattle.vyrd_base.specs.Histories.{Cells, is_lock, value_in}
-use Rattle.vyrd_base.proofs.TestLaws.{both_true, first_true, second_true, same_of, is_same, is_at_most, is_below, at_most_of, below_of}
+use Rattle.vyrd_base.proofs.TestLaws.{both_true, first_true, second_true, same_of, is_same, at_most_of, below_of}
+use Rattle.vyrd_base.proofs.CellLaws.{is_lock_of}
 use Rattle.vyrd_mover.specs.RaceFree.{is_access_of, is_write_to, is_used_by_alone, is_unwritten, is_guarded_at, is_guarded_by, is_race_free}
 use Rattle.vyrd_mover.specs.Exchanges.{numbered_from}
 use Rattle.vyrd_mover.proofs.TruthLaws.{either_true, implied, implies, any_tells, tells_any}
@@ -75,9 +76,6 @@ is_guarded cell lock earlier (e ∷ later) h =
     (implies (is_access_of cell e.did) _ (λ access. is_same (value_in earlier lock) (e.caller + 1) (h.0 access)))
     (is_guarded cell lock (e ∷ earlier) later (subst (λ m. Guards cell lock m later) (sym (value_step e earlier)) h.1))
 
-lock_between : (cells : Cells) (lock : ℕ) → cells.plain ≤ lock → lock < cells.plain + cells.locks → is_lock cells lock ≡ true
-lock_between cells lock low high = both_true _ _ (is_at_most cells.plain lock low) (is_below lock (cells.plain + cells.locks) high)
-
 -- what a test of a race-free cell tells
 pub free_of : (cells : Cells) (history : List Stamped) (cell : ℕ) → is_race_free cells history cell ≡ true → Free cells (value_in []) history cell
 unfolding is_race_free
@@ -91,7 +89,7 @@ free_of cells history cell e = first (either_true (list_any (is_used_by_alone hi
     by_lock : list_any (is_guarded_by history cell) (numbers_from cells.plain cells.locks) ≡ true → Free cells (value_in []) history cell
     by_lock e =
         let found = any_tells (is_guarded_by history cell) cells.plain cells.locks e in
-        guarded found.0 (lock_between cells found.0 found.1 found.2) (guards_of cell found.0 [] history found.3)
+        guarded found.0 (is_lock_of cells found.0 found.1 found.2) (guards_of cell found.0 [] history found.3)
 
     second : (list_any (is_used_by_alone history cell) (numbers_below cells.callers) ≡ true) ⊎ (is_unwritten history cell ≡ true)
         → Free cells (value_in []) history cell

@@ -1,18 +1,13 @@
--- What a legal history says of the event at a place, and how small the cells of a header are.
-use Rattle.std.proofs.Common.{◌≡◌, ℕ, zero, suc, ◌+◌, ◌^◌, ◌<◌, ◌≤◌, true, ◌&&◌, List, [], ◌∷◌, length, take, get_or, subst, arith}
+-- What a legal history says of the event at a place.
+use Rattle.std.proofs.Common.{◌≡◌, ℕ, zero, suc, ◌+◌, ◌<◌, true, ◌&&◌, List, [], ◌∷◌, length, take, get_or, subst, arith}
 use Rattle.std.specs.Prelude.{◌==◌, nat_le, nat_lt}
 use Rattle.std.specs.List.{list_all}
-use Rattle.vyrd_base.specs.declared.header.Header.{Header}
-use Rattle.vyrd_base.specs.declared.subject.Subject.{Subject}
-use Rattle.vyrd_base.specs.declared.subject.Subject.TheVariants.{Multiset, Cache, Tree, Buffers}
 use Rattle.vyrd_base.specs.declared.history.Did.{Did}
 use Rattle.vyrd_base.specs.declared.history.Did.TheVariants.{Read, Wrote, Took, Gave, Marked}
 use Rattle.vyrd_base.specs.declared.history.Stamped.{Stamped}
-use Rattle.vyrd_base.specs.Layout.{plain_words_of, lock_words_of, plain_words, lock_words}
 use Rattle.vyrd_base.specs.Places.{places_after, newest_first, newest_first_onto}
 use Rattle.vyrd_base.specs.Histories.{Cells, may_do, is_legal_at, is_legal}
-use Rattle.vyrd_base.proofs.HeaderLaws.{sized}
-use Rattle.vyrd_base.proofs.TestLaws.{first_true, second_true, same_of, below_of, at_most_of}
+use Rattle.vyrd_base.proofs.TestLaws.{first_true, second_true, same_of, below_of}
 use Rattle.vyrd_mover.specs.Usage.{IsInRange}
 
 -- the event may come here
@@ -53,22 +48,3 @@ in_range cells earlier caller (Wrote cell value) may = below_of cell cells.plain
 in_range cells earlier caller (Took lock) may = below_of lock (cells.plain + cells.locks) (second_true (nat_le cells.plain lock) _ (first_true _ _ may))
 in_range cells earlier caller (Gave lock) may = below_of lock (cells.plain + cells.locks) (second_true (nat_le cells.plain lock) _ (first_true _ _ may))
 in_range cells earlier caller (Marked kind) may = tt
-
-small_subject : (subject : Subject) (size : ℕ) → size ≤ 1024 → plain_words_of subject size + lock_words_of subject size < 2 ^ 24
-small_subject Multiset size low = omega arith
-small_subject Cache size low = omega arith
-small_subject Tree size low = omega arith
-small_subject Buffers size low = omega arith
-
-pub few_callers : (h : Header) → h.callers ≤ 64
-few_callers h = at_most_of h.callers 64 (second_true (nat_le 1 h.size && nat_le h.size 1024 && nat_le 1 h.callers) _ (sized h))
-
-pub some_callers : (h : Header) → 0 < h.callers
-some_callers h =
-    let one : 1 ≤ h.callers = at_most_of 1 h.callers (second_true (nat_le 1 h.size && nat_le h.size 1024) _
-    (first_true (nat_le 1 h.size && nat_le h.size 1024 && nat_le 1 h.callers) _ (sized h))) in
-    omega arith
-
-pub few_cells : (h : Header) → plain_words h + lock_words h < 2 ^ 24
-few_cells h = small_subject h.subject h.size (at_most_of h.size 1024 (second_true (nat_le 1 h.size) _
-    (first_true (nat_le 1 h.size && nat_le h.size 1024) _ (first_true (nat_le 1 h.size && nat_le h.size 1024 && nat_le 1 h.callers) _ (sized h)))))

@@ -20,7 +20,6 @@ pub mod HeadLaws
 pub mod EventLaws
 pub mod WalkLaws
 pub mod TextLaws
-pub mod PaddedLaws
 pub mod ShortLines
 pub mod SettledLaws
 pub mod StepLaws

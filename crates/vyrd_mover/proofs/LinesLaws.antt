@@ -170,15 +170,6 @@ ends_later l e bytes unfinished fine later d at lack =
     let f = at_later l e bytes fine later at in
     f.read unfinished ∙ ap (λ d. rest_read f.recorded l.line d (cut unfinished)) d ∙ lines_last f.recorded l.line unfinished lack
 
--- or after it
-pub ends_ended : (l : Lines) (e : Events) (bytes unfinished : List ℕ) → l.ended ≡ true → (f : Follows l.line e l.ended bytes)
-    → history_reading (bytes ++ unfinished) ≡ rest_read f.recorded l.line true (cut unfinished)
-ends_ended l e bytes unfinished d f = f.read unfinished ∙ ap (λ d. rest_read f.recorded l.line d (cut unfinished)) d
-
-pub none_of : {A : Type 0} (o : Option A) → is_some o ≡ false → o ≡ None
-none_of None e = refl
-none_of (Some x) e = cc
-
 -- the value of an option that has one
 pub record TheValue {A : Type 0} (o : Option A) : Type 0 where
   pub value : A

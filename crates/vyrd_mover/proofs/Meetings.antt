@@ -1,30 +1,24 @@
 -- Two neighbouring events that may be exchanged don't meet: where one changes a cell, the other doesn't touch it.
 use Rattle.std.proofs.Common.{◌≡◌, ◌≢◌, ℕ, ◌+◌, Bool, true, false, cond, ◌||◌, ◌⊎◌, inl, inr, List, ◌∷◌, Some, None, refl, ap, ◌∙◌, sym, arith}
-use Rattle.std.specs.Prelude.{◌==◌, nat_le, unwrap_or}
-use Rattle.std.proofs.lemmas.Bool.Decides.{nat_tests}
+use Rattle.std.specs.Prelude.{◌==◌, unwrap_or}
 use Rattle.std.proofs.lemmas.Bool.{or_left, or_right}
 use Rattle.vyrd_base.specs.declared.history.Did.{Did}
 use Rattle.vyrd_base.specs.declared.history.Did.TheVariants.{Read, Wrote, Took, Gave, Marked}
 use Rattle.vyrd_base.specs.declared.history.Stamped.{Stamped}
 use Rattle.vyrd_base.specs.Histories.{Cells, is_plain, is_lock}
 use Rattle.vyrd_base.proofs.TestLaws.{first_true, second_true, same_of, is_same}
+use Rattle.vyrd_base.proofs.CellLaws.{plain_isnt}
 use Rattle.vyrd_mover.specs.RaceFree.{is_access_of, is_write_to}
 use Rattle.vyrd_mover.specs.Exchanges.{is_movable}
 use Rattle.vyrd_mover.proofs.TruthLaws.{either_true}
 use Rattle.vyrd_mover.proofs.Running.{step, may, touches, changes, step_same}
 use Rattle.vyrd_mover.proofs.FreeCells.{Free, alone, unwritten, guarded}
 
--- a plain cell isn't a lock
-pub not_a_lock : (cells : Cells) (cell lock : ℕ) → is_plain cells cell ≡ true → is_lock cells lock ≡ true → (cell == lock) ≡ false
-not_a_lock cells cell lock plain kind =
-    let high : nat_le cells.plain lock ≡ true = first_true _ _ kind in
-    grind (arith, nat_tests)
-
 -- an event at a plain cell leaves each lock as it is
 pub access_keeps : (cells : Cells) (m : ℕ → ℕ) (caller cell lock : ℕ) (did : Did) → is_access_of cell did ≡ true → may cells m caller did ≡ true
     → is_lock cells lock ≡ true → changes lock did ≡ false
 access_keeps cells m caller cell lock (Read other value) access allowed kind = refl
-access_keeps cells m caller cell lock (Wrote other value) access allowed kind = not_a_lock cells other lock (first_true _ _ allowed) kind
+access_keeps cells m caller cell lock (Wrote other value) access allowed kind = plain_isnt cells other lock (first_true _ _ allowed) kind
 access_keeps cells m caller cell lock (Took other) access allowed kind = refl_of access
   where
     refl_of : false ≡ true → changes lock (Took other) ≡ false
@@ -66,7 +60,7 @@ free_cell free x y cell ex ey e = go (either_true (free x) (free y) e)
 
 plain_or_lock : (cells : Cells) (x l cell : ℕ) → is_plain cells x ≡ true → is_lock cells l ≡ true → (x == cell) ≡ true → (l == cell) ≡ true → ⊥
 plain_or_lock cells x l cell plain kind ex el =
-    let no_lock : (x == l) ≡ false = not_a_lock cells x l plain kind in
+    let no_lock : (x == l) ≡ false = plain_isnt cells x l plain kind in
     let same : (x == l) ≡ true = is_same x l (same_of x cell ex ∙ sym (same_of l cell el)) in
     cc
 

@@ -14,13 +14,13 @@ use Rattle.vyrd_base.specs.Places.{Place, places_after, newest_first, numbers_fr
 use Rattle.vyrd_base.specs.Histories.{Cells, is_lock, made_of, value_in, may_do}
 use Rattle.vyrd_base.proofs.PlaceLaws.{with_later, places_after-append, newest_first-push}
 use Rattle.vyrd_base.proofs.TestLaws.{first_true, second_true, both_true, same_of, apart_of, isnt_same, same_number, below_of, is_at_most, is_below}
+use Rattle.vyrd_base.proofs.CellLaws.{plain_isnt}
 use Rattle.vyrd_mover.specs.declared.usage.Users.{Users}
 use Rattle.vyrd_mover.specs.declared.usage.Users.TheVariants.{Nobody, One, Many}
 use Rattle.vyrd_mover.specs.RaceFree.{is_access_of, is_write_to, is_used_by_alone, is_unwritten, is_guarded_at, is_guarded_by, is_race_free}
 use Rattle.vyrd_mover.specs.Usage.{Use, Kept, IsUse, HaveSeen, may_be_alone, is_used, is_shared, seems_free, joined, has_value, used_by, unused, with_use, kept_after}
 use Rattle.vyrd_mover.proofs.TruthLaws.{tells_any}
 use Rattle.vyrd_mover.proofs.Running.{value_step}
-use Rattle.vyrd_mover.proofs.Meetings.{not_a_lock}
 
 pub list_all-push : {A : Type 0} (test : A → Bool) (xs : List A) (x : A) → list_all test (xs ++ x ∷ []) ≡ (list_all test xs && test x)
 list_all-push test xs x = list_all-append test xs (x ∷ []) ∙ ap (λ b. list_all test xs && b) (and-true (test x))
@@ -242,7 +242,7 @@ step_by cells seen all k c (Read cell value) have low may =
     (λ lock kind. refl) low (below_of cell cells.plain (first_true _ _ may))
 step_by cells seen all k c (Wrote cell value) have low may =
     with_access cells seen all (record { number = k; caller = c; did = Wrote cell value }) cell true have (λ c. refl) (λ c. sym (and-true (cell == c)))
-    (λ lock kind. ap (λ b. cond b (Some value) None) (not_a_lock cells cell lock (first_true _ _ may) kind)) low (below_of cell cells.plain (first_true _ _ may))
+    (λ lock kind. ap (λ b. cond b (Some value) None) (plain_isnt cells cell lock (first_true _ _ may) kind)) low (below_of cell cells.plain (first_true _ _ may))
 step_by cells seen all k c (Took lock) have low may =
     with_lock cells seen all (record { number = k; caller = c; did = Took lock }) lock (c + 1) have (λ c. refl) (λ c. refl) (λ l. refl)
     (lock_is_a_cell cells lock (first_true _ _ may))

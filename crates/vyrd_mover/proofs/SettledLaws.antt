@@ -4,7 +4,6 @@ use Rattle.std.proofs.Common.{◌≡◌, ℕ, ◌+◌, ◌*◌, ◌<◌, ◌≤�
 use Rattle.std.proofs.Common.{Option, Some, None, refl, ap, subst, sym, ◌∙◌, arith, append_assoc, inl, inr}
 use Rattle.std.specs.Prelude.{◌⊎◌, ◌==◌, nat_lt}
 use Rattle.std.specs.Str.{bytes_eq}
-use Rattle.std.proofs.lemmas.Bool.Decides.{nat_tests}
 use Rattle.std.proofs.lemmas.List.{append-nil}
 use Rattle.std.proofs.lemmas.Slice.Eq.{bytes_eq-Decides}
 use Rattle.vyrd_base.specs.declared.header.Header.{Header}
@@ -12,7 +11,8 @@ use Rattle.vyrd_base.specs.declared.subject.Subject.{Subject}
 use Rattle.vyrd_base.specs.declared.history.Stamped.{Stamped}
 use Rattle.vyrd_base.specs.Spelling.{end_line}
 use Rattle.vyrd_base.proofs.SplitLaws.{cut, lacks, lacks-append}
-use Rattle.vyrd_base.proofs.TestLaws.{both_true, below_of, is_below, not_below_of}
+use Rattle.vyrd_base.proofs.TestLaws.{both_true, below_of, is_below, not_below_of, same_of}
+use Rattle.vyrd_base.proofs.LongLines.{longer}
 use Rattle.vyrd_mover.specs.declared.fault.HistoryRule.{HistoryRule}
 use Rattle.vyrd_mover.specs.declared.fault.HistoryRule.TheVariants.{TooManyLines, BadHeader, BadLine, NoLineFeed}
 use Rattle.vyrd_mover.specs.HistoryText.{Recorded}
@@ -28,9 +28,6 @@ use Rattle.vyrd_mover.proofs.WalkLaws.{then_lines, too_many, end_found, line_fou
 abbrev FirstLine : List ℕ → Type 0
 FirstLine text = (lacks 10 text ≡ true) ⊎ ((line : List ℕ) × (more : List ℕ) × (lacks 10 line ≡ true) × (text ≡ line ++ 10 ∷ more))
 
-number_is : (n m : ℕ) → (n == m) ≡ true → n ≡ m
-number_is n m e = grind (arith, nat_tests)
-
 first_line : (text : List ℕ) → FirstLine text
 first_line [] = inl refl
 first_line (x ∷ text) = by_byte (x == 10) refl (first_line text)
@@ -40,7 +37,7 @@ first_line (x ∷ text) = by_byte (x == 10) refl (first_line text)
     one_more e (inr p) = inr (x ∷ p.0, p.1, both_true (not (x == 10)) _ (ap not e) p.2, ap (λ ys. x ∷ ys) p.3)
 
     by_byte : (b : Bool) → (x == 10) ≡ b → FirstLine text → FirstLine (x ∷ text)
-    by_byte true e rest = inr ([], text, refl, ap (λ y. y ∷ text) (number_is x 10 e))
+    by_byte true e rest = inr ([], text, refl, ap (λ y. y ∷ text) (same_of x 10 e))
     by_byte false e rest = one_more e rest
 
 -- a line of more than 64 bytes spells nothing
@@ -71,9 +68,6 @@ long_isnt_end line long e = let same = ap length e in omega (arith, long, same)
 long_unfinished : (n : ℕ) (bad : HistoryRule) (rest : List ℕ) → 64 < length rest → unfinished_rule n bad rest ≡ unless_too_many n bad
 long_unfinished n bad [] long = absurd (omega (arith, long))
 long_unfinished n bad (b ∷ rest) long = ap (λ t. unless_too_many n (cond t bad NoLineFeed)) (is_below 64 (length (b ∷ rest)) long)
-
-longer : (line more : List ℕ) → 64 < length line → 64 < length (line ++ more)
-longer line more long = omega (arith, long, length-append line more)
 
 -- more than 64 bytes without a line feed are a bad line, whatever follows them
 pub long_line : (r : Recorded) (n : ℕ) (line more : List ℕ) → lacks 10 line ≡ true → 64 < length line
@@ -177,7 +171,7 @@ lines_settled r n line (x ∷ todo) more lack low enough =
 
     by_byte : Rest → (b : Bool) → (x == 10) ≡ b → Settled r n (line ++ x ∷ todo) more
     by_byte rest true e =
-        let feed = number_is x 10 e in
+        let feed = same_of x 10 e in
         ap (λ text. lines_read r n (cut text)) (append_assoc line (x ∷ todo) more ∙ ap (λ y. line ++ y ∷ (todo ++ more)) feed)
         ∙ by_limit rest (nat_lt 4000000 n) refl
         ∙ ap (λ y. lines_read r n (cut (line ++ y ∷ todo))) (sym feed)
@@ -209,7 +203,7 @@ text_settled line (x ∷ todo) more lack enough = by_byte (λ begun lack enough.
 
     by_byte : Rest → (b : Bool) → (x == 10) ≡ b → history_reading ((line ++ x ∷ todo) ++ more) ≡ history_reading (line ++ x ∷ todo)
     by_byte rest true e =
-        let feed = number_is x 10 e in
+        let feed = same_of x 10 e in
         ap history_reading (append_assoc line (x ∷ todo) more ∙ ap (λ y. line ++ y ∷ (todo ++ more)) feed)
         ∙ first_step line (todo ++ more) lack
         ∙ by_header (history_header_in line) refl

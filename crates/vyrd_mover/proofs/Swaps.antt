@@ -6,11 +6,12 @@ use Rattle.vyrd_base.specs.declared.history.Did.TheVariants.{Read, Wrote, Took, 
 use Rattle.vyrd_base.specs.declared.history.Stamped.{Stamped}
 use Rattle.vyrd_base.specs.Histories.{Cells, is_lock, made_of}
 use Rattle.vyrd_base.proofs.TestLaws.{first_true, second_true, same_of}
+use Rattle.vyrd_base.proofs.CellLaws.{plain_isnt}
 use Rattle.vyrd_mover.specs.Exchanges.{is_movable}
 use Rattle.vyrd_mover.proofs.TruthLaws.{true_or_false}
 use Rattle.vyrd_mover.proofs.Running.{step, may, Runs, touches, changes, may_same, step_same}
 use Rattle.vyrd_mover.proofs.FreeCells.{Free, alone, unwritten, guarded, Only, Unwritten, Guards}
-use Rattle.vyrd_mover.proofs.Meetings.{Apart, apart, changed_is_touched, taken_value, given_value, not_a_lock}
+use Rattle.vyrd_mover.proofs.Meetings.{Apart, apart, changed_is_touched, taken_value, given_value}
 
 -- the memory is the same in both orders
 order_of_steps : (m : ℕ → ℕ) (a b : Stamped) → Apart a.did b.did → step (step m a) b ≡ step (step m b) a
@@ -67,7 +68,7 @@ swap_runs cells m a b es far r = (
 kept_value : (cells : Cells) (m : ℕ → ℕ) (k c d lock : ℕ) (did : Did) → c ≢ d → is_lock cells lock ≡ true → may cells m d did ≡ true
     → (m lock ≡ c + 1) ⊎ (unwrap_or (made_of lock d did) (m lock) ≡ c + 1) → changes lock did ≡ false
 kept_value cells m k c d lock (Read x v) other kind allowed held = refl
-kept_value cells m k c d lock (Wrote x v) other kind allowed held = not_a_lock cells x lock (first_true _ _ allowed) kind
+kept_value cells m k c d lock (Wrote x v) other kind allowed held = plain_isnt cells x lock (first_true _ _ allowed) kind
 kept_value cells m k c d lock (Took x) other kind allowed held = go (x == lock) refl
   where
     free_before : (x == lock) ≡ true → m lock ≡ 0
@@ -115,13 +116,6 @@ swap_guards cells m a b es cell lock other far first second kind h = (
     subst (λ n. Guards cell lock n es) (order_of_steps m a b far) h.1.1,
   ),
 )
-
-pub swap_free : (cells : Cells) (m : ℕ → ℕ) (a b : Stamped) (es : List Stamped) (cell : ℕ) → a.caller ≢ b.caller → Apart a.did b.did
-    → Runs cells m (a ∷ b ∷ es) → Free cells m (a ∷ b ∷ es) cell → Free cells m (b ∷ a ∷ es) cell
-swap_free cells m a b es cell other far r (alone c low h) = alone c low (h.1.0, (h.0, h.1.1))
-swap_free cells m a b es cell other far r (unwritten h) = unwritten (h.1.0, (h.0, h.1.1))
-swap_free cells m a b es cell other far r (guarded lock kind h) =
-    guarded lock kind (swap_guards cells m a b es cell lock other far r.1 (second_first cells m a b far r.2.1) kind h)
 
 -- more events before the two
 free_later : (cells : Cells) (m : ℕ → ℕ) (e : Stamped) (es : List Stamped) (cell : ℕ) → Free cells m (e ∷ es) cell → Free cells (step m e) es cell

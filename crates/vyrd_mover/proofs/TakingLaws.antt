@@ -7,13 +7,14 @@ use Rattle.vyrd_base.specs.declared.history.Stamped.{Stamped}
 use Rattle.vyrd_base.specs.Places.{newest_first}
 use Rattle.vyrd_base.specs.Histories.{cells_of, is_legal}
 use Rattle.vyrd_base.specs.Layout.{plain_words, lock_words}
+use Rattle.vyrd_base.proofs.HeaderLaws.{few_callers, few_words}
 use Rattle.vyrd_base.proofs.PlaceLaws.{length-newest_first}
 use Rattle.vyrd_base.proofs.TestLaws.{first_true, second_true, same_of, below_of}
 use Rattle.vyrd_mover.specs.Steps.{step_of, step_coded, code_of, IsShort, role_of}
 use Rattle.vyrd_mover.specs.Usage.{Kept, HaveSeen, IsInRange, kept_after, unused}
 use Rattle.vyrd_mover.specs.Taking.{Taken, HasTaken, IsNext}
 use Rattle.vyrd_mover.proofs.SeenLaws.{have_seen_nothing, have_seen_more}
-use Rattle.vyrd_mover.proofs.LegalPlaces.{MayCome, in_range, few_callers, few_cells}
+use Rattle.vyrd_mover.proofs.LegalPlaces.{MayCome, in_range}
 use Rattle.vyrd_mover.proofs.TextLaws.{all_more, all_here, legal_test}
 use Rattle.vyrd_mover.proofs.StepLaws.{steps_more, short_role}
 
@@ -51,7 +52,7 @@ fits t history e taken next =
     let come = may_come t.header history e next in
     let range = in_range (cells_of t.header) (newest_first history) e.caller e.did come.may in
     let callers = few_callers t.header in
-    let cells = few_cells t.header in
+    let cells = few_words t.header in
     let low : plain_words t.header < 2 ^ 24 = omega (arith, cells) in
     let all = taken.seen.all_values in
     let plain = taken.seen.all_cells in

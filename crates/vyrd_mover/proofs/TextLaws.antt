@@ -23,6 +23,7 @@ use Rattle.vyrd_base.proofs.PlaceLaws.{with_later, places_after-append, length-n
 use Rattle.vyrd_base.proofs.SplitLaws.{cut, join_lines, cut_lines, lacks, all_lack, lacks-join}
 use Rattle.vyrd_base.proofs.LineLaws.{spaced_isnt_end, plain_number, plain_line_feeds, below_32, entry_line_whole, entry_line_isnt_end}
 use Rattle.vyrd_base.proofs.TestLaws.{both_true, first_true, second_true, same_of, below_of, not_below_of, isnt_below}
+use Rattle.vyrd_base.proofs.ListLaws.{all_push}
 use Rattle.vyrd_mover.specs.declared.fault.HistoryRule.{HistoryRule}
 use Rattle.vyrd_mover.specs.declared.fault.HistoryRule.TheVariants.{TooManyLines, NotLegal, BlockMark}
 use Rattle.vyrd_mover.specs.HistoryText.{Recorded, history_header_line, did_line, event_line, history_lines, history_text}
@@ -66,10 +67,6 @@ legal_test h place = is_legal_at (cells_of h) place
 
 abbrev turn_test : Place Stamped → Bool
 turn_test place = not (is_misplaced place)
-
-all_push : {A : Type 0} (P : A → Type 0) (xs : List A) (x : A) → AllByRecursion P xs → P x → AllByRecursion P (xs ++ x ∷ [])
-all_push P [] x all here = (here, tt)
-all_push P (y ∷ xs) x all here = (all.0, all_push P xs x all.1 here)
 
 -- an event that breaks no rule is legal and in turn, and the other way round
 pub no_rule : (r : Recorded) (e : Stamped) → broken_by r e ≡ None

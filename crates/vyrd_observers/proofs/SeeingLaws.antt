@@ -1,13 +1,12 @@
 -- Watches that see a state one after the other.
-use Rattle.std.proofs.Common.{◌≡◌, ℕ, zero, suc, ◌+◌, ◌-◌, ◌^◌, ◌<◌, ◌≤◌, Bool, true, false, cond, not, ◌||◌, List, [], ◌∷◌, length, set, Some, slice_get, refl, ap, subst, ◌∙◌, sym, arith}
+use Rattle.std.proofs.Common.{◌≡◌, ℕ, zero, suc, ◌+◌, ◌-◌, ◌^◌, ◌<◌, ◌≤◌, Bool, true, false, cond, not, ◌||◌, List, [], ◌∷◌, length, Some, slice_get, refl, ap, ◌∙◌, sym, arith}
 use Rattle.std.specs.Prelude.{◌==◌}
 use Rattle.std.proofs.lemmas.Option.{slice_get_within}
 use Rattle.std.proofs.lemmas.Option.{same_Some}
 use Rattle.std.proofs.Math.Bool.{or-true, or-false}
 use Rattle.vyrd_base.specs.Amounts.{Amounts, amount_of}
-use Rattle.vyrd_base.proofs.BlockLaws.{by_same}
 use Rattle.vyrd_base.specs.declared.subject.Method.TheVariants.{MsInsert, MsInsertPair, MsDelete, MsLookup, CaWrite, CaFlush, CaEvict, CaRead, TrInsert, TrDelete, TrLookup, BuAppend, BuAppendFrom, BuCut, BuLength, BuRead}
-use Rattle.vyrd_base.proofs.TestLaws.{same_number, same_of, apart_of}
+use Rattle.vyrd_base.proofs.TestLaws.{same_number, same_of}
 use Rattle.vyrd_observers.specs.Watching.{Seen, has_answer, SeesAnswer, SeesState}
 use Rattle.vyrd_spec.specs.Touching.{touched_by, is_touched}
 use Rattle.vyrd_spec.proofs.TouchLaws.{untouched}
@@ -16,38 +15,11 @@ use Rattle.vyrd_base.specs.declared.subject.Args.{Args}
 use Rattle.vyrd_base.specs.Buffers.{text_length}
 use Rattle.vyrd_base.specs.Specification.{next_state, answer_in}
 use Rattle.vyrd_observers.specs.Watching.{AreCurrent, AllSee}
-use Rattle.vyrd_base.proofs.ListLaws.{slice_get-set_same, slice_get-set_other}
 
 -- the watches before this place have seen the state, and those from it on are as they were
 pub record SeenBelow (state : Amounts) (i : ℕ) (old new : List Seen) : Type 0 where
   pub below : (k : ℕ) (seen : Seen) → k < i → slice_get old k ≡ Some seen → (next : Seen) × (slice_get new k ≡ Some next) × SeesState state seen next
   pub above : (k : ℕ) → i ≤ k → slice_get new k ≡ slice_get old k
-
-pub seen_none : (state : Amounts) (old : List Seen) → SeenBelow state 0 old old
-seen_none state old = record { below = λ k seen low here. absurd (omega (arith, low)); above = λ k high. refl }
-
-pub seen_one_more : (state : Amounts) (i : ℕ) (old new : List Seen) (x y : Seen) → i < length new → slice_get new i ≡ Some x → SeesState state x y
-    → SeenBelow state i old new → SeenBelow state (i + 1) old (set new i y)
-seen_one_more state i old new x y low here sees so = record {
-  below = λ k seen low_k was. by_same i k
-      (λ same. (
-        y,
-        subst (λ j. slice_get (set new i y) j ≡ Some y) same (slice_get-set_same new i y low),
-        subst (λ s. SeesState state s y) (same_Some _ _ (sym here ∙ so.above i (omega arith) ∙ ap (slice_get old) same ∙ was)) sees,
-      ))
-      (λ other. let before = so.below k seen (lower k low_k other) was in (
-        before.0,
-        slice_get-set_other new i k y (apart_of i k other) ∙ before.1,
-        before.2,
-      ));
-  above = λ k high. slice_get-set_other new i k y (λ same. apart (omega (arith, high, same))) ∙ so.above k (omega (arith, high));
-}
-  where
-    apart : ⊥ → ⊥
-    apart e = e
-
-    lower : (k : ℕ) → k < i + 1 → (i == k) ≡ false → k < i
-    lower k low_k other = omega (arith, low_k, apart_of i k other)
 
 -- all have seen it
 pub seen_all : (state : Amounts) (i : ℕ) (old new : List Seen) → length old ≤ i → SeenBelow state i old new → AllSee state old new

@@ -4,7 +4,7 @@ use Rattle.std.specs.Prelude.{◌==◌, option_map, unwrap_or, replicate}
 use Rattle.std.specs.List.{list_any}
 use Rattle.std.proofs.lemmas.List.{drop-append-le, drop-drop, length-map, map-set, set-get_or}
 use Rattle.std.proofs.lemmas.List.Folds.{list_any-append}
-use Rattle.std.proofs.lemmas.Option.{slice_get_within, slice_get_past, slice_get-map, slice_get-get_or, unwrap_or-slice_get}
+use Rattle.std.proofs.lemmas.Option.{slice_get_within, slice_get_past, slice_get-map, unwrap_or-slice_get, none-some}
 use Rattle.std.proofs.lemmas.Option.{same_Some}
 use Rattle.std.proofs.Math.Seq.{drop-length}
 use Rattle.vyrd_base.specs.declared.header.Header.{Header}
@@ -23,28 +23,21 @@ use Rattle.vyrd_observers.specs.Trails.{Asked, with_answer, after_state, seen_fr
 use Rattle.vyrd_observers.specs.Watching.{Seen, unwatched, has_answer, SeesAnswer, SeesState}
 use Rattle.vyrd_base.proofs.ChangedLists.{changed_below}
 use Rattle.vyrd_observers.proofs.SeeingLaws.{SeenBelow, knows_already}
-use Rattle.vyrd_base.proofs.ListLaws.{slice_get-set_same, slice_get-set_other}
-
-none_some : {A : Type 0} {a : A} → None ≡ Some a → ⊥
-none_some e = cc
+use Rattle.vyrd_base.proofs.ListLaws.{slice_get-set_same, slice_get-set_other, slice_get-is}
 
 false_true : {b : Bool} → b ≡ false → b ≡ true → ⊥
 false_true is_false is_true = cc
 
 -- one more element at the end
 pub before_pushed : {A : Type 0} (xs : List A) (y : A) (i : ℕ) (x : A) → slice_get xs i ≡ Some x → slice_get (xs ++ y ∷ []) i ≡ Some x
-before_pushed [] y i x is = absurd (none_some is)
+before_pushed [] y i x is = absurd (none-some _ is)
 before_pushed (z ∷ xs) y zero x is = is
 before_pushed (z ∷ xs) y (suc i) x is = before_pushed xs y i x is
-
-pub is_pushed : {A : Type 0} (xs : List A) (y : A) → slice_get (xs ++ y ∷ []) (length xs) ≡ Some y
-is_pushed [] y = refl
-is_pushed (z ∷ xs) y = is_pushed xs y
 
 pub all_pushed : {A : Type 0} (P : A → Type 0) (xs : List A) (y : A) → P y → ((i : ℕ) (x : A) → slice_get xs i ≡ Some x → P x)
     → (i : ℕ) (x : A) → slice_get (xs ++ y ∷ []) i ≡ Some x → P x
 all_pushed P [] y own all zero x is = subst P (same_Some _ _ is) own
-all_pushed P [] y own all (suc i) x is = absurd (none_some is)
+all_pushed P [] y own all (suc i) x is = absurd (none-some _ is)
 all_pushed P (z ∷ xs) y own all zero x is = all 0 x is
 all_pushed P (z ∷ xs) y own all (suc i) x is = all_pushed P xs y own (λ j w. all (suc j) w) i x is
 
@@ -59,7 +52,7 @@ all_changed P f step (suc n) (x ∷ xs) all (suc i) y is = all_changed P f step 
 pub changed_there : {A : Type 0} (Q : A → A → Type 0) (f : A → A) → ((x : A) → Q x x) → ((x : A) → Q x (f x)) → (n : ℕ) (xs : List A) (i : ℕ) (x : A)
     → slice_get xs i ≡ Some x → (y : A) × (slice_get (changed_below f n xs) i ≡ Some y) × Q x y
 changed_there Q f stays steps zero xs i x is = (x, is, stays x)
-changed_there Q f stays steps (suc n) [] i x is = absurd (none_some is)
+changed_there Q f stays steps (suc n) [] i x is = absurd (none-some _ is)
 changed_there Q f stays steps (suc n) (z ∷ xs) zero x is = (f x, ap (λ o. option_map f o) is, steps x)
 changed_there Q f stays steps (suc n) (z ∷ xs) (suc i) x is = changed_there Q f stays steps n xs i x is
 
@@ -177,7 +170,7 @@ length-changed f (suc n) (x ∷ xs) = ap suc (length-changed f n xs)
 
 pub all_mapped : {A B : Type 0} (P : B → Type 0) (f : A → B) (xs : List A) → ((i : ℕ) (x : A) → slice_get xs i ≡ Some x → P (f x))
     → (i : ℕ) (y : B) → slice_get (map f xs) i ≡ Some y → P y
-all_mapped P f [] all i y is = absurd (none_some is)
+all_mapped P f [] all i y is = absurd (none-some _ is)
 all_mapped P f (x ∷ xs) all zero y is = subst P (same_Some _ _ is) (all 0 x refl)
 all_mapped P f (x ∷ xs) all (suc i) y is = all_mapped P f xs (λ j z. all (suc j) z) i y is
 
@@ -263,7 +256,7 @@ on_moved trails watches i n t here low on = λ c w there.
     }
 
     by_watch : (c : ℕ) (o : Option Watch) → slice_get watches c ≡ Some o → (v : Watch) → moved i n o ≡ Some v → IsOn (set trails i new) v
-    by_watch c None there v is = absurd (none_some is)
+    by_watch c None there v is = absurd (none-some _ is)
     by_watch c (Some w) there v is = subst (IsOn (set trails i new)) (same_Some _ _ is) (by_test w (w.trail == i) refl (low c w there) (on c w there))
 
 -- an open observer that asks this question, and of which the last state that it saw answers this, is
@@ -279,7 +272,7 @@ trail_of_seen trails watches c seen before method args answer on here is_open sa
   where
     by_place : (o : Option (Option Watch)) → slice_get watches c ≡ o → option_map (seen_by trails) o ≡ Some seen
         → (i : ℕ) × (t : Asked) × (slice_get trails i ≡ Some t) × IsTrailOf method args answer t
-    by_place None place is = absurd (none_some is)
+    by_place None place is = absurd (none-some _ is)
     by_place (Some None) place is = absurd (false_true (sym (ap (λ (s : Seen). s.is_open) (same_Some _ _ is))) is_open)
     by_place (Some (Some w)) place is =
         let was = on c w place in
@@ -393,7 +386,7 @@ callers_see touched state trails watches on current = record {
 
     by_place : (k : ℕ) (seen : Seen) (o : Option (Option Watch)) → slice_get watches k ≡ o → option_map (seen_by trails) o ≡ Some seen
         → (next : Seen) × (slice_get (map (seen_by now) watches) k ≡ Some next) × SeesState state seen next
-    by_place k seen None place is = absurd (none_some is)
+    by_place k seen None place is = absurd (none-some _ is)
     by_place k seen (Some None) place is = (
       unwatched,
       slice_get-map (seen_by now) watches k ∙ ap (option_map (seen_by now)) place,
@@ -417,15 +410,12 @@ callers_see touched state trails watches on current = record {
 pub read_is : {A : Type 0} (xs : List A) (i : ℕ) (x d : A) → slice_get xs i ≡ Some x → d ≡ get_or xs i d → x ≡ d
 read_is xs i x d here is = sym (ap (λ o. unwrap_or o d) here) ∙ unwrap_or-slice_get xs i d ∙ sym is
 
-pub is_read : {A : Type 0} (xs : List A) (i : ℕ) (d : A) → i < length xs → d ≡ get_or xs i d → slice_get xs i ≡ Some d
-is_read xs i d within is = slice_get-get_or xs i d within ∙ ap Some (sym is)
-
 -- the watch that is read of a caller
 pub watch_read : (trails : List Asked) (watches : List (Option Watch)) (seen : List Seen) (c : ℕ) (o p : Option Watch) → map (seen_by trails) watches ≡ seen
     → c < length seen → o ≡ get_or watches c o → o ≡ p → slice_get watches c ≡ Some p
 watch_read trails watches seen c o p is low read same =
     let within : c < length watches = omega (arith, low, ap length is, length-map watches (seen_by trails)) in
-    is_read watches c o within read ∙ ap Some same
+    slice_get-is watches c o within read ∙ ap Some same
 
 -- what a caller has seen
 pub seen_there : (trails : List Asked) (watches : List (Option Watch)) (c : ℕ) (o : Option Watch) → slice_get watches c ≡ Some o
@@ -447,7 +437,7 @@ begins_seen old new watches c i since t method args answer keeps on there same_m
 
 -- no caller has an open observer
 replicated : {A : Type 0} (n : ℕ) (a : A) (i : ℕ) (x : A) → slice_get (replicate n a) i ≡ Some x → a ≡ x
-replicated zero a i x is = absurd (none_some is)
+replicated zero a i x is = absurd (none-some _ is)
 replicated (suc n) a zero x is = same_Some _ _ is
 replicated (suc n) a (suc i) x is = replicated n a i x is
 

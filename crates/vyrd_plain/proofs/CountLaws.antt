@@ -13,11 +13,11 @@ use Rattle.vyrd_base.specs.Callers.{Called, call_or_return, by_caller}
 use Rattle.vyrd_base.specs.Subjects.{is_observer}
 use Rattle.vyrd_base.specs.Shape.{is_observing}
 use Rattle.vyrd_base.specs.Verdicts.{is_return}
-use Rattle.vyrd_base.proofs.BlockLaws.{entry, by_same, own_answer}
+use Rattle.vyrd_base.proofs.BlockLaws.{entry, by_same, own_answer, open_call-quiet}
 use Rattle.vyrd_plain.specs.Observing.{observing_after, AreObserving}
 use Rattle.vyrd_base.proofs.FrontLaws.{newest_next}
 use Rattle.vyrd_base.proofs.VerdictParts.{observer_returns}
-use Rattle.vyrd_base.proofs.StateLaws.{open_call-other, open_call-quiet}
+use Rattle.vyrd_base.proofs.StateLaws.{open_call-other}
 use Rattle.vyrd_base.proofs.ListLaws.{slice_get-set_same, slice_get-set_other}
 use Rattle.vyrd_base.proofs.TestLaws.{apart_of}
 

@@ -1,5 +1,5 @@
 -- How the writes of a block, and the words, are found entry by entry.
-use Rattle.std.proofs.Common.{◌≡◌, ◌⊎◌, inl, inr, ℕ, zero, suc, ◌+◌, ◌<◌, ◌≤◌, Bool, true, false, cond, List, [], ◌∷◌, ◌++◌, length, map, take, drop, replicate, Option, Some, None, slice_get, refl, ap, subst, ◌∙◌, sym, arith, append-nil, append_assoc, drop-cons}
+use Rattle.std.proofs.Common.{◌≡◌, ◌⊎◌, inl, inr, ℕ, zero, suc, ◌+◌, ◌<◌, ◌≤◌, Bool, true, false, cond, List, [], ◌∷◌, ◌++◌, length, take, drop, replicate, Option, Some, None, slice_get, refl, ap, subst, ◌∙◌, sym, arith, append-nil, append_assoc, drop-cons}
 use Rattle.std.specs.Prelude.{◌≢◌, ◌==◌, slice_set, option_map}
 use Rattle.std.proofs.lemmas.List.{drop-append-le, length-take}
 use Rattle.std.specs.Option.{option_map_or}
@@ -9,12 +9,12 @@ use Rattle.vyrd_base.specs.declared.header.Header.{Header}
 use Rattle.vyrd_base.specs.declared.log.Kind.{Kind}
 use Rattle.vyrd_base.specs.declared.log.Kind.TheVariants.{Call, Return, Write, Commit, BlockOpen, BlockClose, BlockCommit}
 use Rattle.vyrd_base.specs.declared.log.Entry.{Entry}
-use Rattle.vyrd_base.specs.Places.{newest_first, numbers_from}
+use Rattle.vyrd_base.specs.Places.{newest_first}
 use Rattle.vyrd_base.specs.Shape.{broken_rule}
 use Rattle.vyrd_base.specs.Front.{first_break}
 use Rattle.vyrd_base.specs.Callers.{has_block, has_inner_commit}
 use Rattle.vyrd_base.specs.Layout.{plain_words}
-use Rattle.vyrd_base.specs.Words.{block_writes, ahead_at, writes_ahead, effects_at, value_after, words_with}
+use Rattle.vyrd_base.specs.Words.{block_writes, ahead_at, writes_ahead, effects_at, words_with}
 use Rattle.vyrd_base.proofs.TestLaws.{same_of, is_same, isnt_same}
 use Rattle.vyrd_base.proofs.BlockLaws.{entry}
 use Rattle.vyrd_base.proofs.ShadowLaws.{close_kept, block_commit_kept}
@@ -23,6 +23,7 @@ use Rattle.vyrd_plain.specs.OpenBlocks.{written_by, writes_in, IsOpenBlock}
 use Rattle.vyrd_base.proofs.KeptLaws.{rules_at, write_kept}
 use Rattle.vyrd_base.proofs.ListLaws.{take_one_more}
 use Rattle.vyrd_base.proofs.EffectWords.{one_write}
+use Rattle.vyrd_base.proofs.NoStart.{zeros_from}
 
 -- the writes among two lists of entries, one after the other
 pub writes_in-append : (c : ℕ) (xs ys : List Entry)
@@ -49,13 +50,8 @@ pub one_effect : (h : Header) (w v : ℕ) (writes : List (ℕ × ℕ)) → w < p
     → words_with h [] ((w, v) ∷ writes) ≡ slice_set (words_with h [] writes) w v
 one_effect h w v writes within = sym (one_write h [] writes w v)
 
--- before any effect all words are 0
-no_effect : (k n : ℕ) → map (value_after [] []) (numbers_from k n) ≡ replicate n 0
-no_effect k zero = refl
-no_effect k (suc n) = ap (λ words. 0 ∷ words) (no_effect (k + 1) n)
-
 pub words_without : (h : Header) → words_with h [] [] ≡ replicate (plain_words h) 0
-words_without h = no_effect 0 (plain_words h)
+words_without h = zeros_from 0 (plain_words h)
 
 -- writes of a block that ends, after these ones
 abbrev pub behind : List (ℕ × ℕ) → Option (List (ℕ × ℕ)) → Option (List (ℕ × ℕ))
@@ -96,13 +92,6 @@ drop_here es at e here =
 abbrev pub LooksAhead : ℕ → List Entry → ℕ → Type 0
 LooksAhead c later i = writes_ahead c later
     ≡ behind (writes_in c (take i later)) (writes_ahead c (drop i later))
-
-pub ahead_at_first : (c : ℕ) (later : List Entry) → LooksAhead c later 0
-ahead_at_first c later = same (writes_ahead c later)
-  where
-    same : (o : Option (List (ℕ × ℕ))) → o ≡ behind [] o
-    same None = refl
-    same (Some ws) = ap Some (sym (append-nil ws))
 
 -- how the entry there is looked at
 pub ahead_here : (c : ℕ) (later : List Entry) (i : ℕ) (e : Entry) → slice_get later i ≡ Some e
@@ -279,20 +268,6 @@ inner_effects front at e b block = by_kind e.kind
     by_kind BlockOpen alone ends commits = refl
     by_kind BlockClose alone ends commits = absurd (ends refl)
     by_kind BlockCommit alone ends commits = absurd (commits refl)
-
--- a lone commit in a block that doesn't end has none
-pub endless_effects : (front : List Entry) (at : ℕ) (e : Entry) (b : Block) → e.kind ≡ Commit
-    → IsOpenBlock (take at front) e.caller b
-    → writes_ahead e.caller (drop (at + 1) front) ≡ None
-    → effects_at (newest_first (take at front)) e.caller e.kind (drop (at + 1) front) ≡ []
-endless_effects front at e b is block none =
-    let earlier = newest_first (take at front) in
-    ap (λ kind. effects_at earlier e.caller kind (drop (at + 1) front)) is
-    ∙ ap (λ inside. cond inside
-    (option_map_or (λ ws. ws ++ block_writes e.caller earlier)
-    (writes_ahead e.caller (drop (at + 1) front)) []) [])
-    block.inside
-    ∙ ap (λ o. option_map_or (λ ws. ws ++ block_writes e.caller earlier) o []) none
 
 -- outside a block a write has an effect, and nothing else
 pub write_effects : (front : List Entry) (at : ℕ) (e : Entry) (word value : ℕ)

@@ -15,14 +15,14 @@ use Rattle.vyrd_base.specs.Callers.{Called, call_or_return, is_call, entries_bef
 use Rattle.vyrd_base.specs.Amounts.{Amounts}
 use Rattle.vyrd_base.specs.Commits.{is_commit, returned, next_reply, Committed, committed_at, commits_after, state_after, states_from, commit_count}
 use Rattle.vyrd_base.specs.Faults.{states_since_call}
-use Rattle.vyrd_base.proofs.BlockLaws.{entry, by_same, own_answer}
+use Rattle.vyrd_base.proofs.BlockLaws.{entry, by_same, own_answer, open_call-quiet}
 use Rattle.vyrd_base.proofs.TestLaws.{same_number, apart_of}
 use Rattle.vyrd_plain.specs.declared.execution.Execution.{Execution}
 use Rattle.vyrd_base.specs.Entries.{has_method}
 use Rattle.vyrd_plain.specs.Executions.{answers, seeing, IsExecution, IsOpen}
 use Rattle.vyrd_plain.specs.Tracking.{Tracks}
 use Rattle.vyrd_base.proofs.ListLaws.{slice_get-set_same, slice_get-set_other}
-use Rattle.vyrd_base.proofs.StateLaws.{state_here, going-quiet, going-commit, open_call-other, next_reply-other, before_call-other, open_call-quiet, next_reply-quiet, before_call-quiet, count-commit, window-quiet, window-commit, window-call}
+use Rattle.vyrd_base.proofs.StateLaws.{state_here, going-quiet, going-commit, open_call-other, next_reply-other, before_call-other, next_reply-quiet, before_call-quiet, count-commit, window-quiet, window-commit, window-call}
 use Rattle.vyrd_plain.proofs.ExecutionLaws.{execution_stays, execution_sees}
 
 -- an entry inside its caller's execution that isn't its commit

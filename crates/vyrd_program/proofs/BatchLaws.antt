@@ -1,5 +1,5 @@
 -- What was read of an input says the logs of the whole input, and what is judged of it while it is read.
-use Rattle.std.proofs.Common.{◌≡◌, ℕ, ◌+◌, ◌≤◌, List, [], ◌++◌, length, Option, Some, None, refl, ap, ◌∙◌, sym, subst, arith, inl, inr, append-nil, length-append}
+use Rattle.std.proofs.Common.{◌≡◌, ℕ, ◌+◌, ◌≤◌, List, ◌++◌, length, Option, Some, None, ap, ◌∙◌, sym, subst, arith, inl, inr, append-nil, length-append}
 use Rattle.std.specs.Prelude.{◌⊎◌, IfSome, Result, Ok, Err, IfOk}
 use Rattle.vyrd_base.specs.Devices.{IsAtEnd}
 use Rattle.vyrd_base.specs.declared.verdict.Verdict.{Verdict}
@@ -11,8 +11,8 @@ use Rattle.vyrd_batch.specs.Rounds.{BatchView, IsJudged}
 use Rattle.vyrd_batch.proofs.RoundLaws.{judged_more}
 use Rattle.vyrd_program.specs.Inputs.{IsInputRead, IsMoreRead, IsFewTaken}
 use Rattle.vyrd_program.specs.declared.answer.Answer.{Answer}
-use Rattle.vyrd_program.specs.Batches.{IsBatchAnswer, IsReading, IsBatchRead}
-use Rattle.vyrd_program.proofs.TakenLaws.{taken_more, taken_nothing}
+use Rattle.vyrd_program.specs.Batches.{IsBatchAnswer, IsReading}
+use Rattle.vyrd_program.proofs.TakenLaws.{taken_more}
 
 pub logs_are_input : (before after : Option (List ℕ)) (bytes : List ℕ) → IsInputRead longest_batch_input before after bytes
     → IfSome before (λ input. batch_logs bytes ≡ batch_logs input)
@@ -23,16 +23,6 @@ logs_are_input before (Some left) bytes is =
     by_end : IsAtEnd (Some left) ⊎ (length bytes ≡ longest_batch_input) → batch_logs bytes ≡ batch_logs (bytes ++ left)
     by_end (inl none) = ap batch_logs (sym (ap (λ left. bytes ++ left) none ∙ append-nil bytes))
     by_end (inr long) = sym (logs_are_settled bytes left (omega (arith, long)))
-
--- nothing is read yet
-pub reading_none : (before : Option (List ℕ)) (judge : BatchView) (rest : List ℕ) → rest ≡ [] → IsJudged [] judge []
-    → IsReading before before judge rest 0
-reading_none before judge rest none fresh = record {
-  taken = [];
-  told = taken_nothing before;
-  judged = subst (IsJudged [] judge) (sym none) fresh;
-  many = refl;
-}
 
 -- one more read
 pub reading_more : (before between after : Option (List ℕ)) (judge : BatchView) (old new : List ℕ) (count n most : ℕ)
@@ -57,19 +47,6 @@ reading_judged before now old new bytes rest count r judged = record {
 pub few_read : (before now : Option (List ℕ)) (judge : BatchView) (rest : List ℕ) (count : ℕ) → IsReading before now judge rest count
     → count ≤ longest_batch_input → IsFewTaken longest_batch_input before now
 few_read before now judge rest count r few = (r.taken, r.told, omega (arith, r.many, few))
-
--- the input is read
-pub all_read : (before now : Option (List ℕ)) (judge : BatchView) (rest : List ℕ) (count : ℕ) → IsReading before now judge rest count
-    → IsAtEnd now ⊎ (count ≡ longest_batch_input) → count ≤ longest_batch_input → IsBatchRead before now judge rest
-all_read before now judge rest count r enough few = record {
-  taken = r.taken;
-  read = record { told = r.told; enough = by_end enough; few = omega (arith, r.many, few) };
-  judged = r.judged;
-}
-  where
-    by_end : IsAtEnd now ⊎ (count ≡ longest_batch_input) → IsAtEnd now ⊎ (length r.taken ≡ longest_batch_input)
-    by_end (inl end) = inl end
-    by_end (inr long) = inr (omega (arith, r.many, long))
 
 -- the answer tells the verdicts about the logs of the input
 pub verdicts_told : {E : Type 0} (input : List ℕ) (verdicts : List Verdict) (r : Result Answer E)

@@ -1,5 +1,5 @@
 -- What was read of an input says the history of the whole input.
-use Rattle.std.proofs.Common.{◌≡◌, ℕ, List, [], ◌+◌, ◌≤◌, ◌++◌, length, length-append, refl, Option, Some, None, ap, ◌∙◌, sym, subst, arith, inl, inr, append-nil}
+use Rattle.std.proofs.Common.{◌≡◌, ℕ, List, [], ◌+◌, ◌++◌, length, length-append, refl, Option, Some, None, ap, ◌∙◌, sym, subst, arith, inl, inr, append-nil}
 use Rattle.std.specs.Prelude.{◌⊎◌, IfSome, IfOk, Result, Ok, Err}
 use Rattle.std.specs.declared.alloc.AllocError.{AllocError}
 use Rattle.vyrd_base.specs.Devices.{IsAtEnd}
@@ -13,7 +13,7 @@ use Rattle.vyrd_mover.specs.LongHistories.{longest_history}
 use Rattle.vyrd_mover.proofs.SettledLaws.{reading_settled}
 use Rattle.vyrd_program.specs.declared.answer.Answer.{Answer}
 use Rattle.vyrd_program.specs.Inputs.{IsTaken, IsInputRead, IsInputTaken, IsMoreRead}
-use Rattle.vyrd_program.specs.Moved.{IsMoversAnswer, IsHistoryRead, status_of_blocks}
+use Rattle.vyrd_program.specs.Moved.{IsMoversAnswer, status_of_blocks}
 use Rattle.vyrd_program.proofs.TakenLaws.{taken_more, taken_nothing}
 
 pub history_is_input : (before after : Option (List ℕ)) (bytes : List ℕ) → IsInputRead longest_history before after bytes
@@ -48,23 +48,6 @@ piece_read before between after reader new count most n piece so_far more read =
       many = omega (arith, length-append so_far.taken piece, so_far.many, ap length more.grown, more.many);
       read = read;
     }
-
--- all of it
-pub all_read : (before after : Option (List ℕ)) (reader : ReaderState) (count : ℕ) → ReadSoFar before after reader count → count ≤ longest_history
-    → IsAtEnd after ⊎ (count ≡ longest_history) → IsHistoryRead before after reader
-all_read before after reader count so_far few enough = record {
-  bytes = so_far.taken;
-  input = record {
-    told = so_far.told;
-    enough = by_end enough;
-    few = omega (arith, so_far.many, few);
-  };
-  read = so_far.read;
-}
-  where
-    by_end : IsAtEnd after ⊎ (count ≡ longest_history) → IsAtEnd after ⊎ (length so_far.taken ≡ longest_history)
-    by_end (inl none) = inl none
-    by_end (inr all) = inr (so_far.many ∙ all)
 
 -- what is said of the blocks of what was read is the answer to it
 pub blocks_are_answered : (reading : Result Recorded Refusal) (blocks : Blocks) (status : ℕ) (text : List ℕ) → AreBlocksOf reading blocks

@@ -1,19 +1,17 @@
 -- How the checking of an input goes on with a piece of it, and how it stops.
 use Rattle.std.proofs.Common.{◌≡◌, ℕ, ◌+◌, ◌-◌, ◌*◌, ◌<◌, ◌≤◌, Bool, true, false, List, [], ◌++◌, length, take, Option, Some, None, refl, ap, subst, ◌∙◌, sym, arith, inl, inr, length-append}
-use Rattle.std.specs.Prelude.{option_map, is_some, nat_le, IfSome, IfNone}
+use Rattle.std.specs.Prelude.{is_some, nat_le, IfSome, IfNone}
 use Rattle.std.proofs.lemmas.Bool.Decides.{nat_tests}
 use Rattle.std.proofs.lemmas.List.{length-take}
 use Rattle.vyrd_base.specs.declared.verdict.Verdict.{Verdict}
-use Rattle.vyrd_base.specs.declared.verdict.Verdict.TheVariants.{Malformed}
 use Rattle.vyrd_base.specs.Devices.{Gives, IsAtEnd}
-use Rattle.vyrd_base.specs.Reading.{TextFault, reading}
+use Rattle.vyrd_base.specs.Reading.{reading}
 use Rattle.vyrd_base.specs.TextVerdicts.{text_verdict, text_verdict_so_far}
 use Rattle.vyrd_base.proofs.TextLasts.{text_verdict_lasts}
-use Rattle.vyrd_check.specs.LogReadings.{read_so_far}
 use Rattle.vyrd_check.specs.Checking.{CheckerState, HasChecked}
-use Rattle.vyrd_check.proofs.ReadingFacts.{second_none}
+use Rattle.vyrd_check.proofs.ReadingFacts.{text_right}
 use Rattle.vyrd_program.specs.Inputs.{longest_read, IsTaken}
-use Rattle.vyrd_program.specs.Checks.{has_verdict, IsReadNoFurther, IsUnsettled}
+use Rattle.vyrd_program.specs.Checks.{has_verdict, IsReadNoFurther}
 use Rattle.vyrd_program.specs.Progress.{IsChecking, IsReached}
 use Rattle.vyrd_program.proofs.TakenLaws.{no_more_bytes, taken_more, taken_nothing, begins_with}
 use Rattle.vyrd_program.proofs.LengthFacts.{bytes_short}
@@ -76,14 +74,6 @@ same_no_further max before now after checker rounds low r kept = record {
       omega (arith, begins_later max r.taken [] first more low r.nothing (no_more_bytes r.taken ∙ same) there);
 }
 
-pub still_unsettled : (max : ℕ) (before now after : Option (List ℕ)) (checker : CheckerState) (rounds : ℕ)
-    → IsChecking max before now checker rounds → after ≡ now → IsUnsettled max before after
-still_unsettled max before now after checker rounds r kept = record {
-  taken = r.taken;
-  told = subst (IsTaken before r.taken) (sym kept) r.told;
-  nothing = r.nothing;
-}
-
 length_piece : (n : ℕ) (buffer : List ℕ) → n ≤ length buffer → length (take n buffer) ≡ n
 length_piece n buffer within = length-take n buffer ∙ omega arith
 
@@ -143,20 +133,11 @@ end_reached max before now after old buffer rounds v r gives ended is = record {
   reached = inl (ended, is ∙ ap (λ m. text_verdict m r.taken) r.limit);
 }
 
-no_fault : (o : Option TextFault) → option_map (λ fault. Malformed fault.line fault.rule) o ≡ None → o ≡ None
-no_fault None e = refl
-no_fault (Some f) e = cc
-
--- bytes without a verdict have no fault of text
-faultless : (max : ℕ) (bytes : List ℕ) → text_verdict_so_far max bytes ≡ None → (read_so_far max bytes).fault ≡ None
-unfolding text_verdict_so_far
-faultless max bytes nothing = no_fault (read_so_far max bytes).fault (second_none _ _ nothing)
-
 -- that many rounds never come
 pub rounds_end : (max : ℕ) (before now : Option (List ℕ)) (checker : CheckerState) (rounds : ℕ) → 1 ≤ max → max ≤ 268435456
     → IsChecking max before now checker rounds → rounds ≤ 65 * 268435456
 rounds_end max before now checker rounds low high r =
-    omega (arith, high, bytes_short max r.taken low (faultless max r.taken r.nothing), r.rounds_taken)
+    omega (arith, high, bytes_short max r.taken low (text_right max r.taken r.nothing), r.rounds_taken)
 
 -- What a piece that was fed leads to.
 pub fed_goes_on : (max : ℕ) (before now after : Option (List ℕ)) (old new : CheckerState) (buffer : List ℕ) (n rounds : ℕ) (o : Option Verdict)

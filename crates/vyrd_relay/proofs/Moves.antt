@@ -1,5 +1,5 @@
 -- Each move keeps the rule of the relay.
-use Rattle.std.proofs.Common.{◌≡◌, ◌≢◌, ◌⊎◌, ℕ, zero, suc, ◌<◌, ◌≤◌, List, [], ◌∷◌, ◌++◌, length, set, Bool, true, false, cond, eqb, Option, Some, None, refl, sym, ap, ◌∙◌, subst, ⊎_elim, inl, inr, arith, append-nil, append_assoc, eq-eqb, ne_eqb}
+use Rattle.std.proofs.Common.{◌≡◌, ◌≢◌, ◌⊎◌, ℕ, zero, suc, ◌<◌, ◌≤◌, List, [], ◌∷◌, ◌++◌, length, set, Bool, true, false, cond, eqb, Option, Some, None, refl, sym, ap, ◌∙◌, subst, ⊎_elim, inl, inr, arith, append-nil, append_assoc}
 use Rattle.std.specs.List.{All}
 use Rattle.std.proofs.lemmas.List.Elements.{All-push}
 use mathlib.Core.Logic.{dite}
@@ -15,19 +15,10 @@ use Rattle.vyrd_relay.specs.declared.known.Lane.{Lane}
 use Rattle.vyrd_relay.specs.declared.known.Received.{Received}
 use Rattle.vyrd_relay.specs.declared.known.Sent.{Sent}
 use Rattle.vyrd_base.specs.Parts.{part}
+use Rattle.vyrd_base.proofs.UpdateLaws.{upd, upd_here, upd_else}
 use Rattle.vyrd_relay.specs.Knowledge.{with_sent, new_received, with_had, lane_of, HasBeginning, IsHadAndQueued, Learned, Pushed, Popped, dealer, dealt, taking_in}
 use Rattle.vyrd_relay.specs.Rule.{Ghost, IsSettled, Knows, Relayed}
 use Rattle.vyrd_relay.proofs.LaneLaws.{part_both, part_mine, part_other, nothing_before, none_from}
-
--- a function that is changed at one place
-abbrev pub upd : {A : Type 0} → (ℕ → A) → ℕ → A → ℕ → A
-upd f at a c = cond (eqb c at) a (f c)
-
-upd_here : {A : Type 0} (f : ℕ → A) (at : ℕ) (a : A) (c : ℕ) → c ≡ at → upd f at a c ≡ a
-upd_here f at a c is = ap (λ (b : Bool). cond b a (f c)) (eq-eqb c at is)
-
-upd_else : {A : Type 0} (f : ℕ → A) (at : ℕ) (a : A) (c : ℕ) → c ≢ at → upd f at a c ≡ f c
-upd_else f at a c apart = ap (λ (b : Bool). cond b a (f c)) (ne_eqb c at apart)
 
 -- the passes after one of them has changed
 each_set : (g : Ghost) (passes : List Known) (pass : ℕ) (w : Known) → Knows g pass w

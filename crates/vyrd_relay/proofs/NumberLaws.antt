@@ -1,5 +1,5 @@
 -- Laws of the events that are held by their numbers.
-use Rattle.std.proofs.Common.{◌≡◌, ◌≢◌, ℕ, zero, suc, ◌+◌, ◌-◌, ◌^◌, ◌<◌, ◌≤◌, List, [], ◌∷◌, ◌++◌, length, set, get_or, take, drop, replicate, Bool, true, false, cond, ltb, Option, Some, None, refl, sym, ap, ◌∙◌, subst, arith, eq-eqb, ne_eqb}
+use Rattle.std.proofs.Common.{◌≡◌, ◌≢◌, ℕ, zero, suc, ◌+◌, ◌-◌, ◌<◌, ◌≤◌, List, [], ◌∷◌, ◌++◌, length, set, get_or, take, drop, replicate, Bool, true, false, cond, ltb, Option, Some, None, refl, sym, ap, ◌∙◌, arith, eq-eqb, ne_eqb}
 use Rattle.std.specs.Prelude.{◌==◌, slice_index_or, slice_set, ◌||◌, is_some, if◌then◌else◌}
 use Rattle.std.proofs.lemmas.List.{take_all, get_or-set_same, get_or-set_other, get_or-drop}
 use Rattle.std.proofs.lemmas.Bool.Decides.{nat_tests}
@@ -9,7 +9,6 @@ use Rattle.std.specs.Ordering.{nat_cmp}
 use Rattle.std.specs.Map.{lookup}
 use Rattle.std.specs.BTreeMap.{is_at}
 use Rattle.vyrd_base.specs.declared.history.Stamped.{Stamped}
-use Rattle.vyrd_base.proofs.TestLaws.{same_of}
 use Rattle.vyrd_relay.specs.Numbers.{Kept, or_else, held, has, AreNumbered, AreToCome}
 
 -- an empty place at the end of a list is no other than a place past the end
@@ -67,16 +66,6 @@ numbered_after k after next same all n item is = dite (dec_lt k.next n)
   where
     none_some : (item : Stamped) → None ≢ Some item
     none_some item e = cc
-
--- with one event more, each has its own number
-pub numbered_with : (k after : Kept) (item : Stamped) → item.number < 2 ^ 62
-    → ((n : ℕ) → held after n ≡ (if n == item.number then Some item else held k n)) → AreNumbered k → AreNumbered after
-numbered_with k after item small same all n other is = at (n == item.number) refl (sym (same n) ∙ is)
-  where
-    at : (b : Bool) → (n == item.number) ≡ b → (if b then Some item else held k n) ≡ Some other → (other.number ≡ n) × (n < 2 ^ 62)
-    at true e q = let n_is = same_of n item.number e in let o : item ≡ other = cc in
-        (sym (ap (λ (s : Stamped). s.number) o) ∙ sym n_is, subst (λ (m : ℕ). m < 2 ^ 62) (sym n_is) small)
-    at false e q = all n other q
 
 -- a number that isn't held and wasn't handed out isn't among the far ones
 pub far_free : (k : Kept) (n : ℕ) → has k n ≡ false → lookup (is_at (nat_cmp n)) k.far ≡ None

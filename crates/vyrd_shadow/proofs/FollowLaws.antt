@@ -1,7 +1,6 @@
 -- How what is kept goes on with one more entry.
 use Rattle.std.proofs.Common.{◌≡◌, ℕ, suc, zero, ◌+◌, ◌<◌, Bool, true, false, cond, List, [], ◌∷◌, ◌++◌, length, map, Option, Some, None, refl, ap, ◌∙◌, sym, subst, arith, get_or, set, get_or-set_other, get_or-set_same}
 use Rattle.std.specs.Prelude.{◌==◌, unwrap_or, is_some, nat_eq, replicate}
-use Rattle.std.specs.Prelude.{Result, Ok, Err, OnOk, IfOk}
 use Rattle.std.specs.Option.{option_or}
 use Rattle.std.proofs.lemmas.List.{length-replicate}
 use Rattle.indexmap.specs.IndexMap.{insert_entry}
@@ -22,7 +21,7 @@ use Rattle.vyrd_base.specs.FirstVersion.{old_effects_at, old_effects}
 use Rattle.vyrd_base.specs.Front.{WellFormed}
 use Rattle.vyrd_base.proofs.EffectLaws.{ends_block}
 use Rattle.vyrd_base.proofs.SettledWords.{settled_value, words_settled, same_here}
-use Rattle.vyrd_base.proofs.PlaceLaws.{first_answer-append}
+use Rattle.vyrd_base.proofs.PlaceLaws.{first_answer-append, at_map}
 use Rattle.vyrd_base.proofs.WordLaws.{words_after-write, words_after-quiet}
 use Rattle.vyrd_base.proofs.BlockLaws.{entry, by_same, other_answer, no_answer, other_writes, own_block, own_writes}
 use Rattle.vyrd_base.proofs.ListLaws.{zeros}
@@ -179,11 +178,6 @@ is_map (x ∷ words) f k (suc n) size all =
     let rest = is_map words f (k + 1) n (omega arith) (λ i low. all (suc i) (omega arith) ∙ ap f (omega arith)) in
     λ i. first i ∷ rest i
 
-at_map : (f : ℕ → ℕ) (k n i : ℕ) → i < n → get_or (map f (numbers_from k n)) i 0 ≡ f (k + i)
-at_map f k zero i low = absurd (omega arith)
-at_map f k (suc n) zero low = ap f (omega arith)
-at_map f k (suc n) (suc i) low = at_map f (k + 1) n i (omega arith) ∙ ap f (omega arith)
-
 -- a value among a block's writes and older ones
 settled_append : (starting : List StartWord) (earlier : List Entry) (e : Entry) (writes : List (ℕ × ℕ)) (w : ℕ)
     → old_effects_at earlier e.caller e.kind ≡ writes
@@ -210,7 +204,7 @@ words_close h starting earlier e words writes ends rules size is once values =
     let place : 0 + i ≡ i = omega arith in
     let was : get_or words i 0 ≡ settled_value starting earlier i
     = ap (λ l. get_or l i 0) (is ∙ words_settled h starting earlier rules.1)
-    ∙ at_map (settled_value starting earlier) 0 (plain_words h) i low ∙ ap (settled_value starting earlier) place in
+    ∙ at_map (settled_value starting earlier) 0 (plain_words h) i 0 low ∙ ap (settled_value starting earlier) place in
     value_with words writes i (omega arith) once
     ∙ (λ j. unwrap_or (values i j) (was j))
     ∙ sym (settled_append starting earlier e (block_writes e.caller earlier) i ends)
@@ -321,12 +315,3 @@ followed_start h starting words changed is = followed_from _ _ _ tt is
 pub zeros_at_start : (h : Header) → replicate (plain_words h) 0 ≡ words_at_start h []
 zeros_at_start h = is_map (replicate (plain_words h) 0) (value_after [] []) 0 (plain_words h)
     (length-replicate {A = ℕ} (plain_words h) 0) (λ i low. zeros (plain_words h) i)
-
--- what follows from an `Ok`
-pub on_ok : {T E P Q : Type 0} (r : Result T E) → OnOk r P → (P → Q) → OnOk r Q
-on_ok (Ok x) p f = f p
-on_ok (Err e) p f = p
-
-pub if_ok : {T E : Type 0} {P Q : T → Type 0} (r : Result T E) → IfOk r P → ((x : T) → P x → Q x) → IfOk r Q
-if_ok (Ok x) p f = f x p
-if_ok (Err e) p f = p

@@ -2,7 +2,6 @@
 use Rattle.std.proofs.Common.{◌≡◌, ℕ, suc, ◌<◌, ◌≤◌, ◌+◌, Bool, true, false, cond, List, [], ◌∷◌, ◌++◌, length, drop, Some, None, refl, ap, ◌∙◌, sym, subst, arith, get_or, set}
 use Rattle.std.specs.Prelude.{◌==◌, nat_eq, nat_lt, not, unwrap_or}
 use Rattle.std.specs.List.{position, position_or_len}
-use Rattle.std.specs.Map.{keys_of}
 use Rattle.std.proofs.lemmas.List.{drop_more}
 use Rattle.std.proofs.lemmas.Bool.Decides.{nat_tests}
 use Rattle.indexmap.specs.IndexMap.{insert_entry}
@@ -89,10 +88,6 @@ in_range_front n ((w, v) ∷ xs) ys all = (all.0, all.1, in_range_front n xs ys 
 pub in_range_back : (n : ℕ) (xs ys : List (ℕ × ℕ)) → AreInRange n (xs ++ ys) → AreInRange n ys
 in_range_back n [] ys all = all
 in_range_back n ((w, v) ∷ xs) ys all = in_range_back n xs ys all.2
-
-pub keys_of_both : (xs ys : List (ℕ × ℕ)) → keys_of (xs ++ ys) ≡ keys_of xs ++ keys_of ys
-keys_of_both [] ys = refl
-keys_of_both (x ∷ xs) ys = ap (λ ks. x.0 ∷ ks) (keys_of_both xs ys)
 
 -- the writes that are left, by the next of them
 pub in_range_next : (n : ℕ) (xs : List (ℕ × ℕ)) (i : ℕ) → i < length xs → AreInRange n (drop i xs)

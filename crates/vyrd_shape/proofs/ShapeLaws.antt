@@ -1,6 +1,6 @@
 -- How phases and holders go on with one more entry.
 use Rattle.std.proofs.Common.{◌≡◌, ◌≢◌, ℕ, suc, zero, ◌+◌, ◌-◌, ◌<◌, ◌≤◌, Bool, true, false, cond, not, ◌&&◌, ◌||◌, List, [], ◌∷◌, length, map, Option, Some, None, refl, ap, ◌∙◌, sym, subst, arith, get_or, set, slice_get, get_or-set_other, get_or-set_same}
-use Rattle.std.specs.Prelude.{◌==◌, nat_lt, unwrap_or, option_map, is_some, is_none, IfNone, replicate}
+use Rattle.std.specs.Prelude.{◌==◌, nat_lt, unwrap_or, option_map, is_some, is_none, replicate}
 use Rattle.std.specs.Option.{option_or, option_flatten}
 use Rattle.std.specs.Bool.{then_some}
 use Rattle.std.proofs.lemmas.Option.{get_or_from_slice_get}
@@ -18,12 +18,13 @@ use Rattle.vyrd_base.specs.Callers.{Called, by_caller, call_or_return, commit_or
 use Rattle.vyrd_base.specs.Shape.{broken_rule, is_held_by_other}
 use Rattle.vyrd_base.specs.Words.{effects_of_others, is_passed}
 use Rattle.vyrd_base.specs.Verdicts.{is_call_open}
-use Rattle.vyrd_base.proofs.BlockLaws.{entry, by_same, own_answer, other_answer, no_answer}
+use Rattle.vyrd_base.proofs.BlockLaws.{entry, by_same, other_answer, no_answer}
 use Rattle.vyrd_base.proofs.TestLaws.{flipped, same_of}
 use Rattle.vyrd_base.proofs.EffectLaws.{never}
-use Rattle.vyrd_base.proofs.ListLaws.{zeros}
+use Rattle.vyrd_base.proofs.ListLaws.{zeros, slice_get-set_same}
 use Rattle.vyrd_base.proofs.ShadowLaws.{holds_other, open_kept}
 use Rattle.vyrd_base.proofs.VersionWords.{no_inner_commit}
+use Rattle.vyrd_base.proofs.SettledWords.{own_holds}
 use Rattle.vyrd_shape.specs.declared.phase.Phase.{Phase}
 use Rattle.vyrd_shape.specs.Phases.{phase_of}
 use Rattle.vyrd_shape.specs.Holding.{Holding, released, is_held_by_another, holders_after}
@@ -58,11 +59,6 @@ phase_of-other c d kind earlier e =
       inner = unwrap_or (block i) false && unwrap_or (inner i) false;
     }
 
-slice_get-set_same : {A : Type 0} (xs : List A) (i : ℕ) (x : A) → i < length xs → slice_get (set xs i x) i ≡ Some x
-slice_get-set_same [] i x h = absurd (omega arith)
-slice_get-set_same (y ∷ xs) zero x h = refl
-slice_get-set_same (y ∷ xs) (suc i) x h = slice_get-set_same xs i x (omega arith)
-
 slice_get-set_other : {A : Type 0} (xs : List A) (i j : ℕ) (x : A) → j ≢ i → slice_get (set xs i x) j ≡ slice_get xs j
 slice_get-set_other [] i j x h = refl
 slice_get-set_other (y ∷ xs) zero zero x h = absurd (h refl)
@@ -88,15 +84,6 @@ holds_quiet d c w kind earlier edge word =
     let wrote = no_answer d c (write_or_open w) kind earlier word in
     λ i. unwrap_or (block i) false && unwrap_or (wrote i) false
 
--- and after its own
-holds_own : (c w : ℕ) (kind : Kind) (earlier : List Entry) → holds_word c w (entry c kind ∷ earlier)
-    ≡ (unwrap_or (option_or (open_or_close kind) (first_answer (by_caller c open_or_close) earlier)) false
-    && unwrap_or (option_or (write_or_open w kind) (first_answer (by_caller c (write_or_open w)) earlier)) false)
-holds_own c w kind earlier =
-    let block = own_answer c open_or_close kind earlier in
-    let wrote = own_answer c (write_or_open w) kind earlier in
-    λ i. unwrap_or (block i) false && unwrap_or (wrote i) false
-
 -- a word is held by whom its holder says
 abbrev pub Held : List ℕ → ℕ → ℕ → List Entry → Type 0
 Held by_word d w earlier = holds_word d w earlier ≡ (get_or by_word w 0 == d + 1)
@@ -108,7 +95,7 @@ held_open : (by_word : List ℕ) (c d w : ℕ) (earlier : List Entry) → has_bl
     → Held by_word d w (entry c BlockOpen ∷ earlier)
 held_open by_word c d w earlier free was = by_same c d
     (λ same. subst (λ x. Held by_word x w (entry c BlockOpen ∷ earlier)) same
-    (holds_own c w BlockOpen earlier ∙ sym (no_block_no_word c w earlier free) ∙ subst (λ x. Held by_word x w earlier) (sym same) was))
+    (own_holds c w BlockOpen earlier ∙ sym (no_block_no_word c w earlier free) ∙ subst (λ x. Held by_word x w earlier) (sym same) was))
     (λ other. holds_other d c w BlockOpen earlier other ∙ was)
 
 never_one : (g n : ℕ) → g ≢ 0 → (released g n == g) ≡ false
@@ -130,7 +117,7 @@ held_end : (by_word : List ℕ) (c d w : ℕ) (kind : Kind) (earlier : List Entr
 held_end by_word c d w kind earlier edge was =
     by_same c d
     (λ same. subst (λ x. Held (map (released (c + 1)) by_word) x w (entry c kind ∷ earlier)) same
-    (holds_own c w kind earlier
+    (own_holds c w kind earlier
     ∙ ap (λ o. unwrap_or (option_or o (first_answer (by_caller c open_or_close) earlier)) false
     && unwrap_or (option_or (write_or_open w kind) (first_answer (by_caller c (write_or_open w)) earlier)) false) edge
     ∙ sym (never_one (c + 1) (get_or by_word w 0) (λ e. absurd (omega arith)))
@@ -159,7 +146,7 @@ held_write_out : (by_word : List ℕ) (c d w value : ℕ) (earlier : List Entry)
     → Held by_word d w earlier → Held by_word d w (entry c (Write w value) ∷ earlier)
 held_write_out by_word c d w value earlier out was = by_same c d
     (λ same. subst (λ x. Held by_word x w (entry c (Write w value) ∷ earlier)) same
-    (holds_own c w (Write w value) earlier
+    (own_holds c w (Write w value) earlier
     ∙ ap (λ b. b && unwrap_or (option_or (write_or_open w (Write w value)) (first_answer (by_caller c (write_or_open w)) earlier)) false) out
     ∙ sym (no_block_no_word c w earlier out) ∙ subst (λ x. Held by_word x w earlier) (sym same) was))
     (λ other. holds_other d c w (Write w value) earlier other ∙ was)
@@ -167,7 +154,7 @@ held_write_out by_word c d w value earlier out was = by_same c d
 now_holds : (c w value : ℕ) (earlier : List Entry) → has_block c earlier ≡ true → holds_word c w (entry c (Write w value) ∷ earlier) ≡ true
 now_holds c w value earlier inside =
     let same : (w == w) ≡ true = grind (arith, nat_tests) in
-    holds_own c w (Write w value) earlier
+    own_holds c w (Write w value) earlier
     ∙ (λ i. inside i && unwrap_or (option_or (cond (same i) (Some true) None) (first_answer (by_caller c (write_or_open w)) earlier)) false)
 
 -- the word itself, of a caller in a block, where nobody held the word
@@ -388,10 +375,6 @@ call_open_is kept earlier size followed =
 -- what was read is the phase
 pub phase_is : (phases : List Phase) (c : ℕ) (read phase : Phase) → read ≡ get_or phases c read → slice_get phases c ≡ Some phase → read ≡ phase
 phase_is phases c read phase e at = e ∙ get_or_from_slice_get phases c phase read at
-
-pub if_none : {A : Type 0} {P : Type 0} (o : Option A) → is_none o ≡ true → IfNone o P → P
-if_none None e p = p
-if_none (Some x) e p = cc
 
 -- the rule where a word is held by another caller, and where none of this is so
 pub raced_rule : (o : Option Rule) (raced : Bool) (rule : Option Rule) → is_none o ≡ true → raced ≡ true

@@ -150,9 +150,3 @@ pub walk_left : (size : ℕ) (words : List ℕ) (values : Amounts) (turn n : ℕ
     → LeafWalk size words values (suc (size - (turn + 1))) n
 walk_left size words values turn n more walk =
     let one : size - turn ≡ suc (size - (turn + 1)) = omega arith in subst (λ left. LeafWalk size words values left n) one walk
-
--- after the last turn nothing is left
-pub walk_stops : (size : ℕ) (words : List ℕ) (values : Amounts) (left n : ℕ) → left ≡ 0 → LeafWalk size words values left n
-    → values ≡ collected (chain_parts size words)
-walk_stops size words values left n none walk =
-    ap (λ k. added values (chain_parts_from size words k walk.seen n)) (sym none) ∙ walk.rest

@@ -1,28 +1,21 @@
 -- The left neighbours of nodes, found one right link after another.
-use Rattle.std.proofs.Common.{◌≡◌, ◌≢◌, ℕ, ◌+◌, ◌<◌, ◌≤◌, Bool, true, false, cond, not, ◌&&◌, ◌||◌, List, length, map, get_or, set, replicate, length-set, get_or-set_same, get_or-set_other, Option, Some, None, refl, ap, ◌∙◌, sym, arith}
+use Rattle.std.proofs.Common.{◌≡◌, ◌≢◌, ℕ, ◌+◌, ◌<◌, ◌≤◌, Bool, true, false, cond, not, ◌&&◌, ◌||◌, List, length, map, get_or, set, length-set, get_or-set_same, get_or-set_other, Option, Some, None, refl, ap, ◌∙◌, sym, arith}
 use Rattle.std.specs.Prelude.{◌==◌, nat_lt, nat_le, find, count_by, is_some}
 use Rattle.std.specs.Option.{option_or}
-use Rattle.std.proofs.lemmas.List.{ext_get_or, get_or_past, get_or-replicate, length-replicate}
+use Rattle.std.proofs.lemmas.List.{ext_get_or, get_or_past}
 use Rattle.vyrd_base.specs.Places.{numbers_below}
 use Rattle.vyrd_base.specs.TreeView.{right_of}
 use Rattle.vyrd_base.specs.Trees.{nodes, leads_to, left_of}
 use Rattle.vyrd_base.proofs.TestLaws.{same_of, is_same, first_true, second_true, neither_true, is_at_most, isnt_at_most, below_of, not_below_of}
+use Rattle.vyrd_base.proofs.PlaceLaws.{element_below, length_below}
 use Rattle.vyrd_spec.specs.Neighbours.{have_one_left, has_left, with_left}
-use Rattle.vyrd_spec.proofs.RowLaws.{one_fails, all_pass, count-push, count_grows, find-push, none_found, some_found, element_below, length_below}
+use Rattle.vyrd_spec.proofs.RowLaws.{one_fails, all_pass, count-push, count_grows, find-push, none_found, some_found}
 
 -- what n nodes have told: the first of them that leads to each node, and that no other does
 pub record HaveTold (last : ℕ) (words : List ℕ) (n : ℕ) (lefts : List (Option ℕ)) : Type 0 where
   pub many : length lefts ≡ last + 1
   pub left : (q : ℕ) → q ≤ last → get_or lefts q None ≡ find (leads_to words q) (numbers_below n)
   pub one : (q : ℕ) → q ≤ last → count_by (leads_to words q) (numbers_below n) ≤ 1
-
-pub told_nothing : (last : ℕ) (words : List ℕ) (lefts : List (Option ℕ)) → lefts ≡ replicate (last + 1) None → HaveTold last words 0 lefts
-told_nothing last words lefts none = record {
-  many = ap length none ∙ length-replicate (last + 1) None;
-  left = λ q low. ap (λ xs. get_or xs q None) none
-      ∙ get_or-replicate (last + 1) q None None (let many = length-replicate {A = Option ℕ} (last + 1) None in omega arith);
-  one = λ q low. omega arith;
-}
 
 -- one node more
 pub told_more : (last : ℕ) (words : List ℕ) (n : ℕ) (lefts new : List (Option ℕ)) → has_left lefts (right_of words n) ≡ false

@@ -8,9 +8,10 @@ use Rattle.vyrd_base.specs.Places.{numbers_from, numbers_below}
 use Rattle.vyrd_base.specs.TreeView.{level_of, count_of, right_of, entries_of}
 use Rattle.vyrd_base.specs.Trees.{nodes, leads_to, left_of, is_linked, rises, has_sound_keys}
 use Rattle.vyrd_base.proofs.TestLaws.{is_same, isnt_same, is_at_most, both_true}
+use Rattle.vyrd_base.proofs.PlaceLaws.{element_below, length_below}
 use Rattle.vyrd_spec.specs.Neighbours.{have_one_left}
 use Rattle.vyrd_spec.specs.NodeKeys.{key_at, entry_at, is_next_key, is_in_range, is_sound_key}
-use Rattle.vyrd_spec.proofs.RowLaws.{each_passes, one_fails, element_below, length_below, found_below}
+use Rattle.vyrd_spec.proofs.RowLaws.{each_passes, one_fails, found_below}
 
 pub left_at : (last : ℕ) (words : List ℕ) (lefts : List (Option ℕ)) (q : ℕ) (d : Option ℕ) → lefts ≡ map (left_of last words) (nodes last)
     → q ≤ last → get_or lefts q d ≡ left_of last words q

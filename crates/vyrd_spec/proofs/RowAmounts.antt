@@ -1,6 +1,6 @@
 -- The amounts of a row, key by key.
 use Rattle.std.proofs.Common.{◌≡◌, ◌≢◌, ℕ, zero, suc, ◌+◌, ◌<◌, ◌≤◌, Bool, true, false, cond, List, [], ◌∷◌, ◌++◌, length, map, get_or, set, replicate, refl, ap, ◌∙◌, sym, arith, get_or-set_same, get_or-set_other}
-use Rattle.std.specs.Prelude.{◌==◌, nat_lt, All}
+use Rattle.std.specs.Prelude.{◌==◌, nat_lt}
 use Rattle.std.specs.List.{AllByRecursion}
 use Rattle.std.proofs.lemmas.List.{get_or_past}
 use Rattle.std.proofs.lemmas.List.Elements.{All-from_recursion}
@@ -101,9 +101,6 @@ has_none row = record {
   formed = record { rising = tt; some = tt };
   shown = λ q. ap (λ t. cond {A = ℕ} t (get_or row q 0) 0) (sym (isnt_below q 0 (omega arith)));
 }
-
-pub keys_below : (row : List ℕ) (n : ℕ) (view : Amounts) → HasBelow row n view → All (λ p. p.0 < n) view
-keys_below row n view has = All-from_recursion (λ p. p.0 < n) view has.below
 
 pub has_pushed : (row : List ℕ) (n a : ℕ) (view : Amounts) → get_or row n 0 ≡ a → a ≢ 0 → HasBelow row n view
     → HasBelow row (n + 1) (view ++ (n, a) ∷ [])

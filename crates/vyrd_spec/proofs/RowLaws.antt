@@ -1,12 +1,12 @@
 -- Tests of the numbers in a row, and what is given by each of them.
-use Rattle.std.proofs.Common.{◌≡◌, ◌≢◌, ℕ, zero, suc, ◌+◌, ◌-◌, ◌<◌, ◌≤◌, Bool, true, false, cond, ◌&&◌, List, [], ◌∷◌, ◌++◌, length, map, get_or, Option, Some, None, refl, ap, ◌∙◌, sym, arith}
+use Rattle.std.proofs.Common.{◌≡◌, ◌≢◌, ℕ, zero, suc, ◌+◌, ◌-◌, ◌<◌, ◌≤◌, Bool, true, false, cond, ◌&&◌, List, [], ◌∷◌, ◌++◌, map, Option, Some, None, refl, ap, ◌∙◌, sym, arith}
 use Rattle.std.specs.Prelude.{◌==◌, find, count_by, is_some}
 use Rattle.std.specs.Option.{option_or}
 use Rattle.std.specs.List.{list_all}
 use Rattle.std.proofs.lemmas.List.Folds.{list_all-append, find-append}
 use Rattle.std.proofs.lemmas.List.Sums.{sum_by-append}
 use Rattle.vyrd_base.specs.Places.{numbers_from, numbers_below}
-use Rattle.vyrd_base.proofs.PlaceLaws.{numbers_below-push}
+use Rattle.vyrd_base.proofs.PlaceLaws.{numbers_below-push, pass_all}
 use Rattle.vyrd_base.proofs.TestLaws.{both_true, same_of, apart_of}
 
 -- one number more that passes
@@ -44,32 +44,9 @@ map-push f n = ap (map f) (numbers_below-push n) ∙ map_append (numbers_below n
     map_append [] = refl
     map_append (k ∷ ks) = ap (λ xs. f k ∷ xs) (map_append ks)
 
--- the value at a place
-element_from : {A : Type 0} (f : ℕ → A) (k n i : ℕ) (d : A) → i < n → get_or (map f (numbers_from k n)) i d ≡ f (k + i)
-element_from f k zero i d low = absurd (omega (arith, low))
-element_from f k (suc n) zero d low = let e : k ≡ k + 0 = omega arith in ap f e
-element_from f k (suc n) (suc i) d low =
-    let e : k + 1 + i ≡ k + suc i = omega arith in element_from f (k + 1) n i d (omega arith) ∙ ap f e
-
-pub element_below : {A : Type 0} (f : ℕ → A) (n i : ℕ) (d : A) → i < n → get_or (map f (numbers_below n)) i d ≡ f i
-element_below f n i d low = let e : 0 + i ≡ i = omega arith in element_from f 0 n i d low ∙ ap f e
-
-length_from : {A : Type 0} (f : ℕ → A) (k n : ℕ) → length (map f (numbers_from k n)) ≡ n
-length_from f k zero = refl
-length_from f k (suc n) = ap suc (length_from f (k + 1) n)
-
-pub length_below : {A : Type 0} (f : ℕ → A) (n : ℕ) → length (map f (numbers_below n)) ≡ n
-length_below f n = length_from f 0 n
-
 -- all pass where each does
-all_pass_from : (p : ℕ → Bool) (k n : ℕ) → ((i : ℕ) → k ≤ i → i < k + n → p i ≡ true) → list_all p (numbers_from k n) ≡ true
-all_pass_from p k zero each = refl
-all_pass_from p k (suc n) each =
-    both_true (p k) (list_all p (numbers_from (k + 1) n)) (each k (omega arith) (omega arith))
-    (all_pass_from p (k + 1) n (λ i from to. each i (omega arith) (omega arith)))
-
 pub all_pass : (p : ℕ → Bool) (n : ℕ) → ((i : ℕ) → i < n → p i ≡ true) → list_all p (numbers_below n) ≡ true
-all_pass p n each = all_pass_from p 0 n (λ i from to. each i (omega arith))
+all_pass p n each = pass_all p 0 n (λ i from to. each i (omega arith))
 
 -- how many pass, with one number more
 abbrev counted : (ℕ → Bool) → ℕ → ℕ

@@ -6,12 +6,12 @@ use Rattle.std.specs.List.{list_all}
 use Rattle.std.proofs.lemmas.List.{get_or_past}
 use Rattle.vyrd_base.specs.Places.{numbers_from, numbers_below}
 use Rattle.vyrd_base.specs.Amounts.{amount_of, collected}
-use Rattle.vyrd_base.proofs.PlaceLaws.{map_alike}
+use Rattle.vyrd_base.proofs.PlaceLaws.{map_alike, element_below, length_below}
 use Rattle.vyrd_base.proofs.TestLaws.{first_true, second_true, below_of, not_below_of, then_some_true, then_some_false}
 use Rattle.vyrd_spec.specs.Bounds.{AllAmounts}
 use Rattle.vyrd_spec.specs.Rows.{row_amounts, sound_row}
 use Rattle.vyrd_spec.proofs.RowAmounts.{row_amount}
-use Rattle.vyrd_spec.proofs.RowLaws.{one_fails, each_passes, passes_more, map-push, element_below, length_below}
+use Rattle.vyrd_spec.proofs.RowLaws.{one_fails, each_passes, passes_more, map-push}
 
 -- a part that isn't sound
 pub no_row : (p : ℕ → Bool) (f : ℕ → ℕ) (n i : ℕ) → i < n → then_some (p i) (f i) ≡ None → sound_row p f n ≡ None

@@ -1,21 +1,15 @@
 -- When words stand for a state, and for which, of each subject.
 use Rattle.std.proofs.Common.{◌≡◌, ℕ, ◌≤◌, true, false, ◌++◌, List, length, Some, None, ap, ◌∙◌, sym, arith}
-use Rattle.std.specs.Prelude.{nat_le, replicate}
+use Rattle.std.specs.Prelude.{replicate}
 use Rattle.std.specs.Bool.{then_some}
 use Rattle.vyrd_base.specs.declared.header.Header.{Header}
 use Rattle.vyrd_base.specs.declared.subject.Subject.{Subject}
-use Rattle.vyrd_base.specs.Layout.{plain_words, plain_words_of, lock_words}
+use Rattle.vyrd_base.specs.Layout.{plain_words, lock_words}
 use Rattle.vyrd_base.specs.Amounts.{Amounts, collected}
 use Rattle.vyrd_base.specs.Views.{parts_of, view_of_words}
 use Rattle.vyrd_base.specs.Represented.{is_sound, state_of_words}
-use Rattle.vyrd_base.specs.Limits.{is_known_version}
-use Rattle.vyrd_base.proofs.TestLaws.{at_most_of, first_true, second_true}
+use Rattle.vyrd_base.proofs.HeaderLaws.{low_size}
 use Rattle.vyrd_base.proofs.StartLaws.{with_free_locks}
-
--- the words of a header are as many as its subject has
-pub many_words : (h : Header) (subject : Subject) (words : List ℕ) → h.subject ≡ subject → length words ≡ plain_words h
-    → length words ≡ plain_words_of subject h.size
-many_words h subject words of many = many ∙ ap (λ s. plain_words_of s h.size) of
 
 -- words that aren't sound stand for no state
 pub no_state : (h : Header) (subject : Subject) (words : List ℕ) → h.subject ≡ subject → length words ≡ plain_words h
@@ -41,9 +35,4 @@ a_state h subject words s of many sound is =
 
 -- a header's size is at most 1,024
 pub few_parts : (h : Header) (size : ℕ) → size ≡ h.size → size ≤ 1024
-few_parts h size is = omega (
-  arith,
-  is,
-  at_most_of h.size 1024 (second_true (nat_le 1 h.size) _ (first_true _ _ (first_true _ _
-      (second_true (is_known_version h.version) _ h.within)))),
-)
+few_parts h size is = omega (arith, is, low_size h)

@@ -76,13 +76,6 @@ ahead_first None None starting xs text e lack =
     omega (arith, same)
 ahead_first None (Some h) starting xs text e lack = cc
 
-pub ahead_none : (fault : Option TextFault) (o : Option Header) (h : Header) (starting : Bool) (lines : List (List ℕ)) → o ≡ Some h
-    → starting ≡ false → starts_in_lines fault o starting lines ≤ 0
-ahead_none (Some f) o h starting lines e s = omega arith
-ahead_none None None h starting lines e s = cc
-ahead_none None (Some x) h true lines e s = cc
-ahead_none None (Some x) h false lines e s = omega arith
-
 -- how many may come in lines, where some may come
 ahead_some : (fault : Option TextFault) (o : Option Header) (h : Header) (starting : Bool) (lines : List (List ℕ)) → o ≡ Some h
     → starts_in_lines fault o starting lines ≤ front_starts lines
@@ -90,12 +83,6 @@ ahead_some (Some f) o h starting lines e = omega arith
 ahead_some None None h starting lines e = cc
 ahead_some None (Some x) h true lines e = omega arith
 ahead_some None (Some x) h false lines e = omega arith
-
-pub ahead_empty : (fault : Option TextFault) (o : Option Header) (h : Header) (starting : Bool) (xs text : List ℕ) → o ≡ Some h → xs ≡ []
-    → starts_in_lines fault o starting (cut (xs ++ text)) ≤ front_starts (cut text)
-ahead_empty fault o h starting xs text e empty =
-    let same = ap (λ t. front_starts (cut (t ++ text))) empty in
-    omega (arith, ahead_some fault o h starting (cut (xs ++ text)) e, same)
 
 pub ahead_begun : (fault : Option TextFault) (o : Option Header) (h : Header) (starting : Bool) (xs text : List ℕ) → o ≡ Some h → lacks 10 xs ≡ true
     → starts_in_lines fault o starting (cut (xs ++ text)) ≤ 1 + front_starts (after_first (cut text))

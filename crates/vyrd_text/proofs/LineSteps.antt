@@ -3,6 +3,7 @@ use Rattle.std.proofs.Common.{◌≡◌, ℕ, ◌+◌, ◌≤◌, Bool, true, fa
 use Rattle.std.specs.Prelude.{◌==◌, nat_lt}
 use Rattle.std.specs.Str.{bytes_eq}
 use Rattle.std.proofs.lemmas.Slice.Eq.{bytes_eq-Decides}
+use Rattle.std.proofs.lemmas.List.{append-nil}
 use Rattle.std.proofs.Math.Bool.{or-true}
 use Rattle.vyrd_base.specs.declared.header.Header.{Header}
 use Rattle.vyrd_base.specs.declared.log.Entry.{Entry}
@@ -104,10 +105,6 @@ nothing_more : (max : ℕ) (h : Header) (starting : Bool) (last : Option StartWo
 nothing_more max h true last n = refl
 nothing_more max h false last n = refl
 
-nil : {A : Type 0} (xs : List A) → xs ++ [] ≡ xs
-nil [] = refl
-nil (x ∷ xs) = ap (λ t. x ∷ t) (nil xs)
-
 few : (b : Bool) (n : ℕ) → cond b n 0 ≤ n
 few true n = omega arith
 few false n = omega arith
@@ -120,7 +117,7 @@ module _ (r : LineState) (line : List ℕ) (lack : lacks 10 line ≡ true) (fine
   line_fault f is = record {
     max_lines = refl;
     follows = λ ss es before fol w m. fault_found (with_line r line) ss es before (10 ∷ []) f low fol is w m
-        ∙ (λ i. with_read (sym (nil ss) i) (sym (nil es) i) (known r (Some f)));
+        ∙ (λ i. with_read (sym (append-nil ss) i) (sym (append-nil es) i) (known r (Some f)));
     noticed = refl;
     room = λ after. omega arith;
   }

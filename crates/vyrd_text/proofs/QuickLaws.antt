@@ -10,7 +10,7 @@ use Rattle.std.specs.List.{list_all}
 use Rattle.std.proofs.Math.Nat.{pow-le-pow_right, mod-eq_of_lt}
 use Rattle.std.proofs.lemmas.Int.Digits.{digits_value-lt}
 use Rattle.core.proofs.dec2flt.Rows.{AllDigits-digits_len}
-use Rattle.std.proofs.lemmas.List.{length-take, length-take-le, get_or-take, take_all, append-nil}
+use Rattle.std.proofs.lemmas.List.{length-take, length-take-le, get_or-take, take_all}
 use Rattle.vyrd_base.specs.declared.subject.Subject.{Subject}
 use Rattle.vyrd_base.specs.declared.log.Entry.{Entry}
 use Rattle.vyrd_base.specs.Spelling.{entry_line, is_entry_of}
@@ -70,10 +70,6 @@ one_more subject text before middle after rest more count e are is grown = recor
   spelled = are.spelled ∙ ap (λ t. entries_text are.found ++ t) is.1 ∙ sym (entries_more are.found e more);
   of_subject = all_more subject are.found e are.of_subject is.0;
 }
-
--- no entry yet
-pub none_yet : (subject : Subject) (text : List ℕ) (before : List Entry) → AreEntriesAtFront subject text before before text 0
-none_yet subject text before = record { found = []; grown = sym (append-nil before); counted = refl; spelled = refl; of_subject = refl }
 
 -- digits that were read by words, few enough that their value didn't wrap
 module _ (text : List ℕ) (value end : ℕ) (counted : end ≡ 0 + digits_len (drop 0 text)) (few : end ≤ 19)

@@ -1,5 +1,5 @@
 -- The cells and the claims after a step at one cell.
-use Rattle.std.proofs.Common.{◌≡◌, ◌≢◌, ℕ, ◌+◌, ◌*◌, ◌%◌, ◌<◌, ◌≤◌, List, Bool, true, cond, eqb, Option, Some, None, refl, sym, ap, ◌∙◌, subst, arith, eq-eqb, ne_eqb}
+use Rattle.std.proofs.Common.{◌≡◌, ◌≢◌, ℕ, ◌+◌, ◌*◌, ◌%◌, ◌<◌, ◌≤◌, List, true, Option, Some, None, refl, sym, ap, ◌∙◌, subst, arith}
 use Rattle.std.specs.Prelude.{slice_index}
 use mathlib.Core.Logic.{dite}
 use mathlib.Core.Option.{some}
@@ -11,19 +11,10 @@ use Rattle.vyrd_trace.specs.declared.record.Record.{Record}
 use Rattle.vyrd_trace.specs.declared.record.Stage.{Stage}
 use Rattle.vyrd_trace.specs.declared.record.Stage.TheVariants.{Rest, Claimed, Drawn, Giving}
 use Rattle.vyrd_base.specs.Parts.{part}
+use Rattle.vyrd_base.proofs.UpdateLaws.{upd, upd_here, upd_else}
 use Rattle.vyrd_trace.specs.Lanes.{last_value}
 use Rattle.vyrd_trace.specs.Rule.{Ghost, IsAt, InHand, FitsCell, Knows, Kept}
 use Rattle.vyrd_trace.proofs.Stays.{St, Same, refit}
-
--- a function that is changed at one place
-abbrev pub upd : {A : Type 0} → (ℕ → A) → ℕ → A → ℕ → A
-upd f i x j = cond (eqb j i) x (f j)
-
-pub upd_here : {A : Type 0} (f : ℕ → A) (i : ℕ) (x : A) (j : ℕ) → j ≡ i → upd f i x j ≡ x
-upd_here {A} f i x j e = ap (λ (b : Bool). cond {A = A} b x (f j)) (eq-eqb j i e)
-
-pub upd_else : {A : Type 0} (f : ℕ → A) (i : ℕ) (x : A) (j : ℕ) → j ≢ i → upd f i x j ≡ f j
-upd_else {A} f i x j apart = ap (λ (b : Bool). cond {A = A} b x (f j)) (ne_eqb j i apart)
 
 -- a cell that fits depends on its claimer's action alone
 fits_other : (plain : ℕ) (f h : ℕ → Stage) (k w n : ℕ) (o : Option ℕ) → ((c : ℕ) → o ≡ Some c → h c ≡ f c)

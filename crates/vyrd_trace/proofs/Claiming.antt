@@ -2,6 +2,7 @@
 use Rattle.std.proofs.Common.{◌≡◌, ℕ, ◌+◌, ◌-◌, ◌/◌, ◌%◌, ◌<◌, ◌≤◌, List, length, set, Bool, true, eqb, Option, Some, refl, sym, ap, ◌∙◌, subst, arith, length-set, get_or-set_same, eq-eqb, ne_eqb}
 use Rattle.std.specs.Prelude.{slice_index}
 use Rattle.std.proofs.lemmas.List.{get_or-set_other, set-get_or}
+use Rattle.vyrd_base.proofs.UpdateLaws.{upd, upd_here}
 use mathlib.Core.Logic.{dite}
 use mathlib.Core.Option.{some, none}
 use native.Mathlib.Decide.{ℕ_discrete}
@@ -18,7 +19,7 @@ use Rattle.vyrd_trace.specs.Records.{look_first, acting}
 use Rattle.vyrd_trace.specs.Rule.{Ghost, IsAt, InHand, FitsCell, Kept}
 use Rattle.vyrd_trace.specs.Steps.{Sitting, looked, tried}
 use Rattle.vyrd_trace.proofs.Stays.{St, turned, refit, same_refl}
-use Rattle.vyrd_trace.proofs.CellMoves.{upd, upd_here, moved, claims_moved, same_moved, free_cell, nowhere_rest}
+use Rattle.vyrd_trace.proofs.CellMoves.{moved, claims_moved, same_moved, free_cell, nowhere_rest}
 
 module _ (p : Plan) where
   unmoved : (s : St) (r : Kept p s) (id : ℕ) (c : List (ℕ × Unit {0})) (v : Record) (l : Look) → get_elem? s.views id ≡ some v

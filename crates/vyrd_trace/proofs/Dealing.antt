@@ -8,6 +8,7 @@ use Rattle.atomic_table.specs.Table.{opening, Splits, Joins}
 use Rattle.atomic_table.proofs.Lists.{at_set}
 use Rattle.vyrd_base.specs.Histories.{Cells, is_legal}
 use Rattle.vyrd_base.specs.Parts.{part}
+use Rattle.vyrd_base.proofs.UpdateLaws.{upd, upd_here, upd_else}
 use Rattle.vyrd_trace.specs.Lanes.{cells_in}
 use Rattle.vyrd_trace.specs.declared.record.Record.{Record}
 use Rattle.vyrd_trace.specs.declared.plan.Plan.{Plan}
@@ -15,7 +16,6 @@ use Rattle.vyrd_trace.specs.declared.record.Lane.{Lane}
 use Rattle.vyrd_trace.specs.declared.record.Stage.TheVariants.{Rest}
 use Rattle.vyrd_trace.specs.Records.{first_record, dealer, dealt, own_lane, gathering, spent}
 use Rattle.vyrd_trace.specs.Rule.{Ghost, HasLane, Knows, Kept}
-use Rattle.vyrd_trace.proofs.CellMoves.{upd, upd_here, upd_else}
 use Rattle.vyrd_trace.proofs.Stays.{apart_from}
 
 no_lane : (i : ℕ) (l : Lane) → slice_get [] i ≡ Some l → ⊥

@@ -12,6 +12,7 @@ use Rattle.vyrd_base.specs.declared.history.Did.TheVariants.{Read, Wrote, Took, 
 use Rattle.vyrd_base.specs.declared.history.Stamped.{Stamped}
 use Rattle.vyrd_base.specs.Places.{newest_first}
 use Rattle.vyrd_base.specs.Histories.{is_write, may_do}
+use Rattle.vyrd_base.proofs.UpdateLaws.{upd, upd_here, upd_else}
 use Rattle.vyrd_trace.specs.declared.plan.Plan.{Plan}
 use Rattle.vyrd_trace.specs.declared.record.Record.{Record}
 use Rattle.vyrd_trace.specs.declared.record.Stage.{Stage}
@@ -23,7 +24,7 @@ use Rattle.vyrd_trace.specs.Steps.{Sitting, drew, MayDraw}
 use Rattle.vyrd_trace.proofs.HistoryGrows.{value_after, legal-snoc, may_read, may_write, may_take, may_give, may_mark}
 use Rattle.vyrd_trace.proofs.Parts.{value-snoc, part-mine, part-other, legal_bounded, held_value}
 use Rattle.vyrd_trace.proofs.Stays.{St, turned, refit, below, changed}
-use Rattle.vyrd_trace.proofs.CellMoves.{upd, upd_here, upd_else, in_hand, moved, claims_moved, held_cell, nowhere, nowhere_rest}
+use Rattle.vyrd_trace.proofs.CellMoves.{in_hand, moved, claims_moved, held_cell, nowhere, nowhere_rest}
 use Rattle.vyrd_trace.specs.Hands.{most_events}
 
 module _ (p : Plan) (few : p.callers ≤ 64) (short : p.limit ≤ most_events) where

@@ -9,10 +9,11 @@ use Rattle.vyrd_base.specs.declared.history.Did.{Did}
 use Rattle.vyrd_base.specs.declared.history.Did.TheVariants.{Read, Wrote, Took, Gave, Marked}
 use Rattle.vyrd_base.specs.declared.history.Stamped.{Stamped}
 use Rattle.vyrd_base.specs.Places.{places_after, first_answer, newest_first}
-use Rattle.vyrd_base.specs.Histories.{Cells, is_lock, made_of, value_in, is_write, may_do, is_legal_at, is_legal}
+use Rattle.vyrd_base.specs.Histories.{Cells, made_of, value_in, is_write, may_do, is_legal_at, is_legal}
 pub use Rattle.vyrd_base.proofs.PlaceLaws.{length-newest_first}
 use Rattle.vyrd_base.proofs.PlaceLaws.{with_later, places_after-append, newest_first-push}
-use Rattle.vyrd_base.proofs.TestLaws.{both_true, first_true, second_true, is_below, is_same, below_of, same_of, is_at_most}
+use Rattle.vyrd_base.proofs.TestLaws.{both_true, first_true, second_true, is_below, is_same, below_of, same_of}
+use Rattle.vyrd_base.proofs.CellLaws.{is_lock_of}
 
 -- what an event makes of a cell that had the value v
 abbrev pub value_after : ℕ → ℕ → ℕ → Did → ℕ
@@ -27,9 +28,6 @@ pub value_in-snoc : (h : List Stamped) (e : Stamped) (cell : ℕ)
     → value_in (newest_first (h ++ e ∷ [])) cell ≡ value_after cell (value_in (newest_first h) cell) e.caller e.did
 value_in-snoc h e cell = ap (λ earlier. value_in earlier cell) (newest_first-push h e)
     ∙ or_else (made_of cell e.caller e.did) (first_answer (λ x. made_of cell x.caller x.did) (newest_first h))
-
-is_lock_of : (z : Cells) (c : ℕ) → z.plain ≤ c → c < z.plain + z.locks → is_lock z c ≡ true
-is_lock_of z c a b = both_true _ _ (is_at_most z.plain c a) (is_below c (z.plain + z.locks) b)
 
 pub may_read : (z : Cells) (earlier : List Stamped) (caller c x : ℕ) → c < z.plain → x ≡ value_in earlier c
     → may_do z earlier caller (Read c x) ≡ true

@@ -6,6 +6,7 @@ use mathlib.Core.Option.{some, none}
 use lib.ListN.{get_elem?}
 use Rattle.atomic_table.specs.Table.{step, keeps, stepped, Allows}
 use Rattle.std.proofs.lemmas.Option.{same_Some}
+use Rattle.vyrd_base.proofs.UpdateLaws.{upd, upd_here}
 use Rattle.vyrd_trace.specs.declared.plan.Plan.{Plan}
 use Rattle.vyrd_trace.specs.declared.record.Record.{Record}
 use Rattle.vyrd_trace.specs.declared.record.Stage.{Stage}
@@ -15,7 +16,7 @@ use Rattle.vyrd_trace.specs.Records.{acting}
 use Rattle.vyrd_trace.specs.Rule.{Ghost, IsAt, InHand, Kept}
 use Rattle.vyrd_trace.specs.Steps.{Sitting, published, Ends}
 use Rattle.vyrd_trace.proofs.Stays.{St, turned}
-use Rattle.vyrd_trace.proofs.CellMoves.{upd, upd_here, in_hand, moved, claims_moved, same_moved, nowhere_drawn, nowhere_giving}
+use Rattle.vyrd_trace.proofs.CellMoves.{in_hand, moved, claims_moved, same_moved, nowhere_drawn, nowhere_giving}
 
 module _ (p : Plan) where
   -- an action at k0 ends

@@ -8,8 +8,9 @@ use Rattle.vyrd_base.specs.declared.subject.Subject.TheVariants.{Tree}
 use Rattle.vyrd_base.specs.TreeView.{level_of, entries_of}
 use Rattle.vyrd_base.specs.Trees.{last_of, nodes, low_of}
 use Rattle.vyrd_base.proofs.TestLaws.{both_true, first_true, second_true, same_of, is_same, isnt_same, is_at_most, at_most_of}
+use Rattle.vyrd_base.proofs.PlaceLaws.{pass_all}
 use Rattle.vyrd_memory.specs.Alone.{Memory, words_in}
-use Rattle.vyrd_memory.proofs.NumberLists.{all_pass, pass_all}
+use Rattle.vyrd_memory.proofs.NumberLists.{all_pass}
 use Rattle.vyrd_tree.specs.Hanging.{leads_elsewhere, hangs_in, is_hanging}
 use Rattle.vyrd_tree.specs.Laws.Alone.Counts.{zero_or}
 use Rattle.vyrd_tree.specs.Contents.{IsTree, entries_at}

@@ -8,7 +8,7 @@ use Rattle.std.specs.Cmp.{unsigned_tied}
 use Rattle.std.proofs.lemmas.Bool.Decides.{nat_tests}
 use Rattle.vyrd_base.specs.Amounts.{Amounts, IsAmounts, amount_of, first_difference}
 use Rattle.vyrd_base.proofs.DifferenceLaws.{first_difference_none, first_difference_some}
-use Rattle.vyrd_base.proofs.TestLaws.{same_number, same_of, apart_of, lower_isnt}
+use Rattle.vyrd_base.proofs.TestLaws.{same_number, same_of, apart_of, lower_isnt, both_of}
 use Rattle.vyrd_base.proofs.AmountLaws.{apart_from, first_of_and, second_of_and}
 use Rattle.vyrd_view.specs.Apart.{IsLeastApart}
 
@@ -107,10 +107,6 @@ same_key x y xs ys is it key apart = (
   λ equal. apart (sym (at_head x xs) ∙ equal ∙ ap (amount_of (y ∷ ys)) key ∙ at_head y ys),
   λ q less. below_head x xs q is less ∙ sym (below_head y ys q it (omega arith)),
 )
-
-both_of : (a b : Bool) → (a && b) ≡ true → (a ≡ true) × (b ≡ true)
-both_of true b e = (refl, e)
-both_of false b e = cc
 
 apart_heads : (x y : ℕ × ℕ) (xs ys : Amounts) → IsAmounts (x ∷ xs) → IsAmounts (y ∷ ys) → (x.0 == y.0 && x.1 == y.1) ≡ false
     → LeastApart (x ∷ xs) (y ∷ ys) (Some (min x.0 y.0))

@@ -12,11 +12,12 @@ use Rattle.vyrd_base.specs.TreeView.{right_of, node_word, count_of}
 use Rattle.vyrd_base.proofs.SumLaws.{amount_of-collected, nothing_given}
 use Rattle.vyrd_base.proofs.ListLaws.{zeros}
 use Rattle.vyrd_base.proofs.TestLaws.{apart_of, isnt_same, neither_true, isnt_below}
+use Rattle.vyrd_base.proofs.PlaceLaws.{length_below, element_below}
 use Rattle.vyrd_view.specs.Pairs.{is_touched, slot_pair, chunk_pair, chunk_key, chunk_amount, chunk_flaw, buffer_pair}
 use Rattle.vyrd_view.specs.Chains.{chain_nodes_from, chain_breaks_from, is_on_chain, is_broken, entry_pair, node_pair, end_pair, is_stale, has_link}
 use Rattle.vyrd_view.specs.Firsts.{first_pairs_in, first_chunk_pair, first_buffer_pair}
 use Rattle.vyrd_view.specs.Comparing.{pairs_in, AgreeElsewhere}
-use Rattle.vyrd_view.proofs.PlacedLaws.{mapped, length_mapped, at_mapped}
+use Rattle.vyrd_view.proofs.PlacedLaws.{mapped}
 use Rattle.vyrd_view.proofs.BufferLaws.{same_buffer, empty_buffer}
 use Rattle.vyrd_view.proofs.ShowingLaws.{slots_give, chunks_give, buffers_give}
 use Rattle.vyrd_view.proofs.ShowingTree.{places_give}
@@ -224,15 +225,15 @@ pub first_pairs_are : (subject : Subject) (size n : ℕ) → 0 < size → first_
 first_pairs_are Multiset size n some = mapped (slot_pair (replicate n 0)) (replicate (4 * size) (0, 0)) (4 * size) (length-replicate (4 * size) (0, 0))
     (λ i low. get_or-replicate (4 * size) i (0, 0) (0, 0) low ∙ sym (no_slot n i))
 first_pairs_are Cache size n some = mapped (chunk_pair size (replicate n 0)) (map (first_chunk_pair size) (numbers_below (2 * size))) (2 * size)
-    (length_mapped (first_chunk_pair size) (2 * size))
-    (λ i low. at_mapped (first_chunk_pair size) (2 * size) i low ∙ sym (empty_chunk n size i))
+    (length_below (first_chunk_pair size) (2 * size))
+    (λ i low. element_below (first_chunk_pair size) (2 * size) i (0, 0) low ∙ sym (empty_chunk n size i))
 first_pairs_are Tree size n some = tree_pairs size (replicate n 0) (set (replicate size false) 0 true) (replicate (4 * size + 1) (0, 0))
     (length-replicate (4 * size + 1) (0, 0)) (λ i low. first_is_marked n size i some)
     (λ m low. get_or-replicate (4 * size + 1) m (0, 0) (0, 0) (omega (arith, low)) ∙ sym (no_node n (set (replicate size false) 0 true) m))
     (get_or-replicate (4 * size + 1) (4 * size) (0, 0) (0, 0) (omega arith) ∙ sym (ap end_pair (end_is_whole n size some)))
 first_pairs_are Buffers size n some = mapped (buffer_pair size (replicate n 0)) (map first_buffer_pair (numbers_below size)) size
-    (length_mapped first_buffer_pair size)
-    (λ i low. at_mapped first_buffer_pair size i low ∙ sym (empty_buffer n size i))
+    (length_below first_buffer_pair size)
+    (λ i low. element_below first_buffer_pair size i (0, 0) low ∙ sym (empty_buffer n size i))
 
 given_copies : (q n : ℕ) → given q (replicate n (0, 0)) ≡ 0
 given_copies q zero = refl

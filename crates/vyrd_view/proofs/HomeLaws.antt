@@ -1,53 +1,18 @@
 -- Places in a table.
-use Rattle.std.proofs.Common.{◌≡◌, ◌≢◌, ℕ, zero, suc, ◌+◌, ◌<◌, ◌≤◌, Bool, true, false, cond, not, ◌||◌, List, [], ◌∷◌, Option, Some, None, length, map, get_or, refl, ap, ◌∙◌, sym, arith}
-use Rattle.std.specs.Prelude.{◌==◌, nat_lt, count_by}
-use Rattle.std.proofs.lemmas.List.{get_or_past}
-use Rattle.std.proofs.lemmas.List.Sums.{get_or-le-sum_by}
+use Rattle.std.proofs.Common.{◌≡◌, ◌≢◌, ℕ, zero, suc, ◌+◌, ◌<◌, ◌≤◌, Bool, true, false, not, ◌||◌, List, [], ◌∷◌, Option, Some, None, map, get_or, refl, ap, ◌∙◌, sym, arith}
+use Rattle.std.specs.Prelude.{◌==◌, nat_lt}
 use Rattle.vyrd_base.specs.Amounts.{given, part_given}
 use Rattle.vyrd_base.specs.Tables.{first_place}
 use Rattle.vyrd_base.proofs.SumLaws.{own_part, other_part, nothing_given, none_gives, only_gives}
 use Rattle.vyrd_base.proofs.TestLaws.{same_of, apart_of, is_same, below_of, not_below_of}
 use Rattle.vyrd_view.specs.declared.homes.Home.{Home}
-use Rattle.vyrd_view.specs.Homes.{no_home, home_at, is_taken, is_apart, shown_pairs, specified_pairs, AreHomes, IsHomeOf, IsFoundAt, IsLeastHome}
-
--- where no amounts differ
-pub none_apart : (places : List Home) → count_by is_apart places ≡ 0 → (i : ℕ) → is_apart (home_at places i) ≡ false
-none_apart places none i = by_place (nat_lt i (length places)) refl
-  where
-    by_apart : (b : Bool) → is_apart (home_at places i) ≡ b → cond b 1 0 ≤ 0 → b ≡ false
-    by_apart true e few = absurd (omega (arith, few))
-    by_apart false e few = refl
-
-    by_place : (b : Bool) → nat_lt i (length places) ≡ b → is_apart (home_at places i) ≡ false
-    by_place true e =
-        let few : cond (is_apart (home_at places i)) 1 0 ≤ 0 =
-        omega (arith, get_or-le-sum_by (λ (h : Home). cond (is_apart h) 1 0) places i no_home (below_of i (length places) e), none) in
-        by_apart (is_apart (home_at places i)) refl few
-    by_place false e = ap is_apart (get_or_past places i no_home (not_below_of i (length places) e))
+use Rattle.vyrd_view.specs.Homes.{no_home, home_at, is_taken, is_apart, AreHomes, IsHomeOf, IsFoundAt}
 
 -- the least key of the first places whose amounts differ
 abbrev pub LeastSoFar : List Home → ℕ → Option ℕ → Type 0
 LeastSoFar places n None = (i : ℕ) → i < n → is_apart (home_at places i) ≡ false
 LeastSoFar places n (Some k) = ((i : ℕ) × (i < n) × (is_apart (home_at places i) ≡ true) × ((home_at places i).key ≡ k))
     × ((j : ℕ) → j < n → is_apart (home_at places j) ≡ true → k ≤ (home_at places j).key)
-
-pub least_at_end : (places : List Home) (n : ℕ) (least : Option ℕ) → length places ≤ n → LeastSoFar places n least → IsLeastHome places least
-least_at_end places n None all so_far = λ i. by_place i (nat_lt i n) refl
-  where
-    by_place : (i : ℕ) (b : Bool) → nat_lt i n ≡ b → is_apart (home_at places i) ≡ false
-    by_place i true e = so_far i (below_of i n e)
-    by_place i false e =
-        let past : length places ≤ i = omega (arith, all, not_below_of i n e) in ap is_apart (get_or_past places i no_home past)
-least_at_end places n (Some k) all so_far = (
-  (so_far.0.0, so_far.0.2, so_far.0.3),
-  λ j apart. by_place j apart (nat_lt j n) refl,
-)
-  where
-    by_place : (j : ℕ) → is_apart (home_at places j) ≡ true → (b : Bool) → nat_lt j n ≡ b → k ≤ (home_at places j).key
-    by_place j apart true e = so_far.1 j (below_of j n e) apart
-    by_place j apart false e =
-        let past : length places ≤ j = omega (arith, all, not_below_of j n e) in
-        let none : is_apart (home_at places j) ≡ false = ap is_apart (get_or_past places j no_home past) in cc
 
 pub least_stays : (places : List Home) (n : ℕ) (least : Option ℕ) → is_apart (home_at places n) ≡ false → LeastSoFar places n least
     → LeastSoFar places (n + 1) least
@@ -191,27 +156,6 @@ module _ (amount : Home → ℕ) (none : amount no_home ≡ 0) (if_free : (h : H
       ∙ ap (part_given q) (at_map amount none places i)
       ∙ ap (λ k. part_given k ((home_at places i).key, amount (home_at places i))) (sym here.1)
       ∙ own_part (home_at places i).key (amount (home_at places i))
-
-pub nowhere_shown : (places : List Home) (q : ℕ) → IsHomeOf places q None → given q (shown_pairs places) ≡ 0
-nowhere_shown places q = no_home_gives (λ h. h.shown) refl (λ h free. (free_amounts h free).0) places q
-
-pub nowhere_specified : (places : List Home) (q : ℕ) → IsHomeOf places q None → given q (specified_pairs places) ≡ 0
-nowhere_specified places q = no_home_gives (λ h. h.specified) refl (λ h free. (free_amounts h free).1) places q
-
-pub home_shown : (places : List Home) (q shift i : ℕ) → AreHomes shift places → IsHomeOf places q (Some i) → given q (shown_pairs places) ≡ (home_at places i).shown
-home_shown places q = home_gives (λ h. h.shown) refl (λ h free. (free_amounts h free).0) places q
-
-pub home_specified : (places : List Home) (q shift i : ℕ) → AreHomes shift places → IsHomeOf places q (Some i) → given q (specified_pairs places) ≡ (home_at places i).specified
-home_specified places q = home_gives (λ h. h.specified) refl (λ h free. (free_amounts h free).1) places q
-
--- a taken place is in the table
-pub taken_within : (places : List Home) (i : ℕ) → is_taken (home_at places i) ≡ true → i < length places
-taken_within places i taken = by_place (nat_lt i (length places)) refl
-  where
-    by_place : (b : Bool) → nat_lt i (length places) ≡ b → i < length places
-    by_place true e = below_of i (length places) e
-    by_place false e =
-        let free : is_taken (home_at places i) ≡ false = ap is_taken (get_or_past places i no_home (not_below_of i (length places) e)) in cc
 
 -- each key stands somewhere or nowhere
 pub somewhere : (places : List Home) (q : ℕ) → (o : Option ℕ) × IsHomeOf places q o

@@ -1,5 +1,5 @@
 -- Pairs in places, as a loop over changed words brings them up to date.
-use Rattle.std.proofs.Common.{◌≡◌, ℕ, zero, suc, ◌+◌, ◌*◌, ◌/◌, ◌<◌, ◌≤◌, Bool, true, false, ◌||◌, List, [], ◌∷◌, ◌++◌, length, map, get_or, set, drop, refl, ap, ◌∙◌, sym, arith, get_or-set_same, get_or-set_other}
+use Rattle.std.proofs.Common.{◌≡◌, ℕ, suc, ◌+◌, ◌*◌, ◌/◌, ◌<◌, ◌≤◌, Bool, true, false, ◌||◌, List, [], ◌∷◌, ◌++◌, length, map, get_or, set, drop, refl, ap, ◌∙◌, sym, arith, get_or-set_same, get_or-set_other}
 use Rattle.std.specs.Prelude.{◌==◌, ◌≢◌}
 use Rattle.std.proofs.lemmas.List.{drop_more, drop_all, map-append}
 use Rattle.vyrd_base.specs.Places.{numbers_from, numbers_below}
@@ -88,22 +88,6 @@ mapped f pairs n is each =
 -- one place more
 pub mapped-push : (f : ℕ → ℕ × ℕ) (n : ℕ) → map f (numbers_below (n + 1)) ≡ map f (numbers_below n) ++ f n ∷ []
 mapped-push f n = ap (map f) (numbers_below-push n) ∙ map-append f (numbers_below n) (n ∷ [])
-
-length_mapped_from : (f : ℕ → ℕ × ℕ) (k n : ℕ) → length (map f (numbers_from k n)) ≡ n
-length_mapped_from f k zero = refl
-length_mapped_from f k (suc n) = ap suc (length_mapped_from f (k + 1) n)
-
-pub length_mapped : (f : ℕ → ℕ × ℕ) (n : ℕ) → length (map f (numbers_below n)) ≡ n
-length_mapped f n = length_mapped_from f 0 n
-
-at_mapped_from : (f : ℕ → ℕ × ℕ) (k n i : ℕ) → i < n → get_or (map f (numbers_from k n)) i (0, 0) ≡ f (k + i)
-at_mapped_from f k zero i low = absurd (omega arith)
-at_mapped_from f k (suc n) zero low = let at : k ≡ k + 0 = omega arith in ap f at
-at_mapped_from f k (suc n) (suc i) low =
-    let next : k + 1 + i ≡ k + suc i = omega arith in at_mapped_from f (k + 1) n i (omega arith) ∙ ap f next
-
-pub at_mapped : (f : ℕ → ℕ × ℕ) (n i : ℕ) → i < n → get_or (map f (numbers_below n)) i (0, 0) ≡ f i
-at_mapped f n i low = let at : 0 + i ≡ i = omega arith in at_mapped_from f 0 n i low ∙ ap f at
 
 -- the places of the parts that none of the words left is in are up to date, where each part has as many places as `places` says
 abbrev pub ArePartsFresh : ℕ → ℕ → (ℕ → ℕ × ℕ) → List (ℕ × ℕ) → List ℕ → Type 0

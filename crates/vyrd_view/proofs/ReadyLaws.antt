@@ -1,54 +1,39 @@
 -- What is kept of the words before is ready to be brought up to date.
-use Rattle.std.proofs.Common.{◌≡◌, ℕ, ◌+◌, ◌*◌, ◌/◌, ◌%◌, ◌^◌, ◌<◌, ◌≤◌, Bool, true, false, ◌&&◌, List, length, length-set, map, replicate, get_or, set, refl, ap, ◌∙◌, sym, subst, arith}
-use Rattle.std.specs.Prelude.{nat_lt, nat_le}
+use Rattle.std.proofs.Common.{◌≡◌, ℕ, ◌+◌, ◌*◌, ◌/◌, ◌%◌, ◌^◌, ◌<◌, ◌≤◌, Bool, true, false, List, length, length-set, map, replicate, get_or, set, refl, ap, ◌∙◌, sym, subst, arith}
+use Rattle.std.specs.Prelude.{nat_lt}
 use Rattle.std.proofs.lemmas.List.{get_or_past, length-replicate}
 use Rattle.vyrd_base.specs.declared.header.Header.{Header}
 use Rattle.vyrd_base.specs.declared.subject.Subject.{Subject}
 use Rattle.vyrd_base.specs.declared.subject.Subject.TheVariants.{Multiset, Cache, Tree, Buffers}
-use Rattle.vyrd_base.specs.Limits.{is_known_version, is_sized}
-use Rattle.vyrd_base.specs.Layout.{plain_words, plain_words_of}
 use Rattle.vyrd_base.specs.Places.{numbers_below}
 use Rattle.vyrd_base.specs.Amounts.{collected, given}
 use Rattle.vyrd_base.specs.Views.{view_of_words, parts_of}
+use Rattle.vyrd_base.proofs.HeaderLaws.{some_size}
 use Rattle.vyrd_base.proofs.AmountLaws.{same_amounts}
 use Rattle.vyrd_base.proofs.SumLaws.{amount_of-collected, IsAmounts-collected}
-use Rattle.vyrd_base.proofs.TestLaws.{first_true, second_true, at_most_of, below_of, not_below_of}
+use Rattle.vyrd_base.proofs.TestLaws.{below_of, not_below_of}
+use Rattle.vyrd_base.proofs.PlaceLaws.{length_below, element_below}
 use Rattle.vyrd_view.specs.Pairs.{is_touched, slot_pair, chunk_pair, buffer_pair, EachAtMost, HaveChunkKeys, HaveBufferKeys}
 use Rattle.vyrd_view.specs.Chains.{is_on_chain, is_broken, node_pair, end_pair, tree_pair, is_stale, has_link}
 use Rattle.vyrd_view.specs.Firsts.{first_pairs_in}
 use Rattle.vyrd_view.specs.Comparing.{pairs_in, AreMarks, IsCurrent, AgreeElsewhere}
-use Rattle.vyrd_view.proofs.PlacedLaws.{length_mapped, at_mapped}
 use Rattle.vyrd_view.proofs.SlotLaws.{slot_at_most}
 use Rattle.vyrd_view.proofs.ChunkPairLaws.{key_of_pair}
 use Rattle.vyrd_view.proofs.BufferLaws.{key_of_buffer}
 use Rattle.vyrd_view.proofs.TreePairLaws.{tree_pair_at_most, tree_pair_node, tree_pair_end}
 use Rattle.vyrd_view.proofs.CurrentLaws.{pairs_show, first_pairs_are, first_is_marked, slot_untouched, chunk_pair_untouched, buffer_untouched, node_untouched, chain_untouched, end_untouched}
 
--- a header's size is within its limits
-pub sized : (h : Header) → (1 ≤ h.size) × (h.size ≤ 1024)
-sized h =
-    let limits : is_sized h.size h.callers ≡ true = second_true (is_known_version h.version) (is_sized h.size h.callers) h.within in
-    let three = first_true (nat_le 1 h.size && nat_le h.size 1024 && nat_le 1 h.callers) (nat_le h.callers 64) limits in
-    let two = first_true (nat_le 1 h.size && nat_le h.size 1024) (nat_le 1 h.callers) three in (
-      at_most_of 1 h.size (first_true (nat_le 1 h.size) (nat_le h.size 1024) two),
-      at_most_of h.size 1024 (second_true (nat_le 1 h.size) (nat_le h.size 1024) two),
-    )
-
 each-mapped : (most : ℕ) (f : ℕ → ℕ × ℕ) (n : ℕ) → ((i : ℕ) → (f i).1 ≤ most) → EachAtMost most (map f (numbers_below n))
 each-mapped most f n each i = by_place (nat_lt i n) refl
   where
     by_place : (b : Bool) → nat_lt i n ≡ b → (get_or (map f (numbers_below n)) i (0, 0)).1 ≤ most
     by_place true e =
-        let here : (get_or (map f (numbers_below n)) i (0, 0)).1 ≡ (f i).1 = ap (λ (p : ℕ × ℕ). p.1) (at_mapped f n i (below_of i n e)) in
+        let here : (get_or (map f (numbers_below n)) i (0, 0)).1 ≡ (f i).1 = ap (λ (p : ℕ × ℕ). p.1) (element_below f n i (0, 0) (below_of i n e)) in
         omega (arith, here, each i)
     by_place false e =
-        let past : length (map f (numbers_below n)) ≤ i = omega (arith, length_mapped f n, not_below_of i n e) in
+        let past : length (map f (numbers_below n)) ≤ i = omega (arith, length_below f n, not_below_of i n e) in
         let there : (get_or (map f (numbers_below n)) i (0, 0)).1 ≡ 0 = ap (λ (p : ℕ × ℕ). p.1) (get_or_past (map f (numbers_below n)) i (0, 0) past) in
         omega (arith, there)
-
-pub word_count : (h : Header) (subject : Subject) (words : List ℕ) → h.subject ≡ subject → length words ≡ plain_words h
-    → length words ≡ plain_words_of subject h.size
-word_count h subject words is count = count ∙ ap (λ s. plain_words_of s h.size) is
 
 module _ (h : Header) (before words changed : List ℕ) (pairs : List (ℕ × ℕ)) (marks next : List Bool) (current : IsCurrent h before pairs marks next)
     (elsewhere : AgreeElsewhere before words changed) where
@@ -57,14 +42,14 @@ module _ (h : Header) (before words changed : List ℕ) (pairs : List (ℕ × �
     slots_given = current.given ∙ ap (λ s. pairs_in s h.size before) is
 
     pub slots_count : length pairs ≡ 4 * h.size
-    slots_count = ap length slots_given ∙ length_mapped (slot_pair before) (4 * h.size)
+    slots_count = ap length slots_given ∙ length_below (slot_pair before) (4 * h.size)
 
     pub slots_ones : EachAtMost 1 pairs
     slots_ones = subst (λ s. EachAtMost 1 s) (sym slots_given) (each-mapped 1 (slot_pair before) (4 * h.size) (slot_at_most before))
 
     pub slots_others : (i : ℕ) → i < length pairs → is_touched 2 i changed ≡ false → get_or pairs i (0, 0) ≡ slot_pair words i
     slots_others i low untouched =
-        ap (λ s. get_or s i (0, 0)) slots_given ∙ at_mapped (slot_pair before) (4 * h.size) i (omega (arith, low, slots_count))
+        ap (λ s. get_or s i (0, 0)) slots_given ∙ element_below (slot_pair before) (4 * h.size) i (0, 0) (omega (arith, low, slots_count))
         ∙ sym (slot_untouched before words changed elsewhere i untouched)
 
     pub slots_current : (pairs' : List (ℕ × ℕ)) → pairs' ≡ map (slot_pair words) (numbers_below (length pairs)) → IsCurrent h words pairs' marks next
@@ -78,17 +63,17 @@ module _ (h : Header) (before words changed : List ℕ) (pairs : List (ℕ × �
     chunks_given = current.given ∙ ap (λ s. pairs_in s h.size before) is
 
     pub chunks_count : length pairs ≡ 2 * h.size
-    chunks_count = ap length chunks_given ∙ length_mapped (chunk_pair h.size before) (2 * h.size)
+    chunks_count = ap length chunks_given ∙ length_below (chunk_pair h.size before) (2 * h.size)
 
     pub chunks_keys : HaveChunkKeys h.size pairs
     chunks_keys m low =
         ap (λ (s : List (ℕ × ℕ)). (get_or s m (0, 0)).0) chunks_given
-        ∙ ap (λ (p : ℕ × ℕ). p.0) (at_mapped (chunk_pair h.size before) (2 * h.size) m (omega (arith, low, chunks_count)))
+        ∙ ap (λ (p : ℕ × ℕ). p.0) (element_below (chunk_pair h.size before) (2 * h.size) m (0, 0) (omega (arith, low, chunks_count)))
         ∙ key_of_pair h.size before m
 
     pub chunks_others : (m : ℕ) → m < length pairs → is_touched 5 (m / 2) changed ≡ false → get_or pairs m (0, 0) ≡ chunk_pair h.size words m
     chunks_others m low untouched =
-        ap (λ s. get_or s m (0, 0)) chunks_given ∙ at_mapped (chunk_pair h.size before) (2 * h.size) m (omega (arith, low, chunks_count))
+        ap (λ s. get_or s m (0, 0)) chunks_given ∙ element_below (chunk_pair h.size before) (2 * h.size) m (0, 0) (omega (arith, low, chunks_count))
         ∙ sym (chunk_pair_untouched before words changed elsewhere h.size m untouched)
 
     pub chunks_current : (pairs' : List (ℕ × ℕ)) → pairs' ≡ map (chunk_pair h.size words) (numbers_below (2 * h.size)) → IsCurrent h words pairs' marks next
@@ -111,14 +96,14 @@ module _ (h : Header) (before words changed : List ℕ) (pairs : List (ℕ × �
     next_count = tree_marked.1
 
     pub tree_count : length pairs ≡ 4 * h.size + 1
-    tree_count = ap length tree_given ∙ length_mapped (tree_pair h.size before) (4 * h.size + 1)
+    tree_count = ap length tree_given ∙ length_below (tree_pair h.size before) (4 * h.size + 1)
 
     pub tree_most : EachAtMost (2 ^ 33) pairs
     tree_most = subst (λ s. EachAtMost (2 ^ 33) s) (sym tree_given) (each-mapped (2 ^ 33) (tree_pair h.size before) (4 * h.size + 1) (tree_pair_at_most h.size before))
 
     pub tree_others : (m : ℕ) → m < 4 * h.size → is_stale marks (m / 4) changed ≡ false → get_or pairs m (0, 0) ≡ node_pair words marks m
     tree_others m low fresh =
-        ap (λ s. get_or s m (0, 0)) tree_given ∙ at_mapped (tree_pair h.size before) (4 * h.size + 1) m (omega (arith, low))
+        ap (λ s. get_or s m (0, 0)) tree_given ∙ element_below (tree_pair h.size before) (4 * h.size + 1) m (0, 0) (omega (arith, low))
         ∙ tree_pair_node h.size before marks m low tree_marked.2 ∙ sym (node_untouched before words changed elsewhere marks m fresh)
 
     pub tree_marks : has_link changed ≡ false → (n : ℕ) → n < h.size → get_or marks n false ≡ is_on_chain h.size words n
@@ -126,7 +111,7 @@ module _ (h : Header) (before words changed : List ℕ) (pairs : List (ℕ × �
 
     pub tree_end : has_link changed ≡ false → get_or pairs (4 * h.size) (0, 0) ≡ end_pair (is_broken h.size words)
     tree_end unlinked =
-        ap (λ s. get_or s (4 * h.size) (0, 0)) tree_given ∙ at_mapped (tree_pair h.size before) (4 * h.size + 1) (4 * h.size) (omega arith)
+        ap (λ s. get_or s (4 * h.size) (0, 0)) tree_given ∙ element_below (tree_pair h.size before) (4 * h.size + 1) (4 * h.size) (0, 0) (omega arith)
         ∙ tree_pair_end h.size before ∙ ap end_pair (sym (end_untouched before words changed elsewhere unlinked h.size))
 
   module _ (is : h.subject ≡ Buffers) where
@@ -134,11 +119,11 @@ module _ (h : Header) (before words changed : List ℕ) (pairs : List (ℕ × �
     buffers_given = current.given ∙ ap (λ s. pairs_in s h.size before) is
 
     pub buffers_count : length pairs ≡ h.size
-    buffers_count = ap length buffers_given ∙ length_mapped (buffer_pair h.size before) h.size
+    buffers_count = ap length buffers_given ∙ length_below (buffer_pair h.size before) h.size
 
     buffers_at : (b : ℕ) → b < length pairs → get_or pairs b (0, 0) ≡ buffer_pair h.size before b
     buffers_at b low =
-        ap (λ s. get_or s b (0, 0)) buffers_given ∙ at_mapped (buffer_pair h.size before) h.size b (omega (arith, low, buffers_count))
+        ap (λ s. get_or s b (0, 0)) buffers_given ∙ element_below (buffer_pair h.size before) h.size b (0, 0) (omega (arith, low, buffers_count))
 
     pub buffers_keys : HaveBufferKeys h.size pairs
     buffers_keys b low =
@@ -158,16 +143,15 @@ pub current_shows : (h : Header) (words : List ℕ) (pairs : List (ℕ × ℕ)) 
     → collected pairs ≡ view_of_words h words
 unfolding view_of_words
 current_shows h words pairs marks next current =
-    let limits = sized h in
     same_amounts (collected pairs) (collected (parts_of h.subject h.size words)) (IsAmounts-collected pairs) (IsAmounts-collected (parts_of h.subject h.size words))
-    (λ q. amount_of-collected pairs q ∙ ap (given q) current.given ∙ pairs_show h.subject h.size words q limits.0)
+    (λ q. amount_of-collected pairs q ∙ ap (given q) current.given ∙ pairs_show h.subject h.size words q (some_size h))
 
 -- zeroed words and the pairs that they give
 pub first_current : (h : Header) (words : List ℕ) (pairs : List (ℕ × ℕ)) (marks next : List Bool) (n nodes : ℕ) → words ≡ replicate n 0
     → pairs ≡ first_pairs_in h.subject h.size → (h.subject ≡ Tree → nodes ≡ h.size)
     → marks ≡ set (replicate nodes false) 0 true → next ≡ replicate nodes false → IsCurrent h words pairs marks next
 first_current h words pairs marks next n nodes zeroed first count are room = record {
-  given = first ∙ first_pairs_are h.subject h.size n (sized h).0 ∙ ap (pairs_in h.subject h.size) (sym zeroed);
+  given = first ∙ first_pairs_are h.subject h.size n (some_size h) ∙ ap (pairs_in h.subject h.size) (sym zeroed);
   marked = by_subject h.subject refl;
 }
   where
@@ -178,6 +162,6 @@ first_current h words pairs marks next n nodes zeroed first count are room = rec
       ap length are ∙ length-set (replicate nodes false) 0 true ∙ length-replicate nodes false ∙ count is,
       ap length room ∙ length-replicate nodes false ∙ count is,
       λ i low. ap (λ s. get_or s i false) (are ∙ ap (λ k. set (replicate k false) 0 true) (count is))
-          ∙ first_is_marked n h.size i (sized h).0 ∙ ap (λ w. is_on_chain h.size w i) (sym zeroed),
+          ∙ first_is_marked n h.size i (some_size h) ∙ ap (λ w. is_on_chain h.size w i) (sym zeroed),
     )
     by_subject Buffers is = subst (λ s. AreMarks s h.size words marks next) (sym is) tt

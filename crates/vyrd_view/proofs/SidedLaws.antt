@@ -155,13 +155,6 @@ with_same_amount s q a settled same = sym (amounts_are (specified_of s) (specifi
     by_key r true e = ap (amount_of (specified_of s)) (same_of r q e) ∙ sym same
     by_key r false e = refl
 
-pub with_same_shown : (f : ℕ → ℕ) (q a : ℕ) → a ≡ f q → (r : ℕ) → cond (r == q) a (f r) ≡ f r
-with_same_shown f q a same r = by_key (r == q) refl
-  where
-    by_key : (b : Bool) → (r == q) ≡ b → cond b a (f r) ≡ f r
-    by_key true e = same ∙ sym (ap f (same_of r q e))
-    by_key false e = refl
-
 -- a place is written, in which the key stands or no other does
 module _ (s s' : Sides) (i q : ℕ) (home : Home) (settled : AreSettled s) (low : i < length s.homes.places.items) (key : home.key ≡ q)
     (from : first_place s.homes.shift q ≤ i) (to : i < first_place s.homes.shift q + 4)

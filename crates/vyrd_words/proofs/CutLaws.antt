@@ -11,8 +11,7 @@ use Rattle.std.specs.Prelude.{◌==◌, true, false, get_or, map, All, Result, O
 use Rattle.std.specs.List.{list_any}
 use Rattle.std.proofs.Common.{append_assoc, get_or-set_other}
 use Rattle.std.proofs.lemmas.List.Folds.{list_any-append}
-use Rattle.std.proofs.lemmas.List.Elements.{All-nil, All-cons, All-append, All-head, All-tail}
-use Rattle.vyrd_base.specs.Amounts.{Amounts}
+use Rattle.std.proofs.lemmas.List.Elements.{All-append, All-head, All-tail}
 use Rattle.vyrd_view.specs.Comparing.{Comparison, AgreeElsewhere}
 use Rattle.vyrd_base.proofs.TestLaws.{same_of, apart_of, is_same, flipped, lower_isnt, neither_true}
 use Rattle.vyrd_shadow.proofs.WriteLaws.{with_writes-append}
@@ -23,11 +22,6 @@ use Rattle.std.specs.Prelude.{cond, ◌-◌, insert, Some, slice_get}
 use Rattle.std.proofs.lemmas.Option.{same_Some}
 use Rattle.std.proofs.Math.Seq.{take-append_seam}
 use Rattle.std.proofs.Common.{append-nil, Bool}
-
--- in two parts
-pub with_writes-parts : (words : List ℕ) (n : ℕ) (writes : List (ℕ × ℕ))
-    → with_writes (with_writes words (take n writes)) (drop n writes) ≡ with_writes words writes
-with_writes-parts words n writes = sym (with_writes-append words (take n writes) (drop n writes)) ∙ ap (with_writes words) (take-append-drop n writes)
 
 pub in_range-append : (n : ℕ) (xs ys : List (ℕ × ℕ)) → AreInRange n xs → AreInRange n ys → AreInRange n (xs ++ ys)
 in_range-append n [] ys in_xs in_ys = in_ys
@@ -295,11 +289,6 @@ sum-set (k ∷ ks) zero n low = omega (arith, sum-cons k ks, sum-cons (k + n) ks
 sum-set (k ∷ ks) (suc i) n low =
     omega (arith, sum-cons k ks, sum-cons k (set ks i (get_or ks i 0 + n)), sum-set ks i n (omega (arith, low)))
 
-pub get-within : (ks : List ℕ) (i : ℕ) → get_or ks i 0 ≤ sum ks
-get-within [] i = omega arith
-get-within (k ∷ ks) zero = omega (arith, sum-cons k ks)
-get-within (k ∷ ks) (suc i) = omega (arith, sum-cons k ks, get-within ks i)
-
 pub length-put : (place : ℕ) (new ws : List (ℕ × ℕ)) → length (put_at place new ws) ≡ length ws + length new
 length-put zero new ws = length-append new ws ∙ omega arith
 length-put (suc place) new [] = length-append new [] ∙ omega arith
@@ -313,13 +302,6 @@ first_far behind new first since far =
 
 pub since_far : (behind : ℕ) (new : List (ℕ × ℕ)) (since : List (List (ℕ × ℕ))) → length since < behind → since ≡ with_part behind new since
 since_far behind new since far = sym (with_part_none behind new since (omega (arith, far)))
-
--- past the end nothing is left
-pub sum-past : (n : ℕ) (ks : List ℕ) → length ks ≤ n → sum (drop n ks) ≡ 0
-sum-past zero [] past = refl
-sum-past zero (k ∷ ks) past = absurd (omega (arith, past))
-sum-past (suc n) [] past = refl
-sum-past (suc n) (k ∷ ks) past = sum-past n ks (omega (arith, past))
 
 -- one more write is put after those that were put there
 pub put_more : (place : ℕ) (new ws : List (ℕ × ℕ)) (x : ℕ × ℕ) → place ≤ length ws
@@ -429,9 +411,6 @@ one_taken old new w v k j more is within = omega (arith, more, within, ap length
 pub range_left : (n : ℕ) (old new : List (ℕ × ℕ)) (w v : ℕ) → old ≡ (w, v) ∷ new → AreInRange n old → AreInRange n new
 range_left n old new w v is all = let both = subst (AreInRange n) is all in both.2
 
-pub range_first : (n : ℕ) (old new : List (ℕ × ℕ)) (w v : ℕ) → old ≡ (w, v) ∷ new → AreInRange n old → w < n
-range_first n old new w v is all = let both = subst (AreInRange n) is all in both.0
-
 -- a queue with no elements
 pub nothing_in : {A : Type 0} (xs : List A) (n : ℕ) → n ≡ length xs → (n == 0) ≡ true → xs ≡ []
 nothing_in [] n long none = refl
@@ -494,43 +473,10 @@ known_more h words changed compared ws in_range known = record {
   elsewhere = λ sound. agree_more compared.words words changed ws (known.elsewhere sound);
 }
 
--- the words were compared, or memory was refused
-pub known_compared : (h : Header) (words : List ℕ) (old new : Comparison) → new ≡ record old { words = words } → old.header ≡ h → AreKnown h words [] new
-known_compared h words old new is same = record {
-  same_header = ap (λ c. c.header) is ∙ same;
-  within = All-nil (λ w. w < plain_words h);
-  elsewhere = λ sound. λ x none. ap (λ c. get_or words x 0) is ∙ ap (λ c. get_or c.words x 0) (sym is);
-}
-
-pub known_refused : (h : Header) (words changed : List ℕ) (old new : Comparison) → new.refused ≡ true → new.header ≡ old.header
-    → AreKnown h words changed old → AreKnown h words changed new
-known_refused h words changed old new refused same known = record {
-  same_header = same ∙ known.same_header;
-  within = known.within;
-  elsewhere = λ sound. absurd (apart (sym sound ∙ refused));
-}
-  where
-    apart : false ≡ true → ⊥
-    apart e = cc
-
--- an amount was compared, or memory was refused
-pub known_specified : (h : Header) (words changed : List ℕ) (old new : Comparison) (amounts : Amounts) → new ≡ record old { specified = amounts }
-    → AreKnown h words changed old → AreKnown h words changed new
-known_specified h words changed old new amounts is known = record {
-  same_header = ap (λ c. c.header) is ∙ known.same_header;
-  within = known.within;
-  elsewhere = λ sound. subst (λ ws. AgreeElsewhere ws words changed) (ap (λ c. c.words) (sym is)) (known.elsewhere (ap (λ c. c.refused) (sym is) ∙ sound));
-}
-
 -- no commit waits
 pub none_waits : (ks : List ℕ) (writes : List (ℕ × ℕ)) → since_of ks writes ≡ [] → ks ≡ []
 none_waits [] writes e = refl
 none_waits (k ∷ ks) writes e = absurd (omega (arith, length-split_at ks (drop k writes), ap length e))
-
--- values that are small at each place are all small
-pub all_small : (words : List ℕ) → ((w : ℕ) → get_or words w 0 < 2 ^ 63) → All (λ value. value < 2 ^ 63) words
-all_small [] small = All-nil (λ value. value < 2 ^ 63)
-all_small (x ∷ xs) small = All-cons (λ value. value < 2 ^ 63) x xs (small 0) (all_small xs (λ w. small (suc w)))
 
 -- the first commit no longer waits: what is kept stays sound
 pub advanced_both : (h : Header) (words : List ℕ) (k : ℕ) (ks : List ℕ) (writes : List (ℕ × ℕ)) (tail : ℕ) (changed : List ℕ) (compared : Comparison)

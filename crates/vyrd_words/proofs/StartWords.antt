@@ -8,14 +8,11 @@ use Rattle.std.proofs.lemmas.Bool.{not-true}
 use Rattle.std.proofs.lemmas.List.Elements.{All-nil, All-cons}
 use Rattle.vyrd_base.specs.declared.header.Header.{Header}
 use Rattle.vyrd_base.specs.declared.log.StartWord.{StartWord}
-use Rattle.vyrd_base.specs.declared.subject.Subject.{Subject}
-use Rattle.vyrd_base.specs.declared.subject.Subject.TheVariants.{Multiset, Cache, Tree, Buffers}
-use Rattle.vyrd_base.specs.Limits.{is_known_version}
-use Rattle.vyrd_base.specs.Layout.{plain_words, plain_words_of}
+use Rattle.vyrd_base.specs.Layout.{plain_words}
 use Rattle.vyrd_base.specs.Places.{numbers_from, first_answer}
 use Rattle.vyrd_base.specs.Words.{given_to, value_at_start, value_after}
 use Rattle.vyrd_base.specs.Starts.{is_out_of_range, is_out_of_order, do_follow, may_start, words_at_start}
-use Rattle.vyrd_base.proofs.TestLaws.{above_of, at_most_of, first_true, second_true, neither_true}
+use Rattle.vyrd_base.proofs.TestLaws.{above_of, first_true, second_true, neither_true}
 use Rattle.vyrd_base.proofs.PlaceLaws.{length-mapped}
 use Rattle.vyrd_base.proofs.ListLaws.{zeros}
 use Rattle.vyrd_view.specs.Comparing.{AgreeElsewhere}
@@ -74,16 +71,6 @@ start_few h (s ∷ starting) may =
     let first = starts_of h (s ∷ starting) may in
     let rest = rising h s starting first.0.word (second_true (not (is_out_of_range h s || false)) (do_follow h (Some s) starting) follows) in
     omega (arith, rest)
-
-few_words : (subject : Subject) (size : ℕ) → size ≤ 1024 → plain_words_of subject size < 2 ^ 16
-few_words Multiset size few = omega (arith, few)
-few_words Cache size few = omega (arith, few)
-few_words Tree size few = omega (arith, few)
-few_words Buffers size few = omega (arith, few)
-
-pub plain_words_few : (h : Header) → plain_words h < 2 ^ 16
-plain_words_few h =
-    few_words h.subject h.size (at_most_of h.size 1024 (second_true _ _ (first_true _ _ (first_true _ _ (second_true (is_known_version h.version) _ h.within)))))
 
 -- all plain words at the start
 pub length-words_at_start : (h : Header) (starting : List StartWord) → length (words_at_start h starting) ≡ plain_words h

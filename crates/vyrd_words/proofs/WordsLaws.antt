@@ -61,7 +61,6 @@ may_block_commit {k} {inner} {e} is may = ∥∥₁_elim may (Bool-set _ _) (λ 
     s.2.followed.blocks e.caller (caller_kept k.header s.1 e s.3.rules) ∙ block_commit_kept k.header e.caller s.1 (keeps_as is s.3).rules)
 
 -- the numbers of lone commits
-
 pub number_low : (c : ℕ) (earlier : List Entry) → inner_number c earlier ≤ commit_count earlier
 number_low c [] = omega arith
 number_low c (e ∷ earlier) =

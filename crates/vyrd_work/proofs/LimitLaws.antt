@@ -2,7 +2,6 @@
 use Rattle.std.proofs.Common.{◌≡◌, ℕ, ◌+◌, ◌<◌, ◌≤◌, ◌^◌, Bool, true, false, cond, not, ◌&&◌, ◌||◌, List, []}
 use Rattle.std.proofs.Common.{◌∷◌, ◌++◌, map, length, Option, Some, None, refl, ap, sym, ◌∙◌, arith, append_assoc, length-append}
 use Rattle.std.specs.Prelude.{nat_lt, nat_le}
-use Rattle.std.specs.List.{AllByRecursion}
 use Rattle.std.proofs.lemmas.List.Sums.{sum-map, sum_by-cons}
 use Rattle.std.proofs.lemmas.List.{map-append}
 use Rattle.std.proofs.lemmas.Bool.Decides.{nat_tests}
@@ -11,6 +10,7 @@ use Rattle.vyrd_base.specs.declared.header.Header.{Header}
 use Rattle.vyrd_base.specs.Subjects.{arity_of, are_padded, subject_of, same_subject, are_args}
 use Rattle.vyrd_base.proofs.HeaderLaws.{callers_in_32_bits}
 use Rattle.vyrd_base.proofs.TestLaws.{both_true, first_true, second_true, above_then, above_of, not_below_of, isnt_at_most, isnt_below, neither_true}
+use Rattle.vyrd_base.proofs.ListLaws.{all_push}
 use Rattle.vyrd_memory.specs.declared.op.Turn.{Turn}
 use Rattle.vyrd_work.specs.declared.work.WorkOp.{WorkOp}
 use Rattle.vyrd_work.specs.declared.line.Item.{Item}
@@ -76,10 +76,6 @@ module _ (w : Workload) (t : Turn) (is : broken_by w (item.Turns t) ≡ None) wh
   pub sum_fits : turns_in w.turns + t.count ≤ most_turns
   sum_fits = not_below_of most_turns (turns_in w.turns + t.count) turn_second.1
 
-pub all_more : {A : Type 0} (P : A → Type 0) (xs : List A) (x : A) → AllByRecursion P xs → P x → AllByRecursion P (xs ++ x ∷ [])
-all_more P [] x all p = (p, tt)
-all_more P (y ∷ xs) x all p = (all.0, all_more P xs x all.1 p)
-
 -- the first turns of a list, and the others
 pub turns_cons : (t : Turn) (turns : List Turn) → turns_in (t ∷ turns) ≡ t.count + turns_in turns
 turns_cons t turns = sum-map (λ u. u.count) (t ∷ turns) ∙ sum_by-cons (λ u. u.count) t turns
@@ -96,8 +92,8 @@ pub limits_more : (w : Workload) (x : Item) → KeepsLimits w → is_item_of w.h
     → KeepsLimits (with_item w x)
 limits_more w (item.Op o) keeps is none = record {
   version = keeps.version;
-  ops = all_more (λ p. is_op_of w.header p ≡ true) w.ops o keeps.ops (op_fits w o none (op_subject w.header.subject o is));
-  args = all_more (λ p. are_small p.op.args ≡ true) w.ops o keeps.args (op_small w.header.subject o is);
+  ops = all_push (λ p. is_op_of w.header p ≡ true) w.ops o keeps.ops (op_fits w o none (op_subject w.header.subject o is));
+  args = all_push (λ p. are_small p.op.args ≡ true) w.ops o keeps.args (op_small w.header.subject o is);
   turns = keeps.turns;
   op_count = let few = not_many_ops w o none in omega (arith, few, length-append w.ops (o ∷ []));
   turn_count = keeps.turn_count;
@@ -107,7 +103,7 @@ limits_more w (item.Turns t) keeps is none = record {
   version = keeps.version;
   ops = keeps.ops;
   args = keeps.args;
-  turns = all_more (λ u. is_turn_of w.header u ≡ true) w.turns t keeps.turns (turn_fits w t none (second_true (nat_lt t.caller (2 ^ 32)) _ is));
+  turns = all_push (λ u. is_turn_of w.header u ≡ true) w.turns t keeps.turns (turn_fits w t none (second_true (nat_lt t.caller (2 ^ 32)) _ is));
   op_count = keeps.op_count;
   turn_count = let few = not_many_turns w t none in omega (arith, few, length-append w.turns (t ∷ []));
   turn_sum = let fits = sum_fits w t none in let more = turns_more w.turns t in omega (arith, fits, more);

@@ -1,6 +1,6 @@
 -- The operations of a caller: one more of the list, and that they may be called.
 use Rattle.std.proofs.Common.{◌≡◌, ℕ, suc, ◌+◌, ◌<◌, ◌≤◌, Bool, true, false, cond, ◌&&◌, List, [], ◌∷◌, ◌++◌, length, take, Option, Some, None, refl, ap, arith}
-use Rattle.std.specs.Prelude.{◌==◌, ◌≢◌, nat_lt, get_or, Result, Ok, Err, IfOk}
+use Rattle.std.specs.Prelude.{◌==◌, ◌≢◌, nat_lt, get_or}
 use Rattle.std.proofs.lemmas.Bool.Decides.{nat_tests}
 use Rattle.std.specs.List.{AllByRecursion, cons_option}
 use Rattle.vyrd_base.specs.declared.header.Header.{Header}
@@ -55,8 +55,3 @@ own_op c o same = let e : (o.caller == c) ≡ true = grind (arith, nat_tests) in
 
 pub other_op : (c : ℕ) (o : WorkOp) → o.caller ≢ c → op_by c o ≡ None
 other_op c o apart = let e : (o.caller == c) ≡ false = grind (arith, nat_tests) in ap (λ b. cond b (Some o.op) None) e
-
--- what follows from what holds where all went well
-pub where_ok : {A E : Type 0} {P Q : A → Type 0} (r : Result A E) → IfOk r P → ((x : A) → P x → Q x) → IfOk r Q
-where_ok (Ok x) is step = step x is
-where_ok (Err e) is step = is

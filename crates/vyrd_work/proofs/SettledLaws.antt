@@ -12,7 +12,7 @@ use Rattle.vyrd_base.specs.Spelling.{end_line}
 use Rattle.vyrd_base.specs.Reading.{has_any}
 use Rattle.vyrd_base.proofs.TestLaws.{is_below}
 use Rattle.vyrd_base.proofs.SplitLaws.{cut}
-use Rattle.vyrd_base.proofs.LongLines.{long_isnt_end}
+use Rattle.vyrd_base.proofs.LongLines.{long_isnt_end, longer}
 use Rattle.vyrd_text.proofs.AheadLaws.{parts_of}
 use Rattle.vyrd_work.specs.declared.line.Item.{Item}
 use Rattle.vyrd_work.specs.declared.line.Item.TheVariants as item
@@ -104,9 +104,6 @@ after_first next lines r = elim r as (λ _. Result Workload Refusal) [ Ok w ↦ 
 long_text : (line : List ℕ) (lines : List (List ℕ)) → 64 < length line → text_read (line ∷ lines) ≡ refused 1 BadHeader
 long_text line [] long = ap (refused 1) (long_rest BadHeader line long)
 long_text line (next ∷ lines) long = ap (λ o. after_first next lines (begun_or_bad o)) (long_first line long)
-
-longer : (p q : List ℕ) → 64 < length p → 64 < length (p ++ q)
-longer p q long = omega (arith, long, length-append p q)
 
 -- anything after `end` is too much
 too_much : (w : Workload) (n : ℕ) (line : List ℕ) (lines : List (List ℕ)) → 0 < length (join_with_byte 10 (line ∷ lines))

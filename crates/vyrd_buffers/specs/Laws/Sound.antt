@@ -49,7 +49,7 @@ character_plain : (h : Header) (b i : ℕ) → h.subject ≡ Buffers → b < h.s
     → is_plain (cells_of h) (character_cell b i) ≡ true
 character_plain h b i is low few = plain_cell h (character_cell b i) is (omega arith)
 
-lock_cell : (h : Header) (b : ℕ) → h.subject ≡ Buffers → b < h.size
+pub lock_cell : (h : Header) (b : ℕ) → h.subject ≡ Buffers → b < h.size
     → is_lock (cells_of h) (lock_of h b) ≡ true
 lock_cell h b is low =
     ap (λ s. nat_le (plain_words_of s h.size) (lock_of h b)

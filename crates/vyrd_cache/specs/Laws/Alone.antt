@@ -67,7 +67,7 @@ changed h old new state k chunk is s low leaves free e sound =
     (changed_chunk h old new state k is s low leaves free (ap is_sound_chunk e ∙ sound))
 
 -- the lock is free at the beginning
-free_lock : (h : Header) (memory : Memory) (state : Amounts) (k : ℕ) → h.subject ≡ Cache
+pub free_lock : (h : Header) (memory : Memory) (state : Amounts) (k : ℕ) → h.subject ≡ Cache
     → Represents h memory state → k < h.size
     → memory (lock_of h k) ≡ 0
 free_lock h memory state k is s low =

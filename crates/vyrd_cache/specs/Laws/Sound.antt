@@ -48,7 +48,7 @@ plain_cell : (h : Header) (cell : ℕ) → h.subject ≡ Cache → cell < 5 * h.
 plain_cell h cell is low =
     ap (λ s. nat_lt cell (plain_words_of s h.size)) is ∙ is_below cell (5 * h.size) low
 
-lock_cell : (h : Header) (chunk : ℕ) → h.subject ≡ Cache → chunk < h.size
+pub lock_cell : (h : Header) (chunk : ℕ) → h.subject ≡ Cache → chunk < h.size
     → is_lock (cells_of h) (lock_of h chunk) ≡ true
 lock_cell h chunk is low =
     ap (λ s. nat_le (plain_words_of s h.size) (lock_of h chunk)

@@ -1,34 +1,28 @@
 -- The string buffers as a structure: a buffer's lock guards its words, and nothing is reserved.
 use Rattle.std.proofs.Common.{◌≡◌, ℕ, ◌+◌, ◌*◌, ◌/◌, ◌<◌, ◌≤◌, Bool, true, false, cond, List, [], ◌∷◌, map, refl, ap, ◌∙◌, sym, subst, arith}
-use Rattle.std.specs.Prelude.{◌==◌, ◌&&◌, nat_lt, nat_le, flat_map, slice_index}
+use Rattle.std.specs.Prelude.{◌==◌, flat_map, slice_index}
 use Rattle.vyrd_base.specs.declared.header.Header.{Header}
 use Rattle.vyrd_base.specs.declared.subject.Subject.TheVariants.{Buffers}
 use Rattle.vyrd_base.specs.declared.log.Entry.{Entry}
 use Rattle.vyrd_base.specs.Places.{numbers_below}
-use Rattle.vyrd_base.specs.Layout.{plain_words, plain_words_of, lock_words_of}
+use Rattle.vyrd_base.specs.Layout.{plain_words, plain_words_of}
 use Rattle.vyrd_base.specs.Amounts.{Amounts, collected, given}
 use Rattle.vyrd_base.specs.Buffers.{Buffer, buffer_at, is_buffer, buffer_parts}
 use Rattle.vyrd_base.specs.Specification.{start}
 use Rattle.vyrd_base.specs.FirstVersion.{old_effects, old_value_after, old_words_after}
 use Rattle.vyrd_base.specs.Views.{parts_of, view_of_words}
 use Rattle.vyrd_base.specs.Represented.{is_sound}
-use Rattle.vyrd_base.specs.Histories.{cells_of, is_lock}
 use Rattle.vyrd_base.proofs.SumLaws.{given_nothing}
-use Rattle.vyrd_base.proofs.TestLaws.{both_true, is_below, is_at_most}
+use Rattle.vyrd_base.proofs.PlaceLaws.{pass_all}
 use Rattle.vyrd_memory.specs.Alone.{words_in}
-use Rattle.vyrd_memory.proofs.NumberLists.{element_below, flat_map_alike, pass_all}
+use Rattle.vyrd_memory.proofs.NumberLists.{element_below, flat_map_alike}
 use Rattle.vyrd_memory.proofs.PartSums.{collected-is}
 use Rattle.vyrd_memory.proofs.Memories.{Represents}
-use Rattle.vyrd_buffers.specs.Cells.{lock_of}
 use Rattle.vyrd_buffers.specs.Contents.{buffer_of, shown}
 use Rattle.vyrd_buffers.specs.Laws.Alone.Changes.{Alike, sound_alike, shown_alike, buffer_in, sound_at}
+use Rattle.vyrd_buffers.specs.Laws.Sound.{lock_cell}
 use Rattle.vyrd_every.specs.Structures.{Fits, shown_by}
 use Rattle.vyrd_every.specs.Guarded.{buffers}
-
-lock_cell : (h : Header) (b : ℕ) → h.subject ≡ Buffers → b < h.size → is_lock (cells_of h) (lock_of h b) ≡ true
-lock_cell h b is low =
-    ap (λ s. nat_le (plain_words_of s h.size) (lock_of h b) && nat_lt (lock_of h b) (plain_words_of s h.size + lock_words_of s h.size)) is
-    ∙ both_true _ _ (is_at_most (8 * h.size) (8 * h.size + b) (omega arith)) (is_below (8 * h.size + b) (8 * h.size + h.size) (omega (arith, low)))
 
 -- what a buffer gives that has the same words as a sound one
 gives : (size k : ℕ) (a b : Buffer) → Alike a b → is_buffer b ≡ true → buffer_parts size k a ≡ (k, shown b) ∷ []

@@ -2,7 +2,6 @@
 use Rattle.std.proofs.Common.{◌≡◌, ◌≢◌, ℕ, ◌+◌, ◌*◌, ◌/◌, ◌<◌, ◌≤◌, true, ap, ◌∙◌, subst, arith}
 use Rattle.vyrd_base.specs.declared.header.Header.{Header}
 use Rattle.vyrd_base.specs.declared.subject.Subject.TheVariants.{Cache}
-use Rattle.vyrd_base.specs.Layout.{plain_words, lock_words, plain_words_of, lock_words_of}
 use Rattle.vyrd_base.specs.Amounts.{Amounts, with_amount}
 use Rattle.vyrd_base.specs.Views.{Chunk}
 use Rattle.vyrd_base.specs.Represented.{is_sound_chunk}
@@ -13,6 +12,7 @@ use Rattle.vyrd_cache.specs.Cells.{lock_of}
 use Rattle.vyrd_cache.specs.Contents.{chunk_of, shown}
 use Rattle.vyrd_cache.specs.Laws.Alone.Changes.{same_chunk, Leaves, changed_chunk, kept_chunk}
 use Rattle.vyrd_cache.specs.Laws.Alone.Stores.{with_cached, with_stored, with_state}
+use Rattle.vyrd_cache.specs.Laws.Alone.{free_lock}
 use Rattle.vyrd_every.specs.Locals.{Locals, Access}
 use Rattle.vyrd_every.specs.Others.{Rely}
 use Rattle.vyrd_every.specs.Guarded.{cache}
@@ -83,14 +83,6 @@ after_state memory n z =
     (other_cell memory (5 * n) z (5 * n + 2) (λ e. omega (arith, e)))
     (other_cell memory (5 * n) z (5 * n + 3) (λ e. omega (arith, e)))
     (other_cell memory (5 * n) z (5 * n + 4) (λ e. omega (arith, e)))
-
--- no entries are of locks, so that all are free in what the log shows
-pub free_lock : (h : Header) (memory : Memory) (state : Amounts) (n : ℕ) → h.subject ≡ Cache → Represents h memory state → n < h.size
-    → memory (lock_of h n) ≡ 0
-free_lock h memory state n is s low =
-    let plain : plain_words h ≡ 5 * h.size = ap (λ t. plain_words_of t h.size) is in
-    let locks : lock_words h ≡ h.size = ap (λ t. lock_words_of t h.size) is in
-    s.free (lock_of h n) (omega (arith, plain, locks, low)) (omega (arith, plain, locks, low))
 
 -- the memory represents a state where its chunk is known
 pub kept : (h : Header) (old new : Memory) (state : Amounts) (n : ℕ) (chunk : Chunk) → h.subject ≡ Cache → Represents h old state → n < h.size

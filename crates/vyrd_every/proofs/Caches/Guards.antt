@@ -1,33 +1,27 @@
 -- The cache as a structure: a chunk's lock guards its words, and nothing is reserved.
 use Rattle.std.proofs.Common.{◌≡◌, ℕ, ◌+◌, ◌*◌, ◌/◌, ◌<◌, ◌≤◌, Bool, true, false, cond, List, [], map, refl, ap, ◌∙◌, sym, subst, arith}
-use Rattle.std.specs.Prelude.{◌==◌, ◌&&◌, nat_lt, nat_le, flat_map, slice_index}
+use Rattle.std.specs.Prelude.{◌==◌, flat_map, slice_index}
 use Rattle.vyrd_base.specs.declared.header.Header.{Header}
 use Rattle.vyrd_base.specs.declared.subject.Subject.TheVariants.{Cache}
 use Rattle.vyrd_base.specs.declared.log.Entry.{Entry}
 use Rattle.vyrd_base.specs.Places.{numbers_below}
-use Rattle.vyrd_base.specs.Layout.{plain_words, plain_words_of, lock_words_of}
+use Rattle.vyrd_base.specs.Layout.{plain_words, plain_words_of}
 use Rattle.vyrd_base.specs.Amounts.{Amounts, collected, given}
 use Rattle.vyrd_base.specs.Specification.{start}
 use Rattle.vyrd_base.specs.FirstVersion.{old_effects, old_value_after, old_words_after}
 use Rattle.vyrd_base.specs.Views.{chunk_at, chunk_parts, parts_of, view_of_words}
 use Rattle.vyrd_base.specs.Represented.{is_sound, is_sound_chunk}
-use Rattle.vyrd_base.specs.Histories.{cells_of, is_lock}
 use Rattle.vyrd_base.proofs.SumLaws.{given_nothing}
-use Rattle.vyrd_base.proofs.TestLaws.{both_true, is_below, is_at_most}
+use Rattle.vyrd_base.proofs.PlaceLaws.{pass_all}
 use Rattle.vyrd_memory.specs.Alone.{words_in}
-use Rattle.vyrd_memory.proofs.NumberLists.{element_below, flat_map_alike, pass_all}
+use Rattle.vyrd_memory.proofs.NumberLists.{element_below, flat_map_alike}
 use Rattle.vyrd_memory.proofs.PartSums.{collected-is}
 use Rattle.vyrd_memory.proofs.Memories.{Represents}
-use Rattle.vyrd_cache.specs.Cells.{lock_of}
 use Rattle.vyrd_cache.specs.Contents.{chunk_of}
 use Rattle.vyrd_cache.specs.Laws.Alone.Changes.{same_chunk, chunk_in}
+use Rattle.vyrd_cache.specs.Laws.Sound.{lock_cell}
 use Rattle.vyrd_every.specs.Structures.{Fits, shown_by}
 use Rattle.vyrd_every.specs.Guarded.{cache}
-
-lock_cell : (h : Header) (chunk : ℕ) → h.subject ≡ Cache → chunk < h.size → is_lock (cells_of h) (lock_of h chunk) ≡ true
-lock_cell h chunk is low =
-    ap (λ s. nat_le (plain_words_of s h.size) (lock_of h chunk) && nat_lt (lock_of h chunk) (plain_words_of s h.size + lock_words_of s h.size)) is
-    ∙ both_true _ _ (is_at_most (5 * h.size) (5 * h.size + chunk) (omega arith)) (is_below (5 * h.size + chunk) (5 * h.size + h.size) (omega (arith, low)))
 
 -- nothing was written yet
 nothing_given : (size q k : ℕ) → given q (chunk_parts size k (chunk_of (shown_by []) k)) ≡ 0

@@ -17,7 +17,7 @@ use Rattle.vyrd_tree.specs.Laws.Sound.Acts.{holding}
 use Rattle.vyrd_tree.specs.Contents.{level_at, count_at, bound_at, key_at, value_at, last_in}
 use Rattle.vyrd_tree.specs.Contents.{root_in, entries_at, entries_from, Entries}
 use Rattle.vyrd_tree.specs.Laws.Alone.EntriesStaySound.{length_join}
-use Rattle.vyrd_tree.specs.Laws.Alone.Changes.{entries_alike, Rewritten}
+use Rattle.vyrd_tree.specs.Laws.Alone.Changes.{entries_alike, Rewritten, apart_or}
 use Rattle.vyrd_tree.specs.Laws.Alone.Played.{Written, front_stands}
 use Rattle.vyrd_every.proofs.Acts.{never}
 use Rattle.vyrd_every.specs.Locals.{written}
@@ -29,7 +29,7 @@ use Rattle.vyrd_every.specs.Trees.Others.{TreeRely, TreeLeaves}
 use Rattle.vyrd_every.specs.Trees.RightScripts.{TreeRight}
 use Rattle.vyrd_every.proofs.Trees.Parts.{OwnsUnseen, unseen_stays, tree_rely_more, Changeless, changeless}
 use Rattle.vyrd_every.proofs.Trees.Walks.{AtNode}
-use Rattle.vyrd_every.proofs.Trees.Kept.{StaysShaped, stays_shaped, linked_low, other_word, rewritten_grows, rewritten_linked, rewritten_hangs, same_or}
+use Rattle.vyrd_every.proofs.Trees.Kept.{StaysShaped, stays_shaped, linked_low, other_word, rewritten_grows, rewritten_linked, rewritten_hangs}
 
 -- the locals with these writes in an open block
 abbrev pub with_pending : TreeLocals → List (ℕ × ℕ) → TreeLocals
@@ -269,7 +269,7 @@ pub rewrites : (h : Header) (s : Situation) (k : TreeLocals) (g : Shape) (m m' :
 rewrites h s k g m m' n xs tree unseen linked held r es off = record {
   grows = rewritten_grows h.size g m m' n xs tree linked r;
   leaves = record {
-    others = λ a place of_a free low. other_word h.size m m' n xs r a place (linked_low h.size g m tree a of_a) low (apart a free (same_or a n));
+    others = λ a place of_a free low. other_word h.size m m' n xs r a place (linked_low h.size g m tree a of_a) low (apart a free (apart_or a n));
     unlinked = λ x un other. un;
     used = (let same = shape.last_is in omega arith);
     hanging = λ x of_x other hangs. rewritten_hangs h.size g m m' n xs x tree linked r hangs (off x of_x other hangs);

@@ -7,7 +7,7 @@ use Rattle.vyrd_tree.specs.Contents.{level_at, count_at, bound_at, right_at, las
 use Rattle.vyrd_tree.specs.Contents.{IsChild, AreEntries, entries_at, entries_from, Covers, Entries}
 use Rattle.vyrd_tree.specs.Contents.{gives}
 use Rattle.vyrd_tree.specs.Laws.Alone.Entries.{each_more}
-use Rattle.vyrd_tree.specs.Laws.Alone.Changes.{entries_alike, Rewritten, off_node}
+use Rattle.vyrd_tree.specs.Laws.Alone.Changes.{entries_alike, Rewritten, off_node, apart_or}
 use Rattle.vyrd_every.specs.Trees.Shapes.{Shape, LeadsDown, HasEntries, LeadsRight, IsLinked, Unnamed, Hangs}
 use Rattle.vyrd_every.specs.Trees.States.{ShowsState}
 use Rattle.vyrd_every.specs.Trees.Others.{Grows}
@@ -82,9 +82,6 @@ entries_grow g g' m m' above from bound xs grows es = record {
 pub linked_low : (size : ℕ) (g : Shape) (m : Memory) → IsLinked size g m → (n : ℕ) → g.linked n ≡ true → n < size
 linked_low size g m t n linked = (let le = t.taken n linked in let lt = t.last_low in omega arith)
 
-pub same_or : (a b : ℕ) → (a ≡ b) ⊎ ((a < b) ⊎ (b < a))
-same_or a b = grind arith
-
 -- a word of another node
 pub other_word : (size : ℕ) (m m' : Memory) (n : ℕ) (xs : Entries) → Rewritten size m m' n xs → (a i : ℕ) → a < size → i < 12 → (a < n) ⊎ (n < a)
     → m' (12 * a + i) ≡ m (12 * a + i)
@@ -102,10 +99,10 @@ pub stays_shaped : (size : ℕ) (m m' : Memory) (n : ℕ) (xs : Entries) → n <
 stays_shaped size m m' n xs fits r = record {
   last_is = r.others (12 * size + 1) (omega arith) (inr (omega (arith, fits)));
   root_is = r.others (12 * size) (omega arith) (inr (omega (arith, fits)));
-  level_is = λ a low. by_place a low 0 (omega arith) (same_or a n)
+  level_is = λ a low. by_place a low 0 (omega arith) (apart_or a n)
       (λ at. subst (λ a. level_at m' a ≡ level_at m a) (sym at) (r.others (12 * n + 0) (omega (arith, fits)) (inl (omega arith))));
-  bound_is = λ a low. by_place a low 2 (omega arith) (same_or a n) (λ at. subst (λ a. bound_at m' a ≡ bound_at m a) (sym at) r.bound_is);
-  right_is = λ a low. by_place a low 3 (omega arith) (same_or a n) (λ at. subst (λ a. right_at m' a ≡ right_at m a) (sym at) r.right_is);
+  bound_is = λ a low. by_place a low 2 (omega arith) (apart_or a n) (λ at. subst (λ a. bound_at m' a ≡ bound_at m a) (sym at) r.bound_is);
+  right_is = λ a low. by_place a low 3 (omega arith) (apart_or a n) (λ at. subst (λ a. right_at m' a ≡ right_at m a) (sym at) r.right_is);
 }
   where
     by_place : (a : ℕ) → a < size → (i : ℕ) → i < 12 → (a ≡ n) ⊎ ((a < n) ⊎ (n < a)) → (a ≡ n → m' (12 * a + i) ≡ m (12 * a + i))
@@ -158,10 +155,10 @@ rewritten_linked size g m m' n xs t linked r es = record {
     some = left.some;
   });
   one_first = λ a b la lb level zero_a zero_b. t.one_first a b la lb (sym (shape.level_is a (low a la)) ∙ level ∙ shape.level_is b (low b lb)) zero_a zero_b;
-  few = λ a l. few a l (same_or a n);
+  few = λ a l. few a l (apart_or a n);
   entries = λ a l. subst (λ above. HasEntries g m' above (g.low a) (bound_at m' a) (entries_at m' a)) (sym (shape.level_is a (low a l)))
       (subst (λ bound. HasEntries g m' (level_at m a) (g.low a) bound (entries_at m' a)) (sym (shape.bound_is a (low a l)))
-      (entries_grow g g m m' (level_at m a) (g.low a) (bound_at m a) (entries_at m' a) grows (entries a l (same_or a n))));
+      (entries_grow g g m m' (level_at m a) (g.low a) (bound_at m a) (entries_at m' a) grows (entries a l (apart_or a n))));
 }
   where
     low : (a : ℕ) → g.linked a ≡ true → a < size
@@ -201,7 +198,7 @@ rewritten_linked size g m m' n xs t linked r es = record {
 -- no entry leads to a node, if none did and none of the new entries does
 rewritten_unnamed : (size : ℕ) (g : Shape) (m m' : Memory) (n : ℕ) (xs : Entries) (x : ℕ) → IsLinked size g m → g.linked n ≡ true → Rewritten size m m' n xs
     → Unnamed g m x → (level_at m n ≢ 0 → AllByRecursion (λ entry. entry.1 ≢ x) xs) → Unnamed g m' x
-rewritten_unnamed size g m m' n xs x t linked r hangs off p l some = by_place (same_or p n)
+rewritten_unnamed size g m m' n xs x t linked r hangs off p l some = by_place (apart_or p n)
   where
     was : level_at m p ≢ 0
     was none = some ((stays_shaped size m m' n xs (linked_low size g m t n linked) r).level_is p (linked_low size g m t p l) ∙ none)
@@ -224,7 +221,7 @@ pub rewritten_state : (size : ℕ) (g : Shape) (m m' : Memory) (s s' : Amounts) 
     → ShowsState g m' s'
 rewritten_state size g m m' s s' n xs t st linked r formed inside outside = record {
   shows = λ q a l leaf over. by_place q a l (sym (shape.level_is a (low a l)) ∙ leaf)
-      (record { from = over.from; to = subst (λ b. b ≢ 0 → q < b) (shape.bound_is a (low a l)) over.to }) (same_or a n);
+      (record { from = over.from; to = subst (λ b. b ≢ 0 → q < b) (shape.bound_is a (low a l)) over.to }) (apart_or a n);
   formed = formed;
 }
   where

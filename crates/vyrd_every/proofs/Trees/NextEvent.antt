@@ -1,5 +1,6 @@
 -- One more event keeps the invariant of the tree.
 use Rattle.std.proofs.Common.{◌≡◌, ℕ, ◌<◌, ◌≤◌, ◌⊎◌, inl, inr, Bool, true, false, cond, List, [], ◌∷◌, ◌++◌, length, refl, ap, ◌∙◌, sym, subst}
+use Rattle.std.proofs.lemmas.Option.{same_Some}
 use Rattle.std.specs.Prelude.{◌==◌, ◌&&◌, is_some, unwrap_or}
 use Rattle.std.specs.List.{cons_option}
 use Rattle.vyrd_base.specs.declared.header.Header.{Header}
@@ -19,7 +20,8 @@ use Rattle.vyrd_base.specs.Front.{WellFormed}
 use Rattle.vyrd_base.proofs.BlockLaws.{by_same, wrote, wrote_is}
 use Rattle.vyrd_base.proofs.HistoryLaws.{last_is_value}
 use Rattle.vyrd_base.proofs.ShadowLaws.{well_formed_sound}
-use Rattle.vyrd_base.proofs.TestLaws.{first_true, second_true, same_of, same_number, below_of}
+use Rattle.vyrd_base.proofs.TestLaws.{first_true, second_true, same_of, same_number, below_of, flipped}
+use Rattle.vyrd_base.proofs.StateLaws.{commits_before_call}
 use Rattle.vyrd_memory.specs.declared.act.Act.TheVariants.{Mark}
 use Rattle.vyrd_memory.specs.Alone.{Memory}
 use Rattle.vyrd_memory.specs.Scripts.{Script, after_answer, answer_of, left_after, Plays}
@@ -30,7 +32,7 @@ use Rattle.vyrd_memory.proofs.Situations.{act_of_event, situation_after, KeepsTo
 use Rattle.vyrd_memory.proofs.LegalEvents.{AreLegal, caller_low, does}
 use Rattle.vyrd_memory.proofs.Agreements.{Agrees, agrees}
 use Rattle.vyrd_memory.proofs.KeptRules.{write_kept, mark_kept}
-use Rattle.vyrd_memory.proofs.LegalRuns.{IsRun}
+use Rattle.vyrd_memory.proofs.LegalRuns.{IsRun, run_keeps}
 use Rattle.vyrd_tree.specs.Cells.{root_lock}
 use Rattle.vyrd_tree.specs.Contents.{level_at, root_in}
 use Rattle.vyrd_every.specs.Structures.{shown_by}
@@ -46,8 +48,8 @@ use Rattle.vyrd_every.specs.Trees.Between.{MayHold, OfTreeCaller, NoneOut, OneOu
 use Rattle.vyrd_every.proofs.Acts.{never}
 use Rattle.vyrd_every.proofs.Logs.{held_by_none, write_unraced, IsNoWrite, mark_unraced}
 use Rattle.vyrd_every.proofs.Raw.{legal_too}
-use Rattle.vyrd_every.proofs.Answered.{commits_now, passed_after, passed_step, call_before, answer_more, answer_last}
-use Rattle.vyrd_every.proofs.NextEvent.{Committing, Leading, Returning, part_own, part_other, run_before, keeps_in, path_grows, SeenBy, same_called, same_reply, no_reply, seen_quiet, seen_other}
+use Rattle.vyrd_every.proofs.Answered.{commits_now, passed_after, passed_step, answer_more, answer_last}
+use Rattle.vyrd_every.proofs.NextEvent.{Committing, Leading, Returning, part_own, part_other, run_before, path_grows, SeenBy, same_called, no_reply, seen_quiet, seen_other}
 use Rattle.vyrd_every.proofs.Trees.Others.{others_rely, still_apart_from}
 use Rattle.vyrd_every.proofs.Trees.Written.{given_by, written_at, not_written, shown_more}
 use Rattle.vyrd_every.proofs.Trees.Clashes.{AreTwo, no_clash, no_clash_load}
@@ -115,10 +117,10 @@ seen_own c (Gave lock) k next log g m passed more state answers called shows cou
     by_answer (inl same) = seen_quiet c (Gave lock) (plain k) (plain next) log (passed ++ state ∷ []) more refl called same seen
     by_answer (inr sees) = λ its is reply answer.
         let call : sees.called ≡ its = same_called sees.called its (sym (called ∙ sees.is_called) ∙ is) in
-        let one : sees.reply ≡ reply = same_reply sees.reply reply (sym sees.answer ∙ answer) in
+        let one : sees.reply ≡ reply = same_Some sees.reply reply (sym sees.answer ∙ answer) in
         answer_more (passed ++ state ∷ []) more (commit_count (entries_before_call c log)) its reply
         (answer_last passed state (commit_count (entries_before_call c log)) its reply
-        (subst (λ n. commit_count (entries_before_call c log) ≤ n) (sym count) (call_before c log))
+        (subst (λ n. commit_count (entries_before_call c log) ≤ n) (sym count) (commits_before_call c log))
         (subst (λ x. answer_in state x.method x.args ≡ reply) call (sees.seen state shows ∙ one)))
 seen_own c (Marked (Call method args)) k next log g m passed more state answers called shows count seen =
     λ its is reply answer. absurd (no_reply next.answered reply answers answer)
@@ -160,13 +162,6 @@ no_write h s k g m BlockOpen reaches = tt
 no_write h s k g m BlockClose reaches = tt
 no_write h s k g m BlockCommit reaches = tt
 
-apart_too : (a b : ℕ) → (a == b) ≡ false → (b == a) ≡ false
-apart_too a b e = by_test (b == a) refl
-  where
-    by_test : (t : Bool) → (b == a) ≡ t → t ≡ false
-    by_test false f = refl
-    by_test true f = absurd (never e (ap (λ x. x == b) (sym (same_of b a f)) ∙ same_number b))
-
 -- what one more event makes of it all
 pub record TreeNext (h : Header) (scripts : List Script) (earlier : List Stamped) (number c : ℕ) (did : Did) (passed : List Amounts) (state : Amounts)
     : Type 0 where
@@ -190,8 +185,8 @@ tree_calm h scripts earlier locals g m passed state sound run inv d low_d held q
     by_ties (inl n) = n.calm
     by_ties (inr o) = by_same o.who d
         (λ same. absurd (never quiet (subst (λ x. (locals x).out ≡ true) same o.out)))
-        (λ other. absurd (never (held_by_one h o.who d earlier (root_lock h) run.legal (keeps_in h scripts earlier o.who sound run o.low)
-        (keeps_in h scripts earlier d sound run low_d) other held) ((inv.each o.who o.low).alone o.out).0))
+        (λ other. absurd (never (held_by_one h o.who d earlier (root_lock h) run.legal (run_keeps h scripts earlier o.who sound run o.low)
+        (run_keeps h scripts earlier d sound run low_d) other held) ((inv.each o.who o.low).alone o.out).0))
 
 -- one more event, of caller c
 module _ (h : Header) (scripts : List Script) (earlier : List Stamped) (number c : ℕ) (did : Did) (locals : ℕ → TreeLocals) (g : Shape) (m : Memory)
@@ -216,23 +211,23 @@ module _ (h : Header) (scripts : List Script) (earlier : List Stamped) (number c
   low = caller_low (cells_of h) earlier e run.legal.0
 
   keeps : KeepsTo h (did ∷ part_of c earlier)
-  keeps = subst (KeepsTo h) (part_own number c did earlier) (keeps_in h scripts (e ∷ earlier) c sound run low)
+  keeps = subst (KeepsTo h) (part_own number c did earlier) (run_keeps h scripts (e ∷ earlier) c sound run low)
 
   may : may_act h (situation c) (act_of_event did) ≡ true
   may = keeps.0
 
   agree : (d : ℕ) → d < h.callers → Agrees d (situation d) (log_in earlier)
-  agree d low_d = agrees h d earlier (keeps_in h scripts earlier d sound before low_d)
+  agree d low_d = agrees h d earlier (run_keeps h scripts earlier d sound before low_d)
 
   agree_now : Agrees c (after_act (situation c) (act_of_event did)) log
-  agree_now = subst (λ p. Agrees c (situation_after p) log) (part_own number c did earlier) (agrees h c (e ∷ earlier) (keeps_in h scripts (e ∷ earlier) c sound run low))
+  agree_now = subst (λ p. Agrees c (situation_after p) log) (part_own number c did earlier) (agrees h c (e ∷ earlier) (run_keeps h scripts (e ∷ earlier) c sound run low))
 
   plays : Plays (script_of scripts c) (did ∷ part_of c earlier)
   plays = subst (Plays (script_of scripts c)) (part_own number c did earlier) (run.plays c)
 
   locks : (a d lock : ℕ) → a < h.callers → d < h.callers → (a == d) ≡ false → holds (situation d) lock ≡ true → holds (situation a) lock ≡ false
   locks a d lock low_a low_d other held =
-      held_by_one h a d earlier lock before.legal (keeps_in h scripts earlier a sound before low_a) (keeps_in h scripts earlier d sound before low_d) other held
+      held_by_one h a d earlier lock before.legal (run_keeps h scripts earlier a sound before low_a) (run_keeps h scripts earlier d sound before low_d) other held
 
   two : (d : ℕ) → d < h.callers → (c == d) ≡ false → AreTwo h (situation c) (situation d) (locals c) (locals d) g m
   two d low_d other = record {
@@ -307,7 +302,7 @@ module _ (h : Header) (scripts : List Script) (earlier : List Stamped) (number c
         where
           by_test : (b : Bool) → holds_word d cell (log_in earlier) ≡ b → b ≡ false
           by_test false f = refl
-          by_test true f = absurd (no_clash h (situation c) (situation d) (locals c) (locals d) g m cell (two d low_d (apart_too d c other)) stores
+          by_test true f = absurd (no_clash h (situation c) (situation d) (locals c) (locals d) g m cell (two d low_d (flipped d c other)) stores
               ((inv.each d low_d).covers cell f))
 
       by_did : (x : Did) → may_act h (situation c) (act_of_event x) ≡ true → TreeReaches h (situation c) (locals c) g m (act_of_event x)
@@ -395,9 +390,9 @@ module _ (h : Header) (scripts : List Script) (earlier : List Stamped) (number c
       ties_step h c (situation c) locals g m (act_of_event did) left own.next own.grown (shown_by (log_in earlier)) (shown_by log) low own.does may
       (shown_more h (situation c) (locals c) g m c did (log_in earlier) (agree c low).in_block (inv.each c low).pending own.does.reaches)
       (λ out. ((inv.each c low).alone out).1)
-      (λ d low_d other out. locks c d (root_lock h) low low_d (apart_too d c other) ((inv.each d low_d).alone out).0)
+      (λ d low_d other out. locks c d (root_lock h) low low_d (flipped d c other) ((inv.each d low_d).alone out).0)
       (λ d w low_d other out quiet given_c given_d.
-      no_clash h (situation c) (situation d) (locals c) (locals d) g m w (two d low_d (apart_too d c other))
+      no_clash h (situation c) (situation d) (locals c) (locals d) g m w (two d low_d (flipped d c other))
       (may_store h (situation c) (locals c) g m (act_of_event did) w own.does.reaches may (stored w quiet) given_c)
       (held_of d w low_d ((inv.each d low_d).alone out).1 given_d))
       inv.ties

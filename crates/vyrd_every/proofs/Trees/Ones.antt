@@ -16,7 +16,7 @@ use Rattle.vyrd_base.specs.Callers.{by_caller, write_or_open, has_block, holds_w
 use Rattle.vyrd_base.specs.Words.{block_writes}
 use Rattle.vyrd_base.specs.Histories.{logged}
 use Rattle.vyrd_base.proofs.BlockLaws.{entry, wrote, wrote_is, own_block, own_wrote}
-use Rattle.vyrd_base.proofs.TestLaws.{second_true, same_of, same_number}
+use Rattle.vyrd_base.proofs.TestLaws.{second_true, same_of, same_number, both_of}
 use Rattle.vyrd_memory.specs.declared.act.Act.{Act}
 use Rattle.vyrd_memory.specs.declared.act.Act.TheVariants.{Load, Store, Take, Give, Mark, Done}
 use Rattle.vyrd_memory.specs.Alone.{Memory, with_cell}
@@ -38,7 +38,6 @@ use Rattle.vyrd_every.proofs.Logs.{pending_step, pending_other, called_step, cal
 use Rattle.vyrd_every.proofs.Trees.Parts.{grows_same, tree_rely_more}
 use Rattle.vyrd_every.proofs.Trees.Others.{still_owns, owns_after}
 use Rattle.vyrd_every.proofs.Trees.Written.{given_by, all_given, when_out}
-use Rattle.vyrd_every.proofs.Ones.{holds_parts}
 
 -- nothing was done by others
 pub rely_none : (h : Header) (s : Situation) (k : TreeLocals) (g : Shape) (m : Memory) → IsLinked h.size g m
@@ -218,7 +217,7 @@ earlier_holds h c s k g m act rest next g' log w does may pending agree inside g
 
     given : is_some (given_by w k.pending) ≡ true
     given = ap (λ ws. is_some (given_by w ws)) pending ∙ sym (wrote_is c w log (agree ∙ inside))
-        ∙ (holds_parts (has_block c log) (wrote c w log) wrote_it).1
+        ∙ (both_of (has_block c log) (wrote c w log) wrote_it).1
 
     by_out : (a : Bool) → k.out ≡ a → (b : Bool) → next.out ≡ b → MayHold h (after_act s act) next g' (seen_after h s k m act) w
     by_out false e false f = on false e f
@@ -234,15 +233,15 @@ tree_covers : (h : Header) (c : ℕ) (did : Did) (s : Situation) (k : TreeLocals
     → (w : ℕ) → holds_word c w (cons_option (logged c did) log) ≡ true
     → MayHold h (after_act s (act_of_event did)) next g' (seen_after h s k m (act_of_event did)) w
 tree_covers h c (Read cell value) s k g m rest next g' log a b may does tree pending covers w e =
-    absurd (never (a.in_block ∙ does.reaches.1) (holds_parts (has_block c log) (wrote c w log) e).0)
+    absurd (never (a.in_block ∙ does.reaches.1) (both_of (has_block c log) (wrote c w log) e).0)
 tree_covers h c (Took lock) s k g m rest next g' log a b may does tree pending covers w e =
-    let inside = sym a.in_block ∙ (holds_parts (has_block c log) (wrote c w log) e).0 in
+    let inside = sym a.in_block ∙ (both_of (has_block c log) (wrote c w log) e).0 in
     earlier_holds h c s k g m (Take lock) rest next g' log w does may pending a.in_block inside inside
     (λ other held. or_right (lock == other) (holds s other) held) (λ o e f. refl) (λ out. does.out ∙ ap (λ b. b || false) out) e (covers w e)
 tree_covers h c (Gave lock) s k g m rest next g' log a b may does tree pending covers w e =
-    absurd (never (a.in_block ∙ does.reaches) (holds_parts (has_block c log) (wrote c w log) e).0)
+    absurd (never (a.in_block ∙ does.reaches) (both_of (has_block c log) (wrote c w log) e).0)
 tree_covers h c (Wrote cell value) s k g m rest next g' log a b may does tree pending covers w e =
-    let parts = holds_parts (has_block c (entry c (Write cell value) ∷ log)) (wrote c w (entry c (Write cell value) ∷ log)) e in
+    let parts = both_of (has_block c (entry c (Write cell value) ∷ log)) (wrote c w (entry c (Write cell value) ∷ log)) e in
     by_place (sym (own_block c (Write cell value) log) ∙ parts.0) (cell == w) refl (sym (own_wrote c w (Write cell value) log) ∙ parts.1)
   where
     quiet_of : s.in_block ≡ true → MayStore h s k g m cell → k.out ≡ false
@@ -270,19 +269,19 @@ tree_covers h c (Wrote cell value) s k g m rest next g' log a b may does tree pe
         earlier_holds h c s k g m (Store cell value) rest next g' log w does may pending a.in_block within within (λ lock held. held) (same within)
         (λ out. absurd (never (quiet_of within does.reaches) out)) before (covers w before)
 tree_covers h c (Marked (Call method args)) s k g m rest next g' log a b may does tree pending covers w e =
-    absurd (never b.in_block (holds_parts (has_block c (entry c (Call method args) ∷ log)) (wrote c w (entry c (Call method args) ∷ log)) e).0)
+    absurd (never b.in_block (both_of (has_block c (entry c (Call method args) ∷ log)) (wrote c w (entry c (Call method args) ∷ log)) e).0)
 tree_covers h c (Marked (Return reply)) s k g m rest next g' log a b may does tree pending covers w e =
-    absurd (never b.in_block (holds_parts (has_block c (entry c (Return reply) ∷ log)) (wrote c w (entry c (Return reply) ∷ log)) e).0)
+    absurd (never b.in_block (both_of (has_block c (entry c (Return reply) ∷ log)) (wrote c w (entry c (Return reply) ∷ log)) e).0)
 tree_covers h c (Marked (Write word value)) s k g m rest next g' log a b may does tree pending covers w e = absurd does.reaches
 tree_covers h c (Marked Commit) s k g m rest next g' log a b may does tree pending covers w e =
     absurd (never (b.in_block ∙ not-true s.in_block (four_true (is_some s.called) (not (observes s)) (not s.committed) (not s.in_block) may).3)
-    (holds_parts (has_block c (entry c Commit ∷ log)) (wrote c w (entry c Commit ∷ log)) e).0)
+    (both_of (has_block c (entry c Commit ∷ log)) (wrote c w (entry c Commit ∷ log)) e).0)
 tree_covers h c (Marked BlockOpen) s k g m rest next g' log a b may does tree pending covers w e =
-    absurd (never (own_wrote c w BlockOpen log) (holds_parts (has_block c (entry c BlockOpen ∷ log)) (wrote c w (entry c BlockOpen ∷ log)) e).1)
+    absurd (never (own_wrote c w BlockOpen log) (both_of (has_block c (entry c BlockOpen ∷ log)) (wrote c w (entry c BlockOpen ∷ log)) e).1)
 tree_covers h c (Marked BlockClose) s k g m rest next g' log a b may does tree pending covers w e =
-    absurd (never b.in_block (holds_parts (has_block c (entry c BlockClose ∷ log)) (wrote c w (entry c BlockClose ∷ log)) e).0)
+    absurd (never b.in_block (both_of (has_block c (entry c BlockClose ∷ log)) (wrote c w (entry c BlockClose ∷ log)) e).0)
 tree_covers h c (Marked BlockCommit) s k g m rest next g' log a b may does tree pending covers w e =
-    absurd (never b.in_block (holds_parts (has_block c (entry c BlockCommit ∷ log)) (wrote c w (entry c BlockCommit ∷ log)) e).0)
+    absurd (never b.in_block (both_of (has_block c (entry c BlockCommit ∷ log)) (wrote c w (entry c BlockCommit ∷ log)) e).0)
 
 -- the caller's own event
 pub record TreeOwnStep (h : Header) (script : Script) (part : List Did) (log : List Entry) (c : ℕ) (did : Did) (k : TreeLocals) (g : Shape) (m : Memory)

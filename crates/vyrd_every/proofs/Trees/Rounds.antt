@@ -1,12 +1,11 @@
 -- The rounds of an ascent, where a new root does right.
 use Rattle.std.proofs.Common.{◌≡◌, ℕ, zero, suc, ◌+◌, ◌<◌, ◌≤◌, ◌⊎◌, inl, inr, Bool, true, false, cond, [], ◌∷◌, length, refl, ap, ◌∙◌, sym, subst, arith}
 use Rattle.std.specs.Prelude.{◌||◌, nat_lt, nat_le}
-use Rattle.std.proofs.lemmas.Bool.Decides.{nat_tests}
 use Rattle.vyrd_base.specs.declared.header.Header.{Header}
 use Rattle.vyrd_base.specs.declared.subject.Method.TheVariants.{TrInsert}
 use Rattle.vyrd_base.specs.declared.subject.Args.{Args}
 use Rattle.vyrd_base.specs.declared.log.Kind.TheVariants.{BlockClose}
-use Rattle.vyrd_base.proofs.TestLaws.{is_at_most, same_number, is_below, isnt_below}
+use Rattle.vyrd_base.proofs.TestLaws.{is_at_most, same_number, is_below, isnt_below, isnt_at_most}
 use Rattle.vyrd_memory.specs.declared.act.Act.TheVariants.{Load}
 use Rattle.vyrd_memory.specs.declared.op.Variant.TheVariants.{Correct}
 use Rattle.vyrd_memory.specs.Alone.{Memory}
@@ -31,9 +30,6 @@ use Rattle.vyrd_every.proofs.Trees.Kept.{linked_low}
 use Rattle.vyrd_every.proofs.Trees.Fulls.{Ascending}
 use Rattle.vyrd_every.proofs.Trees.Ascents.{insert_of, ended_right, still_ascending, Above, room_right, RoundsRight, full_above}
 
-isnt_le : (a b : ℕ) → b < a → nat_le a b ≡ false
-isnt_le a b lt = grind (arith, nat_tests)
-
 -- With the root's lock held, where the root is on the level of the node that hangs: a new root does right.
 pub record GrowthRight (h : Header) (args : Args) : Type 0 where
   pub right : (k : TreeLocals) (g : Shape) (m : Memory) (level key node root : ℕ) → IsLinked h.size g m → OwnsUnseen h k g m
@@ -45,7 +41,7 @@ arrived_right : (h : Header) (args : Args) (k : TreeLocals) (g : Shape) (m : Mem
     → Above h args k g m level key node n → RoundsRight h args next
     → Onward h (holding (lock_of h n ∷ []) TrInsert true false) k g m (add_child h level key node (loaded_at m n) (returns 1) next)
 arrived_right h args k g m level key node n next ab rounds =
-    subst (Goal (nat_lt (length (entries_at m n)) 4)) (sym (isnt_le (level_at m n) level (let e = ab.is.level_is in omega arith)))
+    subst (Goal (nat_lt (length (entries_at m n)) 4)) (sym (isnt_at_most (level_at m n) level (let e = ab.is.level_is in omega arith)))
     (by_room (le_or 4 (length (entries_at m n))))
   where
     s : Situation
@@ -135,7 +131,7 @@ round_right h args next growth rounds = record { right = begin }
                 by_level (inl low) = subst Goal (sym (is_at_most top level low))
                     (growth.right k c z level key node root tree unseen up is
                     (let high = tree.highest node (unseen.hanging node up.hanging).0 in let at = up.level_is in omega (arith, low, root_level, top_is, high, at)) calm)
-                by_level (inr above) = subst Goal (sym (isnt_le top level above))
+                by_level (inr above) = subst Goal (sym (isnt_at_most top level above))
                     (tree_give_last h TrInsert true k c z (root_lock h) (walk root) tree unseen
                     (λ d w r. walk_right h TrInsert true key (level + 1) k d w (returns 1) (λ at. add_child h level key node at (returns 1) next)
                     (unseen_stays h free k c z d w unseen r)

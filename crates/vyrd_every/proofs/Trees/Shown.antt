@@ -22,7 +22,7 @@ use Rattle.vyrd_memory.specs.Turns.{part_of}
 use Rattle.vyrd_memory.specs.Runs.{AreSoundScripts}
 use Rattle.vyrd_memory.proofs.Situations.{situation_after}
 use Rattle.vyrd_memory.proofs.Agreements.{agrees}
-use Rattle.vyrd_memory.proofs.LegalRuns.{IsRun}
+use Rattle.vyrd_memory.proofs.LegalRuns.{IsRun, run_keeps}
 use Rattle.vyrd_memory.proofs.NumberLists.{element_below}
 use Rattle.vyrd_memory.proofs.PartSums.{collected-is}
 use Rattle.vyrd_tree.specs.Cells.{root_cell}
@@ -36,7 +36,6 @@ use Rattle.vyrd_every.specs.Trees.States.{ShowsState}
 use Rattle.vyrd_every.specs.Trees.Locals.{TreeLocals, IsWordOf}
 use Rattle.vyrd_every.specs.Trees.Between.{MayHold, NoneOut, OneOut, TreeInvariant}
 use Rattle.vyrd_every.proofs.Acts.{never}
-use Rattle.vyrd_every.proofs.NextEvent.{keeps_in}
 use Rattle.vyrd_every.proofs.Trees.Kept.{linked_low}
 use Rattle.vyrd_every.proofs.Trees.Unused.{SameNodes, nodes_linked, nodes_state}
 use Rattle.vyrd_every.proofs.Trees.Written.{given_by, not_written}
@@ -162,7 +161,7 @@ view_between h scripts earlier locals g m passed state is sound run inv =
         ∙ not_written (locals o.who).pending (shown_by (log_in earlier)) (12 * n + i) (by_given (is_some (given_by (12 * n + i) (locals o.who).pending)) refl))
       where
         inside : has_block o.who (log_in earlier) ≡ true
-        inside = (agrees h o.who earlier (keeps_in h scripts earlier o.who sound run o.low)).in_block ∙ ((inv.each o.who o.low).alone o.out).1
+        inside = (agrees h o.who earlier (run_keeps h scripts earlier o.who sound run o.low)).in_block ∙ ((inv.each o.who o.low).alone o.out).1
 
         not_held : MayHold h (situation_after (part_of o.who earlier)) (locals o.who) g m (12 * n + i) → ⊥
         not_held (inl quiet) = never quiet.0 o.out

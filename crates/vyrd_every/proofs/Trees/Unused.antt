@@ -2,11 +2,10 @@
 use Rattle.std.proofs.Common.{◌≡◌, ◌≢◌, ℕ, ◌+◌, ◌*◌, ◌<◌, ◌≤◌, ◌⊎◌, inl, inr, Bool, true, false, cond, not, List, [], ◌∷◌, Option, Some, None, refl, ap, ◌∙◌, sym, subst, arith}
 use Rattle.std.specs.Prelude.{◌==◌, ◌||◌, nat_le, filter}
 use Rattle.std.specs.List.{AllByRecursion as Each}
-use Rattle.std.proofs.lemmas.Bool.Decides.{nat_tests}
 use Rattle.vyrd_base.specs.declared.header.Header.{Header}
 use Rattle.vyrd_base.specs.declared.subject.Method.{Method}
 use Rattle.vyrd_base.specs.Amounts.{Amounts}
-use Rattle.vyrd_base.proofs.TestLaws.{is_at_most, same_of, same_number, isnt_same}
+use Rattle.vyrd_base.proofs.TestLaws.{is_at_most, same_of, same_number, isnt_same, isnt_at_most}
 use Rattle.vyrd_memory.specs.declared.act.Act.TheVariants.{Load, Store}
 use Rattle.vyrd_memory.specs.Alone.{Memory, with_cell}
 use Rattle.vyrd_memory.proofs.Memories.{changed_cell, other_cell}
@@ -129,9 +128,6 @@ rely_fresh h s k u ws g g' m m' none r = record {
     some_isnt : (n : ℕ) → ◌≡◌ {A = Option ℕ} None (Some n) → ⊥
     some_isnt n e = cc
 
-isnt_le : (a b : ℕ) → b < a → nat_le a b ≡ false
-isnt_le a b le = grind (arith, nat_tests)
-
 -- With one lock held: the lock of the count is taken, and either there is no node, or one is taken that wasn't linked.
 pub unused_right : (h : Header) (method : Method) (committed : Bool) (lock : ℕ) (k : TreeLocals) (g : Shape) (m : Memory) (none : Script) (found : ℕ → Script)
     → lock < used_lock h → IsLinked h.size g m → OwnsUnseen h k g m → k.fresh ≡ None
@@ -211,7 +207,7 @@ unused_right h method committed lock k g m none found below tree unseen bare at_
         by_room : (h.size ≤ used + 1) ⊎ (used + 1 < h.size) → Goal (nat_le h.size (used + 1))
         by_room (inl full) = subst Goal (sym (is_at_most h.size (used + 1) full))
             (give k none c z r.tree unseen' (λ d w r'. at_none d w (tree_rely_more h s k g c d m z w r r')))
-        by_room (inr room) = subst Goal (sym (isnt_le h.size (used + 1) room)) (
+        by_room (inr room) = subst Goal (sym (isnt_at_most h.size (used + 1) room)) (
           taken,
           c,
           record {

@@ -1,6 +1,7 @@
 -- Proofs of laws that an impl in src/ names: no contract says what is defined here.
 -- What a player's script is: the operation under way, followed by the operations to come.
-use Rattle.std.proofs.Common.{◌≡◌, ℕ, ◌+◌, ◌-◌, ◌*◌, ◌≤◌, Bool, true, false, not, ◌&&◌, List, [], ◌∷◌}
+use Rattle.std.proofs.Common.{◌≡◌, ℕ, ◌+◌, ◌-◌, ◌*◌, ◌≤◌, Bool, true, false, not, ◌&&◌}
+use Rattle.std.proofs.Common.{List, [], ◌∷◌}
 use Rattle.std.proofs.Common.{Option, Some, None, refl, ap, ◌∙◌, sym, subst, arith}
 use Rattle.std.specs.Prelude.{◌≢◌, IfSome, is_some, is_none, if◌then◌else◌}
 use Rattle.std.specs.Option.{option_map_or}

@@ -3,7 +3,7 @@
 use Rattle.std.proofs.Common.{◌≡◌, ℕ, zero, suc, ◌+◌, ◌*◌, ◌^◌, ◌<◌, ◌≤◌, min, max, Bool, true}
 use Rattle.std.proofs.Common.{false, cond, not, List, [], ◌∷◌, Option, Some, None, refl, ap, ◌∙◌}
 use Rattle.std.proofs.Common.{sym, subst, arith}
-use Rattle.std.specs.Prelude.{◌==◌, ◌&&◌, ◌||◌, nat_lt, nat_le, is_some, IsTrue}
+use Rattle.std.specs.Prelude.{◌==◌, ◌&&◌, ◌||◌, nat_lt, nat_le, is_some}
 use Rattle.std.proofs.lemmas.Bool.Decides.{nat_tests}
 use Rattle.vyrd_base.specs.declared.header.Header.{Header}
 use Rattle.vyrd_base.specs.declared.subject.Subject.TheVariants.{Multiset}
@@ -15,10 +15,10 @@ use Rattle.vyrd_base.specs.declared.subject.Method.TheVariants.{TrLookup, BuAppe
 use Rattle.vyrd_base.specs.declared.subject.Method.TheVariants.{BuCut, BuLength, BuRead}
 use Rattle.vyrd_base.specs.declared.subject.Args.{Args}
 use Rattle.vyrd_base.specs.declared.log.Kind.TheVariants.{BlockCommit}
-use Rattle.vyrd_base.specs.Limits.{is_within}
 use Rattle.vyrd_base.specs.Subjects.{subject_of, is_observer}
 use Rattle.vyrd_base.specs.Layout.{plain_words_of, lock_words_of}
 use Rattle.vyrd_base.specs.Histories.{cells_of, is_plain, is_lock}
+use Rattle.vyrd_base.proofs.HeaderLaws.{some_size}
 use Rattle.vyrd_base.proofs.TestLaws.{both_true, is_below}
 use Rattle.vyrd_memory.specs.declared.act.Act.TheVariants.{Load, Store, Mark}
 use Rattle.vyrd_memory.specs.declared.op.Variant.{Variant}
@@ -35,13 +35,6 @@ use Rattle.vyrd_multiset.specs.Procedures.{reserve, find_from, find, commit_stat
 use Rattle.vyrd_multiset.specs.Procedures.{unlock_both, validate_both, commit_both}
 use Rattle.vyrd_multiset.specs.Procedures.{undo, second_found, first_found, compare, search_from}
 use Rattle.vyrd_multiset.specs.Procedures.{search_in, deleted, looked_up, procedure_of}
-
--- the size of a header isn't 0
-pub some_size : (h : Header) → 1 ≤ h.size
-some_size h = within h.version h.size h.callers h.within
-  where
-    within : (version size callers : ℕ) → IsTrue (is_within version size callers) → 1 ≤ size
-    within version size callers w = grind (arith, nat_tests)
 
 -- a bucket is below the size, and its slots are below 4 times the size
 pub bucket_low : (h : Header) (value : ℕ) → bucket_of h value < h.size

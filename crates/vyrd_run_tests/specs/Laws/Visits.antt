@@ -17,7 +17,8 @@ use Rattle.vyrd_memory.specs.Scripts.{stop, next_act, after_answer, is_call_or_d
 use Rattle.vyrd_memory.specs.Scripts.{IsAnswer}
 use Rattle.vyrd_memory.specs.Soundness.{Situation, IsSound, IsSoundSomewhere, at_rest, after_act}
 use Rattle.vyrd_memory.specs.Soundness.{is_nil}
-use Rattle.vyrd_memory.specs.Bounds.{bound_of, EndsWithin, SumsUp, bound_taken, is_return, most_ahead}
+use Rattle.vyrd_memory.specs.Bounds.{bound_of, EndsWithin, SumsUp}
+use Rattle.vyrd_memory.specs.Bounds.{bound_taken, is_return, most_ahead}
 use Rattle.vyrd_run_tests.specs.Visits.{visited, listed, rest_of_visit, visit, ahead_after}
 
 zero_is_answer : (act : Act) → IsAnswer act 0

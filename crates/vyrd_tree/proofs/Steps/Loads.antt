@@ -1,6 +1,5 @@
 -- The loads of a node's keys and values, one after the other.
-use Rattle.std.proofs.Common.{◌≡◌, ℕ, zero, suc, ◌+◌, ◌-◌, ◌<◌, ◌≤◌, List, [], ◌∷◌, ◌++◌, length, take, drop, refl, ap, ◌∙◌, sym, arith}
-use Rattle.std.specs.Prelude.{slice_set}
+use Rattle.std.proofs.Common.{◌≡◌, ℕ, suc, ◌+◌, ◌-◌, ◌<◌, ◌≤◌, List, [], ◌∷◌, ◌++◌, length, take, drop, ap, ◌∙◌, sym, arith}
 use Rattle.std.proofs.lemmas.List.{append-nil, get_or-take, length-take-le}
 use Rattle.std.proofs.Math.Seq.{drop-cons}
 use Rattle.std.proofs.Math.ListN.{drop_of_length-le}
@@ -16,13 +15,6 @@ use Rattle.vyrd_tree.specs.Procedures.Walk.{load_keys, load_values}
 use Rattle.vyrd_tree.specs.Rests.Written.{key_at}
 use Rattle.vyrd_tree.specs.Rests.Errands.{arrived_for}
 use Rattle.vyrd_tree.specs.Rests.Visits.{keys_of, keys_from_rest, values_from_rest, with_keys, arrived_at, loading}
-
--- one more key
-grown : (slots : List (ℕ × ℕ)) (place key : ℕ) (keys : List ℕ) → place < length slots
-    → keys_of (take (suc place) (slice_set slots place (key, 0))) ++ keys ≡ keys_of (take place slots) ++ key ∷ keys
-grown [] place key keys low = absurd (omega (arith, low))
-grown (x ∷ xs) zero key keys low = refl
-grown (x ∷ xs) (suc p) key keys low = ap (λ ks. x.0 ∷ ks) (grown xs p key keys (omega arith))
 
 one_more : (n : ℕ) → n + 1 ≡ suc n
 one_more n = omega arith

@@ -20,6 +20,7 @@ use Rattle.vyrd_base.specs.declared.subject.Args.{Args}
 use Rattle.vyrd_base.specs.declared.log.Kind.{Kind}
 use Rattle.vyrd_base.specs.declared.log.Kind.TheVariants.{BlockOpen, BlockClose, BlockCommit}
 use Rattle.vyrd_base.specs.Subjects.{subject_of, is_observer}
+use Rattle.vyrd_base.proofs.HeaderLaws.{low_size}
 use Rattle.vyrd_base.proofs.TestLaws.{below_of, above_of}
 use Rattle.vyrd_memory.specs.declared.act.Act.TheVariants.{Load, Store, Mark}
 use Rattle.vyrd_memory.specs.declared.op.Variant.{Variant}
@@ -27,7 +28,6 @@ use Rattle.vyrd_memory.specs.Arguments.{are_small}
 use Rattle.vyrd_memory.specs.Scripts.{Script, step, perform, returns, gives_up}
 use Rattle.vyrd_memory.specs.Soundness.{IsSound, just_called}
 use Rattle.vyrd_memory.proofs.SoundActs.{either}
-use Rattle.vyrd_memory.proofs.Small.{size_fits}
 use Rattle.vyrd_tree.specs.Cells.{level_cell, count_cell, bound_cell, right_cell, key_cell}
 use Rattle.vyrd_tree.specs.Cells.{value_cell, root_cell, used_cell, lock_of, root_lock, used_lock}
 use Rattle.vyrd_tree.specs.Cells.{unlock_node, unlock_root, unlock_used}
@@ -73,7 +73,7 @@ unused_sound h method committed lock none found is low none_sound found_sound =
     none_sound)
     (λ room. stores h (used_lock h ∷ lock ∷ []) method committed false (used_cell h) (used + 1)
     (unlock_used h (found (used + 1))) is (omega arith)
-    (omega (arith, above_of h.size (used + 1) room, size_fits h))
+    (omega (arith, above_of h.size (used + 1) room, low_size h))
     (gives_second h method committed false lock (used_lock h) (found (used + 1)) is
     (the_used_lock h) low (found_sound (used + 1) (above_of h.size (used + 1) room))))))
   where
@@ -210,7 +210,7 @@ split_sound h method before after at key value new close later is loaded k v low
     (perform (Store (right_cell at.node) new) ending) is (omega (arith, loaded.node))
     (small_first (upper_half five) (small_drop 3 five small))
     (stores h (lock ∷ []) method before true (right_cell at.node) new ending is
-    (omega (arith, loaded.node)) (omega (arith, low, size_fits h))
+    (omega (arith, loaded.node)) (omega (arith, low, low_size h))
     (closes (unlock_node h at.node later)
     (gives_last h method after false lock later is (node_lock h at.node loaded.node) sound)))))))
 
@@ -242,7 +242,7 @@ grow_sound h method level key node root stops is l k n r sound =
     let unlocked : IsSound h (holding (root_lock h ∷ []) method true false) (unlock_root h stops) =
     gives_last h method true false (root_lock h) stops is (the_root_lock h) sound in
     let small : AreSmallEntries pair =
-    (omega arith, omega (arith, r, size_fits h), (k, omega (arith, n, size_fits h), tt)) in
+    (omega arith, omega (arith, r, low_size h), (k, omega (arith, n, low_size h), tt)) in
     unused_sound h method true (root_lock h) (unlock_root h stops)
     (λ new. perform (Mark BlockOpen)
     (write_node new (level + 1) 0 0 pair (perform (Store (root_cell h) new) ending))) is
@@ -255,7 +255,7 @@ grow_sound h method level key node root stops is l k n r sound =
     (stores h (root_lock h ∷ []) method true true (root_cell h) new ending is (omega arith) (omega (
       arith,
       low,
-      size_fits h,
+      low_size h,
     )) (closes_only h (root_lock h) method true (unlock_root h stops) unlocked))))
 
 -- what is said of the rounds that follow
@@ -271,7 +271,7 @@ child_sound : (h : Header) (method : Method) (level key node : ℕ) (at : Arrive
     → IsSound h (holding (lock_of h at.node ∷ []) method true false)
     (add_child h level key node at stops next)
 child_sound h method level key node at stops next is k n stops_sound next_sound loaded =
-    let value : node < 2 ^ 63 = omega (arith, n, size_fits h) in
+    let value : node < 2 ^ 63 = omega (arith, n, low_size h) in
     let unlocked : IsSound h (holding (lock_of h at.node ∷ []) method true false)
     (unlock_node h at.node stops) =
     gives_last h method true false (lock_of h at.node) stops is (node_lock h at.node loaded.node)

@@ -7,18 +7,19 @@ use Rattle.vyrd_base.specs.declared.header.Header.{Header}
 use Rattle.vyrd_base.specs.declared.subject.Subject.TheVariants.{Buffers}
 use Rattle.vyrd_base.specs.Places.{numbers_from, numbers_below}
 use Rattle.vyrd_base.specs.Layout.{plain_words, lock_words, plain_words_of, lock_words_of}
-use Rattle.vyrd_base.specs.Amounts.{Amounts, IsAmounts, amount_of, with_amount, collected, given}
+use Rattle.vyrd_base.specs.Amounts.{Amounts, amount_of, with_amount, collected, given}
 use Rattle.vyrd_base.specs.Views.{parts_of, view_of_words}
 use Rattle.vyrd_base.specs.Represented.{is_sound}
 use Rattle.vyrd_base.specs.Buffers.{Buffer, text_of, buffer_at, are_characters, is_buffer}
 use Rattle.vyrd_base.specs.Buffers.{buffer_parts}
-use Rattle.vyrd_base.proofs.AmountLaws.{amount_of-with_amount, IsAmounts-with_amount, same_amounts}
+use Rattle.vyrd_base.proofs.AmountLaws.{amount_of-with_amount, IsAmounts-with_amount, same_amount}
 use Rattle.vyrd_base.proofs.SumLaws.{given_nothing, amount_of-collected}
 use Rattle.vyrd_base.proofs.TestLaws.{first_true, same_number, isnt_same, same_of, apart_of}
 use Rattle.vyrd_base.proofs.TestLaws.{at_most_of}
 use Rattle.vyrd_base.proofs.TextLaws.{text_same, characters_same}
+use Rattle.vyrd_base.proofs.PlaceLaws.{pass_all}
 use Rattle.vyrd_memory.specs.Alone.{Memory, words_in}
-use Rattle.vyrd_memory.proofs.NumberLists.{all_pass, pass_all}
+use Rattle.vyrd_memory.proofs.NumberLists.{all_pass}
 use Rattle.vyrd_memory.proofs.PartSums.{given-changed, collected-is}
 use Rattle.vyrd_memory.proofs.Memories.{Represents, word_at, is_amounts}
 use Rattle.vyrd_buffers.specs.Contents.{buffer_of, shown}
@@ -268,19 +269,6 @@ changed_buffer h old new state b is s low leaves sound = record {
         ≡ amount_of (with_amount state b (shown (buffer_of new b))) q
     amounts q = amounts_changed h old new state b q is s low leaves sound
         ∙ sym (amount_of-with_amount state b (shown (buffer_of new b)) q)
-
--- an amount that is set to what it is
-same_amount : (state : Amounts) (b : ℕ) → IsAmounts state
-    → with_amount state b (amount_of state b) ≡ state
-same_amount state b is =
-    same_amounts (with_amount state b (amount_of state b)) state
-    (IsAmounts-with_amount state b (amount_of state b) is) is
-    (λ q. amount_of-with_amount state b (amount_of state b) q ∙ by_key q (q == b) refl)
-  where
-    by_key : (q : ℕ) (same : Bool) → (q == b) ≡ same
-        → cond same (amount_of state b) (amount_of state q) ≡ amount_of state q
-    by_key q true e = ap (amount_of state) (sym (same_of q b e))
-    by_key q false e = refl
 
 -- If the buffer shows the same text as before, the memory represents the same state.
 pub kept_buffer : (h : Header) (old new : Memory) (state : Amounts) (b : ℕ) → h.subject ≡ Buffers

@@ -7,16 +7,17 @@ use Rattle.vyrd_base.specs.declared.header.Header.{Header}
 use Rattle.vyrd_base.specs.declared.subject.Subject.TheVariants.{Cache}
 use Rattle.vyrd_base.specs.Places.{numbers_from, numbers_below}
 use Rattle.vyrd_base.specs.Layout.{plain_words, lock_words, plain_words_of, lock_words_of}
-use Rattle.vyrd_base.specs.Amounts.{Amounts, IsAmounts, amount_of, with_amount, collected, given}
+use Rattle.vyrd_base.specs.Amounts.{Amounts, amount_of, with_amount, collected, given}
 use Rattle.vyrd_base.specs.Views.{Chunk, chunk_at, is_chunk, cached_pair, stored_pair, chunk_parts}
 use Rattle.vyrd_base.specs.Views.{parts_of, view_of_words}
 use Rattle.vyrd_base.specs.Represented.{is_sound, is_sound_chunk}
-use Rattle.vyrd_base.proofs.AmountLaws.{amount_of-with_amount, IsAmounts-with_amount, same_amounts}
+use Rattle.vyrd_base.proofs.AmountLaws.{amount_of-with_amount, IsAmounts-with_amount, same_amount}
 use Rattle.vyrd_base.proofs.SumLaws.{given_nothing, amount_of-collected}
 use Rattle.vyrd_base.proofs.TestLaws.{first_true, second_true, same_number, isnt_same, same_of}
 use Rattle.vyrd_base.proofs.TestLaws.{apart_of}
+use Rattle.vyrd_base.proofs.PlaceLaws.{pass_all}
 use Rattle.vyrd_memory.specs.Alone.{Memory, words_in}
-use Rattle.vyrd_memory.proofs.NumberLists.{all_pass, pass_all}
+use Rattle.vyrd_memory.proofs.NumberLists.{all_pass}
 use Rattle.vyrd_memory.proofs.PartSums.{given-changed, collected-is}
 use Rattle.vyrd_memory.proofs.Memories.{Represents, word_at, is_amounts}
 use Rattle.vyrd_cache.specs.Contents.{chunk_of, shown}
@@ -249,19 +250,6 @@ changed_chunk h old new state k is s low leaves free sound = record {
         ≡ amount_of (with_amount state k (shown (chunk_of new k))) q
     amounts q = amounts_changed h old new state k q is s low leaves sound
         ∙ sym (amount_of-with_amount state k (shown (chunk_of new k)) q)
-
--- an amount that is set to what it is
-same_amount : (state : Amounts) (k : ℕ) → IsAmounts state
-    → with_amount state k (amount_of state k) ≡ state
-same_amount state k is =
-    same_amounts (with_amount state k (amount_of state k)) state
-    (IsAmounts-with_amount state k (amount_of state k) is) is
-    (λ q. amount_of-with_amount state k (amount_of state k) q ∙ by_key q (q == k) refl)
-  where
-    by_key : (q : ℕ) (b : Bool) → (q == k) ≡ b
-        → cond b (amount_of state k) (amount_of state q) ≡ amount_of state q
-    by_key q true e = ap (amount_of state) (sym (same_of q k e))
-    by_key q false e = refl
 
 -- If the chunk shows the same pair as before, the memory represents the same state.
 pub kept_chunk : (h : Header) (old new : Memory) (state : Amounts) (k : ℕ) → h.subject ≡ Cache

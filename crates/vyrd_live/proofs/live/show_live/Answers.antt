@@ -1,8 +1,8 @@
 -- A caller that was spent had operations whose bounds sum to more than the limit.
 use Rattle.std.proofs.Common.{ap}
+use Rattle.std.proofs.lemmas.Result.{IfOk-weaker}
 use Rattle.vyrd_trace.specs.declared.plan.Plan.{Plan}
 use Rattle.vyrd_work.specs.Workloads.{workload_of}
-use Rattle.vyrd_work.proofs.ScriptLaws.{where_ok}
 use Rattle.vyrd_live.proofs.FreshWorkers.{both_ok, too_low_at, in_range, is_unspent}
 use Rattle.vyrd_live.proofs.live.show_live.Goals as goal
 
@@ -17,5 +17,5 @@ returns-clause-too_low g c =
 
 pub returns-clause-never_spent : goal.returns-clause-never_spent
 returns-clause-never_spent g c = λ is enough.
-    where_ok c.play_all.result (returns-clause-too_low g c) (λ played long.
-    is_unspent (workload_of c.args.work) c.args.limit played.spent c.requires.limits is enough long)
+    IfOk-weaker c.play_all.result _ _ (λ played long.
+    is_unspent (workload_of c.args.work) c.args.limit played.spent c.requires.limits is enough long) (returns-clause-too_low g c)

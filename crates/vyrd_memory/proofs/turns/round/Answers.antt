@@ -1,7 +1,7 @@
 use Rattle.std.proofs.Common.{◌+◌, [], ◌∷◌, ap, ◌∙◌, sym, arith, Ok}
 use Rattle.vyrd_base.specs.Places.{numbers_below}
+use Rattle.vyrd_base.proofs.PlaceLaws.{numbers_below-push}
 use Rattle.vyrd_memory.specs.Showing.{stage}
-use Rattle.vyrd_memory.proofs.PlayedLaws.{next_number}
 use Rattle.vyrd_memory.proofs.ShownLaws.{shown_more}
 use Rattle.vyrd_memory.proofs.turns.round.Goals.{then-branch, else-branch}
 use Rattle.vyrd_memory.proofs.turns.round.Goals as goal
@@ -14,7 +14,7 @@ loop-caller-preserved g c = record {
       (stage c.args.machines.now c.args.words.now.items c.args.sink.now)
       (stage c.loop-caller.machines c.loop-caller.words.items c.loop-caller.sink)
       (stage c.turn.new.machines c.turn.new.words.items c.turn.new.sink)
-      c.loop-caller.invariant.shown c.in_ok-turn.ensures.shown (next_number c.loop-caller.caller);
+      c.loop-caller.invariant.shown c.in_ok-turn.ensures.shown (numbers_below-push c.loop-caller.caller);
   few = omega (arith, c.loop-caller.invariant.few, c.in_ok-turn.ensures.few);
   fixed = c.in_ok-turn.ensures.fixed ∙ c.loop-caller.invariant.fixed;
   still = λ e. elim c.if-branch.branch [

@@ -2,9 +2,10 @@ use Rattle.std.proofs.Common.{◌≡◌, ◌<◌, ◌++◌, vec_len, List, [], �
 use Rattle.std.specs.Prelude.{slice_get, get_or, length, set}
 use Rattle.std.proofs.lemmas.List.{set-get_or, length-set}
 use Rattle.vyrd_base.specs.declared.history.Stamped.{Stamped}
+use Rattle.vyrd_base.proofs.ListLaws.{slice_get-is}
 use Rattle.vyrd_memory.specs.Scripts.{next_act, after_answer}
 use Rattle.vyrd_memory.specs.Playing.{HasPlayed, scene, event_in, words_with, words_after_event, IsWithin, IsReady, total}
-use Rattle.vyrd_memory.proofs.PlayLaws.{IsTurn, element_here, machine_within, turn_played, no_turn_played, next_ready, total_falls}
+use Rattle.vyrd_memory.proofs.PlayLaws.{IsTurn, machine_within, turn_played, no_turn_played, next_ready, total_falls}
 use Rattle.vyrd_memory.proofs.turns.turn.Given as given
 use Rattle.vyrd_memory.proofs.turns.turn.Goals.{In_default, In_ok-take}
 use Rattle.vyrd_memory.proofs.turns.turn.Goals as goal
@@ -13,7 +14,7 @@ pub perform-requires : goal.perform-requires
 perform-requires g c =
     let m = c.index-machines-caller.result in
     let here : slice_get c.args.machines.now c.args.caller
-    ≡ Some m = element_here c.args.machines.now c.args.caller m c.requires.caller c.index-machines-caller.is in
+    ≡ Some m = slice_get-is c.args.machines.now c.args.caller m c.requires.caller c.index-machines-caller.is in
     let room : length c.args.words.now.items ≡ vec_len c.args.words.now = search rules in
     subst (λ n. IsWithin n c.wants.result) room
     (machine_within c.args.header.now g.M.Machine.header_of g.M.Machine.script c.args.machines.now c.args.caller m c.args.words.now.items c.wants.result c.requires.ready here (g.met.M.Machine.is_sound m)
@@ -27,7 +28,7 @@ unmoved : (g : given.Over) (c : In_default g) (history : List Stamped)
 unmoved g c history =
     let m = c.index-machines-caller.result in
     let here : slice_get c.args.machines.now c.args.caller
-    ≡ Some m = element_here c.args.machines.now c.args.caller m c.requires.caller c.index-machines-caller.is in
+    ≡ Some m = slice_get-is c.args.machines.now c.args.caller m c.requires.caller c.index-machines-caller.is in
     let act = c.wants.ensures ∙ ap (λ m. next_act (g.M.Machine.script m)) (sym c.index-machines-caller.is) in
     let none = ap (event_in c.args.words.now.items) (sym act) ∙ sym c.perform.ensures.event ∙ c.in_default.is in
     let words = c.perform.ensures.words ∙ ap (words_after_event c.args.words.now.items c.args.caller) c.in_default.is in
@@ -52,7 +53,7 @@ turn_of : (g : given.Over) (c : In_ok-take g)
 turn_of g c = record {
   ready = c.requires.ready;
   caller = c.ranges.caller.fits;
-  here = element_here c.args.machines.now c.args.caller c.index-machines-caller.result c.requires.caller c.index-machines-caller.is;
+  here = slice_get-is c.args.machines.now c.args.caller c.index-machines-caller.result c.requires.caller c.index-machines-caller.is;
   sound = g.met.M.Machine.is_sound c.index-machines-caller.result;
   event =
       ap (event_in c.args.words.now.items) (sym (c.wants.ensures ∙ ap (λ m. next_act (g.M.Machine.script m)) (sym c.index-machines-caller.is)))
@@ -70,7 +71,7 @@ ahead_falls : (g : given.Over) (c : In_ok-take g)
     → total g.M.Machine.ahead (set c.args.machines.now c.args.caller c.took.new.self) < total g.M.Machine.ahead c.args.machines.now
 ahead_falls g c =
     total_falls g.M.Machine.ahead c.args.machines.now c.args.caller c.index-machines-caller.result c.took.new.self
-    (element_here c.args.machines.now c.args.caller c.index-machines-caller.result c.requires.caller c.index-machines-caller.is)
+    (slice_get-is c.args.machines.now c.args.caller c.index-machines-caller.result c.requires.caller c.index-machines-caller.is)
     (subst (λ m. g.M.Machine.ahead c.took.new.self < g.M.Machine.ahead m) (sym c.index-machines-caller.is) c.took.ensures.falls)
 
 -- the event that the sink takes
@@ -103,7 +104,7 @@ returns-clause-shown g c =
 pub take-requires-clause-few : goal.take-requires-clause-few
 take-requires-clause-few g c =
     let falls = total_falls g.M.Machine.ahead c.args.machines.now c.args.caller c.index-machines-caller.result c.took.new.self
-    (element_here c.args.machines.now c.args.caller c.index-machines-caller.result c.requires.caller c.index-machines-caller.is)
+    (slice_get-is c.args.machines.now c.args.caller c.index-machines-caller.result c.requires.caller c.index-machines-caller.is)
     (subst (λ m. g.M.Machine.ahead c.took.new.self < g.M.Machine.ahead m) (sym c.index-machines-caller.is) c.took.ensures.falls) in
     omega (arith, c.requires.few, falls)
 

@@ -17,8 +17,9 @@ use Rattle.vyrd_base.proofs.AmountLaws.{amount_of-with_amount, IsAmounts-with_am
 use Rattle.vyrd_base.proofs.SumLaws.{given-append, amount_of-collected, amount_of-plus}
 use Rattle.vyrd_base.proofs.SumLaws.{IsAmounts-collected, given_nothing}
 use Rattle.vyrd_base.proofs.TestLaws.{same_of, same_number, isnt_same}
+use Rattle.vyrd_base.proofs.PlaceLaws.{pass_all}
 use Rattle.vyrd_memory.specs.Alone.{Memory, words_in, state_in}
-use Rattle.vyrd_memory.proofs.NumberLists.{all_pass, pass_all, flat_map_alike}
+use Rattle.vyrd_memory.proofs.NumberLists.{all_pass, flat_map_alike}
 use Rattle.vyrd_memory.proofs.PartSums.{given-changed, collected-is}
 use Rattle.vyrd_memory.proofs.Memories.{Represents, word_at, represents, represented}
 use Rattle.vyrd_multiset.specs.Cells.{bucket_of}

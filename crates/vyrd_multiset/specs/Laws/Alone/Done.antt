@@ -8,6 +8,7 @@ use Rattle.std.proofs.lemmas.Bool.Decides.{nat_tests}
 use Rattle.vyrd_base.specs.declared.header.Header.{Header}
 use Rattle.vyrd_base.specs.Amounts.{Amounts, amount_of, with_amount, plus_amount, given}
 use Rattle.vyrd_base.specs.declared.log.Kind.TheVariants.{BlockOpen, BlockCommit}
+use Rattle.vyrd_base.proofs.HeaderLaws.{some_size}
 use Rattle.vyrd_base.proofs.TestLaws.{same_of, apart_of}
 use Rattle.vyrd_memory.specs.declared.act.Act.TheVariants.{Store, Mark}
 use Rattle.vyrd_memory.specs.declared.op.Variant.TheVariants.{Correct}
@@ -22,7 +23,7 @@ use Rattle.vyrd_multiset.specs.Procedures.{inserted, insert, commit_both, second
 use Rattle.vyrd_multiset.specs.Procedures.{insert_pair, search_from, search_in, deleted, delete}
 use Rattle.vyrd_multiset.specs.Procedures.{looked_up, lookup}
 use Rattle.vyrd_multiset.specs.Room.{free_slots_for, has_room_for_both}
-use Rattle.vyrd_multiset.specs.Laws.Sound.{some_size, bucket_low}
+use Rattle.vyrd_multiset.specs.Laws.Sound.{bucket_low}
 use Rattle.vyrd_multiset.specs.Contents.{IsMultiset}
 use Rattle.vyrd_multiset.specs.Laws.Alone.Changes.{changed, made_valid, left_invalid, made_free}
 use Rattle.vyrd_multiset.specs.Laws.Alone.Changes.{is_there, isnt_there}

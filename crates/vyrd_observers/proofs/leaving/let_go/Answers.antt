@@ -1,21 +1,19 @@
-use Rattle.std.proofs.Common.{◌≡◌, List, Option, Bool, Some, None, true, false, length, slice_get, subst, ap, sym, ◌∙◌, arith}
+use Rattle.std.proofs.Common.{◌≡◌, List, Option, Bool, Some, true, false, length, slice_get, subst, ap, sym, ◌∙◌, arith}
+use Rattle.std.proofs.lemmas.Option.{none-some}
 use Rattle.vyrd_observers.specs.declared.watch.Watch.{Watch}
 use Rattle.vyrd_observers.specs.Trails.{Asked, IsUsed}
 use Rattle.vyrd_observers.proofs.TrailLaws.{seen_without, on_without, asking_set, unused_freed, used_moved, used_still, counted_within, read_is}
 use Rattle.vyrd_observers.proofs.leaving.let_go.Goals as goal
 
-apart : {A : Type 0} {a : A} → None ≡ Some a → ⊥
-apart e = cc
-
 pub returns-in-None-clause-seen : goal.returns-in-None-clause-seen
 returns-in-None-clause-seen c = seen_without c.args.trails.now c.args.watches.now.items c.args.trail c.end.new.self
     (λ d w here same. let n = c.first_that_counts.ensures.counts d w (subst (λ xs. slice_get xs d ≡ Some (Some w)) (sym c.deref.ensures.value) here) same in
-    apart (sym c.in-None.is ∙ n.1))
+    none-some _ (sym c.in-None.is ∙ n.1))
 
 pub returns-in-None-clause-on : goal.returns-in-None-clause-on
 returns-in-None-clause-on c = on_without c.args.trails.now c.args.watches.now.items c.args.trail c.end.new.self
     (λ d w here same. let n = c.first_that_counts.ensures.counts d w (subst (λ xs. slice_get xs d ≡ Some (Some w)) (sym c.deref.ensures.value) here) same in
-    apart (sym c.in-None.is ∙ n.1)) c.requires.on
+    none-some _ (sym c.in-None.is ∙ n.1)) c.requires.on
 
 pub returns-in-None-clause-asking : goal.returns-in-None-clause-asking
 returns-in-None-clause-asking c = λ h all. asking_set h c.args.trails.now c.args.trail c.end.new.self c.requires.trail

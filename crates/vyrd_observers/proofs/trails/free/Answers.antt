@@ -1,6 +1,7 @@
 use Rattle.std.proofs.Common.{◌∷◌, ◌++◌, [], slice_get, subst, ap, sym, ◌∙◌}
+use Rattle.vyrd_base.proofs.ListLaws.{slice_get-last}
 use Rattle.vyrd_observers.specs.Trails.{AreAsking}
-use Rattle.vyrd_observers.proofs.TrailLaws.{before_pushed, is_pushed, asking_pushed}
+use Rattle.vyrd_observers.proofs.TrailLaws.{before_pushed, asking_pushed}
 use Rattle.vyrd_observers.proofs.trails.free.Goals as goal
 
 pub returns-in_err-push-clause-asking : goal.returns-in_err-push-clause-asking
@@ -11,7 +12,7 @@ returns-clause-free c = (
   c.new.result,
   ap (λ xs. slice_get xs c.len-i.result) c.in_ok-push.ensures.items
       ∙ ap (slice_get (c.args.trails.now.items ++ c.new.result ∷ [])) (c.len-i.ensures ∙ c.args.trails.now.ok.0)
-      ∙ is_pushed c.args.trails.now.items c.new.result,
+      ∙ slice_get-last c.args.trails.now.items c.new.result,
   c.new.ensures,
 )
 

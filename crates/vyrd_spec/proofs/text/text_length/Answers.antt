@@ -1,10 +1,10 @@
 use Rattle.std.proofs.Common.{◌≡◌, ap, arith, ◌∙◌}
 use Rattle.vyrd_base.specs.Buffers.{text_length, powers_within}
-use Rattle.vyrd_spec.proofs.TextSteps.{within_at_most}
+use Rattle.vyrd_base.proofs.TextLaws.{powers_at_most}
 use Rattle.vyrd_spec.proofs.text.text_length.Goals as goal
 
 pub overflow_add-length : goal.overflow_add-length
-overflow_add-length c = omega (arith, within_at_most c.loop-n.n c.args.text)
+overflow_add-length c = omega (arith, powers_at_most c.loop-n.n c.args.text)
 
 pub returns-clause-length : goal.returns-clause-length
 unfolding text_length

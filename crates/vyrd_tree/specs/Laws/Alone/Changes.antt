@@ -54,8 +54,8 @@ pub entries_alike : (m m' : Memory) (n place many : ℕ)
     → (key_at m' n j ≡ key_at m n j) × (value_at m' n j ≡ value_at m n j))
     → entries_from m' n place many ≡ entries_from m n place many
 entries_alike m m' n place many same =
-    map_alike_from (λ j. (key_at m' n j, value_at m' n j)) (λ j. (key_at m n j, value_at m n j)) place
-    many
+    map_alike_from (λ j. (key_at m' n j, value_at m' n j)) (λ j. (key_at m n j, value_at m n j))
+    place many
     (λ j from to. let both = same j from to in
     ap (λ key. (key, value_at m' n j)) both.0 ∙ ap (λ value. (key_at m n j, value)) both.1)
 
@@ -289,7 +289,7 @@ pub record Rewritten (size : ℕ) (m m' : Memory) (n : ℕ) (xs : Entries) : Typ
   pub entries : entries_at m' n ≡ xs
 
 -- other nodes than n are before or after it
-apart_or : (a b : ℕ) → (a ≡ b) ⊎ ((a < b) ⊎ (b < a))
+pub apart_or : (a b : ℕ) → (a ≡ b) ⊎ ((a < b) ⊎ (b < a))
 apart_or a b = grind arith
 
 pub off_node : (a n i : ℕ) → (a < n) ⊎ (n < a) → i < 12

@@ -18,8 +18,9 @@ use Rattle.vyrd_base.specs.Trees.{is_leaf_entry, is_child_entry, begins_with, ha
 use Rattle.vyrd_base.specs.Trees.{is_only_first, is_sound_node, is_tree}
 use Rattle.vyrd_base.proofs.TestLaws.{both_true, first_true, second_true, same_of, is_same}
 use Rattle.vyrd_base.proofs.TestLaws.{isnt_same, below_of, is_below, is_at_most, at_most_of}
+use Rattle.vyrd_base.proofs.PlaceLaws.{pass_all}
 use Rattle.vyrd_memory.specs.Alone.{Memory}
-use Rattle.vyrd_memory.proofs.NumberLists.{all_pass, pass_all}
+use Rattle.vyrd_memory.proofs.NumberLists.{all_pass}
 use Rattle.vyrd_tree.specs.Laws.Alone.Counts.{zero_or, le_or, passing, count_is, passing_two}
 use Rattle.vyrd_tree.specs.Laws.Alone.Counts.{passing_one, passing_some, found_passes, none_passes}
 use Rattle.vyrd_tree.specs.Laws.Alone.Counts.{found_is, none_is}

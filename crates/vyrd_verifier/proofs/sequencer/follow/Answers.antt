@@ -1,6 +1,5 @@
-use Rattle.std.proofs.Common.{◌≡◌, ◌≢◌, ◌∙◌, ℕ, None, Ok, Err, ap, sym, subst}
-use Rattle.std.specs.Prelude.{Result}
-use Rattle.std.specs.Result.{OnErr}
+use Rattle.std.proofs.Common.{◌≡◌, ◌≢◌, ◌∙◌, ℕ, None, Ok, ap, sym, subst}
+use Rattle.vyrd_judge.proofs.OnlineLaws.{on_error}
 use Rattle.vyrd_relay.specs.Numbers.{Kept, held}
 use Rattle.vyrd_verifier.proofs.sequencer.follow.Goals as goal
 
@@ -15,17 +14,12 @@ loop-more-preserved g c =
       fixed = e.fixed ∙ inv.fixed;
     }
 
--- what holds in any case holds of an error
-on_err : {T E : Type 0} {P : Type 0} (r : Result T E) → P → OnErr r P
-on_err (Ok x) p = tt
-on_err (Err e) p = p
-
 pub returns-in_err-place-clause-had : goal.returns-in_err-place-clause-had
-returns-in_err-place-clause-had g c = on_err c.from_residual.result c.place.ensures.had
+returns-in_err-place-clause-had g c = on_error c.from_residual.result c.place.ensures.had
 
 pub returns-in_err-more-clause-had : goal.returns-in_err-more-clause-had
 returns-in_err-more-clause-had g c =
-    on_err c.from_residual-in_err-more.result
+    on_error c.from_residual-in_err-more.result
     (λ (n : ℕ) (apart : n ≢ c.args.item.number). c.advance.ensures.had n ∙ c.loop-more.invariant.had n ∙ c.place.ensures.had n apart)
 
 pub returns-clause-followed : goal.returns-clause-followed

@@ -6,7 +6,8 @@ use Rattle.vyrd_view.specs.Kept.{Kept}
 use Rattle.vyrd_view.specs.Pairs.{slot_pair, chunk_pair, buffer_pair, HaveChunkKeys, HaveBufferKeys}
 use Rattle.vyrd_view.specs.Chains.{is_on_chain, is_broken, end_pair}
 use Rattle.vyrd_view.specs.Comparing.{IsCurrent}
-use Rattle.vyrd_view.proofs.ReadyLaws.{sized, word_count, slots_count, slots_ones, slots_others, slots_current, chunks_count, chunks_keys, chunks_others, buffers_count, buffers_keys, buffers_others, marks_count, tree_count, tree_most, tree_others, tree_marks, tree_end}
+use Rattle.vyrd_base.proofs.HeaderLaws.{low_size, word_count}
+use Rattle.vyrd_view.proofs.ReadyLaws.{slots_count, slots_ones, slots_others, slots_current, chunks_count, chunks_keys, chunks_others, buffers_count, buffers_keys, buffers_others, marks_count, tree_count, tree_most, tree_others, tree_marks, tree_end}
 use Rattle.vyrd_view.proofs.current.bring_up_to_date.Goals as goal
 
 pub slots_changed-requires-clause-count : goal.slots_changed-requires-clause-count
@@ -23,10 +24,9 @@ pub slots_changed-requires-clause-few : goal.slots_changed-requires-clause-few
 slots_changed-requires-clause-few g c =
     let h = c.args.header in
     let is : h.subject ≡ Multiset = sym c.subject.ensures ∙ c.in-Multiset.is in
-    let limits = sized h in
     omega (
       arith,
-      limits.1,
+      low_size h,
       slots_count h c.args.kept.now c.args.words.now c.args.changed.now c.args.parts.now.pairs c.args.marks.now c.args.next.now c.requires.current c.requires.elsewhere is,
     )
 

@@ -3,7 +3,8 @@ use Rattle.std.specs.Prelude.{All, replicate}
 use Rattle.vyrd_base.specs.Layout.{plain_words}
 use Rattle.vyrd_view.specs.Comparing.{AgreeElsewhere}
 use Rattle.vyrd_observers.specs.Watching.{AreCurrent}
-use Rattle.vyrd_words.proofs.StartWords.{start_within, start_few, plain_words_few, length-words_at_start, small_at_start, zero_elsewhere}
+use Rattle.vyrd_base.proofs.HeaderLaws.{few_words}
+use Rattle.vyrd_words.proofs.StartWords.{start_within, start_few, length-words_at_start, small_at_start, zero_elsewhere}
 use Rattle.vyrd_judge.proofs.FollowerLaws.{first_taken_in}
 use Rattle.vyrd_judge.proofs.follower.Follower.new.Goals as goal
 
@@ -41,7 +42,7 @@ invariant_of-result g c = (
   c.in_ok-new.ensures.header ∙ sym c.in_ok-new-4.ensures.header,
   c.in_ok-new-2.ensures.header ∙ sym c.in_ok-new-4.ensures.header,
   c.in_ok-new-3.ensures.header ∙ sym c.in_ok-new-4.ensures.header,
-  omega (arith, start_few c.args.header c.args.start.now c.requires.may_start, plain_words_few c.args.header),
+  omega (arith, start_few c.args.header c.args.start.now c.requires.may_start, few_words c.args.header),
   omega arith,
   c.in_ok-new-2.ensures.views_header ∙ sym c.in_ok-new-4.ensures.header,
 )

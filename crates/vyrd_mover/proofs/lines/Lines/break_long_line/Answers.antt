@@ -1,18 +1,19 @@
 use Rattle.std.proofs.Common.{◌∙◌, ap, sym, cond}
+use Rattle.vyrd_base.proofs.ListLaws.{isnt_some}
 use Rattle.vyrd_mover.specs.declared.fault.HistoryRule.TheVariants.{AfterEnd, BadLine}
 use Rattle.vyrd_mover.specs.HistoryReading.{refused, unless_too_many}
-use Rattle.vyrd_mover.proofs.LinesLaws.{none_of, value_of, long_first, long_later}
+use Rattle.vyrd_mover.proofs.LinesLaws.{value_of, long_first, long_later}
 use Rattle.vyrd_mover.proofs.lines.Lines.break_long_line.Goals as goal
 use Rattle.vyrd_mover.proofs.lines.Lines.break_long_line.Goals.{then-is_none, else-is_none+then-self, else-is_none+else-self}
 
 pub returns : goal.returns
 returns c = λ bytes more at lack long rest.
     let l = c.args.self.now in
-    let fine = none_of l.fault (sym c.if-is_some.ensures) in
+    let fine = isnt_some l.fault (sym c.if-is_some.ensures) in
     let rule = ap (refused l.line) (sym c.unless_too_many.ensures) in
     elim c.if-is_none.branch [
       | then-is_none w ↦
-          long_first l bytes more rest fine (none_of l.events w.if-is_none.ensures) at lack long
+          long_first l bytes more rest fine (isnt_some l.events w.if-is_none.ensures) at lack long
           ∙ ap (λ r. refused l.line (unless_too_many l.line r)) (sym w.rule-is) ∙ rule
       | else-is_none+then-self w ↦
           let later = value_of l.events w.if-is_none.ensures in

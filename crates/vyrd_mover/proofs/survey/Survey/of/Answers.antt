@@ -5,6 +5,7 @@ use Rattle.vyrd_base.specs.declared.history.Did.TheVariants.{Read}
 use Rattle.vyrd_base.specs.declared.history.Stamped.{Stamped}
 use Rattle.vyrd_base.specs.Places.{newest_first}
 use Rattle.vyrd_base.specs.Histories.{cells_of}
+use Rattle.vyrd_base.proofs.HeaderLaws.{some_callers}
 use Rattle.vyrd_mover.specs.declared.step.Step.{Step}
 use Rattle.vyrd_mover.specs.Blocks.{line_of}
 use Rattle.vyrd_mover.specs.RaceFree.{is_race_free}
@@ -12,7 +13,7 @@ use Rattle.vyrd_mover.specs.Steps.{step_coded, step_of, IsWithin}
 use Rattle.vyrd_mover.specs.Ahead.{preceded_by, HasSurveyed}
 use Rattle.vyrd_mover.specs.Usage.{Kept}
 use Rattle.vyrd_mover.specs.Taking.{HasTaken}
-use Rattle.vyrd_mover.proofs.LegalPlaces.{MayCome, legal_event, in_range, some_callers}
+use Rattle.vyrd_mover.proofs.LegalPlaces.{MayCome, legal_event, in_range}
 use Rattle.vyrd_mover.proofs.StepLaws.{codes_count, code_at, role_within}
 use Rattle.vyrd_mover.proofs.SurveyLaws.{IsSurvey, survey_begins, survey_goes_on}
 use Rattle.vyrd_mover.proofs.survey.Survey.of.Goals as goal
@@ -88,7 +89,7 @@ loop-place-preserved c = λ history taken.
     let front : drop i history ≡ e ∷ later = drop-cons history i some_event at.low ∙ ap (λ n. e ∷ drop n history) next in
     let line : i + 2 ≡ line_of e = ap (λ n. n + 2) (sym at.come.numbered) in
     let more = survey_goes_on free h.callers e later c.loop-place.survey (c.loop-place.invariant history taken) at.come.caller in
-    let on = c.precede.ensures (cells_of h) history taken.seen (some_callers h)
+    let on = c.precede.ensures (cells_of h) history taken.seen (omega (arith, some_callers h))
     ∙ λ j. preceded_by free c.loop-place.survey (line j) (at.is j).caller (at.is j).role in
     subst (λ es. IsSurvey free h.callers es c.precede.new.self) (sym front) (subst (IsSurvey free h.callers (e ∷ later)) (sym on) more)
 

@@ -1,15 +1,12 @@
 use Rattle.std.proofs.Common.{◌≡◌, ◌≤◌, Some, None, ◌∷◌, length, map, set, drop, slice_get, subst, ap, sym, ◌∙◌, arith}
 use Rattle.std.proofs.lemmas.List.{map-set}
-use Rattle.std.proofs.lemmas.Option.{slice_get_within}
+use Rattle.std.proofs.lemmas.Option.{slice_get_within, none-some}
 use Rattle.vyrd_observers.specs.Watching.{Watched, Seen, unwatched, has_answer}
 use Rattle.vyrd_observers.specs.Trails.{Asked, AreOn, AreAsking, seen_by, seen_from}
 use Rattle.vyrd_base.proofs.ChangedLists.{written_back}
 use Rattle.vyrd_observers.proofs.TrailLaws.{on_set, read_is, watch_read, seen_there, closed_stays}
 use Rattle.vyrd_observers.proofs.watches.Watches.end.Goals as goal
 use Rattle.std.proofs.lemmas.Option.{same_Some}
-
-none_some : {A : Type 0} {a : A} → None ≡ Some a → ⊥
-none_some e = cc
 
 pub index-requires-in-Some : goal.index-requires-in-Some
 index-requires-in-Some c =
@@ -43,7 +40,7 @@ let_go-requires-clause-on c =
     (ap (λ (k : Watched). k.by_caller) c.self.view_is) c.requires.caller c.index.ensures c.in-Some.is in
     subst (λ ts. AreOn ts (set watches c.args.caller None)) (sym c.deref_mut.ensures.value)
     (on_set c.self.inside.trails.items watches c.args.caller None (slice_get_within watches c.args.caller (Some c.in-Some.watch) here)
-    (λ w is. absurd (none_some is)) c.self.invariant.0)
+    (λ w is. absurd (none-some _ is)) c.self.invariant.0)
 
 pub invariant_of-self : goal.invariant_of-self
 invariant_of-self c =
