@@ -12,5 +12,5 @@ pub new-requires-3-clause-values : goal.new-requires-3-clause-values
 new-requires-3-clause-values g c =
     subst (All (λ value. value < 2 ^ 63)) (sym (c.deref.ensures.value ∙ c.in_ok-words.ensures)) (all_small _)
 
-pub follow_an_insert-requires-clause-begun : goal.follow_an_insert-requires-clause-begun
-follow_an_insert-requires-clause-begun g c = c.in_ok-followed.ensures.words _ (c.deref.ensures.value ∙ c.in_ok-words.ensures)
+pub follow_a_call-requires-clause-begun : goal.follow_a_call-requires-clause-begun
+follow_a_call-requires-clause-begun g c = c.in_ok-followed.ensures.words _ (c.deref.ensures.value ∙ c.in_ok-words.ensures)
