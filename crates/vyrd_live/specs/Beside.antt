@@ -1,13 +1,13 @@
 -- What takes in the events of a live run beside the workers.
-use Rattle.std.specs.Prelude.{◌≡◌, ℕ, ◌<◌, true, false, List, map, None, is_some}
+use Rattle.std.specs.Prelude.{◌≡◌, ℕ, ◌<◌, ◌≤◌, true, false, List, map, None, is_some}
 use Rattle.std.specs.List.{All}
 use Rattle.vyrd_base.specs.declared.history.Stamped.{Stamped}
 use Rattle.vyrd_relay.specs.declared.known.Lane.{Lane}
-use Rattle.vyrd_relay.specs.Ends.{ReceiverView, lane_sent}
+use Rattle.vyrd_relay.specs.Ends.{ReceiverView, lane_sent, with_popped}
 use Rattle.vyrd_live.specs.declared.watch.Watch.{Watch}
 use Rattle.vyrd_live.specs.declared.outbox.Outbox.{Outbox}
 use Rattle.vyrd_live.specs.declared.worker.Stopped.{Stopped}
-use Rattle.vyrd_verifier.specs.Taken.{numbered, in_order_below, has_failed, HasTakenIn}
+use Rattle.vyrd_verifier.specs.Taken.{numbered, in_order_below, has_failed, HasTakenIn, MayRefuse}
 
 -- the sequencer has taken in these events, unless it was set aside
 abbrev pub HasWatched : {S F : Type 0} → (S → List Stamped → Type 0) → Watch S F → List Stamped
@@ -21,19 +21,27 @@ abbrev pub StaysFixed : {S F : Type 0} → (S → F) → Watch S F → Watch S F
 StaysFixed fixed before after = after.stands ≡ true
     → (before.stands ≡ true) × (fixed after.sequencer.sink ≡ fixed before.sequencer.sink)
 
+-- If the sequencer is set aside, it is for the one event that came.
+abbrev pub IsSetAside : {S F : Type 0} → Watch S F → Watch S F → Type 0
+IsSetAside before after = before.stands ≡ true → after.stands ≡ false → (event : Stamped)
+    × (after.receiver ≡ with_popped before.receiver event)
+    × MayRefuse before.sequencer after.sequencer event.number
+
 -- the receiver is of the same relay, and has taken in the same senders
 pub record IsSameReceiver (before after : ReceiverView) : Type 0 where
   pub queue : after.queue ≡ before.queue
   pub senders : after.senders ≡ before.senders
   pub settled : after.settled ≡ before.settled
 
--- from one moment to a later one what came was taken in, and what no event changes of the sink
--- stays
+-- from one moment to a later one what came was taken in, what no event changes of the sink stays,
+-- and the gate is asked about no fewer events
 pub record TakesIn {S F : Type 0} (has_taken : S → List Stamped → Type 0) (fixed : S → F)
     (before after : Watch S F) : Type 0 where
   pub watched : HasWatched has_taken before before.receiver.had
       → HasWatched has_taken after after.receiver.had
   pub fixed_is : StaysFixed fixed before after
+  pub callers : after.callers ≡ before.callers
+  pub counted : before.taken ≤ after.taken
 
 -- what came was taken in, and the receiver is the same
 pub record GoesOn {S F : Type 0} (has_taken : S → List Stamped → Type 0) (fixed : S → F)

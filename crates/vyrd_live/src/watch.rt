@@ -1,13 +1,13 @@
 //! The end of the relay, where the events of a live run are put in order.
 
-ghost use Rattle.std.specs.Prelude.{◌≡◌, true, false, List, [], ◌∷◌, ◌++◌};
+ghost use Rattle.std.specs.Prelude.{◌≡◌, ◌≤◌, true, false, List, [], ◌∷◌, ◌++◌};
 ghost use Rattle.std.specs.Prelude.{IfOk, IfSome, IfNone};
 ghost use Rattle.std.specs.Bool.{then_some};
 ghost use Rattle.std.specs.List.{All};
 ghost use Rattle.vyrd_base.specs.declared.history.Stamped.{Stamped};
 ghost use Rattle.vyrd_relay.specs.Ends.{with_popped, HasAll, WasEmpty};
 ghost use Rattle.vyrd_verifier.specs.Taken.{MayRefuse};
-ghost use Rattle.vyrd_live.specs.Beside.{HasWatched, StaysFixed, TakesIn, GoesOn};
+ghost use Rattle.vyrd_live.specs.Beside.{HasWatched, StaysFixed, TakesIn, GoesOn, IsSetAside};
 ghost use Rattle.vyrd_live.specs.Beside.{AreOfSenders, lanes_sent, HasShownInOrder};
 
 use crate::outbox::Outbox;
@@ -107,6 +107,7 @@ impl<S: EventSink + Drop> Watch<S> {
         ensures one { result ≡ true → (event : Stamped)
             × (self.new.receiver ≡ with_popped self.old.receiver event) }
         ensures none { result ≡ false → WasEmpty self.old.receiver }
+        ensures set_aside { IsSetAside self.old self.new }
     {
         let Some(event) = relay.pop(rt, &mut self.receiver) else {
             return false;
@@ -129,6 +130,7 @@ impl<S: EventSink + Drop> Watch<S> {
         ensures all { result ≡ false
             → All (HasAll self.new.receiver.had) self.new.receiver.settled }
         ensures theirs { result ≡ false → AreOfSenders self.new.receiver }
+        ensures set_aside { IsSetAside self.old self.new }
     {
         let Some(event) = relay.pop(rt, &mut self.receiver) else {
             return false;
@@ -146,6 +148,7 @@ impl<S: EventSink + Drop> Watch<S> {
         ensures set_aside { self.old.stands ≡ true → self.new.stands ≡ false
             → MayRefuse self.old.sequencer self.new.sequencer event.number }
         ensures callers { self.new.callers ≡ self.old.callers }
+        ensures counted { self.old.taken ≤ self.new.taken }
     {
         if self.stands {
             self.stands = self.sequencer.try_take_in(event);
@@ -173,7 +176,8 @@ impl<S: EventSink + Drop> Watch<S> {
         ensures senders { self.new.receiver.senders ≡ self.old.receiver.senders }
         ensures had { self.new.receiver.had ≡ self.old.receiver.had }
         ensures rest { (self.new.stands ≡ self.old.stands)
-            × (self.new.sequencer ≡ self.old.sequencer) }
+            × (self.new.sequencer ≡ self.old.sequencer)
+            × (self.new.callers ≡ self.old.callers) × (self.new.taken ≡ self.old.taken) }
         ensures settled { self.new.receiver.settled ≡ lanes_sent outboxes.items }
     {
         for outbox in outboxes {

@@ -5,7 +5,7 @@ use Rattle.vyrd_live.proofs.outbox.Outbox.send_rest.Goals as goal
 pub loop-init : goal.loop-init
 loop-init g c = record {
   sent = c.requires.sent;
-  goes_on = goes_on_same g.S.EventSink.has_taken g.S.EventSink.fixed _ _ refl refl refl;
+  goes_on = goes_on_same g.S.EventSink.has_taken g.S.EventSink.fixed _ _ refl refl refl refl refl;
 }
 
 pub loop-preserved : goal.loop-preserved

@@ -13,7 +13,7 @@ loop-outbox-init g c = record {
   queue = refl;
   senders = refl;
   had = refl;
-  rest = (refl, refl);
+  rest = (refl, refl, refl, refl);
   settled = c.requires.first;
 }
 

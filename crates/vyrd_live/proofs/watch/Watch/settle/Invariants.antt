@@ -9,6 +9,7 @@ invariant-loop-outbox g l = record {
   queue : l.self.receiver.queue ≡ l.initial.self.receiver.queue;
   senders : l.self.receiver.senders ≡ l.initial.self.receiver.senders;
   had : l.self.receiver.had ≡ l.initial.self.receiver.had;
-  rest : (l.self.stands ≡ l.initial.self.stands) × (l.self.sequencer ≡ l.initial.self.sequencer);
+  rest : (l.self.stands ≡ l.initial.self.stands) × (l.self.sequencer ≡ l.initial.self.sequencer)
+      × (l.self.callers ≡ l.initial.self.callers) × (l.self.taken ≡ l.initial.self.taken);
   settled : l.self.receiver.settled ≡ lanes_sent l.yielded;
 }
