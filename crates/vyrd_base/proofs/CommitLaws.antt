@@ -1,7 +1,6 @@
 -- Entries that commit.
 use Rattle.std.proofs.Common.{◌≡◌, inl, inr, ℕ, true, false, List, None, refl, subst, sym}
 use Rattle.std.specs.Prelude.{◌⊎◌}
-use Rattle.vyrd_base.specs.declared.header.Header.{Header}
 use Rattle.vyrd_base.specs.declared.log.Kind.{Kind}
 use Rattle.vyrd_base.specs.declared.log.Kind.TheVariants.{Commit, BlockCommit}
 use Rattle.vyrd_base.specs.declared.log.Entry.{Entry}
@@ -12,6 +11,7 @@ use Rattle.vyrd_base.specs.Commits.{is_commit, returned}
 use Rattle.vyrd_base.specs.Faults.{fault_of_commit, fault_at}
 use Rattle.vyrd_base.proofs.BlockLaws.{entry}
 use Rattle.vyrd_base.specs.Entries.{place_of}
+use Rattle.vyrd_base.specs.Rules.{Rules}
 
 -- a kind of entry that commits
 pub data Commits : Kind → Type 0 where
@@ -38,9 +38,9 @@ pub commits_uncalled : (kind : Kind) → Commits kind → is_call kind ≡ false
 commits_uncalled _ alone = refl
 commits_uncalled _ with_block = refl
 
-pub fault_of_commit_kind : (h : Header) (starting : List StartWord) (states : List Amounts) (c : ℕ) (kind : Kind) (earlier later : List Entry)
-    → Commits kind → fault_at h starting states (place_of (entry c kind) earlier later)
-    ≡ fault_of_commit h starting states (place_of (entry c kind) earlier later)
+pub fault_of_commit_kind : (r : Rules) (starting : List StartWord) (states : List Amounts) (c : ℕ) (kind : Kind) (earlier later : List Entry)
+    → Commits kind → fault_at r starting states (place_of (entry c kind) earlier later)
+    ≡ fault_of_commit r starting states (place_of (entry c kind) earlier later)
 unfolding fault_at
-fault_of_commit_kind h starting states c _ earlier later alone = refl
-fault_of_commit_kind h starting states c _ earlier later with_block = refl
+fault_of_commit_kind r starting states c _ earlier later alone = refl
+fault_of_commit_kind r starting states c _ earlier later with_block = refl

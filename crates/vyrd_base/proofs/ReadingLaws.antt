@@ -26,6 +26,7 @@ use Rattle.vyrd_base.proofs.HeaderLaws.{sized, size_in_32_bits, callers_in_32_bi
 use Rattle.vyrd_base.proofs.TestLaws.{both_true, first_true, second_true, neither_true, above_of, is_below}
 use Rattle.vyrd_base.proofs.SubjectLaws.{plain_subject, subject_read}
 use Rattle.vyrd_base.proofs.ListLaws.{or_none}
+use Rattle.vyrd_base.specs.Rules.{rules_of}
 
 -- all entries can stand in the text of a log of the subject
 abbrev pub AllOf : Subject → List Entry → Type 0
@@ -321,9 +322,9 @@ reading-log_text input h starting entries within may all =
 -- the verdict about the text of a log is the verdict about the log
 pub text_verdict-log_text : (max : ℕ) (h : Header) (starting : List StartWord) (entries : List Entry)
     → length starting + length entries + 2 ≤ max → may_start h starting ≡ true → AllOf h.subject entries
-    → text_verdict max (log_text h starting entries) ≡ verdict h starting entries
+    → text_verdict max (log_text h starting entries) ≡ verdict (rules_of h) starting entries
 unfolding text_verdict verdict
 text_verdict-log_text max h starting entries within may all =
     ap (λ read. unwrap_or (known_verdict read) (accepted read.entries))
     (reading-log_text (record { max_lines = max; is_whole = true }) h starting entries within may all)
-    ∙ ap (λ o. unwrap_or o (accepted entries)) (or_none (option_or (verdict_so_far h starting entries) (end_verdict h starting entries)))
+    ∙ ap (λ o. unwrap_or o (accepted entries)) (or_none (option_or (verdict_so_far (rules_of h) starting entries) (end_verdict (rules_of h) starting entries)))

@@ -15,6 +15,7 @@ use Rattle.vyrd_base.proofs.Lasting.{commit_count-cons, states_begin}
 use Rattle.vyrd_base.proofs.ListLaws.{slice_get-drop, take_one_more}
 use Rattle.std.specs.Bool.{then_some}
 use Rattle.std.specs.List.{cons_option}
+use Rattle.vyrd_base.specs.Rules.{Rules}
 
 -- another caller's entry
 pub open_call-other : (c d : ℕ) (kind : Kind) (earlier : List Entry) → (d == c) ≡ false → open_call c (entry d kind ∷ earlier) ≡ open_call c earlier
@@ -86,48 +87,48 @@ window-call states c e earlier state rest quiet before going =
     ∙ drop-take (commit_count earlier) 1 states ∙ ap (take 1) going
 
 -- the state at a place is known
-pub state_here : (states : List Amounts) (earlier : List Entry) (state : Amounts) (xs : List Committed)
-    → drop (commit_count earlier) states ≡ states_from state xs → slice_get states (commit_count earlier) ≡ Some state
-state_here states earlier state xs going =
-    sym (slice_get-drop states (commit_count earlier)) ∙ ap (λ ss. slice_get ss 0) going ∙ states_begin state xs
+pub state_here : (r : Rules) (states : List Amounts) (earlier : List Entry) (state : Amounts) (xs : List Committed)
+    → drop (commit_count earlier) states ≡ states_from r state xs → slice_get states (commit_count earlier) ≡ Some state
+state_here r states earlier state xs going =
+    sym (slice_get-drop states (commit_count earlier)) ∙ ap (λ ss. slice_get ss 0) going ∙ states_begin r state xs
 
 -- the states go on as they did after an entry that doesn't commit
-pub going-quiet : (states : List Amounts) (e : Entry) (earlier later : List Entry) (state : Amounts) → is_commit e.kind ≡ false
-    → drop (commit_count earlier) states ≡ states_from state (commits_after earlier (e ∷ later))
-    → drop (commit_count (e ∷ earlier)) states ≡ states_from state (commits_after (e ∷ earlier) later)
-going-quiet states e earlier later state quiet going =
+pub going-quiet : (r : Rules) (states : List Amounts) (e : Entry) (earlier later : List Entry) (state : Amounts) → is_commit e.kind ≡ false
+    → drop (commit_count earlier) states ≡ states_from r state (commits_after earlier (e ∷ later))
+    → drop (commit_count (e ∷ earlier)) states ≡ states_from r state (commits_after (e ∷ earlier) later)
+going-quiet r states e earlier later state quiet going =
     ap (λ n. drop n states) (count-quiet e earlier quiet) ∙ going
-    ∙ ap (λ b. states_from state (cons_option (then_some b (committed_at (record { earlier = earlier; here = e; later = later })))
+    ∙ ap (λ b. states_from r state (cons_option (then_some b (committed_at (record { earlier = earlier; here = e; later = later })))
     (commits_after (e ∷ earlier) later))) quiet
 
 -- after a commit they go on from the next state, or no later one is known
-going_at : (states : List Amounts) (e : Entry) (earlier later : List Entry) (state : Amounts) (o : Option Amounts) → is_commit e.kind ≡ true
-    → state_after state (committed_at (record { earlier = earlier; here = e; later = later })) ≡ o
-    → drop (commit_count earlier) states ≡ states_from state (commits_after earlier (e ∷ later))
+going_at : (r : Rules) (states : List Amounts) (e : Entry) (earlier later : List Entry) (state : Amounts) (o : Option Amounts) → is_commit e.kind ≡ true
+    → state_after r state (committed_at (record { earlier = earlier; here = e; later = later })) ≡ o
+    → drop (commit_count earlier) states ≡ states_from r state (commits_after earlier (e ∷ later))
     → drop (commit_count earlier) states
-    ≡ state ∷ (elim o as (λ _. List Amounts) [ None ↦ [] | Some next ↦ states_from next (commits_after (e ∷ earlier) later) ])
-going_at states e earlier later state o commits after going =
+    ≡ state ∷ (elim o as (λ _. List Amounts) [ None ↦ [] | Some next ↦ states_from r next (commits_after (e ∷ earlier) later) ])
+going_at r states e earlier later state o commits after going =
     going
-    ∙ ap (λ b. states_from state (cons_option (then_some b (committed_at (record { earlier = earlier; here = e; later = later })))
+    ∙ ap (λ b. states_from r state (cons_option (then_some b (committed_at (record { earlier = earlier; here = e; later = later })))
     (commits_after (e ∷ earlier) later))) commits
-    ∙ ap (λ a. state ∷ (elim a as (λ _. List Amounts) [ None ↦ [] | Some next ↦ states_from next (commits_after (e ∷ earlier) later) ])) after
+    ∙ ap (λ a. state ∷ (elim a as (λ _. List Amounts) [ None ↦ [] | Some next ↦ states_from r next (commits_after (e ∷ earlier) later) ])) after
 
-pub going-commit : (states : List Amounts) (e : Entry) (earlier later : List Entry) (state next : Amounts) → is_commit e.kind ≡ true
-    → state_after state (committed_at (record { earlier = earlier; here = e; later = later })) ≡ Some next
-    → drop (commit_count earlier) states ≡ states_from state (commits_after earlier (e ∷ later))
-    → drop (commit_count (e ∷ earlier)) states ≡ states_from next (commits_after (e ∷ earlier) later)
-going-commit states e earlier later state next commits after going =
+pub going-commit : (r : Rules) (states : List Amounts) (e : Entry) (earlier later : List Entry) (state next : Amounts) → is_commit e.kind ≡ true
+    → state_after r state (committed_at (record { earlier = earlier; here = e; later = later })) ≡ Some next
+    → drop (commit_count earlier) states ≡ states_from r state (commits_after earlier (e ∷ later))
+    → drop (commit_count (e ∷ earlier)) states ≡ states_from r next (commits_after (e ∷ earlier) later)
+going-commit r states e earlier later state next commits after going =
     ap (λ n. drop n states) (count-commit e earlier commits) ∙ sym (drop-drop 1 (commit_count earlier) states)
-    ∙ ap (drop 1) (going_at states e earlier later state (Some next) commits after going)
+    ∙ ap (drop 1) (going_at r states e earlier later state (Some next) commits after going)
 
-pub ending-commit : (states : List Amounts) (e : Entry) (earlier later : List Entry) (state : Amounts) → is_commit e.kind ≡ true
-    → state_after state (committed_at (record { earlier = earlier; here = e; later = later })) ≡ None
-    → drop (commit_count earlier) states ≡ states_from state (commits_after earlier (e ∷ later))
+pub ending-commit : (r : Rules) (states : List Amounts) (e : Entry) (earlier later : List Entry) (state : Amounts) → is_commit e.kind ≡ true
+    → state_after r state (committed_at (record { earlier = earlier; here = e; later = later })) ≡ None
+    → drop (commit_count earlier) states ≡ states_from r state (commits_after earlier (e ∷ later))
     → length states ≤ commit_count (e ∷ earlier)
-ending-commit states e earlier later state commits after going =
+ending-commit r states e earlier later state commits after going =
     omega (
       arith,
-      ap length (going_at states e earlier later state None commits after going),
+      ap length (going_at r states e earlier later state None commits after going),
       length-drop (commit_count earlier) states,
       count-commit e earlier commits,
     )

@@ -22,6 +22,7 @@ use Rattle.vyrd_base.specs.Verdicts.{verdict_so_far, end_verdict, accepted, verd
 use Rattle.vyrd_base.specs.TextVerdicts.{entries_verdict, known_verdict, text_verdict, stop_of}
 use Rattle.vyrd_base.proofs.ReadingGrows.{input_of, some_parts}
 use Rattle.vyrd_base.proofs.ListLaws.{or_none}
+use Rattle.vyrd_base.specs.Rules.{rules_of}
 
 -- how many lines were read as starting words or entries
 abbrev pub read_lines : Reading → ℕ
@@ -153,15 +154,15 @@ isnt_behind line n e = grind (arith, nat_tests)
 by_stop : (h : Header) (starting : List StartWord) (entries : List Entry) (is_ended : Bool) (fault : Option TextFault)
     → (is_ended ≡ true → (f : TextFault) → fault ≡ Some f → f.line ≡ 2 + (length starting + length entries) + 1)
     → (is_ended ≡ false → (f : TextFault) × (fault ≡ Some f) × (f.line ≡ 2 + (length starting + length entries)))
-    → unwrap_or (option_or (option_or (verdict_so_far h starting entries) (cond is_ended (end_verdict h starting entries) None))
+    → unwrap_or (option_or (option_or (verdict_so_far (rules_of h) starting entries) (cond is_ended (end_verdict (rules_of h) starting entries) None))
     (option_map (λ f. Malformed f.line f.rule) fault)) (accepted entries)
-    ≡ verdict_at h starting entries (option_map_or (λ f. Text f.line f.rule) fault End)
+    ≡ verdict_at (rules_of h) starting entries (option_map_or (λ f. Text f.line f.rule) fault End)
 unfolding verdict_at verdict
 by_stop h starting entries true None behind at =
-    ap (λ o. unwrap_or o (accepted entries)) (or_none (option_or (verdict_so_far h starting entries) (end_verdict h starting entries)))
+    ap (λ o. unwrap_or o (accepted entries)) (or_none (option_or (verdict_so_far (rules_of h) starting entries) (end_verdict (rules_of h) starting entries)))
 by_stop h starting entries true (Some f) behind at =
-    unwrap_or-or_some (option_or (verdict_so_far h starting entries) (end_verdict h starting entries)) (Malformed f.line f.rule) (accepted entries)
-    ∙ ap (λ b. unwrap_or (option_or (verdict_so_far h starting entries) (cond b (end_verdict h starting entries) None)) (Malformed f.line f.rule))
+    unwrap_or-or_some (option_or (verdict_so_far (rules_of h) starting entries) (end_verdict (rules_of h) starting entries)) (Malformed f.line f.rule) (accepted entries)
+    ∙ ap (λ b. unwrap_or (option_or (verdict_so_far (rules_of h) starting entries) (cond b (end_verdict (rules_of h) starting entries) None)) (Malformed f.line f.rule))
     (sym (is_behind f.line (length starting + length entries) (behind refl f refl)))
 by_stop h starting entries false None behind at = let found = at refl in absurd (none_is_some found.1)
   where
@@ -171,15 +172,15 @@ by_stop h starting entries false (Some f) behind at =
     let found = at refl in
     let same : found.0 ≡ f = the_same found.1 in
     let line : f.line ≡ 2 + (length starting + length entries) = ap (λ g. g.line) (sym same) ∙ found.2 in
-    unwrap_or-or_some (option_or (verdict_so_far h starting entries) None) (Malformed f.line f.rule) (accepted entries)
-    ∙ ap (λ b. unwrap_or (option_or (verdict_so_far h starting entries) (cond b (end_verdict h starting entries) None)) (Malformed f.line f.rule))
+    unwrap_or-or_some (option_or (verdict_so_far (rules_of h) starting entries) None) (Malformed f.line f.rule) (accepted entries)
+    ∙ ap (λ b. unwrap_or (option_or (verdict_so_far (rules_of h) starting entries) (cond b (end_verdict (rules_of h) starting entries) None)) (Malformed f.line f.rule))
     (sym (isnt_behind f.line (length starting + length entries) line))
   where
     the_same : {g : TextFault} → Some f ≡ Some g → g ≡ f
     the_same e = cc
 
 with_header : (read : Reading) (h : Header) → read.header ≡ Some h → Stops 2 read
-    → unwrap_or (known_verdict read) (accepted read.entries) ≡ verdict_at h read.starting read.entries (stop_of read)
+    → unwrap_or (known_verdict read) (accepted read.entries) ≡ verdict_at (rules_of h) read.starting read.entries (stop_of read)
 with_header read h has s =
     ap (λ o. unwrap_or (option_or (option_and_then (entries_verdict read) o)
     (option_map (λ f. Malformed f.line f.rule) read.fault)) (accepted read.entries)) has
@@ -195,7 +196,7 @@ without_header read f none at =
 -- The verdict about a whole input: with a header that of its starting words, its entries and how
 -- they stop, and otherwise its fault of text.
 pub text_verdict-by_stop : (max : ℕ) (bytes : List ℕ) (h : Header) → (reading (input_of max true) bytes).header ≡ Some h
-    → text_verdict max bytes ≡ verdict_at h (reading (input_of max true) bytes).starting (reading (input_of max true) bytes).entries
+    → text_verdict max bytes ≡ verdict_at (rules_of h) (reading (input_of max true) bytes).starting (reading (input_of max true) bytes).entries
     (stop_of (reading (input_of max true) bytes))
 unfolding text_verdict
 text_verdict-by_stop max bytes h has = by_cases (reading_stops max bytes)
@@ -204,7 +205,7 @@ text_verdict-by_stop max bytes h has = by_cases (reading_stops max bytes)
     read = reading (input_of max true) bytes
 
     by_cases : TextStops read → unwrap_or (known_verdict read) (accepted read.entries)
-        ≡ verdict_at h read.starting read.entries (stop_of read)
+        ≡ verdict_at (rules_of h) read.starting read.entries (stop_of read)
     by_cases (headed g is s) = with_header read h has s
     by_cases (headless f none at) = absurd (none_is_some (sym none ∙ has))
       where

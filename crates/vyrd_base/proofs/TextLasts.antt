@@ -15,18 +15,19 @@ use Rattle.vyrd_base.specs.Verdicts.{first_fault, shape_verdict, verdict_so_far,
 use Rattle.vyrd_base.specs.TextVerdicts.{entries_verdict, known_verdict, text_verdict, text_verdict_so_far}
 use Rattle.vyrd_base.proofs.ReadingGrows.{TextGrown, so_far, input_of, reading_grows}
 use Rattle.vyrd_base.proofs.VerdictLaws.{verdict_lasts}
+use Rattle.vyrd_base.specs.Rules.{rules_of}
 
 or_known : {A : Type 0} (o : Option A) (a : A) → option_or o None ≡ Some a → o ≡ Some a
 or_known None a e = cc
 or_known (Some x) a e = e
 
 -- no verdict stands before the first entry
-pub nothing_so_far : (h : Header) (starting : List StartWord) → verdict_so_far h starting [] ≡ None
+pub nothing_so_far : (h : Header) (starting : List StartWord) → verdict_so_far (rules_of h) starting [] ≡ None
 unfolding verdict_so_far first_fault shape_verdict front first_break
 nothing_so_far h starting = refl
 
 some_entries : (h : Header) (starting : List StartWord) (es : List Entry) (v : Verdict) (b : Bool)
-    → verdict_so_far h starting es ≡ Some v → (has_any es || b) ≡ true
+    → verdict_so_far (rules_of h) starting es ≡ Some v → (has_any es || b) ≡ true
 some_entries h starting [] v b e = absurd (none_is_some (sym (nothing_so_far h starting) ∙ e))
   where
     none_is_some : None ≡ Some v → ⊥
@@ -47,25 +48,25 @@ known_stays old new v g found = by_fault old.fault refl
         ap (λ o. option_or (option_and_then (entries_verdict new) o)
         (option_map (λ fault. Malformed fault.line fault.rule) new.fault)) (g.header h has)
         ∙ ap (λ o. option_or o (option_map (λ fault. Malformed fault.line fault.rule) new.fault))
-        (by_entries h (verdict_so_far h old.starting old.entries) refl wrong))
+        (by_entries h (verdict_so_far (rules_of h) old.starting old.entries) refl wrong))
       where
-        at_end : (h : Header) (b : Bool) → old.ended ≡ b → cond b (end_verdict h old.starting old.entries) None ≡ Some v
-            → verdict_so_far h old.starting old.entries ≡ None → entries_verdict new h ≡ Some v
+        at_end : (h : Header) (b : Bool) → old.ended ≡ b → cond b (end_verdict (rules_of h) old.starting old.entries) None ≡ Some v
+            → verdict_so_far (rules_of h) old.starting old.entries ≡ None → entries_verdict new h ≡ Some v
         at_end h false is w none = cc
         at_end h true is w none =
             let done = g.grown.ended e is in
             let same = g.grown.begun e (or_right (has_any old.entries) old.ended is) in
-            (λ i. option_or (verdict_so_far h (same i) (done.0 i)) (cond (done.1 i) (end_verdict h (same i) (done.0 i)) None))
-            ∙ ap (λ o. option_or o (end_verdict h old.starting old.entries)) none ∙ w
+            (λ i. option_or (verdict_so_far (rules_of h) (same i) (done.0 i)) (cond (done.1 i) (end_verdict (rules_of h) (same i) (done.0 i)) None))
+            ∙ ap (λ o. option_or o (end_verdict (rules_of h) old.starting old.entries)) none ∙ w
 
-        by_entries : (h : Header) (o : Option Verdict) → verdict_so_far h old.starting old.entries ≡ o
-            → option_or o (cond old.ended (end_verdict h old.starting old.entries) None) ≡ Some v → entries_verdict new h ≡ Some v
+        by_entries : (h : Header) (o : Option Verdict) → verdict_so_far (rules_of h) old.starting old.entries ≡ o
+            → option_or o (cond old.ended (end_verdict (rules_of h) old.starting old.entries) None) ≡ Some v → entries_verdict new h ≡ Some v
         by_entries h None none w = at_end h old.ended refl w none
         by_entries h (Some x) has w =
             let more = g.grown.entries e in
             let same = g.grown.begun e (some_entries h old.starting old.entries x old.ended has) in
-            ap (λ o. option_or o (cond new.ended (end_verdict h new.starting new.entries) None))
-            ((λ i. verdict_so_far h (same i) (more.1 i)) ∙ verdict_lasts h old.starting old.entries more.0 x has) ∙ w
+            ap (λ o. option_or o (cond new.ended (end_verdict (rules_of h) new.starting new.entries) None))
+            ((λ i. verdict_so_far (rules_of h) (same i) (more.1 i)) ∙ verdict_lasts (rules_of h) old.starting old.entries more.0 x has) ∙ w
 
 -- a verdict about bytes that stands stands for all longer bytes
 pub text_verdict_lasts : (max : ℕ) (bytes more : List ℕ) (v : Verdict) → 1 ≤ max → text_verdict_so_far max bytes ≡ Some v

@@ -24,6 +24,7 @@ use Rattle.vyrd_base.specs.FirstVersion.{old_broken_rule, old_front_after, old_f
 use Rattle.vyrd_base.proofs.Fronts.{break_after}
 use Rattle.vyrd_base.proofs.NoStart.{line_of-none, states_along-none, start_verdict-none, begun_verdict-none}
 use Rattle.vyrd_base.proofs.VersionWords.{broken_rule-old, first_words_at}
+use Rattle.vyrd_base.specs.Rules.{rules_of}
 
 -- the first break after some entries
 abbrev pub old_break_after : Header → List Entry → List Entry → Option Rule
@@ -63,12 +64,12 @@ old_fault_after h states earlier later = first_answer
     (λ place. option_map (Violation (position_of place + 2)) (old_fault_of_kind h states place place.here.kind)) (places_after earlier later)
 
 fault-old : (h : Header) (states : List Amounts) (place : Place Entry) (kind : Kind) → h.version ≡ 1 → WellFormed h (place.here ∷ place.earlier)
-    → fault_of_kind h [] states place kind ≡ old_fault_of_kind h states place kind
+    → fault_of_kind (rules_of h) [] states place kind ≡ old_fault_of_kind h states place kind
 fault-old h states place Commit one wf =
-    ap (λ words. option_and_then (commit_fault (view_of_words h words) (committed_at place)) (slice_get states (commit_count place.earlier)))
+    ap (λ words. option_and_then (commit_fault (rules_of h) (view_of_words h words) (committed_at place)) (slice_get states (commit_count place.earlier)))
     (first_words_at h place one wf)
 fault-old h states place BlockCommit one wf =
-    ap (λ words. option_and_then (commit_fault (view_of_words h words) (committed_at place)) (slice_get states (commit_count place.earlier)))
+    ap (λ words. option_and_then (commit_fault (rules_of h) (view_of_words h words) (committed_at place)) (slice_get states (commit_count place.earlier)))
     (first_words_at h place one wf)
 fault-old h states place (Return reply) one wf = refl
 fault-old h states place (Call method args) one wf = refl
@@ -78,7 +79,7 @@ fault-old h states place BlockClose one wf = refl
 
 -- the rest of a front that keeps the rules from a place on
 fault_after-old : (h : Header) (states : List Amounts) (earlier later : List Entry) → h.version ≡ 1 → WellFormed h earlier
-    → first_answer (violation_at h [] states) (places_after earlier (front_after h earlier later))
+    → first_answer (violation_at (rules_of h) [] states) (places_after earlier (front_after h earlier later))
     ≡ old_fault_after h states earlier (front_after h earlier later)
 unfolding fault_at
 fault_after-old h states earlier [] one wf = refl
@@ -86,10 +87,10 @@ fault_after-old h states earlier (e ∷ later) one wf =
     by_rule (broken_rule h earlier e) refl (λ kept. fault_after-old h states (e ∷ earlier) later one (kept, wf))
   where
     claim : List Entry → Type 0
-    claim xs = first_answer (violation_at h [] states) (places_after earlier xs) ≡ old_fault_after h states earlier xs
+    claim xs = first_answer (violation_at (rules_of h) [] states) (places_after earlier xs) ≡ old_fault_after h states earlier xs
 
     by_rule : (o : Option Rule) → broken_rule h earlier e ≡ o
-        → (broken_rule h earlier e ≡ None → first_answer (violation_at h [] states) (places_after (e ∷ earlier) (front_after h (e ∷ earlier) later))
+        → (broken_rule h earlier e ≡ None → first_answer (violation_at (rules_of h) [] states) (places_after (e ∷ earlier) (front_after h (e ∷ earlier) later))
         ≡ old_fault_after h states (e ∷ earlier) (front_after h (e ∷ earlier) later))
         → claim (elim o as (λ _. List Entry) [ None ↦ e ∷ front_after h (e ∷ earlier) later | Some rule ↦ [] ])
     by_rule None is rest =
@@ -100,17 +101,17 @@ fault_after-old h states earlier (e ∷ later) one wf =
         λ i. option_or (option_map (Violation (line i)) (here i)) (onward i)
     by_rule (Some rule) is rest = refl
 
-first_fault-old : (h : Header) (es : List Entry) → h.version ≡ 1 → first_fault h [] (front h es) ≡ old_first_fault h (old_front h es)
+first_fault-old : (h : Header) (es : List Entry) → h.version ≡ 1 → first_fault (rules_of h) [] (front h es) ≡ old_first_fault h (old_front h es)
 unfolding first_fault front
 first_fault-old h es one =
-    ap (λ ss. first_answer (violation_at h [] ss) (places_after [] (front_after h [] es))) (states_along-none h (front_after h [] es))
-    ∙ fault_after-old h (states_of (Some start) (front_after h [] es)) [] es one tt
+    ap (λ ss. first_answer (violation_at (rules_of h) [] ss) (places_after [] (front_after h [] es))) (states_along-none h (front_after h [] es))
+    ∙ fault_after-old h (states_of (rules_of h) (Some start) (front_after h [] es)) [] es one tt
     ∙ ap (λ xs. old_first_fault h xs) (front_after-old h [] es one tt)
 
-pub old_so_far : (h : Header) (es : List Entry) → h.version ≡ 1 → verdict_so_far h [] es ≡ old_verdict_so_far h es
+pub old_so_far : (h : Header) (es : List Entry) → h.version ≡ 1 → verdict_so_far (rules_of h) [] es ≡ old_verdict_so_far h es
 unfolding verdict_so_far shape_verdict front first_break
 old_so_far h es one =
-    ap (λ o. option_or o (option_or (first_fault h [] (front h es)) (shape_verdict h [] es))) (begun_verdict-none h es)
+    ap (λ o. option_or o (option_or (first_fault (rules_of h) [] (front h es)) (shape_verdict h [] es))) (begun_verdict-none h es)
     ∙ ap (λ o. option_or o (option_map (Malformed (line_of [] (length (front h es)))) (first_break h es))) (first_fault-old h es one)
     ∙ ap (λ n. option_or (old_first_fault h (old_front h es)) (option_map (Malformed n) (first_break h es))) (line_of-none (length (front h es)))
     ∙ ap (λ xs. option_or (old_first_fault h (old_front h es)) (option_map (Malformed (length xs + 2)) (first_break h es)))
@@ -118,10 +119,10 @@ old_so_far h es one =
     ∙ ap (λ o. option_or (old_first_fault h (old_front h es)) (option_map (Malformed (length (old_front h es) + 2)) o))
     (break_after-old h [] es one tt)
 
-pub old_whole : (h : Header) (es : List Entry) → h.version ≡ 1 → verdict h [] es ≡ old_verdict h es
+pub old_whole : (h : Header) (es : List Entry) → h.version ≡ 1 → verdict (rules_of h) [] es ≡ old_verdict h es
 unfolding verdict end_verdict old_verdict
 old_whole h es one =
-    ap (λ o. unwrap_or (option_or o (end_verdict h [] es)) (accepted es)) (old_so_far h es one)
+    ap (λ o. unwrap_or (option_or o (end_verdict (rules_of h) [] es)) (accepted es)) (old_so_far h es one)
     ∙ ap (λ o. unwrap_or (option_or (old_verdict_so_far h es) (option_or o
     (then_some (is_call_open h (newest_first es)) (Malformed (line_of [] (length es)) CallOpen)))) (accepted es)) (start_verdict-none h)
     ∙ ap (λ n. unwrap_or (option_or (old_verdict_so_far h es)

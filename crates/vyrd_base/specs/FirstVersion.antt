@@ -33,6 +33,7 @@ use Rattle.vyrd_base.specs.Commits.{commits, states_from, committed_at, commit_c
 use Rattle.vyrd_base.specs.Views.{view_of_words}
 use Rattle.vyrd_base.specs.Faults.{commit_fault, return_fault}
 use Rattle.vyrd_base.specs.Verdicts.{is_call_open, accepted}
+use Rattle.vyrd_base.specs.Rules.{rules_of}
 
 -- the rules for an entry of the caller, in their order
 abbrev pub old_checks_of : Header → List Entry → ℕ → Kind → List Check
@@ -93,7 +94,7 @@ old_words_after h earlier =
 -- the fault of the commit at a place
 abbrev pub old_fault_of_commit : Header → List Amounts → Place Entry → Option Why
 old_fault_of_commit h states place = option_and_then
-    (commit_fault (view_of_words h (old_words_after h (place.here ∷ place.earlier)))
+    (commit_fault (rules_of h) (view_of_words h (old_words_after h (place.here ∷ place.earlier)))
     (committed_at place))
     (slice_get states (commit_count place.earlier))
 
@@ -101,14 +102,15 @@ abbrev pub old_fault_of_kind : Header → List Amounts → Place Entry → Kind 
 old_fault_of_kind h states place Commit = old_fault_of_commit h states place
 old_fault_of_kind h states place BlockCommit = old_fault_of_commit h states place
 old_fault_of_kind h states place (Return reply) =
-    return_fault states place.here.caller place.earlier reply
+    return_fault (rules_of h) states place.here.caller place.earlier reply
 old_fault_of_kind h states place _ = None
 
 -- the first fault of a front, with its line
 abbrev pub old_first_fault : Header → List Entry → Option Verdict
 old_first_fault h well_formed = first_answer
     (λ place. option_map (Violation (position_of place + 2))
-    (old_fault_of_kind h (states_from start (commits well_formed)) place place.here.kind))
+    (old_fault_of_kind h
+    (states_from (rules_of h) start (commits well_formed)) place place.here.kind))
     (places well_formed)
 
 -- the verdict that stands already: the first fault in the front, or otherwise the break after it

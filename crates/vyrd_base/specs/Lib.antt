@@ -29,6 +29,8 @@ pub mod Histories
 pub mod Parts
 pub mod Trees
 pub mod Represented
+pub mod Rules
+pub mod OwnSamples
 pub mod Starts
 pub mod FirstVersion
 pub mod Added

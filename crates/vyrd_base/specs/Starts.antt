@@ -1,17 +1,17 @@
 -- The starting words of a log: the plain words that aren't 0 at its beginning, in the order of
 -- their numbers. The specification starts in the state for which they stand.
 use Rattle.std.specs.Prelude.{ℕ, Bool, true, false, not, ◌&&◌, ◌||◌, ◌==◌, ◌^◌, nat_le, List, []}
-use Rattle.std.specs.Prelude.{◌∷◌, ◌++◌, replicate, Option, Some, None}
+use Rattle.std.specs.Prelude.{◌∷◌, Option, Some, None}
 use Rattle.std.specs.Option.{option_map_or}
 use Rattle.vyrd_base.specs.declared.header.Header.{Header}
 use Rattle.vyrd_base.specs.declared.log.StartWord.{StartWord}
 use Rattle.vyrd_base.specs.declared.verdict.Rule.{Rule}
 use Rattle.vyrd_base.specs.declared.verdict.Rule.TheVariants.{StartRange, StartOrder}
-use Rattle.vyrd_base.specs.Layout.{plain_words, lock_words}
+use Rattle.vyrd_base.specs.Layout.{plain_words}
 use Rattle.vyrd_base.specs.Shape.{◌breaks◌, first_broken}
 use Rattle.vyrd_base.specs.Amounts.{Amounts}
 use Rattle.vyrd_base.specs.Words.{words_with}
-use Rattle.vyrd_base.specs.Represented.{state_of_words}
+use Rattle.vyrd_base.specs.Rules.{Rules}
 
 -- whether the word isn't below the number of plain words, or the value isn't from 1 to below 2^63
 abbrev pub is_out_of_range : Header → StartWord → Bool
@@ -41,7 +41,6 @@ may_start h (s ∷ starting) = h.version == 2 && do_follow h None (s ∷ startin
 abbrev pub words_at_start : Header → List StartWord → List ℕ
 words_at_start h starting = words_with h starting []
 
--- the state for which the starting words stand, with all locks free, if they stand for one
-unfoldable pub state_at_start : Header → List StartWord → Option Amounts
-state_at_start h starting =
-    state_of_words h (words_at_start h starting ++ replicate (lock_words h) 0)
+-- the state for which the starting words stand, if they stand for one
+unfoldable pub state_at_start : Rules → List StartWord → Option Amounts
+state_at_start r starting = r.start (words_at_start r.header starting)

@@ -12,12 +12,13 @@ use Rattle.vyrd_base.specs.declared.verdict.Verdict.TheVariants.{Malformed}
 use Rattle.vyrd_base.specs.Reading.{Reading, reading}
 use Rattle.vyrd_base.specs.VerdictText.{verdict_text}
 use Rattle.vyrd_base.specs.Verdicts.{verdict_so_far, end_verdict, accepted}
+use Rattle.vyrd_base.specs.Rules.{rules_of}
 
 -- what is wrong with the starting words and entries that were read, and with their end if `end` was
 -- read
 abbrev pub entries_verdict : Reading → Header → Option Verdict
-entries_verdict read h = option_or (verdict_so_far h read.starting read.entries)
-    (if read.ended then end_verdict h read.starting read.entries else None)
+entries_verdict read h = option_or (verdict_so_far (rules_of h) read.starting read.entries)
+    (if read.ended then end_verdict (rules_of h) read.starting read.entries else None)
 
 -- what is wrong with what was read: its entries come before its text
 abbrev pub known_verdict : Reading → Option Verdict

@@ -25,6 +25,7 @@ use Rattle.vyrd_base.specs.Front.{front, first_break}
 use Rattle.vyrd_base.specs.Amounts.{Amounts}
 use Rattle.vyrd_base.specs.Starts.{state_at_start}
 use Rattle.vyrd_base.specs.Commits.{states_of, commit_count}
+use Rattle.vyrd_base.specs.Rules.{Rules}
 use Rattle.vyrd_base.specs.Faults.{fault_at}
 
 -- the line of an entry: the header stands on line 1, and then the starting words
@@ -32,18 +33,18 @@ abbrev pub line_of : List StartWord → ℕ → ℕ
 line_of starting position = length starting + position + 2
 
 -- the fault at a place of a front whose states are given, with its line
-abbrev pub violation_at : Header → List StartWord → List Amounts → Place Entry → Option Verdict
-violation_at h starting states place =
-    option_map (Violation (line_of starting (position_of place))) (fault_at h starting states place)
+abbrev pub violation_at : Rules → List StartWord → List Amounts → Place Entry → Option Verdict
+violation_at r starting states place =
+    option_map (Violation (line_of starting (position_of place))) (fault_at r starting states place)
 
 -- the states along a front, from that of the starting words on
-abbrev pub states_along : Header → List StartWord → List Entry → List Amounts
-states_along h starting well_formed = states_of (state_at_start h starting) well_formed
+abbrev pub states_along : Rules → List StartWord → List Entry → List Amounts
+states_along r starting well_formed = states_of r (state_at_start r starting) well_formed
 
 -- the first fault of a front, with its line
-unfoldable pub first_fault : Header → List StartWord → List Entry → Option Verdict
-first_fault h starting well_formed =
-    first_answer (violation_at h starting (states_along h starting well_formed))
+unfoldable pub first_fault : Rules → List StartWord → List Entry → Option Verdict
+first_fault r starting well_formed =
+    first_answer (violation_at r starting (states_along r starting well_formed))
     (places well_formed)
 
 -- the first break of shape, with its line
@@ -52,28 +53,29 @@ shape_verdict h starting entries =
     option_map (Malformed (line_of starting (length (front h entries)))) (first_break h entries)
 
 -- the verdict about starting words that stand for no state, on the line of the first of them
-abbrev pub start_verdict : Header → List StartWord → Option Verdict
-start_verdict h starting = then_some (is_none (state_at_start h starting)) (Malformed 2 StartState)
+abbrev pub start_verdict : Rules → List StartWord → Option Verdict
+start_verdict r starting = then_some (is_none (state_at_start r starting)) (Malformed 2 StartState)
 
 -- what is wrong with the starting words, which counts once there is an entry
-abbrev pub begun_verdict : Header → List StartWord → List Entry → Option Verdict
-begun_verdict h starting [] = None
-begun_verdict h starting (e ∷ entries) = start_verdict h starting
+abbrev pub begun_verdict : Rules → List StartWord → List Entry → Option Verdict
+begun_verdict r starting [] = None
+begun_verdict r starting (e ∷ entries) = start_verdict r starting
 
 -- the verdict that stands already: about the starting words, or the first fault in the front, or
 -- otherwise the break after it
-unfoldable pub verdict_so_far : Header → List StartWord → List Entry → Option Verdict
-verdict_so_far h starting entries = option_or (begun_verdict h starting entries)
-    (option_or (first_fault h starting (front h entries)) (shape_verdict h starting entries))
+unfoldable pub verdict_so_far : Rules → List StartWord → List Entry → Option Verdict
+verdict_so_far r starting entries = option_or (begun_verdict r starting entries)
+    (option_or (first_fault r starting (front r.header entries))
+    (shape_verdict r.header starting entries))
 
 -- whether some execution is open after these entries, given the newest first
 abbrev pub is_call_open : Header → List Entry → Bool
 is_call_open h earlier = list_any (λ c. is_some (open_call c earlier)) (numbers_below h.callers)
 
 -- the verdict if `end` stands after the entries: about the starting words, or an open call
-unfoldable pub end_verdict : Header → List StartWord → List Entry → Option Verdict
-end_verdict h starting entries = option_or (start_verdict h starting)
-    (then_some (is_call_open h (newest_first entries))
+unfoldable pub end_verdict : Rules → List StartWord → List Entry → Option Verdict
+end_verdict r starting entries = option_or (start_verdict r starting)
+    (then_some (is_call_open r.header (newest_first entries))
     (Malformed (line_of starting (length entries)) CallOpen))
 
 -- whether an entry ends an execution
@@ -93,16 +95,16 @@ unfoldable pub accepted : List Entry → Verdict
 accepted entries = Accepted (length entries) (commit_count entries) (observer_count entries)
 
 -- the verdict about a whole log, which `end` follows
-unfoldable pub verdict : Header → List StartWord → List Entry → Verdict
-verdict h starting entries =
-    unwrap_or (option_or (verdict_so_far h starting entries) (end_verdict h starting entries))
+unfoldable pub verdict : Rules → List StartWord → List Entry → Verdict
+verdict r starting entries =
+    unwrap_or (option_or (verdict_so_far r starting entries) (end_verdict r starting entries))
     (accepted entries)
 
 -- The verdict if the text of the log stops in this way after the entries. A rule of text that is
 -- broken two lines after the last entry is broken after an `end`.
-unfoldable pub verdict_at : Header → List StartWord → List Entry → Stop → Verdict
-verdict_at h starting entries End = verdict h starting entries
-verdict_at h starting entries (Text line rule) = unwrap_or
-    (option_or (verdict_so_far h starting entries) (if line == line_of starting (length entries) + 1
-    then end_verdict h starting entries
+unfoldable pub verdict_at : Rules → List StartWord → List Entry → Stop → Verdict
+verdict_at r starting entries End = verdict r starting entries
+verdict_at r starting entries (Text line rule) = unwrap_or
+    (option_or (verdict_so_far r starting entries) (if line == line_of starting (length entries) + 1
+    then end_verdict r starting entries
     else None)) (Malformed line rule)

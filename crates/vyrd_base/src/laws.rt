@@ -24,6 +24,7 @@ ghost use Rattle.vyrd_base.specs.Amounts.{Amounts, IsAmounts, amount_of, with_am
 ghost use Rattle.vyrd_base.specs.Amounts.{first_difference};
 ghost use Rattle.vyrd_base.specs.declared.history.Stamped.{Stamped};
 ghost use Rattle.vyrd_base.specs.TextVerdicts.{text_verdict, text_verdict_so_far, stop_of};
+ghost use Rattle.vyrd_base.specs.Rules.{Rules, rules_of};
 ghost use Rattle.vyrd_base.specs.Verdicts.{verdict_so_far, verdict, verdict_at, is_call_open};
 ghost use Rattle.vyrd_base.specs.Buffers.{text_of, text_length, joined, cut_to, are_characters};
 ghost use Rattle.vyrd_base.specs.Starts.{may_start, state_at_start};
@@ -41,25 +42,25 @@ pub fn front_grows()
 /// A verdict that stands stands for good.
 #[tactic(auto, using(crate::proofs::Answers::verdict_laws))]
 pub fn verdict_lasts()
-    ensures so_far { (h : Header) (starting : List StartWord) (es more : List Entry) (v : Verdict) →
-        verdict_so_far h starting es ≡ Some v → verdict_so_far h starting (es ++ more) ≡ Some v }
-    ensures whole { (h : Header) (starting : List StartWord) (es more : List Entry) (v : Verdict) →
-        verdict_so_far h starting es ≡ Some v → verdict h starting (es ++ more) ≡ v }
+    ensures so_far { (r : Rules) (starting : List StartWord) (es more : List Entry) (v : Verdict) →
+        verdict_so_far r starting es ≡ Some v → verdict_so_far r starting (es ++ more) ≡ Some v }
+    ensures whole { (r : Rules) (starting : List StartWord) (es more : List Entry) (v : Verdict) →
+        verdict_so_far r starting es ≡ Some v → verdict r starting (es ++ more) ≡ v }
 {}
 
 /// A log of version 1 keeps the verdict that it had while there was no other version.
 #[tactic(auto, using(crate::proofs::Answers::first_version_laws))]
 pub fn first_version_keeps_its_verdicts()
     ensures so_far { (h : Header) (es : List Entry) → h.version ≡ 1
-        → verdict_so_far h [] es ≡ old_verdict_so_far h es }
+        → verdict_so_far (rules_of h) [] es ≡ old_verdict_so_far h es }
     ensures whole { (h : Header) (es : List Entry) → h.version ≡ 1
-        → verdict h [] es ≡ old_verdict h es }
+        → verdict (rules_of h) [] es ≡ old_verdict h es }
 {}
 
 /// Without starting words the specification starts empty.
 #[tactic(auto, using(crate::proofs::Answers::start_laws))]
 pub fn starts_empty()
-    ensures { (h : Header) → state_at_start h [] ≡ Some start }
+    ensures { (h : Header) → state_at_start (rules_of h) [] ≡ Some start }
 {}
 
 /// A write outside a block changes its own word alone.
@@ -88,7 +89,7 @@ pub fn text_is_read()
     ensures judged { (max : ℕ) (h : Header) (starting : List StartWord) (es : List Entry) →
         length starting + length es + 2 ≤ max → may_start h starting ≡ true →
         AllByRecursion (λ e. is_entry_of h.subject e ≡ true) es →
-        text_verdict max (log_text h starting es) ≡ verdict h starting es }
+        text_verdict max (log_text h starting es) ≡ verdict (rules_of h) starting es }
 {}
 
 /// The words that the log of a legal history leaves are the words of the history, once every call
@@ -128,7 +129,8 @@ pub fn verdict_by_its_stop()
     ensures headed { (max : ℕ) (bytes : List ℕ) (h : Header)
         → (reading (record { max_lines = max; is_whole = true }) bytes).header ≡ Some h
         → text_verdict max bytes
-        ≡ verdict_at h (reading (record { max_lines = max; is_whole = true }) bytes).starting
+        ≡ verdict_at (rules_of h)
+        (reading (record { max_lines = max; is_whole = true }) bytes).starting
         (reading (record { max_lines = max; is_whole = true }) bytes).entries
         (stop_of (reading (record { max_lines = max; is_whole = true }) bytes)) }
     ensures headless { (max : ℕ) (bytes : List ℕ) (fault : TextFault) →

@@ -53,6 +53,7 @@ mod subject;
 mod verdict;
 mod view;
 pub mod worked;
+pub mod worked_own;
 pub mod worked_second;
 pub mod worked_text;
 

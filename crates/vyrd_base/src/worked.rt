@@ -2,6 +2,7 @@
 //! nothing: its contract has the cases.
 
 ghost use Rattle.std.specs.Prelude.{◌≡◌, ◌^◌, [], ◌∷◌, replicate, true, false};
+ghost use Rattle.vyrd_base.specs.Rules.{rules_of};
 ghost use Rattle.vyrd_base.specs.Verdicts.{verdict};
 ghost use Rattle.vyrd_base.specs.Represented.{state_of_words};
 ghost use Rattle.vyrd_base.specs.Specification.{next_state, answer_in};
@@ -27,43 +28,48 @@ ghost use Rattle.vyrd_base.specs.declared.subject.Method.TheVariants.{BuCut, BuL
 /// Logs that keep the rules and refine the specification.
 #[tactic(auto, unfolding(crate::proofs::Opened::opened))]
 pub fn accepted_logs()
-    ensures empty { verdict alone [] [] ≡ Accepted 0 0 0 }
-    ensures in_a_block { verdict alone [] inserted ≡ Accepted 7 1 0 }
-    ensures absent { verdict alone [] (deleted 0) ≡ Accepted 3 1 0 }
-    ensures before_or_after { verdict two [] (looked_up 0) ≡ Accepted 9 1 1 }
-    ensures after { verdict two [] (looked_up 1) ≡ Accepted 9 1 1 }
-    ensures open_block_left_out { verdict two [] beside_block ≡ Accepted 10 2 0 }
-    ensures greatest_value { verdict alone [] (stray 7 9223372036854775807) ≡ Accepted 4 1 0 }
+    ensures empty { verdict (rules_of alone) [] [] ≡ Accepted 0 0 0 }
+    ensures in_a_block { verdict (rules_of alone) [] inserted ≡ Accepted 7 1 0 }
+    ensures absent { verdict (rules_of alone) [] (deleted 0) ≡ Accepted 3 1 0 }
+    ensures before_or_after { verdict (rules_of two) [] (looked_up 0) ≡ Accepted 9 1 1 }
+    ensures after { verdict (rules_of two) [] (looked_up 1) ≡ Accepted 9 1 1 }
+    ensures open_block_left_out { verdict (rules_of two) [] beside_block ≡ Accepted 10 2 0 }
+    ensures greatest_value { verdict (rules_of alone) [] (stray 7 9223372036854775807)
+        ≡ Accepted 4 1 0 }
 {}
 
 /// Logs whose commits or observers violate the specification.
 #[tactic(auto, unfolding(crate::proofs::Opened::opened))]
 pub fn violations()
-    ensures nothing_done { verdict alone [] claimed ≡ Violation 3 (View 5) }
-    ensures refused { verdict alone [] (deleted 1) ≡ Violation 3 (Reply 1) }
-    ensures too_early { verdict two [] too_early ≡ Violation 6 (Observer 1) }
-    ensures in_between { verdict two [] no_block ≡ Violation 7 (View 5) }
-    ensures earlier_commit { verdict two [] (waits 1) ≡ Violation 3 (Reply 1) }
-    ensures observer { verdict two [] (waits 0) ≡ Violation 5 (Observer 7) }
-    ensures torn_write { verdict two_on_cache [] torn ≡ Violation 16 (View 0) }
-    ensures no_such_reply { verdict alone [] (insert 0 5 ∷ commit 0 ∷ return 0 2 ∷ [])
+    ensures nothing_done { verdict (rules_of alone) [] claimed ≡ Violation 3 (View 5) }
+    ensures refused { verdict (rules_of alone) [] (deleted 1) ≡ Violation 3 (Reply 1) }
+    ensures too_early { verdict (rules_of two) [] too_early ≡ Violation 6 (Observer 1) }
+    ensures in_between { verdict (rules_of two) [] no_block ≡ Violation 7 (View 5) }
+    ensures earlier_commit { verdict (rules_of two) [] (waits 1) ≡ Violation 3 (Reply 1) }
+    ensures observer { verdict (rules_of two) [] (waits 0) ≡ Violation 5 (Observer 7) }
+    ensures torn_write { verdict (rules_of two_on_cache) [] torn ≡ Violation 16 (View 0) }
+    ensures no_such_reply { verdict (rules_of alone) [] (insert 0 5 ∷ commit 0 ∷ return 0 2 ∷ [])
         ≡ Violation 3 (Reply 2) }
 {}
 
 /// Logs that break a rule of shape.
 #[tactic(auto, unfolding(crate::proofs::Opened::opened))]
 pub fn malformed_logs()
-    ensures raced { verdict two [] raced ≡ Malformed 6 BlockRaced }
-    ensures open { verdict alone [] (lookup 0 5 ∷ []) ≡ Malformed 3 CallOpen }
-    ensures value { verdict alone [] (stray 7 9223372036854775808) ≡ Malformed 3 ValueRange }
-    ensures word { verdict alone [] (stray 8 9223372036854775807) ≡ Malformed 3 WordRange }
-    ensures caller { verdict alone [] (insert 1 5 ∷ []) ≡ Malformed 2 CallerRange }
-    ensures unreturned { verdict alone [] (insert 0 5 ∷ commit 0 ∷ []) ≡ Malformed 4 CallOpen }
-    ensures second_commit { verdict alone [] (insert 0 5 ∷ commit 0 ∷ commit 0 ∷ [])
+    ensures raced { verdict (rules_of two) [] raced ≡ Malformed 6 BlockRaced }
+    ensures open { verdict (rules_of alone) [] (lookup 0 5 ∷ []) ≡ Malformed 3 CallOpen }
+    ensures value { verdict (rules_of alone) [] (stray 7 9223372036854775808)
+        ≡ Malformed 3 ValueRange }
+    ensures word { verdict (rules_of alone) [] (stray 8 9223372036854775807)
+        ≡ Malformed 3 WordRange }
+    ensures caller { verdict (rules_of alone) [] (insert 1 5 ∷ []) ≡ Malformed 2 CallerRange }
+    ensures unreturned { verdict (rules_of alone) [] (insert 0 5 ∷ commit 0 ∷ [])
+        ≡ Malformed 4 CallOpen }
+    ensures second_commit { verdict (rules_of alone) [] (insert 0 5 ∷ commit 0 ∷ commit 0 ∷ [])
         ≡ Malformed 4 SecondCommit }
-    ensures return_in_block { verdict alone [] (insert 0 5 ∷ begin 0 ∷ return 0 0 ∷ [])
+    ensures return_in_block { verdict (rules_of alone) [] (insert 0 5 ∷ begin 0 ∷ return 0 0 ∷ [])
         ≡ Malformed 4 ReturnInBlock }
-    ensures no_commit { verdict alone [] (insert 0 5 ∷ return 0 0 ∷ []) ≡ Malformed 3 NoCommit }
+    ensures no_commit { verdict (rules_of alone) [] (insert 0 5 ∷ return 0 0 ∷ [])
+        ≡ Malformed 3 NoCommit }
 {}
 
 /// Words that stand for a state, and words that don't.

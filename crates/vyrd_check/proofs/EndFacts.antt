@@ -3,7 +3,7 @@ use Rattle.std.proofs.Common.{◌≡◌, Bool, true, false, List, length, Option
 use Rattle.std.specs.Prelude.{unwrap_or, is_none}
 use Rattle.std.specs.Option.{option_or}
 use Rattle.std.specs.Bool.{then_some}
-use Rattle.vyrd_base.specs.declared.header.Header.{Header}
+use Rattle.vyrd_base.specs.Rules.{Rules}
 use Rattle.vyrd_base.specs.declared.log.Entry.{Entry}
 use Rattle.vyrd_base.specs.declared.log.StartWord.{StartWord}
 use Rattle.vyrd_base.specs.declared.verdict.Rule.TheVariants.{StartState, CallOpen}
@@ -19,13 +19,13 @@ unless_accepted (Accepted entries commits observers) = None
 unless_accepted (Violation line why) = Some (Violation line why)
 unless_accepted (Malformed line rule) = Some (Malformed line rule)
 
-pub open_at_end : (h : Header) (starting : List StartWord) (log : List Entry) (v : Verdict)
-    → verdict_so_far h starting log ≡ None
-    → v ≡ verdict h starting log → unless_accepted v ≡ end_verdict h starting log
+pub open_at_end : (r : Rules) (starting : List StartWord) (log : List Entry) (v : Verdict)
+    → verdict_so_far r starting log ≡ None
+    → v ≡ verdict r starting log → unless_accepted v ≡ end_verdict r starting log
 unfolding verdict end_verdict accepted
-open_at_end h starting log v none is =
-    ap unless_accepted (is ∙ ap (λ o. unwrap_or (option_or o (end_verdict h starting log)) (accepted log)) none)
-    ∙ by_tests (is_none (state_at_start h starting)) (is_call_open h (newest_first log))
+open_at_end r starting log v none is =
+    ap unless_accepted (is ∙ ap (λ o. unwrap_or (option_or o (end_verdict r starting log)) (accepted log)) none)
+    ∙ by_tests (is_none (state_at_start r starting)) (is_call_open r.header (newest_first log))
   where
     at_end : Bool → Bool → Option Verdict
     at_end stateless open_call = option_or (then_some stateless (Malformed 2 StartState))

@@ -1,9 +1,10 @@
 -- How what is kept goes on with a piece of the text.
-use Rattle.std.proofs.Common.{◌≡◌, ◌≤◌, Bool, true, false, cond, ◌||◌, List, [], ◌∷◌, ◌++◌, length, Option, Some, None, refl, ap, subst, ◌∙◌, sym, arith, length-append}
+use Rattle.std.proofs.Common.{◌≡◌, ◌≤◌, Bool, true, false, cond, ◌||◌, List, [], ◌∷◌, ◌++◌, length, Option, Some, None, refl, ap, subst, ◌∙◌, sym, arith, length-append, option_map}
 use Rattle.std.specs.Prelude.{option_and_then, is_none}
 use Rattle.std.specs.Bool.{then_some}
 use Rattle.std.specs.Option.{option_or}
 use Rattle.std.proofs.lemmas.Bool.{or_left, or_right}
+use Rattle.vyrd_base.specs.Rules.{Charter, built_in, rules_of, rules_by}
 use Rattle.vyrd_base.specs.declared.header.Header.{Header}
 use Rattle.vyrd_base.specs.declared.log.Entry.{Entry}
 use Rattle.vyrd_base.specs.declared.log.StartWord.{StartWord}
@@ -33,6 +34,24 @@ any_more : (xs more : List Entry) → has_any xs ≡ true → has_any (xs ++ mor
 any_more [] more e = cc
 any_more (x ∷ xs) more e = refl
 
+-- what is said of the rules of a header
+of_charter : {B : Type 0} (f : Charter → Option B) (o : Option Header)
+    → option_and_then f (option_map built_in o) ≡ option_and_then (λ h. f (built_in h)) o
+of_charter f None = refl
+of_charter f (Some h) = refl
+
+-- a header that was read stays
+still_read : (old new : Option Header) (l : Charter) → ((h : Header) → old ≡ Some h → new ≡ Some h)
+    → option_map built_in old ≡ Some l → option_map built_in new ≡ Some l
+still_read None new l stays is = cc
+still_read (Some h) new l stays is = ap (option_map built_in) (stays h refl) ∙ is
+
+-- the header that was read, by the name of its rules
+pub header_of_charter : (o : Option Header) (l : Charter) → option_map built_in o ≡ Some l
+    → (h : Header) × (o ≡ Some h) × (built_in h ≡ l)
+header_of_charter None l is = cc
+header_of_charter (Some h) l is = (h, refl, cc)
+
 -- what has begun goes on
 pub begun_on : (old new : Reading) → TextGrown old new → old.fault ≡ None → has_begun old ≡ true
     → has_begun new ≡ true
@@ -61,7 +80,7 @@ judge_before (Some j) after old new more judging g none headed all begun =
     let now = begun_on old new g none judging.begun in
     let same : new.starting ≡ old.starting = g.grown.begun none judging.begun in
     subst (λ o. IsBefore o new old.entries) (sym begun) (record {
-      header = g.header j.kept.header judging.header;
+      charter = still_read old.header new.header j.kept.charter g.header judging.charter;
       followed = subst (λ ss. HasFollowed j ss old.entries) (sym same) judging.followed;
       so_far = judging.so_far;
       begun = now;
@@ -76,7 +95,7 @@ judge_before None after old new more judging g none headed all begun =
         → IsMade h new.starting o → IsBefore o new old.entries
     by_made h None has now made = (judging.0, λ f. (h, has, made))
     by_made h (Some j) has now made = record {
-      header = has ∙ ap Some (sym made.0);
+      charter = ap (option_map built_in) has ∙ ap Some (sym made.0);
       followed = subst (HasFollowed j new.starting) (sym judging.0) made.1;
       so_far = made.2;
       begun = now;
@@ -107,20 +126,21 @@ has_room (Some j) read log entries before few =
 -- what is wrong with what was read, by the judge's header
 pub wrong_by : (j : JudgeView) (read : Reading) (log more : List Entry) (done : Bool)
     → IsReady (Some j) read log more done
-    → wrong_in read ≡ option_or (verdict_so_far j.kept.header read.starting (log ++ more))
-    (cond done (end_verdict j.kept.header read.starting (log ++ more)) None)
+    → wrong_in read ≡ option_or (verdict_so_far (rules_by j.kept.charter) read.starting (log ++ more))
+    (cond done (end_verdict (rules_by j.kept.charter) read.starting (log ++ more)) None)
 wrong_by j read log more done ready =
-    ap (option_and_then (entries_verdict read)) ready.before.header
-    ∙ (λ i. option_or (verdict_so_far j.kept.header read.starting (ready.entries i))
-    (cond (ready.ended i) (end_verdict j.kept.header read.starting (ready.entries i)) None))
+    sym (of_charter (λ l. option_or (verdict_so_far (rules_by l) read.starting read.entries) (cond read.ended (end_verdict (rules_by l) read.starting read.entries) None)) read.header)
+    ∙ ap (option_and_then (λ l. option_or (verdict_so_far (rules_by l) read.starting read.entries) (cond read.ended (end_verdict (rules_by l) read.starting read.entries) None))) ready.before.charter
+    ∙ (λ i. option_or (verdict_so_far (rules_by j.kept.charter) read.starting (ready.entries i))
+    (cond (ready.ended i) (end_verdict (rules_by j.kept.charter) read.starting (ready.entries i)) None))
 
 -- a judge that has followed the last entries, with no verdict
 pub judging_on : (old new : JudgeView) (read : Reading) (log more : List Entry) (done : Bool)
     → IsReady (Some old) read log more done
-    → new.kept.header ≡ old.kept.header → HasFollowed new read.starting (log ++ more)
+    → new.kept.charter ≡ old.kept.charter → HasFollowed new read.starting (log ++ more)
     → new.so_far ≡ None → IsJudging (Some new) read
 judging_on old new read log more done ready same followed none = record {
-  header = ready.before.header ∙ ap Some (sym same);
+  charter = ready.before.charter ∙ ap Some (sym same);
   followed = subst (HasFollowed new read.starting) (sym ready.entries) followed;
   so_far = none;
   begun = ready.before.begun;
@@ -128,22 +148,22 @@ judging_on old new read log more done ready same followed none = record {
 
 -- If the starting words stand for no state, that is what is wrong once an entry or `end` was read.
 start_wrong : (h : Header) (starting : List StartWord) (entries : List Entry) (done : Bool)
-    → is_none (state_at_start h starting) ≡ true
+    → is_none (state_at_start (rules_of h) starting) ≡ true
     → (has_any entries || done) ≡ true
-    → option_or (verdict_so_far h starting entries) (cond done (end_verdict h starting entries) None)
+    → option_or (verdict_so_far (rules_of h) starting entries) (cond done (end_verdict (rules_of h) starting entries) None)
     ≡ Some (Malformed 2 StartState)
 unfolding verdict_so_far end_verdict
 start_wrong h starting [] false stands begun = cc
 start_wrong h starting [] true stands begun =
-    ap (λ o. option_or o (end_verdict h starting [])) (nothing_so_far h starting)
+    ap (λ o. option_or o (end_verdict (rules_of h) starting [])) (nothing_so_far h starting)
     ∙ ap (λ b. option_or (then_some b (Malformed 2 StartState))
     (then_some (is_call_open h (newest_first []))
     (Malformed (line_of starting (length {A = Entry} [])) CallOpen))) stands
 start_wrong h starting (e ∷ entries) done stands begun =
     ap (λ b. option_or (option_or (then_some b (Malformed 2 StartState))
-    (option_or (first_fault h starting (front h (e ∷ entries)))
+    (option_or (first_fault (rules_of h) starting (front h (e ∷ entries)))
     (shape_verdict h starting (e ∷ entries))))
-    (cond done (end_verdict h starting (e ∷ entries)) None)) stands
+    (cond done (end_verdict (rules_of h) starting (e ∷ entries)) None)) stands
 
 -- nothing was read
 unread : (entries : List Entry) (done : Bool) → (has_any entries || done) ≡ false
@@ -162,12 +182,12 @@ nothing_wrong : (read : Reading) → has_begun read ≡ false → wrong_in read 
 nothing_wrong read e =
     let none = unread read.entries read.ended e in
     ap (λ f. option_and_then f read.header)
-    (λ i. λ h. option_or (verdict_so_far h read.starting (none.0 i))
-    (cond (none.1 i) (end_verdict h read.starting (none.0 i)) None))
+    (λ i. λ h. option_or (verdict_so_far (rules_of h) read.starting (none.0 i))
+    (cond (none.1 i) (end_verdict (rules_of h) read.starting (none.0 i)) None))
     ∙ by_header read.header
   where
     by_header : (o : Option Header)
-        → option_and_then (λ h. option_or (verdict_so_far h read.starting []) None) o ≡ None
+        → option_and_then (λ h. option_or (verdict_so_far (rules_of h) read.starting []) None) o ≡ None
     by_header None = refl
     by_header (Some h) = ap (λ o. option_or o None) (nothing_so_far h read.starting)
 

@@ -4,6 +4,7 @@ use Rattle.std.specs.Prelude.{◌==◌, nat_lt, unwrap_or, option_map, option_an
 use Rattle.std.specs.Option.{option_or}
 use Rattle.std.specs.List.{slice_split}
 use Rattle.std.specs.Str.{bytes_eq}
+use Rattle.vyrd_base.specs.Rules.{rules_of}
 use Rattle.vyrd_base.specs.declared.header.Header.{Header}
 use Rattle.vyrd_base.specs.declared.subject.Subject.{Subject}
 use Rattle.vyrd_base.specs.declared.log.Entry.{Entry}
@@ -173,15 +174,15 @@ text_right max bytes nothing = by_fault (read_so_far max bytes).fault (second_no
 -- if `end` was read and nothing is wrong, the log is accepted
 pub ended_right : (max : ℕ) (bytes : List ℕ) (h : Header) → text_verdict_so_far max bytes ≡ None → (read_so_far max bytes).header ≡ Some h
     → (read_so_far max bytes).ended ≡ true
-    → verdict h (read_so_far max bytes).starting (read_so_far max bytes).entries
+    → verdict (rules_of h) (read_so_far max bytes).starting (read_so_far max bytes).entries
     ≡ accepted (read_so_far max bytes).entries
 unfolding verdict
 ended_right max bytes h nothing has done =
     let r = read_so_far max bytes in
     let wrong = header_right max bytes h nothing has in
-    let none : option_or (verdict_so_far h r.starting r.entries) (end_verdict h r.starting r.entries) ≡ None =
-    ap (λ b. option_or (verdict_so_far h r.starting r.entries)
-    (cond b (end_verdict h r.starting r.entries) None)) (sym done) ∙ wrong in
+    let none : option_or (verdict_so_far (rules_of h) r.starting r.entries) (end_verdict (rules_of h) r.starting r.entries) ≡ None =
+    ap (λ b. option_or (verdict_so_far (rules_of h) r.starting r.entries)
+    (cond b (end_verdict (rules_of h) r.starting r.entries) None)) (sym done) ∙ wrong in
     ap (λ o. unwrap_or o (accepted r.entries)) none
 
 -- If nothing is known of the bytes, the verdict about them as the whole input is their fault of
@@ -197,8 +198,8 @@ whole_right max bytes nothing =
     let right = entries_right max bytes nothing in
     let wrong_is : wrong_in w ≡ None =
     (λ i. option_and_then (λ h.
-    option_or (verdict_so_far h (sym same.starting i) (sym same.entries i))
-    (cond (sym same.ended i) (end_verdict h (sym same.starting i) (sym same.entries i)) None))
+    option_or (verdict_so_far (rules_of h) (sym same.starting i) (sym same.entries i))
+    (cond (sym same.ended i) (end_verdict (rules_of h) (sym same.starting i) (sym same.entries i)) None))
     (sym same.header i)) ∙ right in
     (λ i. unwrap_or (option_or (wrong_is i) (option_map (λ fault. Malformed fault.line fault.rule) w.fault)) (accepted (sym same.entries i)))
 
@@ -210,7 +211,7 @@ whole_faulty max bytes line rule nothing fault =
 
 pub whole_accepted : (max : ℕ) (bytes : List ℕ) (h : Header) → text_verdict_so_far max bytes ≡ None
     → (read_whole max bytes).fault ≡ None → (read_whole max bytes).ended ≡ true → (read_so_far max bytes).header ≡ Some h
-    → verdict h (read_so_far max bytes).starting (read_so_far max bytes).entries
+    → verdict (rules_of h) (read_so_far max bytes).starting (read_so_far max bytes).entries
     ≡ text_verdict max bytes
 whole_accepted max bytes h nothing fault done has =
     ended_right max bytes h nothing has ((whole_same max bytes).ended ∙ done)

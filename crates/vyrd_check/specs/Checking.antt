@@ -1,12 +1,13 @@
 -- What a checker keeps, and the bytes that it stands for.
 use Rattle.std.specs.Prelude.{◌≡◌, ◌≤◌, ◌+◌, ◌^◌, ℕ, Bool, true, false, ◌||◌, List, [], ◌++◌}
-use Rattle.std.specs.Prelude.{length, Option, Some, None, option_and_then, is_none}
+use Rattle.std.specs.Prelude.{length, Option, Some, None, option_and_then, option_map, is_none}
 use Rattle.vyrd_base.specs.declared.header.Header.{Header}
 use Rattle.vyrd_base.specs.declared.log.Entry.{Entry}
 use Rattle.vyrd_base.specs.declared.log.StartWord.{StartWord}
 use Rattle.vyrd_base.specs.declared.verdict.Verdict.{Verdict}
 use Rattle.vyrd_base.specs.Starts.{state_at_start}
 use Rattle.vyrd_base.specs.Reading.{Reading, has_any}
+use Rattle.vyrd_base.specs.Rules.{built_in, rules_of}
 use Rattle.vyrd_base.specs.TextVerdicts.{entries_verdict, text_verdict_so_far}
 use Rattle.vyrd_text.specs.Readers.{ReaderState, HasRead}
 use Rattle.vyrd_judge.specs.Following.{JudgeView, HasFollowed}
@@ -30,9 +31,10 @@ wrong_in read = option_and_then (entries_verdict read) read.header
 abbrev pub has_begun : Reading → Bool
 has_begun read = has_any read.entries || read.ended
 
--- a judge with no verdict that has followed these entries of what was read
+-- a judge with no verdict that has followed these entries of what was read, by the rules of the
+-- header that was read
 pub record IsAt (j : JudgeView) (read : Reading) (log : List Entry) : Type 0 where
-  pub header : read.header ≡ Some j.kept.header
+  pub charter : option_map built_in read.header ≡ Some j.kept.charter
   pub followed : HasFollowed j read.starting log
   pub so_far : j.so_far ≡ None
   pub begun : has_begun read ≡ true
@@ -46,7 +48,8 @@ IsJudging (Some j) read = IsAt j read read.entries
 -- the starting words that were read stand for no state
 abbrev pub StandsForNone : Reading → Type 0
 StandsForNone read =
-    (h : Header) × (read.header ≡ Some h) × (is_none (state_at_start h read.starting) ≡ true)
+    (h : Header) × (read.header ≡ Some h)
+    × (is_none (state_at_start (rules_of h) read.starting) ≡ true)
 
 -- The judge that has followed the entries from before. If there is none, no entry came before, and
 -- the starting words stand for no state if an entry or `end` was read.
@@ -68,8 +71,9 @@ HasRoom (Some j) entries = j.kept.entries + length entries ≤ 2 ^ 62
 
 -- the judge that was made if the starting words stand for a state: it has followed no entry
 abbrev pub IsMade : Header → List StartWord → Option JudgeView → Type 0
-IsMade h starting None = is_none (state_at_start h starting) ≡ true
-IsMade h starting (Some j) = (j.kept.header ≡ h) × HasFollowed j starting [] × (j.so_far ≡ None)
+IsMade h starting None = is_none (state_at_start (rules_of h) starting) ≡ true
+IsMade h starting (Some j) = (j.kept.charter ≡ built_in h) × HasFollowed j starting []
+    × (j.so_far ≡ None)
 
 -- The judge before and after a piece, in which an entry or `end` was read or not: a new one if
 -- there was none.

@@ -3,6 +3,7 @@
 ghost use Rattle.std.specs.Prelude.{◌≡◌, ◌++◌, ◌+◌, ◌^◌, ◌≤◌, ◌||◌, ℕ, true, List, [], length};
 ghost use Rattle.std.specs.Prelude.{Option, Some, None, IfOk, OnOk, option_map};
 ghost use Rattle.std.specs.Bool.{then_some};
+ghost use Rattle.vyrd_base.specs.Rules.{rules_by};
 ghost use Rattle.vyrd_base.specs.declared.header.Header.{Header};
 ghost use Rattle.vyrd_base.specs.declared.log.Entry.{Entry};
 ghost use Rattle.vyrd_base.specs.declared.log.StartWord.{StartWord};
@@ -212,8 +213,8 @@ fn follow(
 /// What is wrong if `end` stands after the entries, given that nothing is wrong with them.
 fn open_call(judge: &AnyJudge) -> Result<Option<Verdict>, AllocError>
     ensures { (starting : List StartWord) (log : List Entry) → HasFollowed judge.now starting log →
-        verdict_so_far judge.now.kept.header starting log ≡ None →
-        IfOk result (λ v. v ≡ end_verdict judge.now.kept.header starting log) }
+        verdict_so_far (rules_by judge.now.kept.charter) starting log ≡ None →
+        IfOk result (λ v. v ≡ end_verdict (rules_by judge.now.kept.charter) starting log) }
 {
     match judge.finish()? {
         Verdict::Accepted { .. } => Ok(None),

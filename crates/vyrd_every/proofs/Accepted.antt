@@ -40,47 +40,48 @@ use Rattle.vyrd_every.proofs.Keeping.{GoesOn, Keeping}
 use Rattle.vyrd_every.proofs.Coming.{reply_comes}
 use Rattle.vyrd_every.proofs.Reached.{no_break, all_front}
 use Rattle.vyrd_every.proofs.Judged.{later_states, states_begin, commit_is_right, state_goes_on, return_is_right}
+use Rattle.vyrd_base.specs.Rules.{rules_of}
 
 -- the first fault among the entries to come, with the states that have passed and those to come
 abbrev FaultFrom : Header → List Amounts → Amounts → List Entry → List Entry → Type 0
 FaultFrom h passed state log logs =
-    first_answer (violation_at h [] (passed ++ states_from state (commits_after log logs))) (places_after log logs) ≡ None
+    first_answer (violation_at (rules_of h) [] (passed ++ states_from (rules_of h) state (commits_after log logs))) (places_after log logs) ≡ None
 
 -- what a place adds
-place_adds : (h : Header) (states : List Amounts) (place : Place Entry) (rest : List (Place Entry)) → fault_of_kind h [] states place place.here.kind ≡ None
-    → first_answer (violation_at h [] states) rest ≡ None
-    → first_answer (violation_at h [] states) (place ∷ rest) ≡ None
+place_adds : (h : Header) (states : List Amounts) (place : Place Entry) (rest : List (Place Entry)) → fault_of_kind (rules_of h) [] states place place.here.kind ≡ None
+    → first_answer (violation_at (rules_of h) [] states) rest ≡ None
+    → first_answer (violation_at (rules_of h) [] states) (place ∷ rest) ≡ None
 unfolding fault_at
 place_adds h states place rest right later =
-    ap (λ o. option_or (option_map (Violation (line_of [] (position_of place))) o) (first_answer (violation_at h [] states) rest)) right ∙ later
+    ap (λ o. option_or (option_map (Violation (line_of [] (position_of place))) o) (first_answer (violation_at (rules_of h) [] states) rest)) right ∙ later
 
 -- an entry that neither commits nor returns
 plain_place : (h : Header) (passed : List Amounts) (state next : Amounts) (log logs : List Entry) (e : Entry)
-    → ((states : List Amounts) → fault_of_kind h [] states (record { earlier = log; here = e; later = logs }) e.kind ≡ None)
+    → ((states : List Amounts) → fault_of_kind (rules_of h) [] states (record { earlier = log; here = e; later = logs }) e.kind ≡ None)
     → commits_after log (e ∷ logs) ≡ commits_after (e ∷ log) logs → next ≡ state → FaultFrom h passed next (e ∷ log) logs → FaultFrom h passed state log (e ∷ logs)
 plain_place h passed state next log logs e right same unchanged later =
-    place_adds h (passed ++ states_from state (commits_after log (e ∷ logs))) (record { earlier = log; here = e; later = logs }) (places_after (e ∷ log) logs)
-    (right (passed ++ states_from state (commits_after log (e ∷ logs))))
-    (subst (λ xs. first_answer (violation_at h [] (passed ++ states_from state xs)) (places_after (e ∷ log) logs) ≡ None) (sym same)
+    place_adds h (passed ++ states_from (rules_of h) state (commits_after log (e ∷ logs))) (record { earlier = log; here = e; later = logs }) (places_after (e ∷ log) logs)
+    (right (passed ++ states_from (rules_of h) state (commits_after log (e ∷ logs))))
+    (subst (λ xs. first_answer (violation_at (rules_of h) [] (passed ++ states_from (rules_of h) state xs)) (places_after (e ∷ log) logs) ≡ None) (sym same)
     (subst (λ s. FaultFrom h passed s (e ∷ log) logs) unchanged later))
 
 commit_place : (h : Header) → h.version ≡ 1 → (passed : List Amounts) (state next : Amounts) (log logs : List Entry) (e : Entry) (rest : Script)
-    → ((states : List Amounts) → fault_of_kind h [] states (record { earlier = log; here = e; later = logs }) e.kind
-    ≡ fault_of_commit h [] states (record { earlier = log; here = e; later = logs }))
+    → ((states : List Amounts) → fault_of_kind (rules_of h) [] states (record { earlier = log; here = e; later = logs }) e.kind
+    ≡ fault_of_commit (rules_of h) [] states (record { earlier = log; here = e; later = logs }))
     → commits_after log (e ∷ logs) ≡ committed_at (record { earlier = log; here = e; later = logs }) ∷ commits_after (e ∷ log) logs
     → WellFormed h (e ∷ log) → view_of_words h (old_words_after h (e ∷ log)) ≡ next → length passed ≡ commit_count log
     → ((reply : ℕ) → WillReturn reply rest → next_reply e.caller logs ≡ Some reply)
     → Committing e.caller log rest state next
     → FaultFrom h (passed ++ state ∷ []) next (e ∷ log) logs → FaultFrom h passed state log (e ∷ logs)
 commit_place h one passed state next log logs e rest kind_is goes_on wf m count coming committing later =
-    place_adds h (passed ++ states_from state (commits_after log (e ∷ logs))) place (places_after (e ∷ log) logs)
-    (kind_is (passed ++ states_from state (commits_after log (e ∷ logs)))
-    ∙ ap (λ states. fault_of_commit h [] (passed ++ states) place) (states_begin state (commits_after log (e ∷ logs)))
-    ∙ commit_is_right h one passed (later_states state (commits_after log (e ∷ logs))) state next place committing.called committing.reply wf m count
+    place_adds h (passed ++ states_from (rules_of h) state (commits_after log (e ∷ logs))) place (places_after (e ∷ log) logs)
+    (kind_is (passed ++ states_from (rules_of h) state (commits_after log (e ∷ logs)))
+    ∙ ap (λ states. fault_of_commit (rules_of h) [] (passed ++ states) place) (states_begin h state (commits_after log (e ∷ logs)))
+    ∙ commit_is_right h one passed (later_states h state (commits_after log (e ∷ logs))) state next place committing.called committing.reply wf m count
     committing.is_called (coming committing.reply committing.returns) committing.allowed)
-    (subst (λ states. first_answer (violation_at h [] states) (places_after (e ∷ log) logs) ≡ None)
-    (sym (ap (λ xs. passed ++ states_from state xs) goes_on
-    ∙ state_goes_on passed state next (committed_at place) (commits_after (e ∷ log) logs) committing.called committing.reply committing.is_called
+    (subst (λ states. first_answer (violation_at (rules_of h) [] states) (places_after (e ∷ log) logs) ≡ None)
+    (sym (ap (λ xs. passed ++ states_from (rules_of h) state xs) goes_on
+    ∙ state_goes_on h passed state next (committed_at place) (commits_after (e ∷ log) logs) committing.called committing.reply committing.is_called
     (coming committing.reply committing.returns) committing.allowed))
     later)
   where
@@ -106,10 +107,10 @@ event_place h one c (Wrote cell value) passed state next log logs rest wf m coun
 event_place h one c (Marked (Call method args)) passed state next log logs rest wf m count coming leading returning later =
     plain_place h passed state next log logs (entry c (Call method args)) (λ states. refl) refl leading later
 event_place h one c (Marked (Return reply)) passed state next log logs rest wf m count coming leading returning later =
-    place_adds h (passed ++ states_from state (commits_after log (entry c (Return reply) ∷ logs)))
+    place_adds h (passed ++ states_from (rules_of h) state (commits_after log (entry c (Return reply) ∷ logs)))
     (record { earlier = log; here = entry c (Return reply); later = logs }) (places_after (entry c (Return reply) ∷ log) logs)
-    (ap (λ states. return_fault (passed ++ states) c log reply) (states_begin state (commits_after log (entry c (Return reply) ∷ logs)))
-    ∙ return_is_right passed (later_states state (commits_after log (entry c (Return reply) ∷ logs))) state c log reply count returning)
+    (ap (λ states. return_fault (rules_of h) (passed ++ states) c log reply) (states_begin h state (commits_after log (entry c (Return reply) ∷ logs)))
+    ∙ return_is_right h passed (later_states h state (commits_after log (entry c (Return reply) ∷ logs))) state c log reply count returning)
     (subst (λ s. FaultFrom h passed s (entry c (Return reply) ∷ log) logs) leading later)
 event_place h one c (Marked (Write word value)) passed state next log logs rest wf m count coming leading returning later =
     plain_place h passed state next log logs (entry c (Write word value)) (λ states. refl) refl leading later
@@ -177,11 +178,11 @@ no_fault_from h one scripts k earlier (e ∷ xs) passed state run done holds =
 
 -- the log has no fault
 pub no_fault : (h : Header) → h.version ≡ 1 → (scripts : List Script) (k : Keeping h scripts) (history : List Stamped) → IsRun h scripts (newest_first history)
-    → AreDone h scripts (newest_first history) → first_fault h [] (front h (log_of history)) ≡ None
+    → AreDone h scripts (newest_first history) → first_fault (rules_of h) [] (front h (log_of history)) ≡ None
 unfolding first_fault commits log_of
 no_fault h one scripts k history run done =
-    ap (λ es. first_answer (violation_at h [] (states_along h [] es)) (places es)) (all_front h scripts k history run)
-    ∙ ap (λ states. first_answer (violation_at h [] states) (places (log_of history))) (states_along-none h (log_of history))
+    ap (λ es. first_answer (violation_at (rules_of h) [] (states_along (rules_of h) [] es)) (places es)) (all_front h scripts k history run)
+    ∙ ap (λ states. first_answer (violation_at (rules_of h) [] states) (places (log_of history))) (states_along-none h (log_of history))
     ∙ no_fault_from h one scripts k [] history [] start run done k.begins
 
 -- a legal history in which the scripts are played to their end is a run
@@ -190,12 +191,12 @@ pub whole_run : (h : Header) (scripts : List Script) (history : List Stamped) �
 whole_run h scripts history legal played = record { legal = legal_events (cells_of h) history legal; plays = λ c. (played c).plays }
 
 -- so the log is accepted
-by_parts : (h : Header) (entries : List Entry) → first_fault h [] (front h entries) ≡ None → first_break h entries ≡ None
-    → is_call_open h (newest_first entries) ≡ false → verdict h [] entries ≡ accepted entries
+by_parts : (h : Header) (entries : List Entry) → first_fault (rules_of h) [] (front h entries) ≡ None → first_break h entries ≡ None
+    → is_call_open h (newest_first entries) ≡ false → verdict (rules_of h) [] entries ≡ accepted entries
 unfolding verdict shape_verdict
 by_parts h entries fault broken closed =
-    ap (λ o. unwrap_or (option_or o (end_verdict h [] entries)) (accepted entries)) (verdict_so_far-none h entries)
-    ∙ ap (λ o. unwrap_or (option_or (option_or (first_fault h [] (front h entries)) (shape_verdict h [] entries)) o) (accepted entries))
+    ap (λ o. unwrap_or (option_or o (end_verdict (rules_of h) [] entries)) (accepted entries)) (verdict_so_far-none h entries)
+    ∙ ap (λ o. unwrap_or (option_or (option_or (first_fault (rules_of h) [] (front h entries)) (shape_verdict h [] entries)) o) (accepted entries))
     (end_verdict-none h entries)
     ∙ (λ i. unwrap_or (option_or (option_or (fault i) (option_map (Malformed (line_of [] (length (front h entries)))) (broken i)))
     (then_some (closed i) (Malformed (line_of [] (length entries)) CallOpen))) (accepted entries))
@@ -209,7 +210,7 @@ none_open_at_end h scripts k history legal played =
     ∙ none_open h (newest_first history) (all_keep h scripts history k.sound run.legal played) (all_rest h scripts history k.sound run.legal played)
 
 pub is_accepted : (h : Header) → h.version ≡ 1 → (scripts : List Script) (k : Keeping h scripts) (history : List Stamped) → is_legal (cells_of h) history ≡ true
-    → PlayToTheEnd scripts history → verdict h [] (log_of history) ≡ accepted (log_of history)
+    → PlayToTheEnd scripts history → verdict (rules_of h) [] (log_of history) ≡ accepted (log_of history)
 is_accepted h one scripts k history legal played =
     let run : IsRun h scripts (newest_first history) = whole_run h scripts history legal played in
     by_parts h (log_of history) (no_fault h one scripts k history run (λ c low. (played c).done)) (no_break h scripts k history run)

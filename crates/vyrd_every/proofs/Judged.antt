@@ -23,6 +23,7 @@ use Rattle.vyrd_base.specs.Faults.{commit_fault, states_since_call, observer_fau
 use Rattle.vyrd_base.proofs.Lasting.{slice_get_seam}
 use Rattle.vyrd_base.proofs.TestLaws.{same_number}
 use Rattle.vyrd_every.specs.Between.{has_answer}
+use Rattle.vyrd_base.specs.Rules.{rules_of}
 
 -- a state differs from itself nowhere
 none_kept : (p : ℕ → Bool) (xs : List ℕ) → ((x : ℕ) → p x ≡ false) → filter p xs ≡ []
@@ -35,14 +36,14 @@ no_difference state =
     (λ key. ap not (same_number (amount_of state key))))
 
 -- the states from one on begin with it
-pub later_states : Amounts → List Committed → List Amounts
-later_states state [] = []
-later_states state (x ∷ xs) = elim (state_after state x) [ None ↦ [] | Some next ↦ states_from next xs ]
+pub later_states : Header → Amounts → List Committed → List Amounts
+later_states h state [] = []
+later_states h state (x ∷ xs) = elim (state_after (rules_of h) state x) [ None ↦ [] | Some next ↦ states_from (rules_of h) next xs ]
 
-pub states_begin : (state : Amounts) (xs : List Committed) → states_from state xs ≡ state ∷ later_states state xs
+pub states_begin : (h : Header) (state : Amounts) (xs : List Committed) → states_from (rules_of h) state xs ≡ state ∷ later_states h state xs
 unfolding later_states
-states_begin state [] = refl
-states_begin state (x ∷ xs) = refl
+states_begin h state [] = refl
+states_begin h state (x ∷ xs) = refl
 
 -- the state at a place
 state_here : (passed later : List Amounts) (state : Amounts) (n : ℕ) → length passed ≡ n → slice_get (passed ++ state ∷ later) n ≡ Some state
@@ -54,10 +55,10 @@ pub commit_is_right : (h : Header) → h.version ≡ 1 → (passed later : List 
     → length passed ≡ commit_count place.earlier
     → open_call place.here.caller place.earlier ≡ Some called → next_reply place.here.caller place.later ≡ Some reply
     → next_state called.method called.args reply state ≡ Some next
-    → fault_of_commit h [] (passed ++ state ∷ later) place ≡ None
+    → fault_of_commit (rules_of h) [] (passed ++ state ∷ later) place ≡ None
 commit_is_right h one passed later state next place called reply wf shows count call returns allowed =
-    ap (option_and_then (commit_fault shown (committed_at place))) (state_here passed later state (commit_count place.earlier) count)
-    ∙ (λ i. commit_fault shown (record { caller = place.here.caller; called = call i; reply = returns i }) state)
+    ap (option_and_then (commit_fault (rules_of h) shown (committed_at place))) (state_here passed later state (commit_count place.earlier) count)
+    ∙ (λ i. commit_fault (rules_of h) shown (record { caller = place.here.caller; called = call i; reply = returns i }) state)
     ∙ ap (λ o. elim o [ None ↦ Some (Reply reply) | Some after ↦ option_map View (first_difference shown after) ]) allowed
     ∙ ap (λ s. option_map View (first_difference s next)) (ap (view_of_words h) (first_words_at h place one wf) ∙ shows)
     ∙ ap (option_map View) (no_difference next)
@@ -66,14 +67,14 @@ commit_is_right h one passed later state next place called reply wf shows count 
     shown = view_of_words h (words_at h [] place)
 
 -- and the states go on with the next one
-pub state_goes_on : (passed : List Amounts) (state next : Amounts) (x : Committed) (xs : List Committed) (called : Called) (reply : ℕ)
+pub state_goes_on : (h : Header) (passed : List Amounts) (state next : Amounts) (x : Committed) (xs : List Committed) (called : Called) (reply : ℕ)
     → x.called ≡ Some called → x.reply ≡ Some reply → next_state called.method called.args reply state ≡ Some next
-    → passed ++ states_from state (x ∷ xs) ≡ (passed ++ state ∷ []) ++ states_from next xs
-state_goes_on passed state next x xs called reply call returns allowed =
-    ap (λ o. passed ++ state ∷ (elim o [ None ↦ [] | Some after ↦ states_from after xs ])) after
-    ∙ sym (append_assoc passed (state ∷ []) (states_from next xs))
+    → passed ++ states_from (rules_of h) state (x ∷ xs) ≡ (passed ++ state ∷ []) ++ states_from (rules_of h) next xs
+state_goes_on h passed state next x xs called reply call returns allowed =
+    ap (λ o. passed ++ state ∷ (elim o [ None ↦ [] | Some after ↦ states_from (rules_of h) after xs ])) after
+    ∙ sym (append_assoc passed (state ∷ []) (states_from (rules_of h) next xs))
   where
-    after : state_after state x ≡ Some next
+    after : state_after (rules_of h) state x ≡ Some next
     after = (λ i. once_returned (λ c r. next_state c.method c.args r state) (record { caller = x.caller; called = call i; reply = returns i })) ∙ allowed
 
 -- an observer's return with an answer that was seen isn't a fault
@@ -81,11 +82,11 @@ and_none : {A B : Type 0} (o : Option A) → option_and {T = A} {U = B} o None �
 and_none None = refl
 and_none (Some x) = refl
 
-pub return_is_right : (passed later : List Amounts) (state : Amounts) (c : ℕ) (log : List Entry) (reply : ℕ) → length passed ≡ commit_count log
+pub return_is_right : (h : Header) (passed later : List Amounts) (state : Amounts) (c : ℕ) (log : List Entry) (reply : ℕ) → length passed ≡ commit_count log
     → ((called : Called) → open_call c log ≡ Some called → is_observer called.method ≡ true
     → has_answer (passed ++ state ∷ []) (commit_count (entries_before_call c log)) called reply ≡ true)
-    → return_fault (passed ++ state ∷ later) c log reply ≡ None
-return_is_right passed later state c log reply count seen =
+    → return_fault (rules_of h) (passed ++ state ∷ later) c log reply ≡ None
+return_is_right h passed later state c log reply count seen =
     ap (option_and (slice_get (passed ++ state ∷ later) (commit_count log))) (by_call (open_call c log) refl)
     ∙ and_none (slice_get (passed ++ state ∷ later) (commit_count log))
   where
@@ -103,6 +104,6 @@ return_is_right passed later state c log reply count seen =
         ∙ ap (λ b. cond b None (Some (Observer reply))) (seen called e observes)
     by_method called e false mutates = refl
 
-    by_call : (o : Option Called) → open_call c log ≡ o → option_and_then (observer_fault (states_since_call states c log) reply) o ≡ None
+    by_call : (o : Option Called) → open_call c log ≡ o → option_and_then (observer_fault (rules_of h) (states_since_call states c log) reply) o ≡ None
     by_call None e = refl
     by_call (Some called) e = by_method called e (is_observer called.method) refl

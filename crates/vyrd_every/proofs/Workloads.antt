@@ -54,6 +54,7 @@ use Rattle.vyrd_every.proofs.Unstuck.{never_stuck}
 use Rattle.vyrd_multiset.specs.Procedures.{multiset_procedure}
 use Rattle.vyrd_cache.specs.Procedures.{cache_procedure}
 use Rattle.vyrd_buffers.specs.Procedures.{buffers_procedure}
+use Rattle.vyrd_base.specs.Rules.{rules_of}
 
 -- the script of a caller does right, if the procedure of each operation does
 script_right : (S : Structure) (w : Workload) (procedure : Op → Script) (c : ℕ) (now : Memory)
@@ -119,10 +120,10 @@ keeping w limits is = by_subject w.header.subject refl
 -- there is no first fault
 none_first : (h : Header) → h.version ≡ 1 → (scripts : List Script) (k : Keeping h scripts) (history : List Stamped) → IsRun h scripts (newest_first history)
     → AreDone h scripts (newest_first history)
-    → first_answer (violation_at h [] (states_along h [] (log_of history))) (places (log_of history)) ≡ None
+    → first_answer (violation_at (rules_of h) [] (states_along (rules_of h) [] (log_of history))) (places (log_of history)) ≡ None
 unfolding first_fault
 none_first h one scripts k history run done =
-    sym (ap (λ es. first_answer (violation_at h [] (states_along h [] es)) (places es)) (all_front h scripts k history run))
+    sym (ap (λ es. first_answer (violation_at (rules_of h) [] (states_along (rules_of h) [] es)) (places es)) (all_front h scripts k history run))
     ∙ no_fault h one scripts k history run done
 
 -- no place is a fault
@@ -130,19 +131,19 @@ no_why : (line : ℕ) (o : Option Why) → option_map (Violation line) o ≡ Non
 no_why line None e = refl
 no_why line (Some why) e = cc
 
-each_right : (h : Header) (states : List Amounts) (ps : List (Place Entry)) → first_answer (violation_at h [] states) ps ≡ None
-    → AllByRecursion (λ place. fault_at h [] states place ≡ None) ps
+each_right : (h : Header) (states : List Amounts) (ps : List (Place Entry)) → first_answer (violation_at (rules_of h) [] states) ps ≡ None
+    → AllByRecursion (λ place. fault_at (rules_of h) [] states place ≡ None) ps
 each_right h states [] e = tt
 each_right h states (place ∷ ps) e =
-    let parts = both_none (violation_at h [] states place) (first_answer (violation_at h [] states) ps) e in
-    (no_why (line_of [] (position_of place)) (fault_at h [] states place) parts.0, each_right h states ps parts.1)
+    let parts = both_none (violation_at (rules_of h) [] states place) (first_answer (violation_at (rules_of h) [] states) ps) e in
+    (no_why (line_of [] (position_of place)) (fault_at (rules_of h) [] states place) parts.0, each_right h states ps parts.1)
   where
     both_none : {A : Type 0} (a b : Option A) → option_or a b ≡ None → (a ≡ None) × (b ≡ None)
     both_none None b e = (refl, e)
     both_none (Some a) b e = cc
 
-pub where_kind : (h : Header) (states : List Amounts) (test : Kind → Bool) (ps : List (Place Entry)) → AllByRecursion (λ place. fault_at h [] states place ≡ None) ps
-    → AllByRecursion (λ place. test place.here.kind ≡ true → fault_at h [] states place ≡ None) ps
+pub where_kind : (h : Header) (states : List Amounts) (test : Kind → Bool) (ps : List (Place Entry)) → AllByRecursion (λ place. fault_at (rules_of h) [] states place ≡ None) ps
+    → AllByRecursion (λ place. test place.here.kind ≡ true → fault_at (rules_of h) [] states place ≡ None) ps
 where_kind h states test [] all = tt
 where_kind h states test (place ∷ ps) all = (λ e. all.0, where_kind h states test ps all.1)
 
@@ -155,15 +156,15 @@ pub closed : (w : Workload) (history : List Stamped) → Keeping w.header (work_
 closed w history k schedule = none_open_at_end w.header (work_scripts w) k history schedule.legal schedule.parts
 
 pub kinds_right : (w : Workload) (history : List Stamped) (test : Kind → Bool) → w.header.version ≡ 1 → Keeping w.header (work_scripts w) → IsSchedule w history
-    → AllByRecursion (λ place. test place.here.kind ≡ true → fault_at w.header [] (states_along w.header [] (log_of history)) place ≡ None) (places (log_of history))
+    → AllByRecursion (λ place. test place.here.kind ≡ true → fault_at (rules_of w.header) [] (states_along (rules_of w.header) [] (log_of history)) place ≡ None) (places (log_of history))
 kinds_right w history test one k schedule =
-    where_kind w.header (states_along w.header [] (log_of history)) test (places (log_of history))
-    (each_right w.header (states_along w.header [] (log_of history)) (places (log_of history))
+    where_kind w.header (states_along (rules_of w.header) [] (log_of history)) test (places (log_of history))
+    (each_right w.header (states_along (rules_of w.header) [] (log_of history)) (places (log_of history))
     (none_first w.header one (work_scripts w) k history (whole_run w.header (work_scripts w) history schedule.legal schedule.parts)
     (λ c low. (schedule.parts c).done)))
 
 pub schedule_accepted : (w : Workload) (history : List Stamped) → KeepsLimits w → IsCorrect w → IsSchedule w history
-    → verdict w.header [] (log_of history) ≡ accepted (log_of history)
+    → verdict (rules_of w.header) [] (log_of history) ≡ accepted (log_of history)
 schedule_accepted w history limits is schedule =
     is_accepted w.header limits.version (work_scripts w) (keeping w limits is) history schedule.legal schedule.parts
 

@@ -15,6 +15,7 @@ use Rattle.vyrd_memory.specs.declared.op.Variant.TheVariants.{Correct}
 use Rattle.vyrd_memory.specs.Runs.{PlayToTheEnd}
 use Rattle.vyrd_work.specs.Workloads.{Workload}
 use Rattle.vyrd_work.specs.WorkScripts.{work_scripts}
+use Rattle.vyrd_base.specs.Rules.{rules_of}
 
 -- A legal history in which each caller's part plays the caller's script to its end. The callers'
 -- events come in any order.
@@ -51,4 +52,4 @@ pub record IsCorrectWithFewEvents (w : Workload) : Type 0 where
 abbrev pub HasNoFault : (Kind → Bool) → Header → List Entry → Type 0
 HasNoFault is_kind h entries = AllByRecursion
     (λ place. is_kind place.here.kind ≡ true
-    → fault_at h [] (states_along h [] entries) place ≡ None) (places entries)
+    → fault_at (rules_of h) [] (states_along (rules_of h) [] entries) place ≡ None) (places entries)

@@ -16,6 +16,7 @@ ghost use Rattle.vyrd_work.specs.WorkLimits.{KeepsLimits};
 ghost use Rattle.vyrd_work.specs.WorkScripts.{ops_of, work_scripts};
 ghost use Rattle.vyrd_every.specs.Schedules.{HasNoFault, IsCorrect, IsSchedule};
 ghost use Rattle.vyrd_every.specs.Schedules.{most_cache_events, most_few_events};
+ghost use Rattle.vyrd_base.specs.Rules.{rules_of};
 
 /// The log of every schedule of a correct structure is well formed, and no execution is open at its
 /// end.
@@ -43,7 +44,8 @@ pub fn returns_are_right()
 /// So every schedule of a correct structure is accepted.
 pub fn schedules_are_accepted()
     ensures { (w : Workload) (history : List Stamped) → KeepsLimits w → IsCorrect w →
-        IsSchedule w history → verdict w.header [] (log_of history) ≡ accepted (log_of history) }
+        IsSchedule w history → verdict (rules_of w.header) [] (log_of history)
+        ≡ accepted (log_of history) }
 {}
 
 /// The run by turns of a correct structure doesn't get stuck.

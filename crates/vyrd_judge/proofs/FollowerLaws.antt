@@ -19,6 +19,7 @@ use Rattle.vyrd_base.specs.Places.{Place, places_after, places, newest_first_ont
 use Rattle.vyrd_base.specs.Callers.{Called}
 use Rattle.vyrd_base.specs.Shape.{broken_rule, is_observing}
 use Rattle.vyrd_base.specs.Front.{first_break}
+use Rattle.vyrd_base.specs.Rules.{Rules, rules_by}
 use Rattle.vyrd_base.specs.Amounts.{Amounts}
 use Rattle.vyrd_base.specs.Starts.{words_at_start, state_at_start}
 use Rattle.vyrd_base.specs.Commits.{commits, is_commit, commit_count, states_of}
@@ -47,11 +48,11 @@ use Rattle.vyrd_base.proofs.VerdictParts.{sound_start, so_far_kept, so_far_break
 use Rattle.vyrd_judge.proofs.JudgedLaws.{judged_more, judged_head, judged_all}
 
 -- before the first entry
-pub judged_nothing : (h : Header) (starting : List StartWord) (state : Amounts) (watches : List Seen) (first : List ℕ)
-    → state_at_start h starting ≡ Some state → first ≡ words_at_start h starting → AreCurrent state watches
-    → Judged h starting [] state 0 watches [] first []
+pub judged_nothing : (r : Rules) (starting : List StartWord) (state : Amounts) (watches : List Seen) (first : List ℕ)
+    → state_at_start r starting ≡ Some state → first ≡ words_at_start r.header starting → AreCurrent (r.answer state) watches
+    → Judged r starting [] state 0 watches [] first []
 unfolding commits first_fault
-judged_nothing h starting state watches first begins words current = record {
+judged_nothing r starting state watches first begins words current = record {
   earlier = [];
   later = [];
   whole = refl;
@@ -61,7 +62,7 @@ judged_nothing h starting state watches first begins words current = record {
   settled = λ more. refl;
   ended = λ c inner. absurd (apart inner);
   reached = λ more. record {
-    going = ap (λ o. states_of o more) begins;
+    going = ap (λ o. states_of r o more) begins;
     allowed = λ c called is. absurd (no_some is);
     watched = λ c called low is observes. absurd (no_some is);
   };
@@ -77,15 +78,15 @@ judged_nothing h starting state watches first begins words current = record {
     apart e = cc
 
 -- nothing of a log that is kept waits, or something waits first
-pub none_waits : {k : Kept} {starting : List StartWord} {log : List Entry} → HasTakenIn k starting log → k.waiting ≡ [] → first_fault k.header starting log ≡ None
-none_waits {k} {starting} {log} t empty = judged_all k.header starting log k.state k.made k.watches k.views.first k.views.since
-    (subst (λ q. Judged k.header starting log k.state k.made k.watches q k.views.first k.views.since) empty t.judged)
+pub none_waits : {k : Kept} {starting : List StartWord} {log : List Entry} → HasTakenIn k starting log → k.waiting ≡ [] → first_fault (rules_by k.charter) starting log ≡ None
+none_waits {k} {starting} {log} t empty = judged_all (rules_by k.charter) starting log k.state k.made k.watches k.views.first k.views.since
+    (subst (λ q. Judged (rules_by k.charter) starting log k.state k.made k.watches q k.views.first k.views.since) empty t.judged)
 
 pub first_judged : {k : Kept} {starting : List StartWord} {log : List Entry} (x : Waiting) (xs : List Waiting) → HasTakenIn k starting log → k.waiting ≡ x ∷ xs
-    → Judged k.header starting log k.state k.made k.watches (x ∷ xs) k.views.first k.views.since
-first_judged {k} {starting} {log} x xs t is = subst (λ q. Judged k.header starting log k.state k.made k.watches q k.views.first k.views.since) is t.judged
+    → Judged (rules_by k.charter) starting log k.state k.made k.watches (x ∷ xs) k.views.first k.views.since
+first_judged {k} {starting} {log} x xs t is = subst (λ q. Judged (rules_by k.charter) starting log k.state k.made k.watches q k.views.first k.views.since) is t.judged
 
-pub may_judge : {k : Kept} (x : Waiting) (xs : List Waiting) → k.waiting ≡ x ∷ xs → MayCatchUp k → MayJudge k.header k.state k.made k.watches x k.views.first k.views.since
+pub may_judge : {k : Kept} (x : Waiting) (xs : List Waiting) → k.waiting ≡ x ∷ xs → MayCatchUp k → MayJudge (rules_by k.charter) k.state k.made k.watches x k.views.first k.views.since
 may_judge {k} x xs is may = ∥∥₁_map may (λ s. (s.0, s.1, xs, first_judged x xs s.2 is, s.3))
 
 pub few_taken : {k : Kept} (x : Waiting) (xs : List Waiting) → k.waiting ≡ x ∷ xs → MayCatchUp k → k.taken + 1 < 2 ^ 64
@@ -103,7 +104,7 @@ position_is p x is = by_event (event_of p p.here.kind) is
 pub few_position : {k : Kept} (x : Waiting) (xs : List Waiting) → k.waiting ≡ x ∷ xs → MayCatchUp k → k.started ≤ 2 ^ 32
     → k.started + x.position + 2 < 2 ^ 64
 few_position {k} x xs is may short = below_of _ _ (∥∥₁_elim may (Bool-set _ _) (λ s.
-    let at = judged_head k.header s.0 s.1 k.state k.made k.watches x xs k.views.first k.views.since (first_judged x xs s.2 is) in
+    let at = judged_head (rules_by k.charter) s.0 s.1 k.state k.made k.watches x xs k.views.first k.views.since (first_judged x xs s.2 is) in
     let low : k.started + x.position + 2 < 2 ^ 64 = omega (
       arith,
       short,
@@ -116,25 +117,25 @@ few_position {k} x xs is may short = below_of _ _ (∥∥₁_elim may (Bool-set 
 
 -- the entry that waits first was judged, and leaves
 pub taken_on : (k n : Kept) (starting : List StartWord) (log : List Entry) (xs : List Waiting) → HasTakenIn k starting log
-    → Judged k.header starting log n.state n.made n.watches xs n.views.first n.views.since → HasQueued k.header xs n.taken n.callers (newest_first log) → n.waiting ≡ xs
-    → n.header ≡ k.header → n.started ≡ k.started → n.shape ≡ k.shape → n.shadow ≡ k.shadow → n.inner ≡ k.inner → n.views.header ≡ k.views.header
-    → (n.views.specified ≡ n.state) × (n.views.refused ≡ false)
+    → Judged (rules_by k.charter) starting log n.state n.made n.watches xs n.views.first n.views.since → HasQueued (rules_by k.charter).header xs n.taken n.callers (newest_first log) → n.waiting ≡ xs
+    → n.charter ≡ k.charter → n.started ≡ k.started → n.shape ≡ k.shape → n.shadow ≡ k.shadow → n.inner ≡ k.inner → n.views.header ≡ k.views.header
+    → (n.views.specified ≡ (rules_by k.charter).shown n.state) × (n.views.refused ≡ false)
     → n.entries ≡ k.entries → n.commits ≡ k.commits → n.observers ≡ k.observers → HasTakenIn n starting log
 taken_on k n starting log xs t judged queued waiting header started shape shadow inner views_header known entries commits_same observers = record {
   started = started ∙ t.started;
-  begun = ap (λ h. start_verdict h starting) header ∙ t.begun;
+  begun = ap (λ g. start_verdict (rules_by g) starting) header ∙ t.begun;
   shape = subst (λ s. ShapeFollows s (newest_first log)) (sym shape) t.shape;
-  shape_header = ap (λ s. s.header) shape ∙ t.shape_header ∙ sym header;
+  shape_header = ap (λ s. s.header) shape ∙ t.shape_header ∙ sym (ap (λ g. (rules_by g).header) header);
   words = subst (λ xs'. HasWords n.shadow xs' starting (newest_first log)) (sym inner)
       (subst (λ s. HasWords s k.inner starting (newest_first log)) (sym shadow) t.words);
-  shadow_header = ap (λ s. s.header) shadow ∙ t.shadow_header ∙ sym header;
-  views_header = views_header ∙ t.views_header ∙ sym header;
-  queued = subst (λ h. HasQueued h n.waiting n.taken n.callers (newest_first log)) (sym header)
-      (subst (λ q. HasQueued k.header q n.taken n.callers (newest_first log)) (sym waiting) queued);
-  judged = subst (λ h. Judged h starting log n.state n.made n.watches n.waiting n.views.first n.views.since) (sym header)
-      (subst (λ q. Judged k.header starting log n.state n.made n.watches q n.views.first n.views.since) (sym waiting) judged);
-  kept = ap (λ h. first_break h log) header ∙ t.kept;
-  specified = known.0;
+  shadow_header = ap (λ s. s.header) shadow ∙ t.shadow_header ∙ sym (ap (λ g. (rules_by g).header) header);
+  views_header = views_header ∙ t.views_header ∙ sym (ap (λ g. (rules_by g).header) header);
+  queued = subst (λ g. HasQueued (rules_by g).header n.waiting n.taken n.callers (newest_first log)) (sym header)
+      (subst (λ q. HasQueued (rules_by k.charter).header q n.taken n.callers (newest_first log)) (sym waiting) queued);
+  judged = subst (λ g. Judged (rules_by g) starting log n.state n.made n.watches n.waiting n.views.first n.views.since) (sym header)
+      (subst (λ q. Judged (rules_by k.charter) starting log n.state n.made n.watches q n.views.first n.views.since) (sym waiting) judged);
+  kept = ap (λ g. first_break (rules_by g).header log) header ∙ t.kept;
+  specified = known.0 ∙ ap (λ g. (rules_by g).shown n.state) (sym header);
   sound = known.1;
   entries = entries ∙ t.entries;
   commits = commits_same ∙ t.commits;
@@ -164,37 +165,37 @@ observers_more earlier (x ∷ xs) e =
 
 -- one more entry was taken in
 pub taken_more : (k n : Kept) (starting : List StartWord) (log : List Entry) (e : Entry) → HasTakenIn k starting log
-    → Keeps k.header (newest_first log) e → ShapeFollows n.shape (e ∷ newest_first log) → n.shape.header ≡ k.shape.header
+    → Keeps (rules_by k.charter).header (newest_first log) e → ShapeFollows n.shape (e ∷ newest_first log) → n.shape.header ≡ k.shape.header
     → HasTaken n.shadow n.inner k.views n.views starting e (newest_first log) → n.shadow.header ≡ k.shadow.header
     → n.views.header ≡ n.shadow.header
-    → HasTakenUp k.header k.waiting n.waiting n.taken n.callers e (newest_first log)
-    → n.header ≡ k.header → n.started ≡ k.started → n.state ≡ k.state → n.made ≡ k.made → n.watches ≡ k.watches
+    → HasTakenUp (rules_by k.charter).header k.waiting n.waiting n.taken n.callers e (newest_first log)
+    → n.charter ≡ k.charter → n.started ≡ k.started → n.state ≡ k.state → n.made ≡ k.made → n.watches ≡ k.watches
     → n.entries ≡ k.entries + 1 → n.commits ≡ k.commits + cond (is_commit e.kind) 1 0
     → n.observers ≡ k.observers + cond (is_return e.kind && is_observing e.caller (newest_first log)) 1 0
     → (n.views.specified ≡ k.views.specified) × (n.views.refused ≡ false)
     → HasTakenIn n starting (log ++ e ∷ [])
 taken_more k n starting log e t keeps shape shape_header words shadow_header views_header queued header started state made watches entries commits_more observers known = record {
   started = started ∙ t.started;
-  begun = ap (λ h. start_verdict h starting) header ∙ t.begun;
+  begun = ap (λ g. start_verdict (rules_by g) starting) header ∙ t.begun;
   shape = subst (ShapeFollows n.shape) (sym (newest_first-push log e)) shape;
-  shape_header = shape_header ∙ t.shape_header ∙ sym header;
+  shape_header = shape_header ∙ t.shape_header ∙ sym (ap (λ g. (rules_by g).header) header);
   words = subst (HasWords n.shadow n.inner starting) (sym (newest_first-push log e)) words.words;
-  shadow_header = shadow_header ∙ t.shadow_header ∙ sym header;
-  views_header = views_header ∙ shadow_header ∙ t.shadow_header ∙ sym header;
-  queued = subst (λ h. HasQueued h n.waiting n.taken n.callers (newest_first (log ++ e ∷ []))) (sym header)
-      (subst (HasQueued k.header n.waiting n.taken n.callers) (sym (newest_first-push log e)) queued.queued);
-  judged = subst (λ h. Judged h starting (log ++ e ∷ []) n.state n.made n.watches n.waiting n.views.first n.views.since) (sym header)
-      (subst (λ s. Judged k.header starting (log ++ e ∷ []) s n.made n.watches n.waiting n.views.first n.views.since) (sym state)
-      (subst (λ m. Judged k.header starting (log ++ e ∷ []) k.state m n.watches n.waiting n.views.first n.views.since) (sym made)
-      (subst (λ ws. Judged k.header starting (log ++ e ∷ []) k.state k.made ws n.waiting n.views.first n.views.since) (sym watches)
-      (subst (λ q. Judged k.header starting (log ++ e ∷ []) k.state k.made k.watches q n.views.first n.views.since) (sym queued.waiting)
-      (subst (λ f. Judged k.header starting (log ++ e ∷ []) k.state k.made k.watches queue f n.views.since) (sym words.first)
-      (subst (Judged k.header starting (log ++ e ∷ []) k.state k.made k.watches queue
+  shadow_header = shadow_header ∙ t.shadow_header ∙ sym (ap (λ g. (rules_by g).header) header);
+  views_header = views_header ∙ shadow_header ∙ t.shadow_header ∙ sym (ap (λ g. (rules_by g).header) header);
+  queued = subst (λ g. HasQueued (rules_by g).header n.waiting n.taken n.callers (newest_first (log ++ e ∷ []))) (sym header)
+      (subst (HasQueued (rules_by k.charter).header n.waiting n.taken n.callers) (sym (newest_first-push log e)) queued.queued);
+  judged = subst (λ g. Judged (rules_by g) starting (log ++ e ∷ []) n.state n.made n.watches n.waiting n.views.first n.views.since) (sym header)
+      (subst (λ s. Judged (rules_by k.charter) starting (log ++ e ∷ []) s n.made n.watches n.waiting n.views.first n.views.since) (sym state)
+      (subst (λ m. Judged (rules_by k.charter) starting (log ++ e ∷ []) k.state m n.watches n.waiting n.views.first n.views.since) (sym made)
+      (subst (λ ws. Judged (rules_by k.charter) starting (log ++ e ∷ []) k.state k.made ws n.waiting n.views.first n.views.since) (sym watches)
+      (subst (λ q. Judged (rules_by k.charter) starting (log ++ e ∷ []) k.state k.made k.watches q n.views.first n.views.since) (sym queued.waiting)
+      (subst (λ f. Judged (rules_by k.charter) starting (log ++ e ∷ []) k.state k.made k.watches queue f n.views.since) (sym words.first)
+      (subst (Judged (rules_by k.charter) starting (log ++ e ∷ []) k.state k.made k.watches queue
       (first_with (parts_behind (newest_first log) e.caller e.kind) words.writes k.views.first k.views.since)) (sym words.since)
-      (judged_more k.header starting log e k.state k.made k.watches k.waiting k.views.first k.views.since words.writes
-      (well_formed-first_break k.header log t.kept) keeps.rules words.alike t.judged)))))));
-  kept = ap (λ h. first_break h (log ++ e ∷ [])) header ∙ kept-push k.header log e t.kept keeps.rules;
-  specified = known.0 ∙ t.specified ∙ sym state;
+      (judged_more (rules_by k.charter) starting log e k.state k.made k.watches k.waiting k.views.first k.views.since words.writes
+      (well_formed-first_break (rules_by k.charter).header log t.kept) keeps.rules words.alike t.judged)))))));
+  kept = ap (λ g. first_break (rules_by g).header (log ++ e ∷ [])) header ∙ kept-push (rules_by k.charter).header log e t.kept keeps.rules;
+  specified = known.0 ∙ t.specified ∙ (λ i. (rules_by (sym header i)).shown (sym state i));
   sound = known.1;
   entries = entries ∙ ap (λ m. m + 1) t.entries ∙ sym (length_push log e);
   commits = commits_more ∙ ap (λ m. m + cond (is_commit e.kind) 1 0) t.commits ∙ sym (count_more (λ x. is_commit x.kind) log e);
@@ -208,18 +209,18 @@ taken_more k n starting log e t keeps shape shape_header words shadow_header vie
 -- an entry that breaks a rule
 pub broken_so_far : {k : Kept} {starting : List StartWord} {log : List Entry} (e : Entry) (rule : Rule) → IsFaultless k starting log
     → broken_rule k.shape.header (newest_first log) e ≡ Some rule
-    → Some (Malformed (k.started + k.entries + 2) rule) ≡ verdict_so_far k.header starting (log ++ e ∷ [])
+    → Some (Malformed (k.started + k.entries + 2) rule) ≡ verdict_so_far (rules_by k.charter) starting (log ++ e ∷ [])
 broken_so_far {k} {starting} {log} e rule f broken =
     let t = f.taken_in in
-    let here : broken_rule k.header (newest_first log) e ≡ Some rule = ap (λ h. broken_rule h (newest_first log) e) (sym t.shape_header) ∙ broken in
+    let here : broken_rule (rules_by k.charter).header (newest_first log) e ≡ Some rule = ap (λ h. broken_rule h (newest_first log) e) (sym t.shape_header) ∙ broken in
     ap (λ n. Some (Malformed (n + k.entries + 2) rule)) t.started
-    ∙ sym (so_far_break k.header starting (log ++ e ∷ []) log k.entries rule t.begun (sym (front_at_break k.header log [] e rule t.kept here))
-    (sym t.entries) f.faultless (break_at_break k.header log [] e rule t.kept here))
+    ∙ sym (so_far_break (rules_by k.charter) starting (log ++ e ∷ []) log k.entries rule t.begun (sym (front_at_break (rules_by k.charter).header log [] e rule t.kept here))
+    (sym t.entries) f.faultless (break_at_break (rules_by k.charter).header log [] e rule t.kept here))
 
 -- the verdict so far of a log that keeps all rules
 pub so_far_is : {k : Kept} {starting : List StartWord} {log : List Entry} → HasTakenIn k starting log
-    → verdict_so_far k.header starting log ≡ first_fault k.header starting log
-so_far_is {k} {starting} {log} t = so_far_kept k.header starting log t.begun t.kept
+    → verdict_so_far (rules_by k.charter) starting log ≡ first_fault (rules_by k.charter) starting log
+so_far_is {k} {starting} {log} t = so_far_kept (rules_by k.charter) starting log t.begun t.kept
 
 -- how many commits there are, from either end
 commits_onto : (earlier xs : List Entry) → commit_count (newest_first_onto earlier xs) ≡ commit_count xs + commit_count earlier
@@ -241,8 +242,8 @@ may_take {k} e somewhere keeps = ∥∥₁_map somewhere (λ s.
     (s.0, newest_first s.1, s.2.taken_in.words, keeps s.0 s.1 s.2, s.2.taken_in.commits ∙ sym (commits_same s.1)))
 
 pub may_queue : {k : Kept} (e : Entry) → IsSomewhere k
-    → ((starting : List StartWord) (log : List Entry) → IsFaultless k starting log → Keeps k.header (newest_first log) e)
-    → MayQueue k.header k.waiting k.taken k.callers e k.entries
+    → ((starting : List StartWord) (log : List Entry) → IsFaultless k starting log → Keeps (rules_by k.charter).header (newest_first log) e)
+    → MayQueue (rules_by k.charter).header k.waiting k.taken k.callers e k.entries
 may_queue {k} e somewhere keeps = ∥∥₁_map somewhere (λ s. (newest_first s.1, s.2.taken_in.queued, keeps s.0 s.1 s.2, same s.1 s.2.taken_in.entries))
   where
     same : (log : List Entry) → k.entries ≡ length log → k.entries ≡ length (newest_first log)
@@ -279,32 +280,32 @@ few_observers {k} few somewhere = below_of _ _ (∥∥₁_elim somewhere (Bool-s
     let low : k.observers + 1 < 2 ^ 64 = omega (arith, few, s.2.taken_in.observers, s.2.taken_in.entries, count_few observer_returns (places s.1), length-places [] s.1) in
     is_below (k.observers + 1) (2 ^ 64) low))
 
-pub low_caller_of : {k : Kept} (e : Entry) → IsSomewhere k → ((starting : List StartWord) (log : List Entry) → IsFaultless k starting log → Keeps k.header (newest_first log) e) → e.caller < k.header.callers
+pub low_caller_of : {k : Kept} (e : Entry) → IsSomewhere k → ((starting : List StartWord) (log : List Entry) → IsFaultless k starting log → Keeps (rules_by k.charter).header (newest_first log) e) → e.caller < (rules_by k.charter).header.callers
 low_caller_of {k} e somewhere keeps = below_of _ _ (∥∥₁_elim somewhere (Bool-set _ _) (λ s.
-    is_below _ _ (caller_kept k.header (newest_first s.1) e (keeps s.0 s.1 s.2).rules)))
+    is_below _ _ (caller_kept (rules_by k.charter).header (newest_first s.1) e (keeps s.0 s.1 s.2).rules)))
 
 -- before the first entry all is kept
-pub first_taken_in : (k : Kept) (h : Header) (starting : List StartWord) → k.header ≡ h → k.started ≡ length starting
-    → state_at_start h starting ≡ Some k.state → ShapeFollows k.shape [] → k.shape.header ≡ h → HasWords k.shadow k.inner starting []
-    → k.shadow.header ≡ h → k.views.header ≡ h → HasQueued h k.waiting k.taken k.callers [] → k.made ≡ 0
-    → AreCurrent k.state k.watches → k.waiting ≡ [] → k.views.first ≡ words_at_start h starting → k.views.since ≡ []
+pub first_taken_in : (k : Kept) (r : Rules) (starting : List StartWord) → rules_by k.charter ≡ r → k.started ≡ length starting
+    → state_at_start r starting ≡ Some k.state → ShapeFollows k.shape [] → k.shape.header ≡ r.header → HasWords k.shadow k.inner starting []
+    → k.shadow.header ≡ r.header → k.views.header ≡ r.header → HasQueued r.header k.waiting k.taken k.callers [] → k.made ≡ 0
+    → AreCurrent (r.answer k.state) k.watches → k.waiting ≡ [] → k.views.first ≡ words_at_start r.header starting → k.views.since ≡ []
     → k.entries ≡ 0 → k.commits ≡ 0 → k.observers ≡ 0
-    → (k.views.specified ≡ k.state) × (k.views.refused ≡ false) → HasTakenIn k starting []
-first_taken_in k h starting header started begins shape shape_header words shadow_header views_header queued made current waiting first since entries commits_none observers known = record {
+    → (k.views.specified ≡ (rules_by k.charter).shown k.state) × (k.views.refused ≡ false) → HasTakenIn k starting []
+first_taken_in k r starting header started begins shape shape_header words shadow_header views_header queued made current waiting first since entries commits_none observers known = record {
   started = started;
-  begun = ap (λ g. start_verdict g starting) header ∙ sound_start h starting k.state begins;
+  begun = ap (λ g. start_verdict g starting) header ∙ sound_start r starting k.state begins;
   shape = shape;
-  shape_header = shape_header ∙ sym header;
+  shape_header = shape_header ∙ sym (ap (λ g. g.header) header);
   words = words;
-  shadow_header = shadow_header ∙ sym header;
-  views_header = views_header ∙ sym header;
-  queued = subst (λ g. HasQueued g k.waiting k.taken k.callers []) (sym header) queued;
+  shadow_header = shadow_header ∙ sym (ap (λ g. g.header) header);
+  views_header = views_header ∙ sym (ap (λ g. g.header) header);
+  queued = subst (λ g. HasQueued g.header k.waiting k.taken k.callers []) (sym header) queued;
   judged = subst (λ g. Judged g starting [] k.state k.made k.watches k.waiting k.views.first k.views.since) (sym header)
-      (subst (λ m. Judged h starting [] k.state m k.watches k.waiting k.views.first k.views.since) (sym made)
-      (subst (λ q. Judged h starting [] k.state 0 k.watches q k.views.first k.views.since) (sym waiting)
-      (subst (Judged h starting [] k.state 0 k.watches [] k.views.first) (sym since)
-      (judged_nothing h starting k.state k.watches k.views.first begins first current))));
-  kept = nothing_broken k.header;
+      (subst (λ m. Judged r starting [] k.state m k.watches k.waiting k.views.first k.views.since) (sym made)
+      (subst (λ q. Judged r starting [] k.state 0 k.watches q k.views.first k.views.since) (sym waiting)
+      (subst (Judged r starting [] k.state 0 k.watches [] k.views.first) (sym since)
+      (judged_nothing r starting k.state k.watches k.views.first begins first current))));
+  kept = nothing_broken (rules_by k.charter).header;
   specified = known.0;
   sound = known.1;
   entries = entries;
@@ -313,15 +314,15 @@ first_taken_in k h starting header started begins shape shape_header words shado
 }
 
 -- where no more can be judged
-pub stops_answer : (h : Header) (starting : List StartWord) (log : List Entry) (k : Kept) (o : Option Verdict)
-    → AdvanceGives h starting log k (Stops o) → o ≡ first_fault h starting log
-stops_answer h starting log k None gives = sym gives.0
-stops_answer h starting log k (Some v) gives = sym gives
+pub stops_answer : (r : Rules) (starting : List StartWord) (log : List Entry) (k : Kept) (o : Option Verdict)
+    → AdvanceGives r starting log k (Stops o) → o ≡ first_fault r starting log
+stops_answer r starting log k None gives = sym gives.0
+stops_answer r starting log k (Some v) gives = sym gives
 
-pub stops_none : (h : Header) (starting : List StartWord) (log : List Entry) (k : Kept) (o : Option Verdict) → o ≡ None
-    → AdvanceGives h starting log k (Stops o) → HasTakenIn k starting log
-stops_none h starting log k None is gives = gives.1
-stops_none h starting log k (Some v) is gives = cc
+pub stops_none : (r : Rules) (starting : List StartWord) (log : List Entry) (k : Kept) (o : Option Verdict) → o ≡ None
+    → AdvanceGives r starting log k (Stops o) → HasTakenIn k starting log
+stops_none r starting log k None is gives = gives.1
+stops_none r starting log k (Some v) is gives = cc
 
 pub may_catch_up_on : {k n : Kept} → MayCatchUp k
     → ((starting : List StartWord) (log : List Entry) → HasTakenIn k starting log → HasTakenIn n starting log) → MayCatchUp n
@@ -336,7 +337,7 @@ ok_value e = cc
 
 -- the whole of one more entry that keeps the rules, by what each part does
 pub taken_all : (k n : Kept) (e : Entry) (queue_header : Header) (commits_here observes : Bool)
-    → k.shape.header ≡ k.header → k.shadow.header ≡ k.header → queue_header ≡ k.header
+    → k.shape.header ≡ (rules_by k.charter).header → k.shadow.header ≡ (rules_by k.charter).header → queue_header ≡ (rules_by k.charter).header
     → ((earlier : List Entry) → ShapeFollows k.shape earlier → (broken_rule k.shape.header earlier e ≡ None) × ShapeFollows n.shape (e ∷ earlier))
     → n.shape.header ≡ k.shape.header
     → ((starting : List StartWord) (earlier : List Entry) → HasWords k.shadow k.inner starting earlier → Keeps k.shadow.header earlier e
@@ -344,7 +345,7 @@ pub taken_all : (k n : Kept) (e : Entry) (queue_header : Header) (commits_here o
     → n.shadow.header ≡ k.shadow.header → n.views.header ≡ k.views.header
     → ((earlier : List Entry) → HasQueued queue_header k.waiting k.taken k.callers earlier → Keeps queue_header earlier e → k.entries ≡ length earlier
     → HasTakenUp queue_header k.waiting n.waiting n.taken n.callers e earlier)
-    → n.header ≡ k.header → n.started ≡ k.started → n.state ≡ k.state → n.made ≡ k.made → n.watches ≡ k.watches
+    → n.charter ≡ k.charter → n.started ≡ k.started → n.state ≡ k.state → n.made ≡ k.made → n.watches ≡ k.watches
     → commits_here ≡ is_commit e.kind → n.commits ≡ k.commits + cond commits_here 1 0
     → ((earlier : List Entry) → HasQueued queue_header k.waiting k.taken k.callers earlier → Keeps queue_header earlier e
     → observes ≡ (is_return e.kind && is_observing e.caller earlier))
@@ -360,10 +361,10 @@ taken_all k n e queue_header commits_here observes shape_is shadow_is queue_is s
     header started state made watches entries (commits_more ∙ ap (λ b. k.commits + cond b 1 0) commits_is)
     (observers ∙ ap (λ b. k.observers + cond b 1 0) (observes_is (newest_first log) queue (keeps_at queue_is))) known
   where
-    keeps : Keeps k.header (newest_first log) e
+    keeps : Keeps (rules_by k.charter).header (newest_first log) e
     keeps = record { rules = ap (λ h. broken_rule h (newest_first log) e) (sym shape_is) ∙ (shape (newest_first log) t.shape).0 }
 
-    keeps_at : {h : Header} → h ≡ k.header → Keeps h (newest_first log) e
+    keeps_at : {h : Header} → h ≡ (rules_by k.charter).header → Keeps h (newest_first log) e
     keeps_at {h} is = subst (λ g. Keeps g (newest_first log) e) (sym is) keeps
 
     queue : HasQueued queue_header k.waiting k.taken k.callers (newest_first log)
@@ -379,7 +380,7 @@ may_catch_up k n e few somewhere on = ∥∥₁_map somewhere (λ s.
     (s.0, s.1 ++ e ∷ [], on s.0 s.1 s.2.taken_in, short))
 
 -- an entry that keeps the rules by one name of the header keeps them by another
-pub keeps_by : {k : Kept} {n : ShapeKept} (e : Entry) (h : Header) → k.shape.header ≡ k.header → h ≡ k.header
+pub keeps_by : {k : Kept} {n : ShapeKept} (e : Entry) (h : Header) → k.shape.header ≡ (rules_by k.charter).header → h ≡ (rules_by k.charter).header
     → ((earlier : List Entry) → ShapeFollows k.shape earlier → (broken_rule k.shape.header earlier e ≡ None) × ShapeFollows n (e ∷ earlier))
     → (starting : List StartWord) (log : List Entry) → IsFaultless k starting log → Keeps h (newest_first log) e
 keeps_by {k} {n} e h shape_is is shape starting log f = record {
@@ -387,26 +388,26 @@ keeps_by {k} {n} e h shape_is is shape starting log f = record {
 }
 
 -- the answer with one more entry
-pub answer_with : {k : Kept} {starting : List StartWord} {log : List Entry} (v : Option Verdict) → HasTakenIn k starting log → v ≡ first_fault k.header starting log → v ≡ verdict_so_far k.header starting log
+pub answer_with : {k : Kept} {starting : List StartWord} {log : List Entry} (v : Option Verdict) → HasTakenIn k starting log → v ≡ first_fault (rules_by k.charter) starting log → v ≡ verdict_so_far (rules_by k.charter) starting log
 answer_with v t is = is ∙ sym (so_far_is t)
 
 -- the verdict if `end` stands after the entries
 pub end_open : {k : Kept} {starting : List StartWord} {log : List Entry} → IsFaultless k starting log
     → is_call_open k.shape.header (newest_first log) ≡ true
-    → Malformed (k.started + k.entries + 2) CallOpen ≡ verdict k.header starting log
+    → Malformed (k.started + k.entries + 2) CallOpen ≡ verdict (rules_by k.charter) starting log
 unfolding verdict_at
 end_open {k} {starting} {log} f is_open =
     (λ i. Malformed (f.taken_in.started i + f.taken_in.entries i + 2) CallOpen)
-    ∙ at_end_open k.header starting log f.taken_in.begun (so_far_is f.taken_in ∙ f.faultless)
+    ∙ at_end_open (rules_by k.charter) starting log f.taken_in.begun (so_far_is f.taken_in ∙ f.faultless)
     (ap (λ h. is_call_open h (newest_first log)) (sym f.taken_in.shape_header) ∙ is_open)
 
 pub end_accepted : {k : Kept} {starting : List StartWord} {log : List Entry} → IsFaultless k starting log
     → is_call_open k.shape.header (newest_first log) ≡ false
-    → Accepted k.entries k.commits k.observers ≡ verdict k.header starting log
+    → Accepted k.entries k.commits k.observers ≡ verdict (rules_by k.charter) starting log
 unfolding verdict_at accepted
 end_accepted {k} {starting} {log} f closed =
     (λ i. Accepted (f.taken_in.entries i) (f.taken_in.commits i) (f.taken_in.observers i))
-    ∙ at_end_accepted k.header starting log f.taken_in.begun (so_far_is f.taken_in ∙ f.faultless)
+    ∙ at_end_accepted (rules_by k.charter) starting log f.taken_in.begun (so_far_is f.taken_in ∙ f.faultless)
     (ap (λ h. is_call_open h (newest_first log)) (sym f.taken_in.shape_header) ∙ closed)
 
 -- whether a test of a result fails

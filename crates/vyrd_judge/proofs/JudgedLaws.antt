@@ -44,35 +44,36 @@ use Rattle.vyrd_judge.proofs.PartLaws.{parts_more}
 use Rattle.vyrd_judge.proofs.Reaching.{reached_inside, reached_mutates, reached_return}
 use Rattle.vyrd_judge.proofs.ReachedFaults.{mutator_at}
 use Rattle.vyrd_judge.proofs.WaitingLaws.{listed, waiting_more}
+use Rattle.vyrd_base.specs.Rules.{Rules}
 
 -- one more entry that keeps the rules: it may be the reply of a commit that waits, and may wait itself
-pub judged_more : (h : Header) (starting : List StartWord) (log : List Entry) (e : Entry) (state : Amounts) (made : ℕ) (watches : List Seen)
-    (queue : List Waiting) (first : List ℕ) (since : List (List (ℕ × ℕ))) (writes : List (ℕ × ℕ)) → WellFormed h (newest_first log)
-    → broken_rule h (newest_first log) e ≡ None → ActAlike writes (old_effects_at (newest_first log) e.caller e.kind)
-    → Judged h starting log state made watches queue first since
-    → Judged h starting (log ++ e ∷ []) state made watches (map (replied e) queue ++ listed (waiting_at (place_of e (newest_first log) [])))
+pub judged_more : (r : Rules) (starting : List StartWord) (log : List Entry) (e : Entry) (state : Amounts) (made : ℕ) (watches : List Seen)
+    (queue : List Waiting) (first : List ℕ) (since : List (List (ℕ × ℕ))) (writes : List (ℕ × ℕ)) → WellFormed r.header (newest_first log)
+    → broken_rule r.header (newest_first log) e ≡ None → ActAlike writes (old_effects_at (newest_first log) e.caller e.kind)
+    → Judged r starting log state made watches queue first since
+    → Judged r starting (log ++ e ∷ []) state made watches (map (replied e) queue ++ listed (waiting_at (place_of e (newest_first log) [])))
     (first_with (parts_behind (newest_first log) e.caller e.kind) writes first since)
     (cut_if (is_commit e.kind) (with_part (parts_behind (newest_first log) e.caller e.kind) writes since))
-judged_more h starting log e state made watches queue first since writes well_formed keeps alike j = record {
+judged_more r starting log e state made watches queue first since writes well_formed keeps alike j = record {
   earlier = j.earlier;
   later = j.later ++ e ∷ [];
   whole = newest_first_onto-append j.earlier j.later (e ∷ []) ∙ ap (λ es. e ∷ es) j.whole ∙ sym (newest_first-push log e);
-  kept = break_after-append h j.earlier j.later (e ∷ [])
-      ∙ ap (λ o. option_or o (break_after h (newest_first_onto j.earlier j.later) (e ∷ []))) j.kept
-      ∙ ap (λ es. break_after h es (e ∷ [])) j.whole ∙ ap (λ o. option_or o None) keeps;
+  kept = break_after-append r.header j.earlier j.later (e ∷ [])
+      ∙ ap (λ o. option_or o (break_after r.header (newest_first_onto j.earlier j.later) (e ∷ []))) j.kept
+      ∙ ap (λ es. break_after r.header es (e ∷ [])) j.whole ∙ ap (λ o. option_or o None) keeps;
   queued = ap (λ es. map (replied e) queue ++ listed (waiting_at (place_of e es []))) (sym j.whole)
       ∙ ap (λ q. map (replied e) q ++ listed (waiting_at (place_of e (newest_first_onto j.earlier j.later) []))) j.queued
       ∙ sym (waiting_more j.earlier j.later e);
-  parts = subst (HasParts h starting (first_with (behind (newest_first log)) writes first since) (cut_if (is_commit e.kind) (with_part (behind (newest_first log)) writes since)))
-      parts (has_parts_more h starting first since (effect_parts (effects j.earlier j.later) j.earlier j.later) (behind (newest_first log)) writes
+  parts = subst (HasParts r.header starting (first_with (behind (newest_first log)) writes first since) (cut_if (is_commit e.kind) (with_part (behind (newest_first log)) writes since)))
+      parts (has_parts_more r.header starting first since (effect_parts (effects j.earlier j.later) j.earlier j.later) (behind (newest_first log)) writes
       (old_effects_at (newest_first log) e.caller e.kind) (is_commit e.kind) alike j.parts);
   settled = λ more. ap (effects j.earlier) (append_assoc j.later (e ∷ []) more) ∙ j.settled (e ∷ more) ∙ sym (j.settled (e ∷ []));
   ended = end_more j.earlier j.later (e ∷ []) j.ended;
-  reached = λ more. subst (λ es. Reached h (states_along h starting es) j.earlier ((j.later ++ e ∷ []) ++ more) state watches) (sym (append_assoc log (e ∷ []) more))
-      (subst (λ es. Reached h (states_along h starting (log ++ e ∷ more)) j.earlier es state watches) (sym (append_assoc j.later (e ∷ []) more)) (j.reached (e ∷ more)));
-  clean = λ more. ap (first_fault h starting) (append_assoc log (e ∷ []) more) ∙ j.clean (e ∷ more)
-      ∙ ap (λ es. first_answer (violation_at h starting (states_along h starting (log ++ e ∷ more))) (places_after j.earlier es)) (sym (append_assoc j.later (e ∷ []) more))
-      ∙ ap (λ es. first_answer (violation_at h starting (states_along h starting es)) (places_after j.earlier ((j.later ++ e ∷ []) ++ more))) (sym (append_assoc log (e ∷ []) more));
+  reached = λ more. subst (λ es. Reached r (states_along r starting es) j.earlier ((j.later ++ e ∷ []) ++ more) state watches) (sym (append_assoc log (e ∷ []) more))
+      (subst (λ es. Reached r (states_along r starting (log ++ e ∷ more)) j.earlier es state watches) (sym (append_assoc j.later (e ∷ []) more)) (j.reached (e ∷ more)));
+  clean = λ more. ap (first_fault r starting) (append_assoc log (e ∷ []) more) ∙ j.clean (e ∷ more)
+      ∙ ap (λ es. first_answer (violation_at r starting (states_along r starting (log ++ e ∷ more))) (places_after j.earlier es)) (sym (append_assoc j.later (e ∷ []) more))
+      ∙ ap (λ es. first_answer (violation_at r starting (states_along r starting es)) (places_after j.earlier ((j.later ++ e ∷ []) ++ more))) (sym (append_assoc log (e ∷ []) more));
   few = j.few;
   current = j.current;
 }
@@ -85,43 +86,43 @@ judged_more h starting log e state made watches queue first since writes well_fo
         ≡ effect_parts (effects j.earlier (j.later ++ e ∷ [])) j.earlier (j.later ++ e ∷ [])
     parts = ap (λ all. cut_if (is_commit e.kind) (with_effects (behind all) (old_effects_at all e.caller e.kind)
         (effect_parts (effects j.earlier j.later) j.earlier j.later))) (sym j.whole)
-        ∙ sym (parts_more h (effects j.earlier j.later) j.earlier j.later e (subst (WellFormed h) (sym j.whole) well_formed)
-        (ap (λ all. broken_rule h all e) j.whole ∙ keeps) j.ended)
+        ∙ sym (parts_more r.header (effects j.earlier j.later) j.earlier j.later e (subst (WellFormed r.header) (sym j.whole) well_formed)
+        (ap (λ all. broken_rule r.header all e) j.whole ∙ keeps) j.ended)
         ∙ ap (λ ws. effect_parts ws j.earlier (j.later ++ e ∷ [])) (sym (j.settled (e ∷ [])))
 
 -- What a place leads to, however the log goes on: it isn't a fault, and the next one is reached.
-pub record Onward (h : Header) (starting : List StartWord) (log : List Entry) (e : Entry) (earlier later : List Entry) (state : Amounts) (watches : List Seen) : Type 0 where
-  pub fault : (more : List Entry) → fault_at h starting (states_along h starting (log ++ more)) (place_of e earlier (later ++ more)) ≡ None
-  pub reached : (more : List Entry) → Reached h (states_along h starting (log ++ more)) (e ∷ earlier) (later ++ more) state watches
+pub record Onward (r : Rules) (starting : List StartWord) (log : List Entry) (e : Entry) (earlier later : List Entry) (state : Amounts) (watches : List Seen) : Type 0 where
+  pub fault : (more : List Entry) → fault_at r starting (states_along r starting (log ++ more)) (place_of e earlier (later ++ more)) ≡ None
+  pub reached : (more : List Entry) → Reached r (states_along r starting (log ++ more)) (e ∷ earlier) (later ++ more) state watches
 
 -- no fault is found before the places from this one on
-abbrev pub IsClean : Header → List StartWord → List Entry → List Entry → List Entry → Type 0
-IsClean h starting log earlier later = (more : List Entry) → first_fault h starting (log ++ more)
-    ≡ first_answer (violation_at h starting (states_along h starting (log ++ more))) (places_after earlier (later ++ more))
+abbrev pub IsClean : Rules → List StartWord → List Entry → List Entry → List Entry → Type 0
+IsClean r starting log earlier later = (more : List Entry) → first_fault r starting (log ++ more)
+    ≡ first_answer (violation_at r starting (states_along r starting (log ++ more))) (places_after earlier (later ++ more))
 
-abbrev pub IsReached : Header → List StartWord → List Entry → List Entry → List Entry → Amounts → List Seen → Type 0
-IsReached h starting log earlier later state watches =
-    (more : List Entry) → Reached h (states_along h starting (log ++ more)) earlier (later ++ more) state watches
+abbrev pub IsReached : Rules → List StartWord → List Entry → List Entry → List Entry → Amounts → List Seen → Type 0
+IsReached r starting log earlier later state watches =
+    (more : List Entry) → Reached r (states_along r starting (log ++ more)) earlier (later ++ more) state watches
 
-clean_on : (h : Header) (starting : List StartWord) (log : List Entry) (e : Entry) (earlier later : List Entry)
-    → ((more : List Entry) → fault_at h starting (states_along h starting (log ++ more)) (place_of e earlier (later ++ more)) ≡ None)
-    → IsClean h starting log earlier (e ∷ later) → IsClean h starting log (e ∷ earlier) later
-clean_on h starting log e earlier later fault clean = λ more.
+clean_on : (r : Rules) (starting : List StartWord) (log : List Entry) (e : Entry) (earlier later : List Entry)
+    → ((more : List Entry) → fault_at r starting (states_along r starting (log ++ more)) (place_of e earlier (later ++ more)) ≡ None)
+    → IsClean r starting log earlier (e ∷ later) → IsClean r starting log (e ∷ earlier) later
+clean_on r starting log e earlier later fault clean = λ more.
     clean more ∙ ap (λ o. option_or (option_map (Violation (line_of starting (length earlier))) o)
-    (first_answer (violation_at h starting (states_along h starting (log ++ more))) (places_after (e ∷ earlier) (later ++ more)))) (fault more)
+    (first_answer (violation_at r starting (states_along r starting (log ++ more))) (places_after (e ∷ earlier) (later ++ more)))) (fault more)
 
 -- an entry that isn't judged
-quiet_on : (h : Header) (starting : List StartWord) (log : List Entry) (e : Entry) (earlier later : List Entry) (state : Amounts) (watches : List Seen)
-    → broken_rule h earlier e ≡ None → waiting_at (place_of e earlier later) ≡ None → IsReached h starting log earlier (e ∷ later) state watches
-    → Onward h starting log e earlier later state watches
+quiet_on : (r : Rules) (starting : List StartWord) (log : List Entry) (e : Entry) (earlier later : List Entry) (state : Amounts) (watches : List Seen)
+    → broken_rule r.header earlier e ≡ None → waiting_at (place_of e earlier later) ≡ None → IsReached r starting log earlier (e ∷ later) state watches
+    → Onward r starting log e earlier later state watches
 unfolding fault_at
-quiet_on h starting log e earlier later state watches keeps quiet r = by_kind e.kind keeps quiet r
+quiet_on r starting log e earlier later state watches keeps quiet val = by_kind e.kind keeps quiet val
   where
     c : ℕ
     c = e.caller
 
     Goal : Kind → Type 0
-    Goal kind = Onward h starting log (entry c kind) earlier later state watches
+    Goal kind = Onward r starting log (entry c kind) earlier later state watches
 
     place : Kind → Place Entry
     place kind = place_of (entry c kind) earlier later
@@ -141,37 +142,37 @@ quiet_on h starting log e earlier later state watches keeps quiet r = by_kind e.
         apart : Some (commit_of reply called) ≡ None → ⊥
         apart p = cc
 
-    by_kind : (kind : Kind) → broken_rule h earlier (entry c kind) ≡ None
+    by_kind : (kind : Kind) → broken_rule r.header earlier (entry c kind) ≡ None
         → waiting_at (place kind) ≡ None
-        → IsReached h starting log earlier (entry c kind ∷ later) state watches → Goal kind
+        → IsReached r starting log earlier (entry c kind ∷ later) state watches → Goal kind
     by_kind (Call method args) keeps' none r' = record {
       fault = λ more. refl;
-      reached = λ more. reached_mutates h (states_along h starting (log ++ more)) c method args earlier (later ++ more) state watches
-          (then_some_false (is_observer method) _ (unwaiting (place (Call method args)) _ none)) (call_kept h c method args earlier keeps') (r' more);
+      reached = λ more. reached_mutates r (states_along r starting (log ++ more)) c method args earlier (later ++ more) state watches
+          (then_some_false (is_observer method) _ (unwaiting (place (Call method args)) _ none)) (call_kept r.header c method args earlier keeps') (r' more);
     }
     by_kind (Return reply) keeps' none r' =
-        let called = return_kept h c reply earlier keeps' in
+        let called = return_kept r.header c reply earlier keeps' in
         let mutates : is_observer called.0.method ≡ false =
         ap (λ o. option_map_or (λ k. is_observer k.method) o false) (sym called.1)
         ∙ then_some_false (is_observing c earlier) _ (unwaiting (place (Return reply)) _ none) in
         record {
-          fault = λ more. mutator_at h starting (states_along h starting (log ++ more)) c reply earlier (later ++ more) state watches called.0 called.1 mutates (r' more);
-          reached = λ more. reached_return h (states_along h starting (log ++ more)) c reply earlier (later ++ more) state watches watches (λ d other. refl) (r' more);
+          fault = λ more. mutator_at r starting (states_along r starting (log ++ more)) c reply earlier (later ++ more) state watches called.0 called.1 mutates (r' more);
+          reached = λ more. reached_return r (states_along r starting (log ++ more)) c reply earlier (later ++ more) state watches watches (λ d other. refl) (r' more);
         }
     by_kind (Write word value) keeps' none r' = record {
       fault = λ more. refl;
-      reached = λ more. reached_inside h (states_along h starting (log ++ more)) c (Write word value) earlier (later ++ more) state watches refl refl refl (r' more);
+      reached = λ more. reached_inside r (states_along r starting (log ++ more)) c (Write word value) earlier (later ++ more) state watches refl refl refl (r' more);
     }
     by_kind BlockOpen keeps' none r' = record {
       fault = λ more. refl;
-      reached = λ more. reached_inside h (states_along h starting (log ++ more)) c BlockOpen earlier (later ++ more) state watches refl refl refl (r' more);
+      reached = λ more. reached_inside r (states_along r starting (log ++ more)) c BlockOpen earlier (later ++ more) state watches refl refl refl (r' more);
     }
     by_kind BlockClose keeps' none r' = record {
       fault = λ more. refl;
-      reached = λ more. reached_inside h (states_along h starting (log ++ more)) c BlockClose earlier (later ++ more) state watches refl refl refl (r' more);
+      reached = λ more. reached_inside r (states_along r starting (log ++ more)) c BlockClose earlier (later ++ more) state watches refl refl refl (r' more);
     }
-    by_kind Commit keeps' none r' = at_commit (open_call c earlier) _ (commit_kept h c earlier keeps') (unwaiting (place Commit) _ none)
-    by_kind BlockCommit keeps' none r' = at_commit (open_call c earlier) _ (block_commit_runs h c earlier keeps') (unwaiting (place BlockCommit) _ none)
+    by_kind Commit keeps' none r' = at_commit (open_call c earlier) _ (commit_kept r.header c earlier keeps') (unwaiting (place Commit) _ none)
+    by_kind BlockCommit keeps' none r' = at_commit (open_call c earlier) _ (block_commit_runs r.header c earlier keeps') (unwaiting (place BlockCommit) _ none)
 
 -- an entry that isn't judged isn't a commit
 uncommitted : (h : Header) (e : Entry) (earlier later : List Entry) → broken_rule h earlier e ≡ None → waiting_at (place_of e earlier later) ≡ None
@@ -204,13 +205,13 @@ uncommitted h e earlier later keeps quiet = by_kind e.kind keeps quiet
     by_kind BlockClose keeps' none = refl
 
 -- All before a place is judged: what is known there, however the log goes on.
-pub record IsJudged (h : Header) (starting : List StartWord) (log : List Entry) (state : Amounts) (made : ℕ) (watches : List Seen)
+pub record IsJudged (r : Rules) (starting : List StartWord) (log : List Entry) (state : Amounts) (made : ℕ) (watches : List Seen)
     (first : List ℕ) (since : List (List (ℕ × ℕ))) (earlier later : List Entry) : Type 0 where
-  pub parts : HasParts h starting first since (effect_parts (effects earlier later) earlier later)
+  pub parts : HasParts r.header starting first since (effect_parts (effects earlier later) earlier later)
   pub settled : Settled earlier later
   pub ended : AllEnd earlier later
-  pub reached : IsReached h starting log earlier later state watches
-  pub clean : IsClean h starting log earlier later
+  pub reached : IsReached r starting log earlier later state watches
+  pub clean : IsClean r starting log earlier later
   pub few : made ≤ length earlier
 
 -- what isn't a commit changes nothing of the words that wait
@@ -230,20 +231,20 @@ parts_at h starting first since e earlier later commits has =
     ∷ effect_parts [] (e ∷ earlier) later) (effect_parts (effects (e ∷ earlier) later) (e ∷ earlier) later))) commits has
 
 -- an entry that isn't judged leads on
-judged_quiet : (h : Header) (starting : List StartWord) (log : List Entry) (state : Amounts) (made : ℕ) (watches : List Seen)
-    (first : List ℕ) (since : List (List (ℕ × ℕ))) (e : Entry) (earlier later : List Entry) → broken_rule h earlier e ≡ None
-    → waiting_at (place_of e earlier later) ≡ None → IsJudged h starting log state made watches first since earlier (e ∷ later)
-    → IsJudged h starting log state made watches first since (e ∷ earlier) later
-judged_quiet h starting log state made watches first since e earlier later keeps quiet j =
-    let isnt = uncommitted h e earlier later keeps quiet in
+judged_quiet : (r : Rules) (starting : List StartWord) (log : List Entry) (state : Amounts) (made : ℕ) (watches : List Seen)
+    (first : List ℕ) (since : List (List (ℕ × ℕ))) (e : Entry) (earlier later : List Entry) → broken_rule r.header earlier e ≡ None
+    → waiting_at (place_of e earlier later) ≡ None → IsJudged r starting log state made watches first since earlier (e ∷ later)
+    → IsJudged r starting log state made watches first since (e ∷ earlier) later
+judged_quiet r starting log state made watches first since e earlier later keeps quiet j =
+    let isnt = uncommitted r.header e earlier later keeps quiet in
     let is : IsReturned e.caller e.kind later = λ commits. absurd (apart isnt commits) in
-    let onward = quiet_on h starting log e earlier later state watches keeps quiet j.reached in
+    let onward = quiet_on r starting log e earlier later state watches keeps quiet j.reached in
     record {
-      parts = parts_on h starting first since e earlier later isnt j.parts;
+      parts = parts_on r.header starting first since e earlier later isnt j.parts;
       settled = settled_next e earlier later is j.settled;
-      ended = end_next h e earlier later keeps is j.ended;
+      ended = end_next r.header e earlier later keeps is j.ended;
       reached = onward.reached;
-      clean = clean_on h starting log e earlier later onward.fault j.clean;
+      clean = clean_on r starting log e earlier later onward.fault j.clean;
       few = omega (arith, j.few);
     }
   where
@@ -251,43 +252,43 @@ judged_quiet h starting log state made watches first since e earlier later keeps
     apart p q = cc
 
 -- The entry that waits first, where all before it is judged.
-pub record AtHead (h : Header) (starting : List StartWord) (log : List Entry) (state : Amounts) (made : ℕ) (watches : List Seen) (x : Waiting)
+pub record AtHead (r : Rules) (starting : List StartWord) (log : List Entry) (state : Amounts) (made : ℕ) (watches : List Seen) (x : Waiting)
     (xs : List Waiting) (first : List ℕ) (since : List (List (ℕ × ℕ))) : Type 0 where
   pub earlier : List Entry
   pub here : Entry
   pub later : List Entry
   pub whole : newest_first_onto (here ∷ earlier) later ≡ newest_first log
-  pub keeps : broken_rule h earlier here ≡ None
-  pub kept : break_after h (here ∷ earlier) later ≡ None
+  pub keeps : broken_rule r.header earlier here ≡ None
+  pub kept : break_after r.header (here ∷ earlier) later ≡ None
   pub is : waiting_at (place_of here earlier later) ≡ Some x
   pub rest : xs ≡ waiting_after (here ∷ earlier) later
-  pub judged : IsJudged h starting log state made watches first since earlier (here ∷ later)
-  pub current : AreCurrent state watches
+  pub judged : IsJudged r starting log state made watches first since earlier (here ∷ later)
+  pub current : AreCurrent (r.answer state) watches
 
 -- the first entry that waits from a place on
-head_from : (h : Header) (starting : List StartWord) (log : List Entry) (state : Amounts) (made : ℕ) (watches : List Seen) (x : Waiting)
+head_from : (r : Rules) (starting : List StartWord) (log : List Entry) (state : Amounts) (made : ℕ) (watches : List Seen) (x : Waiting)
     (xs : List Waiting) (first : List ℕ) (since : List (List (ℕ × ℕ))) (earlier later : List Entry)
-    → newest_first_onto earlier later ≡ newest_first log → break_after h earlier later ≡ None → x ∷ xs ≡ waiting_after earlier later
-    → IsJudged h starting log state made watches first since earlier later → AreCurrent state watches
-    → AtHead h starting log state made watches x xs first since
-head_from h starting log state made watches x xs first since earlier [] whole kept queued judged current = absurd (some_is_none queued)
+    → newest_first_onto earlier later ≡ newest_first log → break_after r.header earlier later ≡ None → x ∷ xs ≡ waiting_after earlier later
+    → IsJudged r starting log state made watches first since earlier later → AreCurrent (r.answer state) watches
+    → AtHead r starting log state made watches x xs first since
+head_from r starting log state made watches x xs first since earlier [] whole kept queued judged current = absurd (some_is_none queued)
   where
     some_is_none : x ∷ xs ≡ [] → ⊥
     some_is_none e = cc
-head_from h starting log state made watches x xs first since earlier (e ∷ later) whole kept queued judged current =
+head_from r starting log state made watches x xs first since earlier (e ∷ later) whole kept queued judged current =
     by_waiting (λ queued' judged'.
-    head_from h starting log state made watches x xs first since (e ∷ earlier) later whole kept_both.1 queued' judged' current)
+    head_from r starting log state made watches x xs first since (e ∷ earlier) later whole kept_both.1 queued' judged' current)
     (waiting_at (place_of e earlier later)) refl queued
   where
-    kept_both : (broken_rule h earlier e ≡ None) × (break_after h (e ∷ earlier) later ≡ None)
-    kept_both = both_none (broken_rule h earlier e) (break_after h (e ∷ earlier) later) kept
+    kept_both : (broken_rule r.header earlier e ≡ None) × (break_after r.header (e ∷ earlier) later ≡ None)
+    kept_both = both_none (broken_rule r.header earlier e) (break_after r.header (e ∷ earlier) later) kept
 
     by_waiting : (x ∷ xs ≡ waiting_after (e ∷ earlier) later
-        → IsJudged h starting log state made watches first since (e ∷ earlier) later → AtHead h starting log state made watches x xs first since)
+        → IsJudged r starting log state made watches first since (e ∷ earlier) later → AtHead r starting log state made watches x xs first since)
         → (o : Option Waiting) → waiting_at (place_of e earlier later) ≡ o → x ∷ xs ≡ cons_option o (waiting_after (e ∷ earlier) later)
-        → AtHead h starting log state made watches x xs first since
+        → AtHead r starting log state made watches x xs first since
     by_waiting on None quiet queued' =
-        on queued' (judged_quiet h starting log state made watches first since e earlier later kept_both.0 quiet judged)
+        on queued' (judged_quiet r starting log state made watches first since e earlier later kept_both.0 quiet judged)
     by_waiting on (Some y) is queued' = record {
       earlier = earlier;
       here = e;
@@ -307,51 +308,51 @@ head_from h starting log state made watches x xs first since earlier (e ∷ late
         rest_of : x ∷ xs ≡ y ∷ waiting_after (e ∷ earlier) later → xs ≡ waiting_after (e ∷ earlier) later
         rest_of p = cc
 
-known_of : {h : Header} {starting : List StartWord} {log : List Entry} {state : Amounts} {made : ℕ} {watches : List Seen} {queue : List Waiting}
-    {first : List ℕ} {since : List (List (ℕ × ℕ))} (j : Judged h starting log state made watches queue first since)
-    → IsJudged h starting log state made watches first since j.earlier j.later
+known_of : {r : Rules} {starting : List StartWord} {log : List Entry} {state : Amounts} {made : ℕ} {watches : List Seen} {queue : List Waiting}
+    {first : List ℕ} {since : List (List (ℕ × ℕ))} (j : Judged r starting log state made watches queue first since)
+    → IsJudged r starting log state made watches first since j.earlier j.later
 known_of j =
     record { parts = j.parts; settled = j.settled; ended = j.ended; reached = j.reached; clean = j.clean; few = j.few }
 
-pub judged_head : (h : Header) (starting : List StartWord) (log : List Entry) (state : Amounts) (made : ℕ) (watches : List Seen) (x : Waiting)
-    (xs : List Waiting) (first : List ℕ) (since : List (List (ℕ × ℕ))) → Judged h starting log state made watches (x ∷ xs) first since
-    → AtHead h starting log state made watches x xs first since
-judged_head h starting log state made watches x xs first since j =
-    head_from h starting log state made watches x xs first since j.earlier j.later j.whole j.kept j.queued (known_of j) j.current
+pub judged_head : (r : Rules) (starting : List StartWord) (log : List Entry) (state : Amounts) (made : ℕ) (watches : List Seen) (x : Waiting)
+    (xs : List Waiting) (first : List ℕ) (since : List (List (ℕ × ℕ))) → Judged r starting log state made watches (x ∷ xs) first since
+    → AtHead r starting log state made watches x xs first since
+judged_head r starting log state made watches x xs first since j =
+    head_from r starting log state made watches x xs first since j.earlier j.later j.whole j.kept j.queued (known_of j) j.current
 
 -- where nothing waits there is no fault
-none_from : (h : Header) (starting : List StartWord) (log : List Entry) (state : Amounts) (watches : List Seen) (earlier later : List Entry)
-    → break_after h earlier later ≡ None → [] ≡ waiting_after earlier later
-    → IsReached h starting log earlier later state watches → IsClean h starting log earlier later → first_fault h starting log ≡ None
-none_from h starting log state watches earlier [] kept queued reached clean = ap (first_fault h starting) (sym (append-nil log)) ∙ clean []
-none_from h starting log state watches earlier (e ∷ later) kept queued reached clean =
-    by_waiting (λ queued' reached' clean'. none_from h starting log state watches (e ∷ earlier) later kept_both.1 queued' reached' clean')
+none_from : (r : Rules) (starting : List StartWord) (log : List Entry) (state : Amounts) (watches : List Seen) (earlier later : List Entry)
+    → break_after r.header earlier later ≡ None → [] ≡ waiting_after earlier later
+    → IsReached r starting log earlier later state watches → IsClean r starting log earlier later → first_fault r starting log ≡ None
+none_from r starting log state watches earlier [] kept queued reached clean = ap (first_fault r starting) (sym (append-nil log)) ∙ clean []
+none_from r starting log state watches earlier (e ∷ later) kept queued reached clean =
+    by_waiting (λ queued' reached' clean'. none_from r starting log state watches (e ∷ earlier) later kept_both.1 queued' reached' clean')
     (waiting_at (place_of e earlier later)) refl queued
   where
-    kept_both : (broken_rule h earlier e ≡ None) × (break_after h (e ∷ earlier) later ≡ None)
-    kept_both = both_none (broken_rule h earlier e) (break_after h (e ∷ earlier) later) kept
+    kept_both : (broken_rule r.header earlier e ≡ None) × (break_after r.header (e ∷ earlier) later ≡ None)
+    kept_both = both_none (broken_rule r.header earlier e) (break_after r.header (e ∷ earlier) later) kept
 
-    by_waiting : ([] ≡ waiting_after (e ∷ earlier) later → IsReached h starting log (e ∷ earlier) later state watches
-        → IsClean h starting log (e ∷ earlier) later → first_fault h starting log ≡ None)
+    by_waiting : ([] ≡ waiting_after (e ∷ earlier) later → IsReached r starting log (e ∷ earlier) later state watches
+        → IsClean r starting log (e ∷ earlier) later → first_fault r starting log ≡ None)
         → (o : Option Waiting) → waiting_at (place_of e earlier later) ≡ o → [] ≡ cons_option o (waiting_after (e ∷ earlier) later)
-        → first_fault h starting log ≡ None
+        → first_fault r starting log ≡ None
     by_waiting on None quiet queued' =
-        let onward = quiet_on h starting log e earlier later state watches kept_both.0 quiet reached in
-        on queued' onward.reached (clean_on h starting log e earlier later onward.fault clean)
+        let onward = quiet_on r starting log e earlier later state watches kept_both.0 quiet reached in
+        on queued' onward.reached (clean_on r starting log e earlier later onward.fault clean)
     by_waiting on (Some y) is queued' = cc
 
-pub judged_all : (h : Header) (starting : List StartWord) (log : List Entry) (state : Amounts) (made : ℕ) (watches : List Seen) (first : List ℕ) (since : List (List (ℕ × ℕ)))
-    → Judged h starting log state made watches [] first since → first_fault h starting log ≡ None
-judged_all h starting log state made watches first since j = none_from h starting log state watches j.earlier j.later j.kept j.queued j.reached j.clean
+pub judged_all : (r : Rules) (starting : List StartWord) (log : List Entry) (state : Amounts) (made : ℕ) (watches : List Seen) (first : List ℕ) (since : List (List (ℕ × ℕ)))
+    → Judged r starting log state made watches [] first since → first_fault r starting log ≡ None
+judged_all r starting log state made watches first since j = none_from r starting log state watches j.earlier j.later j.kept j.queued j.reached j.clean
 
 -- one more entry is judged
-pub judged_next : (h : Header) (starting : List StartWord) (log : List Entry) (state next : Amounts) (made more : ℕ) (watches new : List Seen)
+pub judged_next : (r : Rules) (starting : List StartWord) (log : List Entry) (state next : Amounts) (made more : ℕ) (watches new : List Seen)
     (x : Waiting) (xs : List Waiting) (first next_first : List ℕ) (since next_since : List (List (ℕ × ℕ)))
-    (at : AtHead h starting log state made watches x xs first since) → IsReturned at.here.caller at.here.kind at.later
-    → HasParts h starting next_first next_since (effect_parts (effects (at.here ∷ at.earlier) at.later) (at.here ∷ at.earlier) at.later)
-    → more ≤ made + 1 → AreCurrent next new
-    → Onward h starting log at.here at.earlier at.later next new → Judged h starting log next more new xs next_first next_since
-judged_next h starting log state next made more watches new x xs first next_first since next_since at is parts count current onward = record {
+    (at : AtHead r starting log state made watches x xs first since) → IsReturned at.here.caller at.here.kind at.later
+    → HasParts r.header starting next_first next_since (effect_parts (effects (at.here ∷ at.earlier) at.later) (at.here ∷ at.earlier) at.later)
+    → more ≤ made + 1 → AreCurrent (r.answer next) new
+    → Onward r starting log at.here at.earlier at.later next new → Judged r starting log next more new xs next_first next_since
+judged_next r starting log state next made more watches new x xs first next_first since next_since at is parts count current onward = record {
   earlier = at.here ∷ at.earlier;
   later = at.later;
   whole = at.whole;
@@ -359,21 +360,21 @@ judged_next h starting log state next made more watches new x xs first next_firs
   queued = at.rest;
   parts = parts;
   settled = settled_next at.here at.earlier at.later is at.judged.settled;
-  ended = end_next h at.here at.earlier at.later at.keeps is at.judged.ended;
+  ended = end_next r.header at.here at.earlier at.later at.keeps is at.judged.ended;
   reached = onward.reached;
-  clean = clean_on h starting log at.here at.earlier at.later onward.fault at.judged.clean;
+  clean = clean_on r starting log at.here at.earlier at.later onward.fault at.judged.clean;
   few = omega (arith, count, at.judged.few);
   current = current;
 }
 
 -- the entry that waits first is a fault
-pub judged_fault : (h : Header) (starting : List StartWord) (log : List Entry) (state : Amounts) (made : ℕ) (watches : List Seen) (x : Waiting) (xs : List Waiting)
-    (first : List ℕ) (since : List (List (ℕ × ℕ))) (why : Why) (at : AtHead h starting log state made watches x xs first since)
-    → fault_at h starting (states_along h starting log) (place_of at.here at.earlier at.later) ≡ Some why
-    → first_fault h starting log ≡ Some (Violation (line_of starting (length at.earlier)) why)
-judged_fault h starting log state made watches x xs first since why at fault =
-    ap (first_fault h starting) (sym (append-nil log)) ∙ at.judged.clean []
-    ∙ ap (λ es. first_answer (violation_at h starting (states_along h starting es)) (places_after at.earlier (at.here ∷ at.later ++ []))) (append-nil log)
-    ∙ ap (λ es. first_answer (violation_at h starting (states_along h starting log)) (places_after at.earlier (at.here ∷ es))) (append-nil at.later)
+pub judged_fault : (r : Rules) (starting : List StartWord) (log : List Entry) (state : Amounts) (made : ℕ) (watches : List Seen) (x : Waiting) (xs : List Waiting)
+    (first : List ℕ) (since : List (List (ℕ × ℕ))) (why : Why) (at : AtHead r starting log state made watches x xs first since)
+    → fault_at r starting (states_along r starting log) (place_of at.here at.earlier at.later) ≡ Some why
+    → first_fault r starting log ≡ Some (Violation (line_of starting (length at.earlier)) why)
+judged_fault r starting log state made watches x xs first since why at fault =
+    ap (first_fault r starting) (sym (append-nil log)) ∙ at.judged.clean []
+    ∙ ap (λ es. first_answer (violation_at r starting (states_along r starting es)) (places_after at.earlier (at.here ∷ at.later ++ []))) (append-nil log)
+    ∙ ap (λ es. first_answer (violation_at r starting (states_along r starting log)) (places_after at.earlier (at.here ∷ es))) (append-nil at.later)
     ∙ ap (λ o. option_or (option_map (Violation (line_of starting (length at.earlier))) o)
-    (first_answer (violation_at h starting (states_along h starting log)) (places_after (at.here ∷ at.earlier) at.later))) fault
+    (first_answer (violation_at r starting (states_along r starting log)) (places_after (at.here ∷ at.earlier) at.later))) fault

@@ -5,7 +5,6 @@ use Rattle.std.proofs.Math.Logic.{∥∥₁_elim}
 use Rattle.std.proofs.Math.Bool.{Bool-set}
 use Rattle.std.proofs.lemmas.Option.{slice_get_within}
 use Rattle.std.proofs.lemmas.Option.{same_Some}
-use Rattle.vyrd_base.specs.declared.header.Header.{Header}
 use Rattle.vyrd_base.specs.declared.subject.Method.{Method}
 use Rattle.vyrd_base.specs.declared.subject.Args.{Args}
 use Rattle.vyrd_base.specs.declared.log.Entry.{Entry}
@@ -14,7 +13,6 @@ use Rattle.vyrd_base.specs.declared.verdict.Why.TheVariants.{Observer}
 use Rattle.vyrd_base.specs.declared.verdict.Verdict.TheVariants.{Violation}
 use Rattle.vyrd_base.specs.Subjects.{is_observer}
 use Rattle.vyrd_base.specs.Amounts.{Amounts}
-use Rattle.vyrd_base.specs.Specification.{answer_in}
 use Rattle.vyrd_base.specs.Verdicts.{line_of, first_fault}
 use Rattle.vyrd_base.proofs.BlockLaws.{by_same}
 use Rattle.vyrd_base.proofs.TestLaws.{below_of, is_below, same_number, apart_of}
@@ -32,15 +30,16 @@ use Rattle.vyrd_judge.proofs.Reaching.{OthersStay}
 use Rattle.vyrd_judge.proofs.WaitingLaws.{Waits, begins, commits, returns, waits, IsBegin, IsCommit, IsReturn}
 use Rattle.vyrd_judge.proofs.JudgedLaws.{AtHead, judged_head}
 use Rattle.vyrd_judge.proofs.HeadLaws.{head_begins, begin_fits, head_caller, head_answered, head_unanswered, commit_fits, split_here, head_faults, head_right, head_waits, head_few}
+use Rattle.vyrd_base.specs.Rules.{Rules}
 
 -- the entry that waits first, by its event
-pub begins_at : {h : Header} {starting : List StartWord} {log : List Entry} {state : Amounts} {made : ℕ} {watches : List Seen} {x : Waiting} {xs : List Waiting}
-    {first : List ℕ} {since : List (List (ℕ × ℕ))} {method : Method} {args : Args} → x.event ≡ Begins method args → Judged h starting log state made watches (x ∷ xs) first since
-    → (at : AtHead h starting log state made watches x xs first since) × IsBegin at.here at.earlier x method args
-begins_at {h} {starting} {log} {state} {made} {watches} {x} {xs} {first} {since} {method} {args} event j =
-    let at = judged_head h starting log state made watches x xs first since j in (at, by_event at (waits at.here at.earlier at.later x at.is))
+pub begins_at : {r : Rules} {starting : List StartWord} {log : List Entry} {state : Amounts} {made : ℕ} {watches : List Seen} {x : Waiting} {xs : List Waiting}
+    {first : List ℕ} {since : List (List (ℕ × ℕ))} {method : Method} {args : Args} → x.event ≡ Begins method args → Judged r starting log state made watches (x ∷ xs) first since
+    → (at : AtHead r starting log state made watches x xs first since) × IsBegin at.here at.earlier x method args
+begins_at {r} {starting} {log} {state} {made} {watches} {x} {xs} {first} {since} {method} {args} event j =
+    let at = judged_head r starting log state made watches x xs first since j in (at, by_event at (waits at.here at.earlier at.later x at.is))
   where
-    by_event : (at : AtHead h starting log state made watches x xs first since) → Waits at.here at.earlier at.later x → IsBegin at.here at.earlier x method args
+    by_event : (at : AtHead r starting log state made watches x xs first since) → Waits at.here at.earlier at.later x → IsBegin at.here at.earlier x method args
     by_event at (begins m a e is) =
         let same_method : m ≡ method = cc in
         let same_args : a ≡ args = cc in
@@ -49,19 +48,19 @@ begins_at {h} {starting} {log} {state} {made} {watches} {x} {xs} {first} {since}
       where
         apart : Begins method args ≡ Commits m a o → ⊥
         apart p = cc
-    by_event at (returns r e is) = absurd (apart (sym event ∙ e))
+    by_event at (returns val e is) = absurd (apart (sym event ∙ e))
       where
-        apart : Begins method args ≡ Returns r → ⊥
+        apart : Begins method args ≡ Returns val → ⊥
         apart p = cc
 
-pub commits_at : {h : Header} {starting : List StartWord} {log : List Entry} {state : Amounts} {made : ℕ} {watches : List Seen} {x : Waiting} {xs : List Waiting}
+pub commits_at : {r : Rules} {starting : List StartWord} {log : List Entry} {state : Amounts} {made : ℕ} {watches : List Seen} {x : Waiting} {xs : List Waiting}
     {first : List ℕ} {since : List (List (ℕ × ℕ))} {method : Method} {args : Args} {o : Option ℕ} → x.event ≡ Commits method args o
-    → Judged h starting log state made watches (x ∷ xs) first since
-    → (at : AtHead h starting log state made watches x xs first since) × IsCommit at.here at.earlier at.later x method args o
-commits_at {h} {starting} {log} {state} {made} {watches} {x} {xs} {first} {since} {method} {args} {o} event j =
-    let at = judged_head h starting log state made watches x xs first since j in (at, by_event at (waits at.here at.earlier at.later x at.is))
+    → Judged r starting log state made watches (x ∷ xs) first since
+    → (at : AtHead r starting log state made watches x xs first since) × IsCommit at.here at.earlier at.later x method args o
+commits_at {r} {starting} {log} {state} {made} {watches} {x} {xs} {first} {since} {method} {args} {o} event j =
+    let at = judged_head r starting log state made watches x xs first since j in (at, by_event at (waits at.here at.earlier at.later x at.is))
   where
-    by_event : (at : AtHead h starting log state made watches x xs first since) → Waits at.here at.earlier at.later x
+    by_event : (at : AtHead r starting log state made watches x xs first since) → Waits at.here at.earlier at.later x
         → IsCommit at.here at.earlier at.later x method args o
     by_event at (commits m a p e is) =
         let same_method : m ≡ method = cc in
@@ -73,19 +72,19 @@ commits_at {h} {starting} {log} {state} {made} {watches} {x} {xs} {first} {since
       where
         apart : Commits method args o ≡ Begins m a → ⊥
         apart p = cc
-    by_event at (returns r e is) = absurd (apart (sym event ∙ e))
+    by_event at (returns val e is) = absurd (apart (sym event ∙ e))
       where
-        apart : Commits method args o ≡ Returns r → ⊥
+        apart : Commits method args o ≡ Returns val → ⊥
         apart p = cc
 
-pub returns_at : {h : Header} {starting : List StartWord} {log : List Entry} {state : Amounts} {made : ℕ} {watches : List Seen} {x : Waiting} {xs : List Waiting}
-    {first : List ℕ} {since : List (List (ℕ × ℕ))} {reply : ℕ} → x.event ≡ Returns reply → Judged h starting log state made watches (x ∷ xs) first since
-    → (at : AtHead h starting log state made watches x xs first since) × IsReturn at.here at.earlier x reply
-returns_at {h} {starting} {log} {state} {made} {watches} {x} {xs} {first} {since} {reply} event j =
-    let at = judged_head h starting log state made watches x xs first since j in (at, by_event at (waits at.here at.earlier at.later x at.is))
+pub returns_at : {r : Rules} {starting : List StartWord} {log : List Entry} {state : Amounts} {made : ℕ} {watches : List Seen} {x : Waiting} {xs : List Waiting}
+    {first : List ℕ} {since : List (List (ℕ × ℕ))} {reply : ℕ} → x.event ≡ Returns reply → Judged r starting log state made watches (x ∷ xs) first since
+    → (at : AtHead r starting log state made watches x xs first since) × IsReturn at.here at.earlier x reply
+returns_at {r} {starting} {log} {state} {made} {watches} {x} {xs} {first} {since} {reply} event j =
+    let at = judged_head r starting log state made watches x xs first since j in (at, by_event at (waits at.here at.earlier at.later x at.is))
   where
-    by_event : (at : AtHead h starting log state made watches x xs first since) → Waits at.here at.earlier at.later x → IsReturn at.here at.earlier x reply
-    by_event at (returns r e is) = let same : r ≡ reply = cc in subst (IsReturn at.here at.earlier x) same is
+    by_event : (at : AtHead r starting log state made watches x xs first since) → Waits at.here at.earlier at.later x → IsReturn at.here at.earlier x reply
+    by_event at (returns val e is) = let same : val ≡ reply = cc in subst (IsReturn at.here at.earlier x) same is
     by_event at (begins m a e is) = absurd (apart (sym event ∙ e))
       where
         apart : Returns reply ≡ Begins m a → ⊥
@@ -96,69 +95,69 @@ returns_at {h} {starting} {log} {state} {made} {watches} {x} {xs} {first} {since
         apart p = cc
 
 -- what may be judged: its caller, what was called, and how many steps were made
-pub begins_caller : {h : Header} {state : Amounts} {made : ℕ} {watches : List Seen} {x : Waiting} {first : List ℕ} {since : List (List (ℕ × ℕ))} {method : Method} {args : Args}
-    → x.event ≡ Begins method args → MayJudge h state made watches x first since → x.caller < h.callers
+pub begins_caller : {r : Rules} {state : Amounts} {made : ℕ} {watches : List Seen} {x : Waiting} {first : List ℕ} {since : List (List (ℕ × ℕ))} {method : Method} {args : Args}
+    → x.event ≡ Begins method args → MayJudge r state made watches x first since → x.caller < r.header.callers
 begins_caller event may = below_of _ _ (∥∥₁_elim may (Bool-set _ _) (λ s.
     let found = begins_at event s.3 in is_below _ _ (head_caller found.0 found.1.caller)))
 
-pub begins_may : {h : Header} {state : Amounts} {made : ℕ} {watches : List Seen} {x : Waiting} {first : List ℕ} {since : List (List (ℕ × ℕ))} {method : Method} {args : Args}
-    → x.event ≡ Begins method args → MayJudge h state made watches x first since → has_method h method args ≡ true
+pub begins_may : {r : Rules} {state : Amounts} {made : ℕ} {watches : List Seen} {x : Waiting} {first : List ℕ} {since : List (List (ℕ × ℕ))} {method : Method} {args : Args}
+    → x.event ≡ Begins method args → MayJudge r state made watches x first since → has_method r.header method args ≡ true
 begins_may event may = ∥∥₁_elim may (Bool-set _ _) (λ s. let found = begins_at event s.3 in begin_fits found.0 found.1)
 
-pub begins_observes : {h : Header} {state : Amounts} {made : ℕ} {watches : List Seen} {x : Waiting} {first : List ℕ} {since : List (List (ℕ × ℕ))} {method : Method} {args : Args}
-    → x.event ≡ Begins method args → MayJudge h state made watches x first since → is_observer method ≡ true
+pub begins_observes : {r : Rules} {state : Amounts} {made : ℕ} {watches : List Seen} {x : Waiting} {first : List ℕ} {since : List (List (ℕ × ℕ))} {method : Method} {args : Args}
+    → x.event ≡ Begins method args → MayJudge r state made watches x first since → is_observer method ≡ true
 begins_observes event may = ∥∥₁_elim may (Bool-set _ _) (λ s. (begins_at event s.3).1.observes)
 
-pub commits_may : {h : Header} {state : Amounts} {made : ℕ} {watches : List Seen} {x : Waiting} {first : List ℕ} {since : List (List (ℕ × ℕ))} {method : Method} {args : Args}
-    {o : Option ℕ} → x.event ≡ Commits method args o → MayJudge h state made watches x first since → has_method h method args ≡ true
+pub commits_may : {r : Rules} {state : Amounts} {made : ℕ} {watches : List Seen} {x : Waiting} {first : List ℕ} {since : List (List (ℕ × ℕ))} {method : Method} {args : Args}
+    {o : Option ℕ} → x.event ≡ Commits method args o → MayJudge r state made watches x first since → has_method r.header method args ≡ true
 commits_may event may = ∥∥₁_elim may (Bool-set _ _) (λ s. let found = commits_at event s.3 in (commit_fits found.0 found.1).may)
 
-pub commits_mutates : {h : Header} {state : Amounts} {made : ℕ} {watches : List Seen} {x : Waiting} {first : List ℕ} {since : List (List (ℕ × ℕ))} {method : Method} {args : Args}
-    {o : Option ℕ} → x.event ≡ Commits method args o → MayJudge h state made watches x first since → is_observer method ≡ false
+pub commits_mutates : {r : Rules} {state : Amounts} {made : ℕ} {watches : List Seen} {x : Waiting} {first : List ℕ} {since : List (List (ℕ × ℕ))} {method : Method} {args : Args}
+    {o : Option ℕ} → x.event ≡ Commits method args o → MayJudge r state made watches x first since → is_observer method ≡ false
 commits_mutates event may = ∥∥₁_elim may (Bool-set _ _) (λ s. let found = commits_at event s.3 in (commit_fits found.0 found.1).mutates)
 
-pub returns_caller : {h : Header} {state : Amounts} {made : ℕ} {watches : List Seen} {x : Waiting} {first : List ℕ} {since : List (List (ℕ × ℕ))} {reply : ℕ}
-    → x.event ≡ Returns reply → MayJudge h state made watches x first since → x.caller < h.callers
+pub returns_caller : {r : Rules} {state : Amounts} {made : ℕ} {watches : List Seen} {x : Waiting} {first : List ℕ} {since : List (List (ℕ × ℕ))} {reply : ℕ}
+    → x.event ≡ Returns reply → MayJudge r state made watches x first since → x.caller < r.header.callers
 returns_caller event may = below_of _ _ (∥∥₁_elim may (Bool-set _ _) (λ s.
     let found = returns_at event s.3 in is_below _ _ (head_caller found.0 found.1.caller)))
 
-pub steps_few : {h : Header} {state : Amounts} {made : ℕ} {watches : List Seen} {x : Waiting} {first : List ℕ} {since : List (List (ℕ × ℕ))}
-    → MayJudge h state made watches x first since → made < 2 ^ 62
-steps_few {h} {state} {made} {watches} {x} {first} {since} may = below_of _ _ (∥∥₁_elim may (Bool-set _ _) (λ s.
-    let few : made < 2 ^ 62 = omega (arith, head_few (judged_head h s.0 s.1 state made watches x s.2 first since s.3), s.4) in is_below made (2 ^ 62) few))
+pub steps_few : {r : Rules} {state : Amounts} {made : ℕ} {watches : List Seen} {x : Waiting} {first : List ℕ} {since : List (List (ℕ × ℕ))}
+    → MayJudge r state made watches x first since → made < 2 ^ 62
+steps_few {r} {state} {made} {watches} {x} {first} {since} may = below_of _ _ (∥∥₁_elim may (Bool-set _ _) (λ s.
+    let few : made < 2 ^ 62 = omega (arith, head_few (judged_head r s.0 s.1 state made watches x s.2 first since s.3), s.4) in is_below made (2 ^ 62) few))
 
-current-prop : (state : Amounts) (watches : List Seen) → IsProp (AreCurrent state watches)
-current-prop state watches = hlevel Bool-set
+current-prop : (r : Rules) (state : Amounts) (watches : List Seen) → IsProp (AreCurrent (r.answer state) watches)
+current-prop r state watches = hlevel Bool-set
 
-pub judged_current : {h : Header} {state : Amounts} {made : ℕ} {watches : List Seen} {x : Waiting} {first : List ℕ} {since : List (List (ℕ × ℕ))}
-    → MayJudge h state made watches x first since → AreCurrent state watches
-judged_current {state = state} {watches = watches} may = ∥∥₁_elim may (current-prop state watches) (λ s. s.3.current)
+pub judged_current : {r : Rules} {state : Amounts} {made : ℕ} {watches : List Seen} {x : Waiting} {first : List ℕ} {since : List (List (ℕ × ℕ))}
+    → MayJudge r state made watches x first since → AreCurrent (r.answer state) watches
+judged_current {r = r} {state = state} {watches = watches} may = ∥∥₁_elim may (current-prop r state watches) (λ s. s.3.current)
 
 -- one watch is changed
 others_stay : (c : ℕ) (watches : List Seen) (seen : Seen) → OthersStay c watches (set watches c seen)
 others_stay c watches seen d other = slice_get-set_other watches c d seen (apart_of c d other)
 
-current_set : (state : Amounts) (c : ℕ) (watches : List Seen) (seen : Seen) → c < length watches → AreCurrent state watches
-    → (seen.is_open ≡ true → has_answer seen.answers (answer_in state seen.method seen.args) ≡ true) → AreCurrent state (set watches c seen)
-current_set state c watches seen low all own = λ d other here is_open. by_same c d
+current_set : (r : Rules) (state : Amounts) (c : ℕ) (watches : List Seen) (seen : Seen) → c < length watches → AreCurrent (r.answer state) watches
+    → (seen.is_open ≡ true → has_answer seen.answers (r.answer state seen.method seen.args) ≡ true) → AreCurrent (r.answer state) (set watches c seen)
+current_set r state c watches seen low all own = λ d other here is_open. by_same c d
     (λ same. let it : seen ≡ other = same_Some _ _ (sym (slice_get-set_same watches c seen low)
     ∙ ap (slice_get (set watches c seen)) same ∙ here) in
-    ap (λ s. has_answer s.answers (answer_in state s.method s.args)) (sym it) ∙ own (ap (λ s. s.is_open) it ∙ is_open))
+    ap (λ s. has_answer s.answers (r.answer state s.method s.args)) (sym it) ∙ own (ap (λ s. s.is_open) it ∙ is_open))
     (λ apart. all d other (sym (slice_get-set_other watches c d seen (apart_of c d apart)) ∙ here) is_open)
 
 -- an observer begins
-pub judged_begins : {h : Header} {starting : List StartWord} {log : List Entry} {state : Amounts} {made : ℕ} {watches : List Seen} {x : Waiting} {xs : List Waiting}
-    {first : List ℕ} {since : List (List (ℕ × ℕ))} {method : Method} {args : Args} → x.event ≡ Begins method args → length watches ≡ h.callers
-    → Judged h starting log state made watches (x ∷ xs) first since
-    → Judged h starting log state made (set watches x.caller (record { is_open = true; method = method; args = args; answers = answer_in state method args ∷ [] })) xs first since
-judged_begins {h} {state = state} {watches = watches} {x} {method = method} {args = args} event long j =
+pub judged_begins : {r : Rules} {starting : List StartWord} {log : List Entry} {state : Amounts} {made : ℕ} {watches : List Seen} {x : Waiting} {xs : List Waiting}
+    {first : List ℕ} {since : List (List (ℕ × ℕ))} {method : Method} {args : Args} → x.event ≡ Begins method args → length watches ≡ r.header.callers
+    → Judged r starting log state made watches (x ∷ xs) first since
+    → Judged r starting log state made (set watches x.caller (record { is_open = true; method = method; args = args; answers = r.answer state method args ∷ [] })) xs first since
+judged_begins {r} {state = state} {watches = watches} {x} {method = method} {args = args} event long j =
     let found = begins_at event j in
     let low : x.caller < length watches = omega (arith, long, head_caller found.0 found.1.caller) in
     head_begins (set watches x.caller seen) found.0 found.1 (others_stay x.caller watches seen) (slice_get-set_same watches x.caller seen low)
-    (current_set state x.caller watches seen low j.current (λ is_open. ap (λ b. b || false) (same_number (answer_in state method args))))
+    (current_set r state x.caller watches seen low j.current (λ is_open. ap (λ b. b || false) (same_number (r.answer state method args))))
   where
     seen : Seen
-    seen = record { is_open = true; method = method; args = args; answers = answer_in state method args ∷ [] }
+    seen = record { is_open = true; method = method; args = args; answers = r.answer state method args ∷ [] }
 
 there : (xs : List Seen) (c : ℕ) → c < length xs → (seen : Seen) × (slice_get xs c ≡ Some seen)
 there [] c low = absurd (omega (arith, low))
@@ -166,64 +165,64 @@ there (x ∷ xs) zero low = (x, refl)
 there (x ∷ xs) (suc c) low = there xs c (omega (arith, low))
 
 -- an observer returns
-pub watch_there : {h : Header} {starting : List StartWord} {log : List Entry} {state : Amounts} {made : ℕ} {watches : List Seen} {x : Waiting} {xs : List Waiting}
-    {first : List ℕ} {since : List (List (ℕ × ℕ))} {reply : ℕ} → x.event ≡ Returns reply → length watches ≡ h.callers
-    → Judged h starting log state made watches (x ∷ xs) first since → (seen : Seen) × (slice_get watches x.caller ≡ Some seen)
+pub watch_there : {r : Rules} {starting : List StartWord} {log : List Entry} {state : Amounts} {made : ℕ} {watches : List Seen} {x : Waiting} {xs : List Waiting}
+    {first : List ℕ} {since : List (List (ℕ × ℕ))} {reply : ℕ} → x.event ≡ Returns reply → length watches ≡ r.header.callers
+    → Judged r starting log state made watches (x ∷ xs) first since → (seen : Seen) × (slice_get watches x.caller ≡ Some seen)
 watch_there {watches = watches} {x} event long j =
     let found = returns_at event j in there watches x.caller (omega (arith, long, head_caller found.0 found.1.caller))
 
-pub judged_answered : {h : Header} {starting : List StartWord} {log : List Entry} {state : Amounts} {made : ℕ} {watches : List Seen} {x : Waiting} {xs : List Waiting}
+pub judged_answered : {r : Rules} {starting : List StartWord} {log : List Entry} {state : Amounts} {made : ℕ} {watches : List Seen} {x : Waiting} {xs : List Waiting}
     {first : List ℕ} {since : List (List (ℕ × ℕ))} {reply : ℕ} (seen : Seen) → x.event ≡ Returns reply → slice_get watches x.caller ≡ Some seen
-    → has_answer seen.answers reply ≡ true → Judged h starting log state made watches (x ∷ xs) first since
-    → Judged h starting log state made (set watches x.caller unwatched) xs first since
-judged_answered {h} {state = state} {watches = watches} {x} seen event here answered j =
+    → has_answer seen.answers reply ≡ true → Judged r starting log state made watches (x ∷ xs) first since
+    → Judged r starting log state made (set watches x.caller unwatched) xs first since
+judged_answered {r} {state = state} {watches = watches} {x} seen event here answered j =
     let found = returns_at event j in
     head_answered (set watches x.caller unwatched) seen found.0 found.1 here answered (others_stay x.caller watches unwatched)
-    (current_set state x.caller watches unwatched (slice_get_within watches x.caller seen here) j.current (λ is_open. absurd (apart is_open)))
+    (current_set r state x.caller watches unwatched (slice_get_within watches x.caller seen here) j.current (λ is_open. absurd (apart is_open)))
   where
     apart : false ≡ true → ⊥
     apart e = cc
 
-pub judged_unanswered : {h : Header} {starting : List StartWord} {log : List Entry} {state : Amounts} {made : ℕ} {watches : List Seen} {x : Waiting} {xs : List Waiting}
+pub judged_unanswered : {r : Rules} {starting : List StartWord} {log : List Entry} {state : Amounts} {made : ℕ} {watches : List Seen} {x : Waiting} {xs : List Waiting}
     {first : List ℕ} {since : List (List (ℕ × ℕ))} {reply : ℕ} (seen : Seen) → x.event ≡ Returns reply → slice_get watches x.caller ≡ Some seen
-    → has_answer seen.answers reply ≡ false → Judged h starting log state made watches (x ∷ xs) first since
-    → first_fault h starting log ≡ Some (Violation (line_of starting x.position) (Observer reply))
+    → has_answer seen.answers reply ≡ false → Judged r starting log state made watches (x ∷ xs) first since
+    → first_fault r starting log ≡ Some (Violation (line_of starting x.position) (Observer reply))
 judged_unanswered seen event here unanswered j =
     let found = returns_at event j in head_unanswered seen found.0 found.1 here unanswered
 
 -- a commit that hasn't returned
-pub judged_waits : {h : Header} {starting : List StartWord} {log : List Entry} {state : Amounts} {made : ℕ} {watches : List Seen} {x : Waiting} {xs : List Waiting}
-    {first : List ℕ} {since : List (List (ℕ × ℕ))} {method : Method} {args : Args} → x.event ≡ Commits method args None → Judged h starting log state made watches (x ∷ xs) first since
-    → (first_fault h starting log ≡ None) × Judged h starting log state made watches (x ∷ xs) first since
+pub judged_waits : {r : Rules} {starting : List StartWord} {log : List Entry} {state : Amounts} {made : ℕ} {watches : List Seen} {x : Waiting} {xs : List Waiting}
+    {first : List ℕ} {since : List (List (ℕ × ℕ))} {method : Method} {args : Args} → x.event ≡ Commits method args None → Judged r starting log state made watches (x ∷ xs) first since
+    → (first_fault r starting log ≡ None) × Judged r starting log state made watches (x ∷ xs) first since
 judged_waits event j = let found = commits_at event j in (head_waits found.0 found.1, j)
 
 -- a commit that has, by what it leads to
-pub judged_commits : {E : Type 0} {h : Header} {starting : List StartWord} {log : List Entry} {state : Amounts} {made : ℕ} {watches : List Seen} {x : Waiting}
+pub judged_commits : {E : Type 0} {r : Rules} {starting : List StartWord} {log : List Entry} {state : Amounts} {made : ℕ} {watches : List Seen} {x : Waiting}
     {xs : List Waiting} {first : List ℕ} {since : List (List (ℕ × ℕ))} {method : Method} {args : Args} {reply : ℕ} (after : Amounts) (more : ℕ)
-    (new : List Seen) (next_first : List ℕ) (next_since : List (List (ℕ × ℕ))) (r : Result Outcome E) → x.event ≡ Commits method args (Some reply)
-    → Judged h starting log state made watches (x ∷ xs) first since
+    (new : List Seen) (next_first : List ℕ) (next_since : List (List (ℕ × ℕ))) (val : Result Outcome E) → x.event ≡ Commits method args (Some reply)
+    → Judged r starting log state made watches (x ∷ xs) first since
     → ((part : List (ℕ × ℕ)) (rest : List (List (ℕ × ℕ))) → since ≡ part ∷ rest
-    → IfOk r (CommitLeads h first part rest (record { method = method; args = args }) reply state made watches after more new next_first next_since))
-    → IfOk r (HeadGives h starting log after more new x xs next_first next_since)
-judged_commits {E} {h} {starting} {log} {state} {made} {watches} {x} {xs} {first} {since} {method} {args} {reply} after more new next_first next_since r event j leads =
+    → IfOk val (CommitLeads r first part rest (record { method = method; args = args }) reply state made watches after more new next_first next_since))
+    → IfOk val (HeadGives r starting log after more new x xs next_first next_since)
+judged_commits {E} {r} {starting} {log} {state} {made} {watches} {x} {xs} {first} {since} {method} {args} {reply} after more new next_first next_since val event j leads =
     let found = commits_at event j in
     let split = split_here found.0 found.1 in
-    by_result found.0 found.1 r (leads split.part split.rest split.is)
+    by_result found.0 found.1 val (leads split.part split.rest split.is)
   where
-    Leads : (at : AtHead h starting log state made watches x xs first since) → IsCommit at.here at.earlier at.later x method args (Some reply) → Outcome → Type 0
-    Leads at is o = CommitLeads h first (split_here at is).part (split_here at is).rest (record { method = method; args = args }) reply state made watches
+    Leads : (at : AtHead r starting log state made watches x xs first since) → IsCommit at.here at.earlier at.later x method args (Some reply) → Outcome → Type 0
+    Leads at is o = CommitLeads r first (split_here at is).part (split_here at is).rest (record { method = method; args = args }) reply state made watches
         after more new next_first next_since o
 
-    by_outcome : (at : AtHead h starting log state made watches x xs first since) (is : IsCommit at.here at.earlier at.later x method args (Some reply))
-        → (o : Outcome) → Leads at is o → HeadGives h starting log after more new x xs next_first next_since o
+    by_outcome : (at : AtHead r starting log state made watches x xs first since) (is : IsCommit at.here at.earlier at.later x method args (Some reply))
+        → (o : Outcome) → Leads at is o → HeadGives r starting log after more new x xs next_first next_since o
     by_outcome at is Goes right =
-        subst (λ ws. Judged h starting log after more new xs ws next_since) (sym right.words)
-        (subst (λ ps. Judged h starting log after more new xs (with_writes first (split_here at is).part) ps) (sym right.since)
+        subst (λ ws. Judged r starting log after more new xs ws next_since) (sym right.words)
+        (subst (λ ps. Judged r starting log after more new xs (with_writes first (split_here at is).part) ps) (sym right.since)
         (head_right new after more at is right.next right.same right.count right.seen right.current))
     by_outcome at is (Faults why) faulty = head_faults why at is faulty
     by_outcome at is Ends never = absurd never
 
-    by_result : (at : AtHead h starting log state made watches x xs first since) (is : IsCommit at.here at.earlier at.later x method args (Some reply))
-        → (s : Result Outcome E) → IfOk s (Leads at is) → IfOk s (HeadGives h starting log after more new x xs next_first next_since)
+    by_result : (at : AtHead r starting log state made watches x xs first since) (is : IsCommit at.here at.earlier at.later x method args (Some reply))
+        → (s : Result Outcome E) → IfOk s (Leads at is) → IfOk s (HeadGives r starting log after more new x xs next_first next_since)
     by_result at is (Ok o) l = by_outcome at is o l
     by_result at is (Err e) l = tt

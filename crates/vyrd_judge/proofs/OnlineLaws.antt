@@ -1,6 +1,7 @@
 -- What the online judge answers, by what it keeps.
 use Rattle.std.proofs.Common.{◌≡◌, inl, inr, Bool, true, false, List, [], ◌++◌, Option, Some, None, Result, Ok, Err, refl, subst, ◌∙◌, sym}
 use Rattle.std.specs.Prelude.{◌⊎◌, OnErr}
+use Rattle.vyrd_base.specs.Rules.{rules_by}
 use Rattle.vyrd_base.specs.declared.log.Entry.{Entry}
 use Rattle.vyrd_base.specs.declared.log.StartWord.{StartWord}
 use Rattle.vyrd_base.specs.declared.verdict.Verdict.{Verdict}
@@ -12,7 +13,7 @@ use Rattle.vyrd_base.proofs.VerdictParts.{no_first_fault, so_far_kept, verdict_s
 
 pub standing : {j : JudgeView} {starting : List StartWord} {log : List Entry} {v : Verdict}
     → j.so_far ≡ Some v → HasFollowed j starting log
-    → verdict_so_far j.kept.header starting log ≡ Some v
+    → verdict_so_far (rules_by j.kept.charter) starting log ≡ Some v
 standing {j} {starting} {log} is f = subst (FollowsBy j.kept starting log) is f.follows
 
 pub faultless_of : {j : JudgeView} {starting : List StartWord} {log : List Entry}
@@ -22,45 +23,45 @@ faultless_of {j} {starting} {log} is f = subst (FollowsBy j.kept starting log) i
 -- a verdict that stands is answered again, and is that of the whole log
 pub stands_on : {j : JudgeView} {starting : List StartWord} {log : List Entry} {v : Verdict}
     (more : List Entry) → j.so_far ≡ Some v → HasFollowed j starting log
-    → Some v ≡ verdict_so_far j.kept.header starting (log ++ more)
+    → Some v ≡ verdict_so_far (rules_by j.kept.charter) starting (log ++ more)
 stands_on {j} {starting} {log} {v} more is f =
-    sym (verdict_lasts j.kept.header starting log more v (standing is f))
+    sym (verdict_lasts (rules_by j.kept.charter) starting log more v (standing is f))
 
 pub followed_on : {j : JudgeView} {starting : List StartWord} {log : List Entry} {v : Verdict}
     (more : List Entry) → j.so_far ≡ Some v → HasFollowed j starting log
     → HasFollowed j starting (log ++ more)
 followed_on {j} {starting} {log} {v} more is f = record {
   follows = subst (FollowsBy j.kept starting (log ++ more)) (sym is)
-      (verdict_lasts j.kept.header starting log more v (standing is f));
+      (verdict_lasts (rules_by j.kept.charter) starting log more v (standing is f));
 }
 
 pub stands_whole : {j : JudgeView} {starting : List StartWord} {log : List Entry} {v : Verdict}
-    → j.so_far ≡ Some v → HasFollowed j starting log → v ≡ verdict j.kept.header starting log
+    → j.so_far ≡ Some v → HasFollowed j starting log → v ≡ verdict (rules_by j.kept.charter) starting log
 unfolding verdict_at
 stands_whole {j} {starting} {log} {v} is f =
-    verdict_standing j.kept.header starting log End v (standing is f)
+    verdict_standing (rules_by j.kept.charter) starting log End v (standing is f)
 
 -- where nothing stands
 pub none_stands : {j : JudgeView} {starting : List StartWord} {log : List Entry}
     → j.so_far ≡ None → HasFollowed j starting log
-    → verdict_so_far j.kept.header starting log ≡ None
+    → verdict_so_far (rules_by j.kept.charter) starting log ≡ None
 none_stands {j} {starting} {log} is f =
     let all = faultless_of is f in
-    so_far_kept j.kept.header starting log all.taken_in.begun all.taken_in.kept ∙ all.faultless
+    so_far_kept (rules_by j.kept.charter) starting log all.taken_in.begun all.taken_in.kept ∙ all.faultless
 
 -- before the first entry
 pub faultless_first : {k : Kept} {starting : List StartWord}
     → HasTakenIn k starting [] → IsFaultless k starting []
 faultless_first {k} {starting} t =
-    record { taken_in = t; faultless = no_first_fault k.header starting }
+    record { taken_in = t; faultless = no_first_fault (rules_by k.charter) starting }
 
 -- what stands is known
 pub so_far_is_known : {j : JudgeView} {starting : List StartWord} {log : List Entry}
-    → HasFollowed j starting log → j.so_far ≡ verdict_so_far j.kept.header starting log
+    → HasFollowed j starting log → j.so_far ≡ verdict_so_far (rules_by j.kept.charter) starting log
 so_far_is_known {j} {starting} {log} f = known j.so_far refl
   where
     known : (o : Option Verdict) → j.so_far ≡ o
-        → j.so_far ≡ verdict_so_far j.kept.header starting log
+        → j.so_far ≡ verdict_so_far (rules_by j.kept.charter) starting log
     known None is = is ∙ sym (none_stands is f)
     known (Some v) is = is ∙ sym (standing is f)
 

@@ -3,7 +3,6 @@ use Rattle.std.proofs.Common.{◌≡◌, ℕ, ◌≤◌, true, false, cond, ◌|
 use Rattle.std.specs.Prelude.{◌==◌, option_map, option_and_then}
 use Rattle.std.specs.Option.{option_and}
 use Rattle.std.specs.List.{list_any}
-use Rattle.vyrd_base.specs.declared.header.Header.{Header}
 use Rattle.vyrd_base.specs.declared.log.Kind.{Kind}
 use Rattle.vyrd_base.specs.declared.log.Kind.TheVariants.{Return}
 use Rattle.vyrd_base.specs.declared.log.Entry.{Entry}
@@ -13,9 +12,7 @@ use Rattle.vyrd_base.specs.declared.verdict.Why.TheVariants.{Reply, View, Observ
 use Rattle.vyrd_base.specs.Callers.{Called, open_call}
 use Rattle.vyrd_base.specs.Subjects.{is_observer}
 use Rattle.vyrd_base.specs.Amounts.{Amounts, first_difference}
-use Rattle.vyrd_base.specs.Specification.{next_state, answer_in}
 use Rattle.vyrd_base.specs.Words.{words_at}
-use Rattle.vyrd_base.specs.Views.{view_of_words}
 use Rattle.vyrd_base.specs.Commits.{next_reply, committed_at, commits_after, commit_count, once_returned, state_after}
 use Rattle.vyrd_base.specs.Faults.{step_fault, commit_fault, states_since_call, observer_fault, fault_at}
 use Rattle.vyrd_base.proofs.BlockLaws.{entry}
@@ -27,10 +24,11 @@ use Rattle.vyrd_observers.specs.Watching.{AllSee}
 use Rattle.vyrd_base.proofs.CommitLaws.{Commits, commits_is, commits_inside, commits_uncalled, fault_of_commit_kind}
 use Rattle.vyrd_base.proofs.StateLaws.{state_here, ending-commit}
 use Rattle.vyrd_judge.proofs.Reaching.{reached_commit}
+use Rattle.vyrd_base.specs.Rules.{Rules}
 
 -- what the words show at a commit
-abbrev pub shown_there : Header → List StartWord → ℕ → Kind → List Entry → List Entry → Amounts
-shown_there h starting c kind earlier later = view_of_words h (words_at h starting (place_of (entry c kind) earlier later))
+abbrev pub shown_there : Rules → List StartWord → ℕ → Kind → List Entry → List Entry → Amounts
+shown_there r starting c kind earlier later = r.view (words_at r.header starting (place_of (entry c kind) earlier later))
 
 -- what the commit at a place gives, by what was called and its reply
 once_called : {B : Type 0} (f : Called → ℕ → Option B) (c : ℕ) (kind : Kind) (earlier later : List Entry) (called : Called) (o : Option ℕ)
@@ -40,79 +38,79 @@ once_called f c kind earlier later called o opened replied =
     ap (λ p. option_and_then (λ k. option_and_then (f k) (next_reply c later)) p) opened ∙ ap (option_and_then (f called)) replied
 
 -- the fault of a commit that is reached
-pub commit_fault_at : (h : Header) (starting : List StartWord) (states : List Amounts) (c : ℕ) (kind : Kind) (earlier later : List Entry) (state : Amounts) (watches : List Seen)
+pub commit_fault_at : (r : Rules) (starting : List StartWord) (states : List Amounts) (c : ℕ) (kind : Kind) (earlier later : List Entry) (state : Amounts) (watches : List Seen)
     (called : Called) (o : Option ℕ) → Commits kind → open_call c earlier ≡ Some called → next_reply c later ≡ o
-    → Reached h states earlier (entry c kind ∷ later) state watches
-    → fault_at h starting states (place_of (entry c kind) earlier later)
-    ≡ option_and_then (λ reply. step_fault (shown_there h starting c kind earlier later) called reply state) o
-commit_fault_at h starting states c kind earlier later state watches called o commits opened replied r =
-    let shown = shown_there h starting c kind earlier later in
-    fault_of_commit_kind h starting states c kind earlier later commits
-    ∙ ap (option_and_then (commit_fault shown (committed_at (place_of (entry c kind) earlier later))))
-    (state_here states earlier state (commits_after earlier (entry c kind ∷ later)) r.going)
-    ∙ once_called (λ k reply. step_fault shown k reply state) c kind earlier later called o opened replied
+    → Reached r states earlier (entry c kind ∷ later) state watches
+    → fault_at r starting states (place_of (entry c kind) earlier later)
+    ≡ option_and_then (λ reply. step_fault r (shown_there r starting c kind earlier later) called reply state) o
+commit_fault_at r starting states c kind earlier later state watches called o commits opened replied val =
+    let shown = shown_there r starting c kind earlier later in
+    fault_of_commit_kind r starting states c kind earlier later commits
+    ∙ ap (option_and_then (commit_fault r shown (committed_at (place_of (entry c kind) earlier later))))
+    (state_here r states earlier state (commits_after earlier (entry c kind ∷ later)) val.going)
+    ∙ once_called (λ k reply. step_fault r shown k reply state) c kind earlier later called o opened replied
 
 -- the state after a commit that is reached
-state_after_at : (c : ℕ) (kind : Kind) (earlier later : List Entry) (state : Amounts) (called : Called) (o : Option ℕ)
+state_after_at : (r : Rules) (c : ℕ) (kind : Kind) (earlier later : List Entry) (state : Amounts) (called : Called) (o : Option ℕ)
     → open_call c earlier ≡ Some called → next_reply c later ≡ o
-    → state_after state (committed_at (place_of (entry c kind) earlier later))
-    ≡ option_and_then (λ reply. next_state called.method called.args reply state) o
-state_after_at c kind earlier later state called o opened replied =
-    once_called (λ k reply. next_state k.method k.args reply state) c kind earlier later called o opened replied
+    → state_after r state (committed_at (place_of (entry c kind) earlier later))
+    ≡ option_and_then (λ reply. r.next called.method called.args reply state) o
+state_after_at r c kind earlier later state called o opened replied =
+    once_called (λ k reply. r.next k.method k.args reply state) c kind earlier later called o opened replied
 
-abbrev pub by_next : Amounts → ℕ → Option Amounts → Option Why
-by_next shown reply o = elim o as (λ _. Option Why) [ None ↦ Some (Reply reply) | Some after ↦ option_map View (first_difference shown after) ]
+abbrev pub by_next : Rules → Amounts → ℕ → Option Amounts → Option Why
+by_next r shown reply o = elim o as (λ _. Option Why) [ None ↦ Some (Reply reply) | Some after ↦ option_map View (first_difference shown (r.shown after)) ]
 
 -- a commit that is right
-pub commit_right : (h : Header) (starting : List StartWord) (states : List Amounts) (c : ℕ) (kind : Kind) (earlier later : List Entry) (state next : Amounts)
+pub commit_right : (r : Rules) (starting : List StartWord) (states : List Amounts) (c : ℕ) (kind : Kind) (earlier later : List Entry) (state next : Amounts)
     (watches new : List Seen) (called : Called) (reply : ℕ) → Commits kind → open_call c earlier ≡ Some called → next_reply c later ≡ Some reply
-    → next_state called.method called.args reply state ≡ Some next → first_difference (shown_there h starting c kind earlier later) next ≡ None
-    → AllSee next watches new → Reached h states earlier (entry c kind ∷ later) state watches
-    → (fault_at h starting states (place_of (entry c kind) earlier later) ≡ None) × Reached h states (entry c kind ∷ earlier) later next new
-commit_right h starting states c kind earlier later state next watches new called reply commits opened replied after same see r = (
-  commit_fault_at h starting states c kind earlier later state watches called (Some reply) commits opened replied r
-      ∙ ap (by_next (shown_there h starting c kind earlier later) reply) after ∙ ap (option_map View) same,
-  reached_commit h states c kind earlier later state next watches new (commits_inside kind commits) (commits_uncalled kind commits)
-      (commits_is kind commits) (state_after_at c kind earlier later state called (Some reply) opened replied ∙ after) see r,
+    → r.next called.method called.args reply state ≡ Some next → first_difference (shown_there r starting c kind earlier later) (r.shown next) ≡ None
+    → AllSee (r.answer next) watches new → Reached r states earlier (entry c kind ∷ later) state watches
+    → (fault_at r starting states (place_of (entry c kind) earlier later) ≡ None) × Reached r states (entry c kind ∷ earlier) later next new
+commit_right r starting states c kind earlier later state next watches new called reply commits opened replied after same see val = (
+  commit_fault_at r starting states c kind earlier later state watches called (Some reply) commits opened replied val
+      ∙ ap (by_next r (shown_there r starting c kind earlier later) reply) after ∙ ap (option_map View) same,
+  reached_commit r states c kind earlier later state next watches new (commits_inside kind commits) (commits_uncalled kind commits)
+      (commits_is kind commits) (state_after_at r c kind earlier later state called (Some reply) opened replied ∙ after) see val,
 )
 
 -- a commit whose execution hasn't returned
-pub commit_waits : (h : Header) (starting : List StartWord) (states : List Amounts) (c : ℕ) (kind : Kind) (earlier later : List Entry) (state : Amounts) (watches : List Seen)
+pub commit_waits : (r : Rules) (starting : List StartWord) (states : List Amounts) (c : ℕ) (kind : Kind) (earlier later : List Entry) (state : Amounts) (watches : List Seen)
     (called : Called) → Commits kind → open_call c earlier ≡ Some called → next_reply c later ≡ None
-    → Reached h states earlier (entry c kind ∷ later) state watches
-    → (fault_at h starting states (place_of (entry c kind) earlier later) ≡ None) × (length states ≤ commit_count (entry c kind ∷ earlier))
-commit_waits h starting states c kind earlier later state watches called commits opened replied r = (
-  commit_fault_at h starting states c kind earlier later state watches called None commits opened replied r,
-  ending-commit states (entry c kind) earlier later state (commits_is kind commits)
-      (state_after_at c kind earlier later state called None opened replied) r.going,
+    → Reached r states earlier (entry c kind ∷ later) state watches
+    → (fault_at r starting states (place_of (entry c kind) earlier later) ≡ None) × (length states ≤ commit_count (entry c kind ∷ earlier))
+commit_waits r starting states c kind earlier later state watches called commits opened replied val = (
+  commit_fault_at r starting states c kind earlier later state watches called None commits opened replied val,
+  ending-commit r states (entry c kind) earlier later state (commits_is kind commits)
+      (state_after_at r c kind earlier later state called None opened replied) val.going,
 )
 
 -- the fault of a return that is reached
-return_fault_at : (h : Header) (starting : List StartWord) (states : List Amounts) (c reply : ℕ) (earlier later : List Entry) (state : Amounts) (watches : List Seen)
-    (called : Called) → open_call c earlier ≡ Some called → Reached h states earlier (entry c (Return reply) ∷ later) state watches
-    → fault_at h starting states (place_of (entry c (Return reply)) earlier later) ≡ observer_fault (states_since_call states c earlier) reply called
+return_fault_at : (r : Rules) (starting : List StartWord) (states : List Amounts) (c reply : ℕ) (earlier later : List Entry) (state : Amounts) (watches : List Seen)
+    (called : Called) → open_call c earlier ≡ Some called → Reached r states earlier (entry c (Return reply) ∷ later) state watches
+    → fault_at r starting states (place_of (entry c (Return reply)) earlier later) ≡ observer_fault r (states_since_call states c earlier) reply called
 unfolding fault_at
-return_fault_at h starting states c reply earlier later state watches called opened r =
-    ap (λ o. option_and o (option_and_then (observer_fault (states_since_call states c earlier) reply) (open_call c earlier)))
-    (state_here states earlier state (commits_after earlier (entry c (Return reply) ∷ later)) r.going)
-    ∙ ap (option_and_then (observer_fault (states_since_call states c earlier) reply)) opened
+return_fault_at r starting states c reply earlier later state watches called opened val =
+    ap (λ o. option_and o (option_and_then (observer_fault r (states_since_call states c earlier) reply) (open_call c earlier)))
+    (state_here r states earlier state (commits_after earlier (entry c (Return reply) ∷ later)) val.going)
+    ∙ ap (option_and_then (observer_fault r (states_since_call states c earlier) reply)) opened
 
 -- an observer's return, by what is kept of the observer
-pub observer_at : (h : Header) (starting : List StartWord) (states : List Amounts) (c reply : ℕ) (earlier later : List Entry) (state : Amounts) (watches : List Seen)
+pub observer_at : (r : Rules) (starting : List StartWord) (states : List Amounts) (c reply : ℕ) (earlier later : List Entry) (state : Amounts) (watches : List Seen)
     (called : Called) (seen : Seen) → open_call c earlier ≡ Some called → is_observer called.method ≡ true
-    → IsWatched states c earlier called seen
-    → Reached h states earlier (entry c (Return reply) ∷ later) state watches
-    → fault_at h starting states (place_of (entry c (Return reply)) earlier later) ≡ cond (has_answer seen.answers reply) None (Some (Observer reply))
-observer_at h starting states c reply earlier later state watches called seen opened observes is r =
-    return_fault_at h starting states c reply earlier later state watches called opened r
-    ∙ ap (λ b. cond (not b || list_any (λ s. answer_in s called.method called.args == reply) (states_since_call states c earlier)) None (Some (Observer reply))) observes
+    → IsWatched r states c earlier called seen
+    → Reached r states earlier (entry c (Return reply) ∷ later) state watches
+    → fault_at r starting states (place_of (entry c (Return reply)) earlier later) ≡ cond (has_answer seen.answers reply) None (Some (Observer reply))
+observer_at r starting states c reply earlier later state watches called seen opened observes is val =
+    return_fault_at r starting states c reply earlier later state watches called opened val
+    ∙ ap (λ b. cond (not b || list_any (λ s. r.answer s called.method called.args == reply) (states_since_call states c earlier)) None (Some (Observer reply))) observes
     ∙ ap (λ b. cond b None (Some (Observer reply))) (sym (is.answers reply))
 
 -- a return of no observer
-pub mutator_at : (h : Header) (starting : List StartWord) (states : List Amounts) (c reply : ℕ) (earlier later : List Entry) (state : Amounts) (watches : List Seen)
+pub mutator_at : (r : Rules) (starting : List StartWord) (states : List Amounts) (c reply : ℕ) (earlier later : List Entry) (state : Amounts) (watches : List Seen)
     (called : Called) → open_call c earlier ≡ Some called → is_observer called.method ≡ false
-    → Reached h states earlier (entry c (Return reply) ∷ later) state watches
-    → fault_at h starting states (place_of (entry c (Return reply)) earlier later) ≡ None
-mutator_at h starting states c reply earlier later state watches called opened mutates r =
-    return_fault_at h starting states c reply earlier later state watches called opened r
-    ∙ ap (λ b. cond (not b || list_any (λ s. answer_in s called.method called.args == reply) (states_since_call states c earlier)) None (Some (Observer reply))) mutates
+    → Reached r states earlier (entry c (Return reply) ∷ later) state watches
+    → fault_at r starting states (place_of (entry c (Return reply)) earlier later) ≡ None
+mutator_at r starting states c reply earlier later state watches called opened mutates val =
+    return_fault_at r starting states c reply earlier later state watches called opened val
+    ∙ ap (λ b. cond (not b || list_any (λ s. r.answer s called.method called.args == reply) (states_since_call states c earlier)) None (Some (Observer reply))) mutates

@@ -6,7 +6,6 @@ use Rattle.std.specs.List.{list_any}
 use Rattle.std.proofs.lemmas.List.Folds.{list_any-append}
 use Rattle.std.proofs.lemmas.Option.{same_Some}
 use Rattle.std.proofs.Math.Bool.{or-false}
-use Rattle.vyrd_base.specs.declared.header.Header.{Header}
 use Rattle.vyrd_base.specs.declared.subject.Method.{Method}
 use Rattle.vyrd_base.specs.declared.subject.Args.{Args}
 use Rattle.vyrd_base.specs.declared.log.Kind.{Kind}
@@ -15,7 +14,6 @@ use Rattle.vyrd_base.specs.declared.log.Entry.{Entry}
 use Rattle.vyrd_base.specs.Callers.{Called, open_call, call_or_return, is_call, entries_before_call}
 use Rattle.vyrd_base.specs.Subjects.{is_observer}
 use Rattle.vyrd_base.specs.Amounts.{Amounts}
-use Rattle.vyrd_base.specs.Specification.{answer_in}
 use Rattle.vyrd_base.specs.Commits.{is_commit, Committed, committed_at, commits_after, state_after, states_from, commit_count}
 use Rattle.vyrd_base.specs.Faults.{states_since_call}
 use Rattle.vyrd_base.proofs.BlockLaws.{entry, by_same, own_answer, open_call-quiet}
@@ -26,30 +24,31 @@ use Rattle.vyrd_judge.specs.Reached.{IsWatched}
 use Rattle.vyrd_judge.specs.Reached.{Reached}
 use Rattle.vyrd_observers.specs.Watching.{AllSee}
 use Rattle.vyrd_base.proofs.StateLaws.{open_call-other, before_call-other, before_call-quiet, count-commit, window-quiet, window-commit, window-call, state_here, going-quiet, going-commit}
+use Rattle.vyrd_base.specs.Rules.{Rules}
 
 -- an open observer is watched on where the entry leaves its window
-watched_on : {states : List Amounts} {c : ℕ} {e : Entry} {earlier : List Entry} {called : Called} {seen : Seen}
-    → states_since_call states c (e ∷ earlier) ≡ states_since_call states c earlier → IsWatched states c earlier called seen
-    → IsWatched states c (e ∷ earlier) called seen
-watched_on {called = called} window is = record {
+watched_on : (r : Rules) {states : List Amounts} {c : ℕ} {e : Entry} {earlier : List Entry} {called : Called} {seen : Seen}
+    → states_since_call states c (e ∷ earlier) ≡ states_since_call states c earlier → IsWatched r states c earlier called seen
+    → IsWatched r states c (e ∷ earlier) called seen
+watched_on r {called = called} window is = record {
   is_open = is.is_open;
   method = is.method;
   args = is.args;
-  answers = λ reply. is.answers reply ∙ ap (list_any (λ state. answer_in state called.method called.args == reply)) (sym window);
+  answers = λ reply. is.answers reply ∙ ap (list_any (λ state. r.answer state called.method called.args == reply)) (sym window);
 }
 
 -- an entry that is neither a call nor a return nor a commit
-pub reached_inside : (h : Header) (states : List Amounts) (c : ℕ) (kind : Kind) (earlier later : List Entry) (state : Amounts)
+pub reached_inside : (r : Rules) (states : List Amounts) (c : ℕ) (kind : Kind) (earlier later : List Entry) (state : Amounts)
     (watches : List Seen) → call_or_return kind ≡ None → is_call kind ≡ false → is_commit kind ≡ false
-    → Reached h states earlier (entry c kind ∷ later) state watches → Reached h states (entry c kind ∷ earlier) later state watches
-reached_inside h states c kind earlier later state watches inside uncalled quiet r = record {
-  going = going-quiet states (entry c kind) earlier later state quiet r.going;
-  allowed = λ d called is. r.allowed d called (sym (open_call-quiet d c kind earlier inside) ∙ is);
+    → Reached r states earlier (entry c kind ∷ later) state watches → Reached r states (entry c kind ∷ earlier) later state watches
+reached_inside r states c kind earlier later state watches inside uncalled quiet val = record {
+  going = going-quiet r states (entry c kind) earlier later state quiet val.going;
+  allowed = λ d called is. val.allowed d called (sym (open_call-quiet d c kind earlier inside) ∙ is);
   watched = λ d called within is observes.
-      let old = r.watched d called within (sym (open_call-quiet d c kind earlier inside) ∙ is) observes in (
+      let old = val.watched d called within (sym (open_call-quiet d c kind earlier inside) ∙ is) observes in (
         old.0,
         old.1,
-        watched_on (window-quiet states d (entry c kind) earlier quiet (before_call-quiet d c kind earlier uncalled)) old.2,
+        watched_on r (window-quiet states d (entry c kind) earlier quiet (before_call-quiet d c kind earlier uncalled)) old.2,
       );
 }
 
@@ -61,24 +60,24 @@ OthersStay c old new = (d : ℕ) → (c == d) ≡ false → slice_get new d ≡ 
 abbrev pub opened : ℕ → Kind → List Entry → Option Called
 opened c kind earlier = open_call c (entry c kind ∷ earlier)
 
-reached_changed : (h : Header) (states : List Amounts) (c : ℕ) (kind : Kind) (earlier later : List Entry) (state : Amounts)
+reached_changed : (r : Rules) (states : List Amounts) (c : ℕ) (kind : Kind) (earlier later : List Entry) (state : Amounts)
     (watches new : List Seen) → is_commit kind ≡ false → OthersStay c watches new
-    → ((called : Called) → opened c kind earlier ≡ Some called → has_method h called.method called.args ≡ true)
+    → ((called : Called) → opened c kind earlier ≡ Some called → has_method r.header called.method called.args ≡ true)
     → ((called : Called) → opened c kind earlier ≡ Some called → is_observer called.method ≡ true
-    → (seen : Seen) × (slice_get new c ≡ Some seen) × IsWatched states c (entry c kind ∷ earlier) called seen)
-    → Reached h states earlier (entry c kind ∷ later) state watches → Reached h states (entry c kind ∷ earlier) later state new
-reached_changed h states c kind earlier later state watches new quiet others may own r = record {
-  going = going-quiet states (entry c kind) earlier later state quiet r.going;
+    → (seen : Seen) × (slice_get new c ≡ Some seen) × IsWatched r states c (entry c kind ∷ earlier) called seen)
+    → Reached r states earlier (entry c kind ∷ later) state watches → Reached r states (entry c kind ∷ earlier) later state new
+reached_changed r states c kind earlier later state watches new quiet others may own val = record {
+  going = going-quiet r states (entry c kind) earlier later state quiet val.going;
   allowed = λ d called is. by_same c d
       (λ same. may called (subst (λ k. open_call k (entry c kind ∷ earlier) ≡ Some called) (sym same) is))
-      (λ other. r.allowed d called (sym (open_call-other d c kind earlier other) ∙ is));
+      (λ other. val.allowed d called (sym (open_call-other d c kind earlier other) ∙ is));
   watched = λ d called within is observes. by_same c d
-      (λ same. subst (λ k. (seen : Seen) × (slice_get new k ≡ Some seen) × IsWatched states k (entry c kind ∷ earlier) called seen) same
+      (λ same. subst (λ k. (seen : Seen) × (slice_get new k ≡ Some seen) × IsWatched r states k (entry c kind ∷ earlier) called seen) same
       (own called (subst (λ k. open_call k (entry c kind ∷ earlier) ≡ Some called) (sym same) is) observes))
-      (λ other. let old = r.watched d called within (sym (open_call-other d c kind earlier other) ∙ is) observes in (
+      (λ other. let old = val.watched d called within (sym (open_call-other d c kind earlier other) ∙ is) observes in (
         old.0,
         others d other ∙ old.1,
-        watched_on (window-quiet states d (entry c kind) earlier quiet (before_call-other d c kind earlier other)) old.2,
+        watched_on r (window-quiet states d (entry c kind) earlier quiet (before_call-other d c kind earlier other)) old.2,
       ));
 }
 
@@ -90,34 +89,34 @@ opened_return : (c reply : ℕ) (earlier : List Entry) → opened c (Return repl
 opened_return c reply earlier = ap option_flatten (own_answer c call_or_return (Return reply) earlier)
 
 -- a mutator's call
-pub reached_mutates : (h : Header) (states : List Amounts) (c : ℕ) (method : Method) (args : Args) (earlier later : List Entry) (state : Amounts)
-    (watches : List Seen) → is_observer method ≡ false → has_method h method args ≡ true
-    → Reached h states earlier (entry c (Call method args) ∷ later) state watches
-    → Reached h states (entry c (Call method args) ∷ earlier) later state watches
-reached_mutates h states c method args earlier later state watches mutates may r =
-    reached_changed h states c (Call method args) earlier later state watches watches refl (λ d other. refl)
+pub reached_mutates : (r : Rules) (states : List Amounts) (c : ℕ) (method : Method) (args : Args) (earlier later : List Entry) (state : Amounts)
+    (watches : List Seen) → is_observer method ≡ false → has_method r.header method args ≡ true
+    → Reached r states earlier (entry c (Call method args) ∷ later) state watches
+    → Reached r states (entry c (Call method args) ∷ earlier) later state watches
+reached_mutates r states c method args earlier later state watches mutates may val =
+    reached_changed r states c (Call method args) earlier later state watches watches refl (λ d other. refl)
     (λ called is. let same : record { method = method; args = args } ≡ called = same_Some _ _ (sym (opened_call c method args earlier) ∙ is) in
-    subst (λ k. has_method h k.method k.args ≡ true) same may)
+    subst (λ k. has_method r.header k.method k.args ≡ true) same may)
     (λ called is observes. let same : record { method = method; args = args } ≡ called = same_Some _ _ (sym (opened_call c method args earlier) ∙ is) in
     absurd (apart (sym mutates ∙ ap (λ k. is_observer k.method) same ∙ observes)))
-    r
+    val
   where
     apart : false ≡ true → ⊥
     apart e = cc
 
 -- an observer's call, which the state here answers
-pub reached_begins : (h : Header) (states : List Amounts) (c : ℕ) (method : Method) (args : Args) (earlier later : List Entry) (state : Amounts)
-    (watches new : List Seen) → has_method h method args ≡ true → OthersStay c watches new
-    → slice_get new c ≡ Some (record { is_open = true; method = method; args = args; answers = answer_in state method args ∷ [] })
-    → Reached h states earlier (entry c (Call method args) ∷ later) state watches
-    → Reached h states (entry c (Call method args) ∷ earlier) later state new
-reached_begins h states c method args earlier later state watches new may others here r =
-    reached_changed h states c (Call method args) earlier later state watches new refl others
+pub reached_begins : (r : Rules) (states : List Amounts) (c : ℕ) (method : Method) (args : Args) (earlier later : List Entry) (state : Amounts)
+    (watches new : List Seen) → has_method r.header method args ≡ true → OthersStay c watches new
+    → slice_get new c ≡ Some (record { is_open = true; method = method; args = args; answers = r.answer state method args ∷ [] })
+    → Reached r states earlier (entry c (Call method args) ∷ later) state watches
+    → Reached r states (entry c (Call method args) ∷ earlier) later state new
+reached_begins r states c method args earlier later state watches new may others here val =
+    reached_changed r states c (Call method args) earlier later state watches new refl others
     (λ called is. let same : call ≡ called = same_Some _ _ (sym (opened_call c method args earlier) ∙ is) in
-    subst (λ k. has_method h k.method k.args ≡ true) same may)
+    subst (λ k. has_method r.header k.method k.args ≡ true) same may)
     (λ called is observes. let same : call ≡ called = same_Some _ _ (sym (opened_call c method args earlier) ∙ is) in
-    (seen, here, subst (λ k. IsWatched states c (e ∷ earlier) k seen) same watched))
-    r
+    (seen, here, subst (λ k. IsWatched r states c (e ∷ earlier) k seen) same watched))
+    val
   where
     e : Entry
     e = entry c (Call method args)
@@ -126,54 +125,54 @@ reached_begins h states c method args earlier later state watches new may others
     call = record { method = method; args = args }
 
     seen : Seen
-    seen = record { is_open = true; method = method; args = args; answers = answer_in state method args ∷ [] }
+    seen = record { is_open = true; method = method; args = args; answers = r.answer state method args ∷ [] }
 
     window : states_since_call states c (e ∷ earlier) ≡ state ∷ []
-    window = window-call states c e earlier state (drop 1 (states_from state (commits_after earlier (e ∷ later)))) refl
+    window = window-call states c e earlier state (drop 1 (states_from r state (commits_after earlier (e ∷ later)))) refl
         (ap (λ b. cond (b && true) earlier (entries_before_call c earlier)) (same_number c))
-        (r.going ∙ first_of (commits_after earlier (e ∷ later)))
+        (val.going ∙ first_of (commits_after earlier (e ∷ later)))
       where
-        first_of : (xs : List Committed) → states_from state xs ≡ state ∷ drop 1 (states_from state xs)
+        first_of : (xs : List Committed) → states_from r state xs ≡ state ∷ drop 1 (states_from r state xs)
         first_of [] = refl
         first_of (y ∷ ys) = refl
 
-    watched : IsWatched states c (e ∷ earlier) call seen
+    watched : IsWatched r states c (e ∷ earlier) call seen
     watched = record {
       is_open = refl;
       method = refl;
       args = refl;
-      answers = λ reply. ap (list_any (λ s. answer_in s method args == reply)) (sym window);
+      answers = λ reply. ap (list_any (λ s. r.answer s method args == reply)) (sym window);
     }
 
 -- a return
-pub reached_return : (h : Header) (states : List Amounts) (c reply : ℕ) (earlier later : List Entry) (state : Amounts)
-    (watches new : List Seen) → OthersStay c watches new → Reached h states earlier (entry c (Return reply) ∷ later) state watches
-    → Reached h states (entry c (Return reply) ∷ earlier) later state new
-reached_return h states c reply earlier later state watches new others r =
-    reached_changed h states c (Return reply) earlier later state watches new refl others
+pub reached_return : (r : Rules) (states : List Amounts) (c reply : ℕ) (earlier later : List Entry) (state : Amounts)
+    (watches new : List Seen) → OthersStay c watches new → Reached r states earlier (entry c (Return reply) ∷ later) state watches
+    → Reached r states (entry c (Return reply) ∷ earlier) later state new
+reached_return r states c reply earlier later state watches new others val =
+    reached_changed r states c (Return reply) earlier later state watches new refl others
     (λ called is. absurd (none (sym (opened_return c reply earlier) ∙ is)))
     (λ called is observes. absurd (none (sym (opened_return c reply earlier) ∙ is)))
-    r
+    val
   where
     none : {called : Called} → None ≡ Some called → ⊥
     none e = cc
 
 -- a commit leads to the next state, which all open observers see
-pub reached_commit : (h : Header) (states : List Amounts) (c : ℕ) (kind : Kind) (earlier later : List Entry) (state next : Amounts)
+pub reached_commit : (r : Rules) (states : List Amounts) (c : ℕ) (kind : Kind) (earlier later : List Entry) (state next : Amounts)
     (watches new : List Seen) → call_or_return kind ≡ None → is_call kind ≡ false → is_commit kind ≡ true
-    → state_after state (committed_at (record { earlier = earlier; here = entry c kind; later = later })) ≡ Some next
-    → AllSee next watches new
-    → Reached h states earlier (entry c kind ∷ later) state watches → Reached h states (entry c kind ∷ earlier) later next new
-reached_commit h states c kind earlier later state next watches new inside uncalled commits after see r =
-    let going = going-commit states (entry c kind) earlier later state next commits after r.going in
+    → state_after r state (committed_at (record { earlier = earlier; here = entry c kind; later = later })) ≡ Some next
+    → AllSee (r.answer next) watches new
+    → Reached r states earlier (entry c kind ∷ later) state watches → Reached r states (entry c kind ∷ earlier) later next new
+reached_commit r states c kind earlier later state next watches new inside uncalled commits after see val =
+    let going = going-commit r states (entry c kind) earlier later state next commits after val.going in
     let here : slice_get states (commit_count earlier + 1) ≡ Some next =
     ap (slice_get states) (sym (count-commit (entry c kind) earlier commits))
-    ∙ state_here states (entry c kind ∷ earlier) next (commits_after (entry c kind ∷ earlier) later) going in
+    ∙ state_here r states (entry c kind ∷ earlier) next (commits_after (entry c kind ∷ earlier) later) going in
     record {
       going = going;
-      allowed = λ d called is. r.allowed d called (sym (open_call-quiet d c kind earlier inside) ∙ is);
+      allowed = λ d called is. val.allowed d called (sym (open_call-quiet d c kind earlier inside) ∙ is);
       watched = λ d called within is observes.
-          let old = r.watched d called within (sym (open_call-quiet d c kind earlier inside) ∙ is) observes in
+          let old = val.watched d called within (sym (open_call-quiet d c kind earlier inside) ∙ is) observes in
           let more = see d old.0 old.1 old.2.is_open in (
             more.0,
             more.1,
@@ -183,18 +182,18 @@ reached_commit h states c kind earlier later state next watches new inside uncal
   where
     sees : {d : ℕ} {called : Called} {seen more : Seen}
         → states_since_call states d (entry c kind ∷ earlier) ≡ states_since_call states d earlier ++ next ∷ []
-        → IsWatched states d earlier called seen → SeesAnswer (answer_in next seen.method seen.args) seen more
-        → IsWatched states d (entry c kind ∷ earlier) called more
+        → IsWatched r states d earlier called seen → SeesAnswer (r.answer next seen.method seen.args) seen more
+        → IsWatched r states d (entry c kind ∷ earlier) called more
     sees {d} {called} {seen} {more} window is one = record {
       is_open = one.is_open ∙ is.is_open;
       method = one.method ∙ is.method;
       args = one.args ∙ is.args;
       answers = λ reply.
-          let test : Amounts → Bool = λ s. answer_in s called.method called.args == reply in
+          let test : Amounts → Bool = λ s. r.answer s called.method called.args == reply in
           one.answers reply
-          ∙ ap (λ b. b || answer_in next seen.method seen.args == reply) (is.answers reply)
-          ∙ ap (λ m. list_any test (states_since_call states d earlier) || answer_in next m seen.args == reply) is.method
-          ∙ ap (λ a. list_any test (states_since_call states d earlier) || answer_in next called.method a == reply) is.args
+          ∙ ap (λ b. b || r.answer next seen.method seen.args == reply) (is.answers reply)
+          ∙ ap (λ m. list_any test (states_since_call states d earlier) || r.answer next m seen.args == reply) is.method
+          ∙ ap (λ a. list_any test (states_since_call states d earlier) || r.answer next called.method a == reply) is.args
           ∙ ap (λ b. list_any test (states_since_call states d earlier) || b) (sym (or-false (test next)))
           ∙ sym (list_any-append test (states_since_call states d earlier) (next ∷ []))
           ∙ ap (list_any test) (sym window);

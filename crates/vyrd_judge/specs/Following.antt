@@ -1,6 +1,5 @@
 -- What the online judge keeps stands for a log.
 use Rattle.std.specs.Prelude.{◌≡◌, ◌≤◌, ◌^◌, ℕ, Bool, false, List, length, Option, Some, None}
-use Rattle.vyrd_base.specs.declared.header.Header.{Header}
 use Rattle.vyrd_base.specs.declared.log.Entry.{Entry}
 use Rattle.vyrd_base.specs.declared.log.StartWord.{StartWord}
 use Rattle.vyrd_base.specs.declared.verdict.Verdict.{Verdict}
@@ -20,10 +19,11 @@ use Rattle.vyrd_words.specs.HasWords.{HasWords}
 use Rattle.vyrd_observers.specs.Watching.{Seen}
 use Rattle.vyrd_judge.specs.Queued.{HasQueued}
 use Rattle.vyrd_judge.specs.Judged.{Judged}
+use Rattle.vyrd_base.specs.Rules.{Rules, Charter, rules_by}
 
 -- What is kept while nothing is wrong. The number of starting words is kept in place of these.
 pub record Kept : Type 0 where
-  pub header : Header
+  pub charter : Charter
   pub started : ℕ
   pub shape : ShapeKept
   pub shadow : ShadowKept
@@ -43,17 +43,18 @@ pub record Kept : Type 0 where
 -- Its entries may still have to be judged.
 pub record HasTakenIn (k : Kept) (starting : List StartWord) (log : List Entry) : Type 0 where
   pub started : k.started ≡ length starting
-  pub begun : start_verdict k.header starting ≡ None
+  pub begun : start_verdict (rules_by k.charter) starting ≡ None
   pub shape : ShapeFollows k.shape (newest_first log)
-  pub shape_header : k.shape.header ≡ k.header
+  pub shape_header : k.shape.header ≡ (rules_by k.charter).header
   pub words : HasWords k.shadow k.inner starting (newest_first log)
-  pub shadow_header : k.shadow.header ≡ k.header
-  pub views_header : k.views.header ≡ k.header
-  pub queued : HasQueued k.header k.waiting k.taken k.callers (newest_first log)
-  pub judged : Judged k.header starting log k.state k.made k.watches k.waiting k.views.first
+  pub shadow_header : k.shadow.header ≡ (rules_by k.charter).header
+  pub views_header : k.views.header ≡ (rules_by k.charter).header
+  pub queued : HasQueued (rules_by k.charter).header k.waiting k.taken k.callers (newest_first log)
+  pub judged : Judged
+      (rules_by k.charter) starting log k.state k.made k.watches k.waiting k.views.first
       k.views.since
-  pub kept : first_break k.header log ≡ None
-  pub specified : k.views.specified ≡ k.state
+  pub kept : first_break (rules_by k.charter).header log ≡ None
+  pub specified : k.views.specified ≡ (rules_by k.charter).shown k.state
   pub sound : k.views.refused ≡ false
   pub entries : k.entries ≡ length log
   pub commits : k.commits ≡ commit_count log
@@ -62,7 +63,7 @@ pub record HasTakenIn (k : Kept) (starting : List StartWord) (log : List Entry) 
 -- the same, and nothing is wrong with the log so far
 pub record IsFaultless (k : Kept) (starting : List StartWord) (log : List Entry) : Type 0 where
   pub taken_in : HasTakenIn k starting log
-  pub faultless : first_fault k.header starting log ≡ None
+  pub faultless : first_fault (rules_by k.charter) starting log ≡ None
 
 -- what is kept stands for some log
 abbrev pub IsSomewhere : Kept → Type 0
@@ -82,7 +83,7 @@ pub record JudgeView : Type 0 where
 -- what is kept stands for the log, or a verdict stands
 abbrev pub FollowsBy : Kept → List StartWord → List Entry → Option Verdict → Type 0
 FollowsBy k starting log None = IsFaultless k starting log
-FollowsBy k starting log (Some v) = verdict_so_far k.header starting log ≡ Some v
+FollowsBy k starting log (Some v) = verdict_so_far (rules_by k.charter) starting log ≡ Some v
 
 -- The judge has followed the log, which begins with these words. They stand for a state, since
 -- there is no judge if they don't.
@@ -90,8 +91,8 @@ pub record HasFollowed (j : JudgeView) (starting : List StartWord) (log : List E
   pub follows : FollowsBy j.kept starting log j.so_far
 
 -- what the entry that waits first leads to
-abbrev pub AdvanceGives : Header → List StartWord → List Entry → Kept → Advance → Type 0
-AdvanceGives h starting log k Goes = HasTakenIn k starting log
-AdvanceGives h starting log k (Stops None) =
-    (first_fault h starting log ≡ None) × HasTakenIn k starting log
-AdvanceGives h starting log k (Stops (Some v)) = first_fault h starting log ≡ Some v
+abbrev pub AdvanceGives : Rules → List StartWord → List Entry → Kept → Advance → Type 0
+AdvanceGives r starting log k Goes = HasTakenIn k starting log
+AdvanceGives r starting log k (Stops None) =
+    (first_fault r starting log ≡ None) × HasTakenIn k starting log
+AdvanceGives r starting log k (Stops (Some v)) = first_fault r starting log ≡ Some v

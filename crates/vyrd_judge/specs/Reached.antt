@@ -1,35 +1,35 @@
 -- What is judged up to a place: the state there, and each caller's open observer.
 use Rattle.std.specs.Prelude.{◌≡◌, ◌<◌, ◌==◌, ℕ, true, List, Some, drop, slice_get}
 use Rattle.std.specs.List.{list_any}
-use Rattle.vyrd_base.specs.declared.header.Header.{Header}
 use Rattle.vyrd_base.specs.declared.log.Entry.{Entry}
 use Rattle.vyrd_base.specs.Callers.{Called, open_call}
 use Rattle.vyrd_base.specs.Subjects.{is_observer}
 use Rattle.vyrd_base.specs.Amounts.{Amounts}
-use Rattle.vyrd_base.specs.Specification.{answer_in}
 use Rattle.vyrd_base.specs.Commits.{commit_count, commits_after, states_from}
 use Rattle.vyrd_base.specs.Faults.{states_since_call}
 use Rattle.vyrd_base.specs.Entries.{has_method}
 use Rattle.vyrd_observers.specs.Watching.{Seen, has_answer}
+use Rattle.vyrd_base.specs.Rules.{Rules}
 
 -- what is kept stands for the open observer of a caller: what was called, and what the states since
 -- the call answer
-pub record IsWatched (states : List Amounts) (c : ℕ) (earlier : List Entry) (called : Called)
+pub record IsWatched (r : Rules) (states : List Amounts) (c : ℕ) (earlier : List Entry)
+    (called : Called)
     (seen : Seen) : Type 0 where
   pub is_open : seen.is_open ≡ true
   pub method : seen.method ≡ called.method
   pub args : seen.args ≡ called.args
   pub answers : (reply : ℕ)
       → has_answer seen.answers reply ≡ list_any (λ state.
-      answer_in state called.method called.args == reply) (states_since_call states c earlier)
+      r.answer state called.method called.args == reply) (states_since_call states c earlier)
 
 -- The states go on from this one with the commits from the place on, what is called may be called,
 -- and each open observer is watched.
-pub record Reached (h : Header) (states : List Amounts) (earlier later : List Entry)
+pub record Reached (r : Rules) (states : List Amounts) (earlier later : List Entry)
     (state : Amounts) (watches : List Seen) : Type 0 where
-  pub going : drop (commit_count earlier) states ≡ states_from state (commits_after earlier later)
+  pub going : drop (commit_count earlier) states ≡ states_from r state (commits_after earlier later)
   pub allowed : (c : ℕ) (called : Called) → open_call c earlier ≡ Some called
-      → has_method h called.method called.args ≡ true
-  pub watched : (c : ℕ) (called : Called) → c < h.callers → open_call c earlier ≡ Some called
+      → has_method r.header called.method called.args ≡ true
+  pub watched : (c : ℕ) (called : Called) → c < r.header.callers → open_call c earlier ≡ Some called
       → is_observer called.method ≡ true
-      → (seen : Seen) × (slice_get watches c ≡ Some seen) × IsWatched states c earlier called seen
+      → (seen : Seen) × (slice_get watches c ≡ Some seen) × IsWatched r states c earlier called seen

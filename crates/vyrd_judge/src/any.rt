@@ -9,6 +9,7 @@ ghost use Rattle.vyrd_base.specs.declared.log.StartWord.{StartWord};
 ghost use Rattle.vyrd_base.specs.Starts.{may_start, state_at_start};
 ghost use Rattle.vyrd_base.specs.declared.verdict.Verdict.{Verdict};
 ghost use Rattle.vyrd_base.specs.declared.verdict.Verdict.TheVariants.{Malformed};
+ghost use Rattle.vyrd_base.specs.Rules.{built_in, rules_of, rules_by};
 ghost use Rattle.vyrd_base.specs.Histories.{log_of};
 ghost use Rattle.vyrd_base.specs.Verdicts.{verdict, verdict_so_far};
 ghost use Rattle.vyrd_judge.specs.Following.{HasFollowed};
@@ -57,7 +58,7 @@ impl AnyJudge {
     /// A judge that has followed no entry.
     pub fn new(alloc: Global, header: Header) -> Result<AnyJudge, AllocError>
         ensures followed { IfOk result (λ j. HasFollowed j [] []) }
-        ensures header { IfOk result (λ j. j.kept.header ≡ header) }
+        ensures charter { IfOk result (λ j. j.kept.charter ≡ built_in header) }
         ensures entries { IfOk result (λ j. j.kept.entries ≡ 0) }
         ensures so_far { IfOk result (λ j. j.so_far ≡ None) }
         ensures has_failed { IfOk result (λ j. j.has_failed ≡ false) }
@@ -79,9 +80,10 @@ impl AnyJudge {
         start: &[StartWord],
     ) -> Result<Option<AnyJudge>, AllocError>
         requires may_start { may_start header start.now ≡ true }
-        ensures none { IfOk result (λ j. is_none j ≡ is_none (state_at_start header start.now)) }
+        ensures none { IfOk result
+            (λ j. is_none j ≡ is_none (state_at_start (rules_of header) start.now)) }
         ensures followed { IfOk result (λ o. IfSome o (λ j. HasFollowed j start.now [])) }
-        ensures header { IfOk result (λ o. IfSome o (λ j. j.kept.header ≡ header)) }
+        ensures charter { IfOk result (λ o. IfSome o (λ j. j.kept.charter ≡ built_in header)) }
         ensures entries { IfOk result (λ o. IfSome o (λ j. j.kept.entries ≡ 0)) }
         ensures so_far { IfOk result (λ o. IfSome o (λ j. j.so_far ≡ None)) }
         ensures has_failed { IfOk result (λ o. IfSome o (λ j. j.has_failed ≡ false)) }
@@ -113,7 +115,8 @@ impl AnyJudge {
         ensures answer { (starting : List StartWord) (log : List Entry)
             → HasFollowed self.old starting log
             → IfOk result
-            (λ v. v ≡ verdict_so_far self.old.kept.header starting (log ++ entry ∷ [])) }
+            (λ v. v
+            ≡ verdict_so_far (rules_by self.old.kept.charter) starting (log ++ entry ∷ [])) }
         ensures followed { (starting : List StartWord) (log : List Entry)
             → HasFollowed self.old starting log
             → OnOk result (HasFollowed self.new starting (log ++ entry ∷ [])) }
@@ -124,7 +127,7 @@ impl AnyJudge {
         ensures has_failed { self.new.has_failed ≡ is_err result }
         ensures fails_again { self.old.has_failed ≡ true → is_err result ≡ true }
         ensures counted { self.new.kept.entries ≤ self.old.kept.entries + 1 }
-        ensures header { self.new.kept.header ≡ self.old.kept.header }
+        ensures charter { self.new.kept.charter ≡ self.old.kept.charter }
     {
         match &mut self.judge {
             JudgeOf::Multiset(judge) => judge.feed(entry),
@@ -140,7 +143,8 @@ impl AnyJudge {
         ensures answer { (starting : List StartWord) (log : List Entry)
             → HasFollowed self.old starting log
             → IfOk result
-            (λ v. v ≡ verdict_so_far self.old.kept.header starting (log ++ entries.now)) }
+            (λ v. v
+            ≡ verdict_so_far (rules_by self.old.kept.charter) starting (log ++ entries.now)) }
         ensures followed { (starting : List StartWord) (log : List Entry)
             → HasFollowed self.old starting log
             → OnOk result (HasFollowed self.new starting (log ++ entries.now)) }
@@ -148,7 +152,7 @@ impl AnyJudge {
         ensures stays { OnErr result (self.new.so_far ≡ self.old.so_far) }
         ensures has_failed { OnErr result (self.new.has_failed ≡ true) }
         ensures counted { self.new.kept.entries ≤ self.old.kept.entries + length entries.now }
-        ensures header { self.new.kept.header ≡ self.old.kept.header }
+        ensures charter { self.new.kept.charter ≡ self.old.kept.charter }
     {
         match &mut self.judge {
             JudgeOf::Multiset(judge) => judge.follow(entries),
@@ -165,7 +169,9 @@ impl AnyJudge {
         ensures answer { (starting : List StartWord) (log : List Entry)
             → HasFollowed self.old starting log
             → IfOk result
-            (λ v. v ≡ verdict_so_far self.old.kept.header starting (log ++ log_of history.now)) }
+            (λ v. v
+            ≡ verdict_so_far (rules_by self.old.kept.charter) starting
+            (log ++ log_of history.now)) }
         ensures followed { (starting : List StartWord) (log : List Entry)
             → HasFollowed self.old starting log
             → OnOk result (HasFollowed self.new starting (log ++ log_of history.now)) }
@@ -173,7 +179,7 @@ impl AnyJudge {
         ensures stays { OnErr result (self.new.so_far ≡ self.old.so_far) }
         ensures has_failed { OnErr result (self.new.has_failed ≡ true) }
         ensures counted { self.new.kept.entries ≤ self.old.kept.entries + length history.now }
-        ensures header { self.new.kept.header ≡ self.old.kept.header }
+        ensures charter { self.new.kept.charter ≡ self.old.kept.charter }
     {
         match &mut self.judge {
             JudgeOf::Multiset(judge) => judge.follow_history(history),
@@ -199,7 +205,7 @@ impl AnyJudge {
     pub fn finish(&self) -> Result<Verdict, AllocError>
         ensures verdict { (starting : List StartWord) (log : List Entry)
             → HasFollowed self.now starting log
-            → IfOk result (λ v. v ≡ verdict self.now.kept.header starting log) }
+            → IfOk result (λ v. v ≡ verdict (rules_by self.now.kept.charter) starting log) }
         ensures has_failed { is_err result ≡ self.now.has_failed }
     {
         match &self.judge {
@@ -216,7 +222,8 @@ impl AnyJudge {
         ensures verdict { (starting : List StartWord) (log : List Entry)
             → HasFollowed self.now starting log
             → IfOk result (λ v. v
-            ≡ unwrap_or (verdict_so_far self.now.kept.header starting log) (Malformed line rule)) }
+            ≡ unwrap_or (verdict_so_far (rules_by self.now.kept.charter) starting log)
+            (Malformed line rule)) }
         ensures has_failed { is_err result ≡ self.now.has_failed }
     {
         match &self.judge {
@@ -236,7 +243,7 @@ pub fn judge_history(
     history: &[Stamped],
 ) -> Result<Verdict, AllocError>
     requires few { length history.now ≤ 2 ^ 62 }
-    ensures { IfOk result (λ v. v ≡ verdict header [] (log_of history.now)) }
+    ensures { IfOk result (λ v. v ≡ verdict (rules_of header) [] (log_of history.now)) }
 {
     let mut judge = AnyJudge::new(alloc, header)?;
     judge.follow_history(history)?;

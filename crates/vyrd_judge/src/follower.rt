@@ -2,6 +2,7 @@
 
 ghost use Rattle.std.specs.Prelude.{◌≡◌, ◌<◌, ◌≤◌, ◌+◌, ◌^◌, ◌∷◌, ◌++◌, true, List, [], length};
 ghost use Rattle.std.specs.Prelude.{Option, Some, None, Ok, IfOk, if◌then◌else◌};
+ghost use Rattle.vyrd_base.specs.Rules.{rules_by};
 ghost use Rattle.vyrd_base.specs.declared.header.Header.{Header};
 ghost use Rattle.vyrd_base.specs.declared.log.Entry.{Entry};
 ghost use Rattle.vyrd_base.specs.declared.log.StartWord.{StartWord};
@@ -40,12 +41,13 @@ pub(crate) struct Follower<S: Spec> {
 
 impl<S: Spec> Model for Follower<S> {
     ghost use Rattle.std.specs.Prelude.{◌≡◌, ◌≤◌, ◌^◌};
+    ghost use Rattle.vyrd_base.specs.Rules.{rules_by};
     ghost use Rattle.vyrd_judge.specs.Following.{Kept};
 
     ghost Value = { Kept };
 
     ghost view = { λ f. record {
-      header = f.replay.header;
+      charter = S.charter f.replay.spec;
       started = f.started;
       shape = f.shape;
       shadow = f.words.shadow;
@@ -62,10 +64,11 @@ impl<S: Spec> Model for Follower<S> {
       observers = f.observers;
     } };
 
-    ghost invariant = { λ f. (f.shape.header ≡ f.replay.header)
-        × (f.words.shadow.header ≡ f.replay.header) × (f.queue.header ≡ f.replay.header)
+    ghost invariant = { λ f. (f.shape.header ≡ (rules_by (S.charter f.replay.spec)).header)
+        × (f.words.shadow.header ≡ (rules_by (S.charter f.replay.spec)).header)
+        × (f.queue.header ≡ (rules_by (S.charter f.replay.spec)).header)
         × (f.started ≤ 2 ^ 32) × (f.entries ≤ 2 ^ 62)
-        × (f.words.views.header ≡ f.replay.header) };
+        × (f.words.views.header ≡ (rules_by (S.charter f.replay.spec)).header) };
 }
 
 impl<S: Spec> Follower<S> {
@@ -79,13 +82,14 @@ impl<S: Spec> Follower<S> {
         spec: S,
     ) -> Result<Follower<S>, AllocError>
         requires subject { header.subject ≡ S.subject }
-        requires spec_header { S.header_of spec ≡ header }
+        requires spec_header { (rules_by (S.charter spec)).header ≡ header }
         requires made { S.made spec ≡ 0 }
         requires may_start { may_start header start.now ≡ true }
         requires words { words.now ≡ words_at_start header start.now }
-        requires state { state_at_start header start.now ≡ Some (S.state spec) }
+        requires state { state_at_start (rules_by (S.charter spec)) start.now
+            ≡ Some (S.state spec) }
         ensures taken_in { IfOk result (λ f. HasTakenIn f start.now []) }
-        ensures header { IfOk result (λ f. f.header ≡ header) }
+        ensures charter { IfOk result (λ f. f.charter ≡ S.charter spec) }
         ensures entries { IfOk result (λ f. f.entries ≡ 0) }
     {
         let changed = words_of(alloc, start)?;
@@ -111,12 +115,13 @@ impl<S: Spec> Follower<S> {
         requires somewhere { IsSomewhere self.old }
         ensures answer { (starting : List StartWord) (log : List Entry)
             → IsFaultless self.old starting log
-            → IfOk result (λ v. v ≡ verdict_so_far self.old.header starting (log ++ entry ∷ [])) }
+            → IfOk result
+            (λ v. v ≡ verdict_so_far (rules_by self.old.charter) starting (log ++ entry ∷ [])) }
         ensures follows { (starting : List StartWord) (log : List Entry)
             → IsFaultless self.old starting log → result ≡ Ok None
             → IsFaultless self.new starting (log ++ entry ∷ []) }
         ensures counted { self.new.entries ≤ self.old.entries + 1 }
-        ensures header { self.new.header ≡ self.old.header }
+        ensures charter { self.new.charter ≡ self.old.charter }
     {
         let caller = entry.caller;
         // Each call is compiled for its kind, so that no part of it looks at the kind again.
@@ -159,12 +164,13 @@ impl<S: Spec> Follower<S> {
         requires somewhere { IsSomewhere self.old }
         ensures answer { (starting : List StartWord) (log : List Entry)
             → IsFaultless self.old starting log
-            → IfOk result (λ v. v ≡ verdict_so_far self.old.header starting (log ++ entry ∷ [])) }
+            → IfOk result
+            (λ v. v ≡ verdict_so_far (rules_by self.old.charter) starting (log ++ entry ∷ [])) }
         ensures follows { (starting : List StartWord) (log : List Entry)
             → IsFaultless self.old starting log → result ≡ Ok None
             → IsFaultless self.new starting (log ++ entry ∷ []) }
         ensures counted { self.new.entries ≤ self.old.entries + 1 }
-        ensures header { self.new.header ≡ self.old.header }
+        ensures charter { self.new.charter ≡ self.old.charter }
     {
         if let Err(fault) = self.shape.step(&entry) {
             return Ok(Some(Verdict::Malformed {
@@ -184,7 +190,7 @@ impl<S: Spec> Follower<S> {
     /// The verdict if `end` stands after the entries.
     pub fn end(&self) -> Verdict
         ensures { (starting : List StartWord) (log : List Entry) → IsFaultless self.now starting log
-            → result ≡ verdict self.now.header starting log }
+            → result ≡ verdict (rules_by self.now.charter) starting log }
     {
         if self.shape.end().is_err() {
             return Verdict::Malformed {
@@ -206,12 +212,12 @@ impl<S: Spec> Follower<S> {
         requires { MayCatchUp self.old }
         ensures answer { (starting : List StartWord) (log : List Entry)
             → HasTakenIn self.old starting log
-            → IfOk result (λ v. v ≡ first_fault self.old.header starting log) }
+            → IfOk result (λ v. v ≡ first_fault (rules_by self.old.charter) starting log) }
         ensures stays { (starting : List StartWord) (log : List Entry)
             → HasTakenIn self.old starting log → result ≡ Ok None
             → HasTakenIn self.new starting log }
         ensures entries { self.new.entries ≡ self.old.entries }
-        ensures header { self.new.header ≡ self.old.header }
+        ensures charter { self.new.charter ≡ self.old.charter }
     {
         loop {
             match self.judge_first()? {
@@ -227,10 +233,10 @@ impl<S: Spec> Follower<S> {
         requires { MayCatchUp self.old }
         ensures gives { (starting : List StartWord) (log : List Entry)
             → HasTakenIn self.old starting log
-            → IfOk result (AdvanceGives self.old.header starting log self.new) }
+            → IfOk result (AdvanceGives (rules_by self.old.charter) starting log self.new) }
         ensures less { result ≡ Ok Goes → length self.new.waiting < length self.old.waiting }
         ensures entries { self.new.entries ≡ self.old.entries }
-        ensures header { self.new.header ≡ self.old.header }
+        ensures charter { self.new.charter ≡ self.old.charter }
     {
         let Some(x) = self.queue.first() else {
             return Ok(Advance::Stops(None));

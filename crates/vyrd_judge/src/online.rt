@@ -10,6 +10,7 @@ ghost use Rattle.vyrd_base.specs.Starts.{may_start, words_at_start, state_at_sta
 ghost use Rattle.vyrd_base.specs.declared.verdict.Verdict.{Verdict};
 ghost use Rattle.vyrd_base.specs.declared.verdict.Verdict.TheVariants.{Malformed};
 ghost use Rattle.vyrd_base.specs.declared.header.Header.{Header};
+ghost use Rattle.vyrd_base.specs.Rules.{built_in, rules_of, rules_by};
 ghost use Rattle.vyrd_base.specs.Histories.{log_of};
 ghost use Rattle.vyrd_base.specs.Verdicts.{verdict, verdict_so_far};
 ghost use Rattle.vyrd_judge.specs.Following.{HasFollowed};
@@ -19,7 +20,7 @@ use crate::logged::entry_of;
 use std::alloc::{AllocError, Global};
 use std::marker::Model;
 use vyrd_base::{Entry, Header, Rule, Stamped, StartWord, Verdict};
-use vyrd_spec::Spec;
+use vyrd_spec::{BuiltIn, Spec};
 use vyrd_words::words_at_start;
 
 /// A judge that takes the entries of a log one by one, in their order, and never looks back. `S` is
@@ -72,13 +73,13 @@ impl<S: Spec> Model for Judge<S> {
     ghost invariant = { λ j. j.has_failed ≡ false → j.so_far ≡ None → IsSomewhere j.follower };
 }
 
-impl<S: Spec> Judge<S> {
+impl<S: BuiltIn> Judge<S> {
     /// A judge that has followed no entry. It takes memory in proportion to the header's words and
     /// callers.
     pub fn new(alloc: Global, header: Header) -> Result<Judge<S>, AllocError>
         requires subject { header.subject ≡ S.subject }
         ensures followed { IfOk result (λ j. HasFollowed j [] []) }
-        ensures header { IfOk result (λ j. j.kept.header ≡ header) }
+        ensures charter { IfOk result (λ j. j.kept.charter ≡ built_in header) }
         ensures entries { IfOk result (λ j. j.kept.entries ≡ 0) }
         ensures so_far { IfOk result (λ j. j.so_far ≡ None) }
         ensures has_failed { IfOk result (λ j. j.has_failed ≡ false) }
@@ -98,9 +99,10 @@ impl<S: Spec> Judge<S> {
     ) -> Result<Option<Judge<S>>, AllocError>
         requires subject { header.subject ≡ S.subject }
         requires may_start { may_start header start.now ≡ true }
-        ensures none { IfOk result (λ j. is_none j ≡ is_none (state_at_start header start.now)) }
+        ensures none { IfOk result
+            (λ j. is_none j ≡ is_none (state_at_start (rules_of header) start.now)) }
         ensures followed { IfOk result (λ o. IfSome o (λ j. HasFollowed j start.now [])) }
-        ensures header { IfOk result (λ o. IfSome o (λ j. j.kept.header ≡ header)) }
+        ensures charter { IfOk result (λ o. IfSome o (λ j. j.kept.charter ≡ built_in header)) }
         ensures entries { IfOk result (λ o. IfSome o (λ j. j.kept.entries ≡ 0)) }
         ensures so_far { IfOk result (λ o. IfSome o (λ j. j.so_far ≡ None)) }
         ensures has_failed { IfOk result (λ o. IfSome o (λ j. j.has_failed ≡ false)) }
@@ -111,9 +113,12 @@ impl<S: Spec> Judge<S> {
         };
         Ok(Some(Judge::begin(alloc, header, start, &words, spec)?))
     }
+}
 
-    /// A judge that has followed no entry, with the specification in its state at the start.
-    fn begin(
+impl<S: Spec> Judge<S> {
+    /// A judge that has followed no entry of a log that begins with these words, by the rules of a
+    /// specification that is in its state at the start.
+    pub fn begin(
         alloc: Global,
         header: Header,
         start: &[StartWord],
@@ -121,13 +126,14 @@ impl<S: Spec> Judge<S> {
         spec: S,
     ) -> Result<Judge<S>, AllocError>
         requires subject { header.subject ≡ S.subject }
-        requires spec_header { S.header_of spec ≡ header }
+        requires spec_header { (rules_by (S.charter spec)).header ≡ header }
         requires made { S.made spec ≡ 0 }
         requires may_start { may_start header start.now ≡ true }
         requires words { words.now ≡ words_at_start header start.now }
-        requires state { state_at_start header start.now ≡ Some (S.state spec) }
+        requires state { state_at_start (rules_by (S.charter spec)) start.now
+            ≡ Some (S.state spec) }
         ensures followed { IfOk result (λ j. HasFollowed j start.now []) }
-        ensures header { IfOk result (λ j. j.kept.header ≡ header) }
+        ensures charter { IfOk result (λ j. j.kept.charter ≡ S.charter spec) }
         ensures entries { IfOk result (λ j. j.kept.entries ≡ 0) }
         ensures so_far { IfOk result (λ j. j.so_far ≡ None) }
         ensures has_failed { IfOk result (λ j. j.has_failed ≡ false) }
@@ -147,7 +153,8 @@ impl<S: Spec> Judge<S> {
         ensures answer { (starting : List StartWord) (log : List Entry)
             → HasFollowed self.old starting log
             → IfOk result
-            (λ v. v ≡ verdict_so_far self.old.kept.header starting (log ++ entry ∷ [])) }
+            (λ v. v
+            ≡ verdict_so_far (rules_by self.old.kept.charter) starting (log ++ entry ∷ [])) }
         ensures followed { (starting : List StartWord) (log : List Entry)
             → HasFollowed self.old starting log
             → OnOk result (HasFollowed self.new starting (log ++ entry ∷ [])) }
@@ -158,7 +165,7 @@ impl<S: Spec> Judge<S> {
         ensures has_failed { self.new.has_failed ≡ is_err result }
         ensures fails_again { self.old.has_failed ≡ true → is_err result ≡ true }
         ensures counted { self.new.kept.entries ≤ self.old.kept.entries + 1 }
-        ensures header { self.new.kept.header ≡ self.old.kept.header }
+        ensures charter { self.new.kept.charter ≡ self.old.kept.charter }
     {
         if self.has_failed {
             return Err(AllocError);
@@ -185,7 +192,8 @@ impl<S: Spec> Judge<S> {
         ensures answer { (starting : List StartWord) (log : List Entry)
             → HasFollowed self.old starting log
             → IfOk result
-            (λ v. v ≡ verdict_so_far self.old.kept.header starting (log ++ entries.now)) }
+            (λ v. v
+            ≡ verdict_so_far (rules_by self.old.kept.charter) starting (log ++ entries.now)) }
         ensures followed { (starting : List StartWord) (log : List Entry)
             → HasFollowed self.old starting log
             → OnOk result (HasFollowed self.new starting (log ++ entries.now)) }
@@ -193,7 +201,7 @@ impl<S: Spec> Judge<S> {
         ensures stays { OnErr result (self.new.so_far ≡ self.old.so_far) }
         ensures has_failed { OnErr result (self.new.has_failed ≡ true) }
         ensures counted { self.new.kept.entries ≤ self.old.kept.entries + length entries.now }
-        ensures header { self.new.kept.header ≡ self.old.kept.header }
+        ensures charter { self.new.kept.charter ≡ self.old.kept.charter }
     {
         for entry in entries {
             self.feed(*entry)?;
@@ -208,7 +216,9 @@ impl<S: Spec> Judge<S> {
         ensures answer { (starting : List StartWord) (log : List Entry)
             → HasFollowed self.old starting log
             → IfOk result
-            (λ v. v ≡ verdict_so_far self.old.kept.header starting (log ++ log_of history.now)) }
+            (λ v. v
+            ≡ verdict_so_far (rules_by self.old.kept.charter) starting
+            (log ++ log_of history.now)) }
         ensures followed { (starting : List StartWord) (log : List Entry)
             → HasFollowed self.old starting log
             → OnOk result (HasFollowed self.new starting (log ++ log_of history.now)) }
@@ -216,7 +226,7 @@ impl<S: Spec> Judge<S> {
         ensures stays { OnErr result (self.new.so_far ≡ self.old.so_far) }
         ensures has_failed { OnErr result (self.new.has_failed ≡ true) }
         ensures counted { self.new.kept.entries ≤ self.old.kept.entries + length history.now }
-        ensures header { self.new.kept.header ≡ self.old.kept.header }
+        ensures charter { self.new.kept.charter ≡ self.old.kept.charter }
     {
         for event in history {
             if let Some(entry) = entry_of(*event) {
@@ -237,7 +247,7 @@ impl<S: Spec> Judge<S> {
     pub fn finish(&self) -> Result<Verdict, AllocError>
         ensures verdict { (starting : List StartWord) (log : List Entry)
             → HasFollowed self.now starting log
-            → IfOk result (λ v. v ≡ verdict self.now.kept.header starting log) }
+            → IfOk result (λ v. v ≡ verdict (rules_by self.now.kept.charter) starting log) }
         ensures has_failed { is_err result ≡ self.now.has_failed }
     {
         if self.has_failed {
@@ -255,7 +265,8 @@ impl<S: Spec> Judge<S> {
         ensures verdict { (starting : List StartWord) (log : List Entry)
             → HasFollowed self.now starting log
             → IfOk result (λ v. v
-            ≡ unwrap_or (verdict_so_far self.now.kept.header starting log) (Malformed line rule)) }
+            ≡ unwrap_or (verdict_so_far (rules_by self.now.kept.charter) starting log)
+            (Malformed line rule)) }
         ensures has_failed { is_err result ≡ self.now.has_failed }
     {
         if self.has_failed {

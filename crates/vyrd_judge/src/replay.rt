@@ -2,9 +2,9 @@
 
 ghost use Rattle.std.specs.Prelude.{◌≡◌, ◌<◌, ◌^◌, ◌∷◌, ℕ, List, [], true, false, Some, None, Ok};
 ghost use Rattle.std.specs.Prelude.{IfOk, OnOk, slice_get, slice_set, length};
+ghost use Rattle.vyrd_base.specs.Rules.{rules_by};
 ghost use Rattle.vyrd_base.specs.declared.log.Entry.{Entry};
 ghost use Rattle.vyrd_base.specs.declared.log.StartWord.{StartWord};
-ghost use Rattle.vyrd_base.specs.Specification.{answer_in};
 ghost use Rattle.vyrd_base.specs.Subjects.{is_observer};
 ghost use Rattle.vyrd_judge.specs.declared.outcome.Outcome.TheVariants.{Goes};
 ghost use Rattle.vyrd_judge.specs.declared.waiting.Waiting.{Waiting};
@@ -26,26 +26,24 @@ use vyrd_words::Words;
 /// there, and each caller's open observer.
 #[derive(Drop)]
 pub(crate) struct Replay<S: Spec> {
-    pub header: Header,
     pub spec: S,
     pub watches: Watches,
-    ghost subject: { header.subject ≡ S.subject },
-    ghost spec_header: { S.header_of spec ≡ header },
-    ghost watching: { watches.header ≡ header },
-    ghost callers: { length watches.by_caller ≡ header.callers },
+    ghost subject: { (rules_by (S.charter spec)).header.subject ≡ S.subject },
+    ghost watching: { watches.header ≡ (rules_by (S.charter spec)).header },
+    ghost callers: { length watches.by_caller ≡ (rules_by (S.charter spec)).header.callers },
 }
 
 impl<S: Spec> Replay<S> {
     /// The place before the first entry, with the specification in its state at the start.
     pub fn new(alloc: Global, header: Header, spec: S) -> Result<Replay<S>, AllocError>
         requires subject { header.subject ≡ S.subject }
-        requires spec_header { S.header_of spec ≡ header }
-        ensures header { IfOk result (λ r. r.header ≡ header) }
+        requires spec_header { (rules_by (S.charter spec)).header ≡ header }
         ensures spec { IfOk result (λ r. r.spec ≡ spec) }
-        ensures current { IfOk result (λ r. AreCurrent (S.state spec) r.watches.by_caller) }
+        ensures current { IfOk result
+            (λ r. AreCurrent
+            ((rules_by (S.charter spec)).answer (S.state spec)) r.watches.by_caller) }
     {
         Ok(Replay {
-            header,
             spec,
             watches: Watches::new(alloc, header)?,
         })
@@ -54,17 +52,18 @@ impl<S: Spec> Replay<S> {
     /// An observer begins, in the state here.
     #[inline(never)]
     fn begin(&mut self, caller: u32, method: Method, args: Args) -> Result<(), AllocError>
-        requires caller { caller < self.old.header.callers }
-        requires allowed { has_method self.old.header method args ≡ true }
+        requires caller { caller < (rules_by (S.charter self.old.spec)).header.callers }
+        requires allowed { has_method (rules_by (S.charter self.old.spec)).header method args
+            ≡ true }
         requires observer { is_observer method ≡ true }
         ensures watches { OnOk result (self.new.watches.by_caller
             ≡ slice_set self.old.watches.by_caller caller (record {
               is_open = true;
               method = method;
               args = args;
-              answers = answer_in (S.state self.old.spec) method args ∷ [];
+              answers = (rules_by (S.charter self.old.spec)).answer
+                  (S.state self.old.spec) method args ∷ [];
             })) }
-        ensures header { self.new.header ≡ self.old.header }
         ensures spec { self.new.spec ≡ self.old.spec }
     {
         let answer = self.spec.answer(method, args);
@@ -74,12 +73,11 @@ impl<S: Spec> Replay<S> {
     /// An observer returns. It says whether some state since its call answers the reply.
     #[inline(never)]
     fn end(&mut self, caller: u32, reply: u64) -> bool
-        requires caller { caller < self.old.header.callers }
+        requires caller { caller < (rules_by (S.charter self.old.spec)).header.callers }
         ensures answered { (seen : Seen) → slice_get self.old.watches.by_caller caller ≡ Some seen
             → result ≡ has_answer seen.answers reply }
         ensures watches { self.new.watches.by_caller
             ≡ slice_set self.old.watches.by_caller caller unwatched }
-        ensures header { self.new.header ≡ self.old.header }
         ensures spec { self.new.spec ≡ self.old.spec }
     {
         self.watches.end(caller, reply)
@@ -95,31 +93,38 @@ impl<S: Spec> Replay<S> {
         args: Args,
         reply: u64,
     ) -> Result<Outcome, AllocError>
-        requires header { words.old.views.header ≡ self.old.header }
-        requires may { has_method self.old.header method args ≡ true }
+        requires header { words.old.views.header ≡ (rules_by (S.charter self.old.spec)).header }
+        requires may { has_method (rules_by (S.charter self.old.spec)).header method args ≡ true }
         requires mutates { is_observer method ≡ false }
         requires few { S.made self.old.spec < 2 ^ 62 }
-        requires current { AreCurrent (S.state self.old.spec) self.old.watches.by_caller }
+        requires current { AreCurrent
+            ((rules_by (S.charter self.old.spec)).answer (S.state self.old.spec))
+            self.old.watches.by_caller }
         requires sound { words.old.views.refused ≡ false }
         ensures leads { (part : List (ℕ × ℕ)) (rest : List (List (ℕ × ℕ)))
             → words.old.views.since ≡ part ∷ rest
-            → words.old.views.specified ≡ S.state self.old.spec
-            → IfOk result (CommitLeads self.old.header words.old.views.first part rest
+            → words.old.views.specified
+            ≡ (rules_by (S.charter self.old.spec)).shown (S.state self.old.spec)
+            → IfOk result
+            (CommitLeads (rules_by (S.charter self.old.spec)) words.old.views.first part rest
             (record { method = method; args = args }) reply (S.state self.old.spec)
             (S.made self.old.spec) self.old.watches.by_caller (S.state self.new.spec)
             (S.made self.new.spec) self.new.watches.by_caller words.new.views.first
             words.new.views.since) }
-        ensures known { words.old.views.specified ≡ S.state self.old.spec
-            → IfOk result (KnowsState words.new.views (S.state self.new.spec)) }
-        ensures header { self.new.header ≡ self.old.header }
+        ensures known { words.old.views.specified
+            ≡ (rules_by (S.charter self.old.spec)).shown (S.state self.old.spec)
+            → IfOk result
+            (KnowsState (rules_by (S.charter self.old.spec)) words.new.views
+            (S.state self.new.spec)) }
+        ensures charter { S.charter self.new.spec ≡ S.charter self.old.spec }
         ensures views_header { words.new.views.header ≡ words.old.views.header }
         ensures shadow { words.new.shadow ≡ words.old.shadow }
         ensures inner { words.new.inner ≡ words.old.inner }
     {
-        let touched = self.spec.touched(method, args);
         if !self.spec.step(method, args, reply)? {
             return Ok(Outcome::Faults(Why::Reply(reply)));
         }
+        let touched = self.spec.touched(method, args);
         if let Some(key) = words.difference(&self.spec, touched)? {
             return Ok(Outcome::Faults(Why::View(key)));
         }
@@ -132,21 +137,28 @@ impl<S: Spec> Replay<S> {
     /// of open observers, besides that of the specification's step and of the comparison.
     #[inline(always)]
     pub fn judge(&mut self, words: &mut Words, x: Waiting) -> Result<Outcome, AllocError>
-        requires header { words.old.views.header ≡ self.old.header }
-        requires may { MayJudge self.old.header (S.state self.old.spec) (S.made self.old.spec)
+        requires header { words.old.views.header ≡ (rules_by (S.charter self.old.spec)).header }
+        requires may { MayJudge (rules_by (S.charter self.old.spec)) (S.state self.old.spec)
+            (S.made self.old.spec)
             self.old.watches.by_caller x words.old.views.first words.old.views.since }
         requires sound { words.old.views.refused ≡ false }
         ensures gives { (starting : List StartWord) (log : List Entry) (xs : List Waiting)
-            → Judged self.old.header starting log (S.state self.old.spec) (S.made self.old.spec)
+            → Judged (rules_by (S.charter self.old.spec)) starting log (S.state self.old.spec)
+            (S.made self.old.spec)
             self.old.watches.by_caller (x ∷ xs) words.old.views.first words.old.views.since
-            → words.old.views.specified ≡ S.state self.old.spec
-            → IfOk result (HeadGives self.old.header starting log (S.state self.new.spec)
+            → words.old.views.specified
+            ≡ (rules_by (S.charter self.old.spec)).shown (S.state self.old.spec)
+            → IfOk result
+            (HeadGives (rules_by (S.charter self.old.spec)) starting log (S.state self.new.spec)
             (S.made self.new.spec) self.new.watches.by_caller x xs words.new.views.first
             words.new.views.since) }
         ensures leaves { result ≡ Ok Goes → CanLeave x }
-        ensures known { words.old.views.specified ≡ S.state self.old.spec
-            → IfOk result (KnowsState words.new.views (S.state self.new.spec)) }
-        ensures header { self.new.header ≡ self.old.header }
+        ensures known { words.old.views.specified
+            ≡ (rules_by (S.charter self.old.spec)).shown (S.state self.old.spec)
+            → IfOk result
+            (KnowsState (rules_by (S.charter self.old.spec)) words.new.views
+            (S.state self.new.spec)) }
+        ensures charter { S.charter self.new.spec ≡ S.charter self.old.spec }
         ensures views_header { words.new.views.header ≡ words.old.views.header }
         ensures shadow { words.new.shadow ≡ words.old.shadow }
         ensures inner { words.new.inner ≡ words.old.inner }

@@ -8,7 +8,7 @@ use Rattle.vyrd_live.specs.Beside.{HasWatched, StaysFixed, TakesIn, GoesOn}
 
 module _ {S F : Type 0} (has_taken : S → List Stamped → Type 0) (fixed : S → F) where
   -- nothing came
-  pub goes_on_same : (w after : Watch S F) → after.receiver ≡ w.receiver → after.stands ≡ w.stands → after.sequencer ≡ w.sequencer
+  pub goes_on_same : (w after : Watch S) → after.receiver ≡ w.receiver → after.stands ≡ w.stands → after.sequencer ≡ w.sequencer
       → after.callers ≡ w.callers → after.taken ≡ w.taken → GoesOn has_taken fixed w after
   goes_on_same w after receiver stands sequencer callers taken = record {
     same = record {
@@ -28,7 +28,7 @@ module _ {S F : Type 0} (has_taken : S → List Stamped → Type 0) (fixed : S �
   }
 
   -- one event came, and was taken in
-  pub goes_on_with : (w after : Watch S F) (event : Stamped) → after.receiver ≡ with_popped w.receiver event
+  pub goes_on_with : (w after : Watch S) (event : Stamped) → after.receiver ≡ with_popped w.receiver event
       → (HasWatched has_taken w w.receiver.had → HasWatched has_taken after (w.receiver.had ++ event ∷ []))
       → StaysFixed fixed w after → after.callers ≡ w.callers → w.taken ≤ after.taken → GoesOn has_taken fixed w after
   goes_on_with w after event receiver watched fixed_is callers counted = record {
@@ -46,7 +46,7 @@ module _ {S F : Type 0} (has_taken : S → List Stamped → Type 0) (fixed : S �
   }
 
   -- one step after another
-  pub takes_in_then : (first next last : Watch S F) → TakesIn has_taken fixed first next → TakesIn has_taken fixed next last
+  pub takes_in_then : (first next last : Watch S) → TakesIn has_taken fixed first next → TakesIn has_taken fixed next last
       → TakesIn has_taken fixed first last
   takes_in_then first next last a b = record {
     watched = λ before. b.watched (a.watched before);
@@ -55,7 +55,7 @@ module _ {S F : Type 0} (has_taken : S → List Stamped → Type 0) (fixed : S �
     counted = omega (arith, a.counted, b.counted);
   }
 
-  pub goes_on_then : (first next last : Watch S F) → GoesOn has_taken fixed first next → GoesOn has_taken fixed next last
+  pub goes_on_then : (first next last : Watch S) → GoesOn has_taken fixed first next → GoesOn has_taken fixed next last
       → GoesOn has_taken fixed first last
   goes_on_then first next last a b = record {
     same = record {

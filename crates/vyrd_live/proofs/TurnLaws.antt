@@ -1,9 +1,9 @@
 -- What is recorded of a run by turns is its run, and that of a correct structure is accepted.
 use Rattle.std.proofs.Common.{◌≡◌, ℕ, List, [], ap, sym, subst, ◌∙◌}
-use Rattle.vyrd_base.specs.declared.header.Header.{Header}
 use Rattle.vyrd_base.specs.declared.history.Stamped.{Stamped}
 use Rattle.vyrd_base.specs.Histories.{log_of}
 use Rattle.vyrd_base.specs.Places.{newest_first}
+use Rattle.vyrd_base.specs.Rules.{Charter, built_in, rules_of, rules_by}
 use Rattle.vyrd_base.specs.Verdicts.{accepted, verdict}
 use Rattle.vyrd_memory.specs.Playing.{memory_after}
 use Rattle.vyrd_memory.specs.Showing.{HasRun}
@@ -22,16 +22,16 @@ use Rattle.vyrd_live.specs.TurnRuns.{IsRunByTurns}
 
 -- a recording that was shown the run by turns has what its run is made of
 pub run_recorded : (w : Workload) (r : Recording) (words : List ℕ) (run : Run)
-    → HasRun (work_scripts w) w.turns w.header HasRecorded r words → r.judge.judge.kept.header ≡ w.header
+    → HasRun (work_scripts w) w.turns w.header HasRecorded r words → r.judge.judge.kept.charter ≡ built_in w.header
     → run.history.items ≡ r.history.items → run.words.items ≡ words
-    → ((history : List Stamped) → HasRecorded r history → run.verdict ≡ verdict r.judge.judge.kept.header [] (log_of history))
+    → ((history : List Stamped) → HasRecorded r history → run.verdict ≡ verdict (rules_by r.judge.judge.kept.charter) [] (log_of history))
     → IsRunByTurns w run
-run_recorded w r words run has_run header history_is words_is judged =
+run_recorded w r words run has_run charter history_is words_is judged =
     let same : run.history.items ≡ has_run.history = history_is ∙ has_run.taken.kept in record {
       history = subst (RunsTo (work_scripts w) w.turns) (sym same) has_run.runs;
       words = words_is ∙ has_run.words_are ∙ ap (λ (h : List Stamped). memory_after w.header (newest_first h)) (sym same);
-      verdict_is = judged has_run.history has_run.taken ∙ ap (λ (h : Header). verdict h [] (log_of has_run.history)) header
-          ∙ ap (λ (h : List Stamped). verdict w.header [] (log_of h)) (sym same);
+      verdict_is = judged has_run.history has_run.taken ∙ ap (λ (k : Charter). verdict (rules_by k) [] (log_of has_run.history)) charter
+          ∙ ap (λ (h : List Stamped). verdict (rules_of w.header) [] (log_of h)) (sym same);
     }
 
 pub turns_accepted : (w : Workload) (run : Run) → KeepsLimits w → IsCorrect w → IsRunByTurns w run

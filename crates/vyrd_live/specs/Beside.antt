@@ -10,19 +10,19 @@ use Rattle.vyrd_live.specs.declared.worker.Stopped.{Stopped}
 use Rattle.vyrd_verifier.specs.Taken.{numbered, in_order_below, has_failed, HasTakenIn, MayRefuse}
 
 -- the sequencer has taken in these events, unless it was set aside
-abbrev pub HasWatched : {S F : Type 0} → (S → List Stamped → Type 0) → Watch S F → List Stamped
+abbrev pub HasWatched : {S : Type 0} → (S → List Stamped → Type 0) → Watch S → List Stamped
     → Type 0
 HasWatched has_taken w taken =
     w.stands ≡ true → (has_failed w.sequencer ≡ false) × HasTakenIn has_taken w.sequencer taken
 
 -- between two moments what no event changes of the sink stays, and a sequencer that was set aside
 -- is so for good
-abbrev pub StaysFixed : {S F : Type 0} → (S → F) → Watch S F → Watch S F → Type 0
+abbrev pub StaysFixed : {S F : Type 0} → (S → F) → Watch S → Watch S → Type 0
 StaysFixed fixed before after = after.stands ≡ true
     → (before.stands ≡ true) × (fixed after.sequencer.sink ≡ fixed before.sequencer.sink)
 
 -- If the sequencer is set aside, it is for the one event that came.
-abbrev pub IsSetAside : {S F : Type 0} → Watch S F → Watch S F → Type 0
+abbrev pub IsSetAside : {S : Type 0} → Watch S → Watch S → Type 0
 IsSetAside before after = before.stands ≡ true → after.stands ≡ false → (event : Stamped)
     × (after.receiver ≡ with_popped before.receiver event)
     × MayRefuse before.sequencer after.sequencer event.number
@@ -36,7 +36,7 @@ pub record IsSameReceiver (before after : ReceiverView) : Type 0 where
 -- from one moment to a later one what came was taken in, what no event changes of the sink stays,
 -- and the gate is asked about no fewer events
 pub record TakesIn {S F : Type 0} (has_taken : S → List Stamped → Type 0) (fixed : S → F)
-    (before after : Watch S F) : Type 0 where
+    (before after : Watch S) : Type 0 where
   pub watched : HasWatched has_taken before before.receiver.had
       → HasWatched has_taken after after.receiver.had
   pub fixed_is : StaysFixed fixed before after
@@ -45,7 +45,7 @@ pub record TakesIn {S F : Type 0} (has_taken : S → List Stamped → Type 0) (f
 
 -- what came was taken in, and the receiver is the same
 pub record GoesOn {S F : Type 0} (has_taken : S → List Stamped → Type 0) (fixed : S → F)
-    (before after : Watch S F) : Type 0 where
+    (before after : Watch S) : Type 0 where
   pub same : IsSameReceiver before.receiver after.receiver
   pub takes_in : TakesIn has_taken fixed before after
 

@@ -2,6 +2,7 @@
 use Rattle.std.specs.Prelude.{[], ◌≡◌}
 use Rattle.vyrd_base.specs.Places.{newest_first}
 use Rattle.vyrd_base.specs.Histories.{log_of}
+use Rattle.vyrd_base.specs.Rules.{rules_of}
 use Rattle.vyrd_base.specs.Verdicts.{verdict}
 use Rattle.vyrd_memory.specs.Turns.{RunsTo}
 use Rattle.vyrd_memory.specs.Playing.{memory_after}
@@ -14,4 +15,4 @@ use Rattle.vyrd_live.specs.declared.run.Run.{Run}
 pub record IsRunByTurns (w : Workload) (run : Run) : Type 0 where
   pub history : RunsTo (work_scripts w) w.turns run.history.items
   pub words : run.words.items ≡ memory_after w.header (newest_first run.history.items)
-  pub verdict_is : run.verdict ≡ verdict w.header [] (log_of run.history.items)
+  pub verdict_is : run.verdict ≡ verdict (rules_of w.header) [] (log_of run.history.items)

@@ -4,6 +4,7 @@ ghost use Rattle.std.specs.Prelude.{[], ◌≡◌, ◌<◌, ◌≤◌, true, map
 ghost use Rattle.std.specs.List.{All};
 ghost use Rattle.vyrd_base.specs.Places.{newest_first};
 ghost use Rattle.vyrd_base.specs.Histories.{cells_of, is_legal, log_of};
+ghost use Rattle.vyrd_base.specs.Rules.{built_in, rules_of};
 ghost use Rattle.vyrd_base.specs.Verdicts.{accepted, verdict};
 ghost use Rattle.vyrd_memory.specs.Bounds.{bounds_of};
 ghost use Rattle.vyrd_memory.specs.Playing.{memory_after};
@@ -104,7 +105,7 @@ pub fn run_live<R: Threads + Wait + Sync, G: Gate>(
     ensures words { IfOk result
         (λ run. run.words.items ≡ memory_after work.now.header (newest_first run.history.items)) }
     ensures verdict { IfOk result
-        (λ run. run.verdict ≡ verdict work.now.header [] (log_of run.history.items)) }
+        (λ run. run.verdict ≡ verdict (rules_of work.now.header) [] (log_of run.history.items)) }
     ensures room { IfOk result (λ run. AllHadRoom work.now.header limit run.history.items) }
     ensures cause { IfErr result
         (IsCause work.now.header limit (work_scripts (workload_of work.now))) }
@@ -141,7 +142,8 @@ fn record<R: Threads + Wait + Sync, G: Gate>(
     ensures run { IfOk result (λ played. LeavesRun work.now.header limit
         (work_scripts (workload_of work.now)) HasRecorded played.sink played.words.items
         played.spent) }
-    ensures header { IfOk result (λ played. played.sink.judge.judge.kept.header ≡ work.now.header) }
+    ensures charter { IfOk result
+        (λ played. played.sink.judge.judge.kept.charter ≡ built_in work.now.header) }
     ensures too_low { IfOk result (λ played. IfSome played.spent
         (λ caller. limit < bounds_of work.now.header (ops_of caller work.now.ops.items))) }
 {

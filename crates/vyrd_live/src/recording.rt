@@ -3,6 +3,7 @@
 ghost use Rattle.std.specs.Prelude.{◌≡◌, List, [], IfOk};
 ghost use Rattle.vyrd_base.specs.declared.history.Stamped.{Stamped};
 ghost use Rattle.vyrd_base.specs.Histories.{log_of};
+ghost use Rattle.vyrd_base.specs.Rules.{Charter, built_in, rules_by};
 ghost use Rattle.vyrd_base.specs.Verdicts.{verdict};
 ghost use Rattle.vyrd_live.specs.Recorded.{HasRecorded};
 
@@ -23,7 +24,7 @@ impl Recording {
     /// A recording of a run in which nothing was done yet.
     pub(crate) fn new(alloc: Global, header: Header) -> Result<Recording, AllocError>
         ensures recorded { IfOk result (λ r. HasRecorded r []) }
-        ensures header { IfOk result (λ r. r.judge.judge.kept.header ≡ header) }
+        ensures charter { IfOk result (λ r. r.judge.judge.kept.charter ≡ built_in header) }
     {
         Ok(Recording {
             judge: RunJudge::new(alloc, header)?,
@@ -36,7 +37,8 @@ impl Recording {
         ensures history { IfOk result (λ run. run.history.items ≡ self.history.items) }
         ensures words { IfOk result (λ run. run.words.items ≡ words.items) }
         ensures verdict { (history : List Stamped) → HasRecorded self history → IfOk result
-            (λ run. run.verdict ≡ verdict self.judge.judge.kept.header [] (log_of history)) }
+            (λ run. run.verdict
+            ≡ verdict (rules_by self.judge.judge.kept.charter) [] (log_of history)) }
     {
         let verdict = self.judge.finish()?;
         Ok(Run {
@@ -48,9 +50,9 @@ impl Recording {
 }
 
 impl EventSink for Recording {
-    type Fixed = Header;
+    ghost Fixed = { Charter };
 
-    ghost fixed = { λ r. r.judge.judge.kept.header };
+    ghost fixed = { λ r. r.judge.judge.kept.charter };
 
     ghost count = { λ r. r.judge.count };
 

@@ -11,7 +11,7 @@ use vyrd_base::{
     Args, Did, Entry, Header, Kind, Method, Rule, Stamped, StartWord, Stop, Subject, Verdict,
 };
 use vyrd_judge::{AnyJudge, Judge, entry_of, judge_history, judge_log, log_of};
-use vyrd_spec::{BufferSpec, CacheSpec, MultisetSpec, Spec, TreeSpec};
+use vyrd_spec::{BufferSpec, BuiltIn, CacheSpec, MultisetSpec, TreeSpec};
 
 const INSERT: Kind = Call(Method::MsInsert, Args { a: 5, b: 0, c: 0 });
 
@@ -104,7 +104,7 @@ fn agree_on(alloc: Global, entries: &[Entry]) -> Result<bool, AllocError> {
 
 /// Whether the judge answers at each entry, and at the end, what the plain judge knows of the
 /// entries up to there.
-fn judges_agree<S: Spec>(
+fn judges_agree<S: BuiltIn>(
     alloc: Global,
     header: Header,
     entries: &[Entry],

@@ -3,7 +3,7 @@
 use std::test::Fail;
 use vyrd_base::{Args, Header, Method, Subject};
 use vyrd_observers::Watches;
-use vyrd_spec::{MultisetSpec, Spec};
+use vyrd_spec::{BuiltIn, MultisetSpec, Spec};
 
 const FIVE: Args = Args { a: 5, b: 0, c: 0 };
 
@@ -16,8 +16,8 @@ fn an_observer_has_the_answers_since_its_call(rt: HostRuntime) -> Result<(), Fai
     let mut watches = Watches::new(rt.alloc(), header)?;
     let absent = spec.answer(Method::MsLookup, FIVE);
     watches.begin(0, Method::MsLookup, FIVE, absent)?;
-    let touched = spec.touched(Method::MsInsert, FIVE);
     assert!(rt; spec.step(Method::MsInsert, FIVE, 1)?);
+    let touched = spec.touched(Method::MsInsert, FIVE);
     watches.see_all(&spec, touched)?;
     let present = spec.answer(Method::MsLookup, FIVE);
     watches.begin(1, Method::MsLookup, FIVE, present)?;

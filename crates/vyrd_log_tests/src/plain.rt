@@ -7,7 +7,7 @@ use std::test::Fail;
 use vyrd_base::Kind::{BlockCommit, BlockOpen, Call, Return, Write};
 use vyrd_base::{Args, Entry, Header, Kind, Method, Stop, Subject, Verdict};
 use vyrd_plain::judge_log;
-use vyrd_spec::{BufferSpec, CacheSpec, MultisetSpec, Spec, TreeSpec};
+use vyrd_spec::{BufferSpec, BuiltIn, CacheSpec, MultisetSpec, TreeSpec};
 
 /// The entries of a log: each a caller and what it does.
 macro_rules! logged {
@@ -30,7 +30,7 @@ fn each_structure_is_judged(rt: HostRuntime) -> Result<(), Fail> {
 }
 
 /// The verdict about a log of this structure, of size 1 and with two callers.
-fn judged<S: Spec>(
+fn judged<S: BuiltIn>(
     alloc: Global,
     subject: Subject,
     entries: &[Entry],

@@ -2,6 +2,7 @@
 //! and words to start from.
 
 ghost use Rattle.std.specs.Prelude.{◌≡◌, ◌<◌, ◌≤◌, ◌+◌, ◌^◌, true, false, All, IfOk, IfSome, []};
+ghost use Rattle.vyrd_base.specs.Rules.{rules_by};
 ghost use Rattle.vyrd_base.specs.Specification.{next_state};
 ghost use Rattle.vyrd_base.specs.Subjects.{subject_of, is_observer, are_args};
 
@@ -9,7 +10,7 @@ use Asked::{Amount, Answer, Step};
 use std::alloc::{AllocError, Global};
 use std::process::Abort;
 use vyrd_base::{Args, Header, Method, Subject, View};
-use vyrd_spec::{BufferSpec, CacheSpec, MultisetSpec, Spec, TreeSpec};
+use vyrd_spec::{BufferSpec, BuiltIn, CacheSpec, MultisetSpec, Spec, TreeSpec};
 
 /// What is asked of a state, a call with its arguments first, and what the state answers.
 enum Asked {
@@ -226,7 +227,7 @@ const BUFFERS: &[Case] = &[
 ];
 
 /// Asserts each of these cases.
-fn assert_cases<S: Spec>(rt: &impl Abort, alloc: Global, subject: Subject, cases: &[Case])
+fn assert_cases<S: BuiltIn>(rt: &impl Abort, alloc: Global, subject: Subject, cases: &[Case])
     requires { subject ≡ S.subject }
 {
     for (row, case) in cases.iter().enumerate() {
@@ -235,7 +236,7 @@ fn assert_cases<S: Spec>(rt: &impl Abort, alloc: Global, subject: Subject, cases
 }
 
 /// Whether the state answers what the case says, and shows its pairs then.
-fn holds<S: Spec>(alloc: Global, subject: Subject, case: &Case) -> bool
+fn holds<S: BuiltIn>(alloc: Global, subject: Subject, case: &Case) -> bool
     requires { subject ≡ S.subject }
 {
     let Some(header) = Header::new(1, subject, case.size, 1) else {
@@ -250,9 +251,9 @@ fn holds<S: Spec>(alloc: Global, subject: Subject, case: &Case) -> bool
 }
 
 /// The state for which the words stand, or the empty state if there are no words.
-fn begun<S: Spec>(alloc: Global, header: Header, words: &[u64]) -> Option<S>
+fn begun<S: BuiltIn>(alloc: Global, header: Header, words: &[u64]) -> Option<S>
     requires { header.subject ≡ S.subject }
-    ensures header { IfSome result (λ spec. S.header_of spec ≡ header) }
+    ensures header { IfSome result (λ spec. (rules_by (S.charter spec)).header ≡ header) }
     ensures made { IfSome result (λ spec. S.made spec ≡ 0) }
 {
     if words.is_empty() {
@@ -263,9 +264,9 @@ fn begun<S: Spec>(alloc: Global, header: Header, words: &[u64]) -> Option<S>
 }
 
 /// The state for which the words stand, if they stand for one.
-fn started<S: Spec>(alloc: Global, header: Header, words: &[u64]) -> Option<S>
+fn started<S: BuiltIn>(alloc: Global, header: Header, words: &[u64]) -> Option<S>
     requires { header.subject ≡ S.subject }
-    ensures header { IfSome result (λ spec. S.header_of spec ≡ header) }
+    ensures header { IfSome result (λ spec. (rules_by (S.charter spec)).header ≡ header) }
     ensures made { IfSome result (λ spec. S.made spec ≡ 0) }
 {
     if words.len() != header.plain_words() as usize || !are_words(words) {
@@ -289,7 +290,7 @@ fn are_words(words: &[u64]) -> bool
 /// Whether the state, after no step, answers all of this as it says. It makes the steps.
 fn all_answered<S: Spec>(spec: &mut S, header: Header, asked: &[Asked]) -> bool
     requires subject { header.subject ≡ S.subject }
-    requires header { S.header_of spec.old ≡ header }
+    requires header { (rules_by (S.charter spec.old)).header ≡ header }
     requires made { S.made spec.old ≡ 0 }
 {
     for one in asked {
@@ -303,9 +304,9 @@ fn all_answered<S: Spec>(spec: &mut S, header: Header, asked: &[Asked]) -> bool
 /// Whether the state answers this as it says. If it is a step, it makes it.
 fn is_answered<S: Spec>(spec: &mut S, header: Header, asked: &Asked) -> bool
     requires subject { header.subject ≡ S.subject }
-    requires header { S.header_of spec.old ≡ header }
+    requires header { (rules_by (S.charter spec.old)).header ≡ header }
     requires few { S.made spec.old < 2 ^ 62 }
-    ensures header { S.header_of spec.new ≡ header }
+    ensures header { (rules_by (S.charter spec.new)).header ≡ header }
     ensures counted { S.made spec.new ≤ S.made spec.old + 1 }
 {
     match *asked {
@@ -328,9 +329,9 @@ fn step<S: Spec>(
     reply: u64,
 ) -> Option<bool>
     requires subject { header.subject ≡ S.subject }
-    requires header { S.header_of spec.old ≡ header }
+    requires header { (rules_by (S.charter spec.old)).header ≡ header }
     requires few { S.made spec.old < 2 ^ 62 }
-    ensures header { S.header_of spec.new ≡ header }
+    ensures header { (rules_by (S.charter spec.new)).header ≡ header }
     ensures counted { S.made spec.new ≤ S.made spec.old + 1 }
 {
     if !header.fits(method, args) || method.is_observer() {
@@ -342,7 +343,7 @@ fn step<S: Spec>(
 /// The answer, if this is an observer's call.
 fn answered<S: Spec>(spec: &S, header: Header, method: Method, args: Args) -> Option<u64>
     requires subject { header.subject ≡ S.subject }
-    requires header { S.header_of spec.now ≡ header }
+    requires header { (rules_by (S.charter spec.now)).header ≡ header }
 {
     if !header.fits(method, args) || !method.is_observer() {
         return None;
@@ -359,7 +360,7 @@ fn shows<S: Spec>(alloc: Global, spec: &S, pairs: &[(u64, u64)]) -> bool {
 }
 
 /// What the first call with its reply leaves, by the trait alone.
-fn first_step<S: Spec>(
+fn first_step<S: BuiltIn>(
     alloc: Global,
     header: Header,
     method: Method,
@@ -390,7 +391,7 @@ fn absent_key_is_not_deleted(rt: HostRuntime) {
 
 /// The keys that a call may change, as the empty state says: the first, the second, and whether
 /// this key is one of them.
-fn touched<S: Spec>(
+fn touched<S: BuiltIn>(
     alloc: Global,
     header: Header,
     method: Method,
@@ -462,7 +463,7 @@ fn other_words_are_no_start(rt: HostRuntime) {
 }
 
 /// Asserts of each of these words that they stand for no state.
-fn assert_no_starts<S: Spec>(rt: &impl Abort, alloc: Global, subject: Subject, words: &[NoStart])
+fn assert_no_starts<S: BuiltIn>(rt: &impl Abort, alloc: Global, subject: Subject, words: &[NoStart])
     requires { subject ≡ S.subject }
 {
     for (row, (size, words)) in words.iter().enumerate() {
@@ -474,7 +475,7 @@ fn assert_no_starts<S: Spec>(rt: &impl Abort, alloc: Global, subject: Subject, w
 }
 
 /// Whether the words stand for a state, if they are words of the subject of this size.
-fn is_start<S: Spec>(alloc: Global, subject: Subject, size: u32, words: &[u64]) -> Option<bool>
+fn is_start<S: BuiltIn>(alloc: Global, subject: Subject, size: u32, words: &[u64]) -> Option<bool>
     requires { subject ≡ S.subject }
 {
     let header = Header::new(1, subject, size, 1)?;

@@ -8,7 +8,7 @@ ghost use Rattle.vyrd_log_tests.specs.Calls.{insert_call};
 use std::alloc::AllocError;
 use std::test::Fail;
 use vyrd_base::{Args, Entry, Header, Kind, Method, StartWord, Subject};
-use vyrd_spec::{MultisetSpec, Spec};
+use vyrd_spec::{BuiltIn, MultisetSpec, Spec};
 use vyrd_words::{Words, words_at_start, words_of};
 
 const FIVE: Args = Args { a: 5, b: 0, c: 0 };
@@ -29,8 +29,8 @@ fn a_commit_shows_what_was_written_before_it(rt: HostRuntime) -> Result<(), Fail
     let mut followed = Words::new(rt.alloc(), header, &words, Vec::new(rt.alloc()), &state)?;
     follow_a_call(&mut followed, &[])?;
     follow_its_commit(&mut followed, &[])?;
-    let touched = spec.touched(Method::MsInsert, FIVE);
     assert!(rt; spec.step(Method::MsInsert, FIVE, 1)?);
+    let touched = spec.touched(Method::MsInsert, FIVE);
     assert_eq!(rt; followed.difference(&spec, touched)?, Some(5));
     Ok(())
 }

@@ -35,6 +35,7 @@ use Rattle.vyrd_memory.proofs.Situations.{act_of_event, situation_after, KeepsTo
 use Rattle.vyrd_memory.proofs.LegalEvents.{AreLegal, legal_events, caller_low, are_answers}
 use Rattle.vyrd_memory.proofs.Agreements.{Agrees, agrees, keeps_before}
 use Rattle.vyrd_memory.proofs.KeptRules.{OnlyRaced, none_broken, isnt_open, write_kept, mark_kept}
+use Rattle.vyrd_base.specs.Rules.{rules_of}
 
 -- each entry breaks no other rule after the entries before it, the newest entry first
 abbrev pub AreOnlyRaced : Header → List Entry → Type 0
@@ -103,19 +104,19 @@ none_open h earlier keep rest = none_any (λ c. is_some (open_call c (filter_map
 
 -- a fault is no broken rule
 fault_isnt : (h : Header) (states : List Amounts) (ps : List (Place Entry)) (line : ℕ) (rule : Rule)
-    → first_answer (violation_at h [] states) ps ≡ Some (Malformed line rule) → ⊥
+    → first_answer (violation_at (rules_of h) [] states) ps ≡ Some (Malformed line rule) → ⊥
 fault_isnt h states [] line rule e = cc
-fault_isnt h states (place ∷ ps) line rule e = by_fault (fault_at h [] states place) (fault_isnt h states ps line rule) e
+fault_isnt h states (place ∷ ps) line rule e = by_fault (fault_at (rules_of h) [] states place) (fault_isnt h states ps line rule) e
   where
-    by_fault : (o : Option Why) → (first_answer (violation_at h [] states) ps ≡ Some (Malformed line rule) → ⊥)
-        → option_or (option_map (Violation (line_of [] (position_of place))) o) (first_answer (violation_at h [] states) ps)
+    by_fault : (o : Option Why) → (first_answer (violation_at (rules_of h) [] states) ps ≡ Some (Malformed line rule) → ⊥)
+        → option_or (option_map (Violation (line_of [] (position_of place))) o) (first_answer (violation_at (rules_of h) [] states) ps)
         ≡ Some (Malformed line rule) → ⊥
     by_fault None later e = later e
     by_fault (Some why) later e = cc
 
-first_fault_isnt : (h : Header) (entries : List Entry) (line : ℕ) (rule : Rule) → first_fault h [] entries ≡ Some (Malformed line rule) → ⊥
+first_fault_isnt : (h : Header) (entries : List Entry) (line : ℕ) (rule : Rule) → first_fault (rules_of h) [] entries ≡ Some (Malformed line rule) → ⊥
 unfolding first_fault
-first_fault_isnt h entries line rule e = fault_isnt h (states_along h [] entries) (places entries) line rule e
+first_fault_isnt h entries line rule e = fault_isnt h (states_along (rules_of h) [] entries) (places entries) line rule e
 
 -- a verdict that names a rule names a broken one
 named : (fault : Option Verdict) (broken : Option Rule) (open_ : Bool) (at end : ℕ) (good : Verdict) (line : ℕ) (rule : Rule)
@@ -132,21 +133,21 @@ unfolding accepted
 accepted_isnt entries line rule e = cc
 
 -- without starting words a verdict has these parts
-parts : (h : Header) (entries : List Entry) → verdict h [] entries ≡ unwrap_or
-    (option_or (option_or (first_fault h [] (front h entries)) (shape_verdict h [] entries))
+parts : (h : Header) (entries : List Entry) → verdict (rules_of h) [] entries ≡ unwrap_or
+    (option_or (option_or (first_fault (rules_of h) [] (front h entries)) (shape_verdict h [] entries))
     (then_some (is_call_open h (newest_first entries)) (Malformed (line_of [] (length entries)) CallOpen))) (accepted entries)
 unfolding verdict
 parts h entries =
-    ap (λ o. unwrap_or (option_or o (end_verdict h [] entries)) (accepted entries)) (verdict_so_far-none h entries)
-    ∙ ap (λ o. unwrap_or (option_or (option_or (first_fault h [] (front h entries)) (shape_verdict h [] entries)) o) (accepted entries))
+    ap (λ o. unwrap_or (option_or o (end_verdict (rules_of h) [] entries)) (accepted entries)) (verdict_so_far-none h entries)
+    ∙ ap (λ o. unwrap_or (option_or (option_or (first_fault (rules_of h) [] (front h entries)) (shape_verdict h [] entries)) o) (accepted entries))
     (end_verdict-none h entries)
 
 named_is_broken : (h : Header) (entries : List Entry) (line : ℕ) (rule : Rule) → is_call_open h (newest_first entries) ≡ false
-    → verdict h [] entries ≡ Malformed line rule
+    → verdict (rules_of h) [] entries ≡ Malformed line rule
     → first_break h entries ≡ Some rule
 unfolding verdict shape_verdict
 named_is_broken h entries line rule closed e =
-    named (first_fault h [] (front h entries)) (first_break h entries) (is_call_open h (newest_first entries))
+    named (first_fault (rules_of h) [] (front h entries)) (first_break h entries) (is_call_open h (newest_first entries))
     (line_of [] (length (front h entries))) (line_of [] (length entries))
     (accepted entries) line rule (first_fault_isnt h (front h entries) line rule) closed (accepted_isnt entries line rule)
     (sym (parts h entries) ∙ e)
@@ -184,7 +185,7 @@ none_is_open h scripts history sound is_legal_ played =
 
 -- and a broken rule that the verdict names is that of raced blocks
 pub only_races : (h : Header) (scripts : List Script) (history : List Stamped) → AreSoundScripts h scripts → is_legal (cells_of h) history ≡ true
-    → PlayToTheEnd scripts history → (line : ℕ) (rule : Rule) → verdict h [] (log_of history) ≡ Malformed line rule → rule ≡ BlockRaced
+    → PlayToTheEnd scripts history → (line : ℕ) (rule : Rule) → verdict (rules_of h) [] (log_of history) ≡ Malformed line rule → rule ≡ BlockRaced
 only_races h scripts history sound is_legal_ played line rule e =
     (only_races_break h scripts history sound is_legal_ played).raced rule
     (named_is_broken h (log_of history) line rule (none_is_open h scripts history sound is_legal_ played) e)

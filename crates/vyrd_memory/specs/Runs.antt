@@ -18,6 +18,7 @@ use Rattle.vyrd_memory.specs.declared.op.Turn.{Turn}
 use Rattle.vyrd_memory.specs.Scripts.{Script, PlaysToTheEnd}
 use Rattle.vyrd_memory.specs.Soundness.{IsSound, at_rest}
 use Rattle.vyrd_memory.specs.Turns.{part_of, script_of, RunsTo, GetsStuck}
+use Rattle.vyrd_base.specs.Rules.{rules_of}
 
 -- there is a script for each caller of the header, and each is sound for a caller at rest
 pub record AreSoundScripts (h : Header) (scripts : List Script) : Type 0 where
@@ -51,7 +52,7 @@ abbrev pub OnlyRacesAreMalformed : Type 0
 OnlyRacesAreMalformed =
     (h : Header) (scripts : List Script) (history : List Stamped) → AreSoundScripts h scripts
     → is_legal (cells_of h) history ≡ true → PlayToTheEnd scripts history → (line : ℕ) (rule : Rule)
-    → verdict h [] (log_of history) ≡ Malformed line rule → rule ≡ BlockRaced
+    → verdict (rules_of h) [] (log_of history) ≡ Malformed line rule → rule ≡ BlockRaced
 
 -- whether an entry, if it is a call, is one of the header's subject with arguments in range
 abbrev pub is_call_of : Header → Kind → Bool

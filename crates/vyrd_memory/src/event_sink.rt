@@ -1,7 +1,7 @@
 //! What takes the events of a run.
 
 ghost use Rattle.std.specs.Prelude.{◌≡◌, ◌+◌, ◌<◌, ◌^◌, ◌∷◌, ◌++◌, [], ℕ, List, length, vec_len};
-ghost use Rattle.std.specs.Prelude.{OnOk};
+ghost use Rattle.std.specs.Prelude.{OnOk, ⊤};
 ghost use Rattle.vyrd_base.specs.declared.history.Stamped.{Stamped};
 
 use std::alloc::AllocError;
@@ -10,10 +10,9 @@ use vyrd_base::Stamped;
 /// What takes the events of a run one by one, in their order, and keeps of them what it needs: a
 /// vector keeps them all, and a judge none.
 pub trait EventSink {
-    /// What of it no event changes.
-    type Fixed;
-
     // What of it no event changes.
+    ghost Fixed: { Type 0 };
+
     ghost fixed: { Self → Self.Fixed };
 
     // How many events it has taken.
@@ -42,7 +41,7 @@ pub trait EventSink {
 }
 
 impl EventSink for Vec<Stamped> {
-    type Fixed = ();
+    ghost Fixed = { ⊤ };
 
     ghost fixed = { λ v. tt };
 

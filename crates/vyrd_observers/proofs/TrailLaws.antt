@@ -10,13 +10,9 @@ use Rattle.std.proofs.Math.Seq.{drop-length}
 use Rattle.vyrd_base.specs.declared.header.Header.{Header}
 use Rattle.vyrd_base.specs.declared.subject.Method.{Method}
 use Rattle.vyrd_base.specs.declared.subject.Args.{Args}
-use Rattle.vyrd_base.specs.Amounts.{Amounts}
 use Rattle.vyrd_base.specs.Subjects.{is_observer}
-use Rattle.vyrd_base.specs.Specification.{answer_in}
 use Rattle.vyrd_base.proofs.BlockLaws.{by_same}
 use Rattle.vyrd_base.proofs.TestLaws.{same_number, same_of, apart_of}
-use Rattle.vyrd_spec.specs.declared.touched.Touched.{Touched}
-use Rattle.vyrd_spec.specs.Touching.{is_touched}
 use Rattle.vyrd_observers.specs.declared.watch.Watch.{Watch}
 use Rattle.vyrd_base.specs.Entries.{has_method}
 use Rattle.vyrd_observers.specs.Trails.{Asked, with_answer, after_state, seen_from, seen_by, IsOn, AreOn, AreAsking, KeepsAsked, IsTrailOf, IsUsed, moved}
@@ -126,11 +122,11 @@ length-pushed : {A : Type 0} (xs : List A) (y : A) → length (xs ++ y ∷ []) �
 length-pushed [] y = refl
 length-pushed (x ∷ xs) y = let rest : length (xs ++ y ∷ []) ≡ length xs + 1 = length-pushed xs y in omega (arith, rest)
 
-question_after : (touched : Touched) (state : Amounts) (t : Asked) → SameQuestion t (after_state touched state t)
-question_after touched state t = by_touched (t.is_asked && is_touched touched t.args.a)
+question_after : (affects : Method → Args → Bool) (told : Method → Args → ℕ) (t : Asked) → SameQuestion t (after_state affects told t)
+question_after affects told t = by_touched (t.is_asked && affects t.method t.args)
   where
     answer : ℕ
-    answer = answer_in state t.method t.args
+    answer = told t.method t.args
 
     by_answer : (b : Bool) → SameQuestion t (cond b t (record t { latest = answer; others = t.others ++ t.latest ∷ [] }))
     by_answer true = question_stays t
@@ -141,21 +137,21 @@ question_after touched state t = by_touched (t.is_asked && is_touched touched t.
     by_touched false = question_stays t
 
 -- some trails have the next state's answer
-pub asking_after : (h : Header) (touched : Touched) (state : Amounts) (n : ℕ) (trails : List Asked) → AreAsking h trails
-    → AreAsking h (changed_below (after_state touched state) n trails)
-asking_after h touched state n trails all = all_changed (λ u. u.is_asked ≡ true → (has_method h u.method u.args ≡ true) × (is_observer u.method ≡ true))
-    (after_state touched state)
-    (λ t was is_asked. let same = question_after touched state t in let own = was (sym same.is_asked ∙ is_asked) in (
-      ap (λ m. has_method h m (after_state touched state t).args) same.method ∙ ap (has_method h t.method) same.args ∙ own.0,
+pub asking_after : (h : Header) (affects : Method → Args → Bool) (told : Method → Args → ℕ) (n : ℕ) (trails : List Asked) → AreAsking h trails
+    → AreAsking h (changed_below (after_state affects told) n trails)
+asking_after h affects told n trails all = all_changed (λ u. u.is_asked ≡ true → (has_method h u.method u.args ≡ true) × (is_observer u.method ≡ true))
+    (after_state affects told)
+    (λ t was is_asked. let same = question_after affects told t in let own = was (sym same.is_asked ∙ is_asked) in (
+      ap (λ m. has_method h m (after_state affects told t).args) same.method ∙ ap (has_method h t.method) same.args ∙ own.0,
       ap is_observer same.method ∙ own.1,
     ))
     n trails all
 
-pub on_after : (touched : Touched) (state : Amounts) (n : ℕ) (trails : List Asked) (watches : List (Option Watch)) → AreOn trails watches
-    → AreOn (changed_below (after_state touched state) n trails) watches
-on_after touched state n trails watches on = λ c w here.
+pub on_after : (affects : Method → Args → Bool) (told : Method → Args → ℕ) (n : ℕ) (trails : List Asked) (watches : List (Option Watch)) → AreOn trails watches
+    → AreOn (changed_below (after_state affects told) n trails) watches
+on_after affects told n trails watches on = λ c w here.
     let was = on c w here in
-    let now = changed_there SameQuestion (after_state touched state) question_stays (question_after touched state) n trails w.trail was.asked was.there in
+    let now = changed_there SameQuestion (after_state affects told) question_stays (question_after affects told) n trails w.trail was.asked was.there in
     record {
       asked = now.0;
       there = now.1;
@@ -349,29 +345,29 @@ sees_answer answer since t within = by_answer (answer == t.latest) refl
           ∙ or_last (answer == reply) (list_any (λ x. x == reply) (drop since t.others)) (t.latest == reply);
     }
 
-sees_state : (touched : Touched) (state : Amounts) (since : ℕ) (t : Asked) → t.is_asked ≡ true → since ≤ length t.others
-    → (is_touched touched t.args.a ≡ false → has_answer (t.latest ∷ drop since t.others) (answer_in state t.method t.args) ≡ true)
-    → SeesState state (seen_from since (Some t)) (seen_from since (Some (after_state touched state t)))
-sees_state touched state since t is_asked within current =
-    subst (λ b. SeesState state (seen_from since (Some t)) (seen_from since (Some (cond (b && is_touched touched t.args.a) (with_answer answer t) t)))) (sym is_asked)
-    (by_touched (is_touched touched t.args.a) refl)
+sees_state : (affects : Method → Args → Bool) (told : Method → Args → ℕ) (since : ℕ) (t : Asked) → t.is_asked ≡ true → since ≤ length t.others
+    → (affects t.method t.args ≡ false → has_answer (t.latest ∷ drop since t.others) (told t.method t.args) ≡ true)
+    → SeesState told (seen_from since (Some t)) (seen_from since (Some (after_state affects told t)))
+sees_state affects told since t is_asked within current =
+    subst (λ b. SeesState told (seen_from since (Some t)) (seen_from since (Some (cond (b && affects t.method t.args) (with_answer answer t) t)))) (sym is_asked)
+    (by_touched (affects t.method t.args) refl)
   where
     answer : ℕ
-    answer = answer_in state t.method t.args
+    answer = told t.method t.args
 
-    by_touched : (b : Bool) → is_touched touched t.args.a ≡ b
-        → SeesState state (seen_from since (Some t)) (seen_from since (Some (cond b (with_answer answer t) t)))
+    by_touched : (b : Bool) → affects t.method t.args ≡ b
+        → SeesState told (seen_from since (Some t)) (seen_from since (Some (cond b (with_answer answer t) t)))
     by_touched true e = let sees = sees_answer answer since t within in
         record { is_open = sees.is_open; method = sees.method; args = sees.args; answers = λ is_open. sees }
     by_touched false e = let sees = knows_already answer (seen_from since (Some t)) (current e) in
         record { is_open = refl; method = refl; args = refl; answers = λ is_open. sees }
 
 -- all callers see the state that all trails have the answer of
-pub callers_see : (touched : Touched) (state : Amounts) (trails : List Asked) (watches : List (Option Watch)) → AreOn trails watches
+pub callers_see : (affects : Method → Args → Bool) (told : Method → Args → ℕ) (trails : List Asked) (watches : List (Option Watch)) → AreOn trails watches
     → ((c : ℕ) (seen : Seen) → slice_get (map (seen_by trails) watches) c ≡ Some seen → seen.is_open ≡ true
-    → is_touched touched seen.args.a ≡ false → has_answer seen.answers (answer_in state seen.method seen.args) ≡ true)
-    → SeenBelow state (length watches) (map (seen_by trails) watches) (map (seen_by (map (after_state touched state) trails)) watches)
-callers_see touched state trails watches on current = record {
+    → affects seen.method seen.args ≡ false → has_answer seen.answers (told seen.method seen.args) ≡ true)
+    → SeenBelow told (length watches) (map (seen_by trails) watches) (map (seen_by (map (after_state affects told) trails)) watches)
+callers_see affects told trails watches on current = record {
   below = λ k seen low here. by_place k seen (slice_get watches k) refl (sym (slice_get-map (seen_by trails) watches k) ∙ here);
   above = λ k high.
       slice_get_past (map (seen_by now) watches) k (omega (arith, high, length-map watches (seen_by now)))
@@ -379,30 +375,30 @@ callers_see touched state trails watches on current = record {
 }
   where
     now : List Asked
-    now = map (after_state touched state) trails
+    now = map (after_state affects told) trails
 
-    closed : SeesState state unwatched unwatched
+    closed : SeesState told unwatched unwatched
     closed = record { is_open = refl; method = refl; args = refl; answers = λ is_open. absurd (false_true refl is_open) }
 
     by_place : (k : ℕ) (seen : Seen) (o : Option (Option Watch)) → slice_get watches k ≡ o → option_map (seen_by trails) o ≡ Some seen
-        → (next : Seen) × (slice_get (map (seen_by now) watches) k ≡ Some next) × SeesState state seen next
+        → (next : Seen) × (slice_get (map (seen_by now) watches) k ≡ Some next) × SeesState told seen next
     by_place k seen None place is = absurd (none-some _ is)
     by_place k seen (Some None) place is = (
       unwatched,
       slice_get-map (seen_by now) watches k ∙ ap (option_map (seen_by now)) place,
-      subst (λ s. SeesState state s unwatched) (same_Some _ _ is) closed,
+      subst (λ s. SeesState told s unwatched) (same_Some _ _ is) closed,
     )
     by_place k seen (Some (Some w)) place is =
         let was = on k w place in
-        let there : slice_get now w.trail ≡ Some (after_state touched state was.asked) =
-        slice_get-map (after_state touched state) trails w.trail ∙ ap (option_map (after_state touched state)) was.there in
+        let there : slice_get now w.trail ≡ Some (after_state affects told was.asked) =
+        slice_get-map (after_state affects told) trails w.trail ∙ ap (option_map (after_state affects told)) was.there in
         let here : slice_get (map (seen_by trails) watches) k ≡ Some (seen_from w.since (Some was.asked)) =
         slice_get-map (seen_by trails) watches k ∙ ap (option_map (seen_by trails)) place ∙ ap (λ o. Some (seen_from w.since o)) was.there in (
-          seen_from w.since (Some (after_state touched state was.asked)),
+          seen_from w.since (Some (after_state affects told was.asked)),
           slice_get-map (seen_by now) watches k ∙ ap (option_map (seen_by now)) place ∙ ap (λ o. Some (seen_from w.since o)) there,
-          subst (λ s. SeesState state s (seen_from w.since (Some (after_state touched state was.asked))))
+          subst (λ s. SeesState told s (seen_from w.since (Some (after_state affects told was.asked))))
               (ap (seen_from w.since) (sym was.there) ∙ same_Some _ _ is)
-              (sees_state touched state w.since was.asked was.is_asked was.within
+              (sees_state affects told w.since was.asked was.is_asked was.within
               (λ untouched. current k (seen_from w.since (Some was.asked)) here refl untouched)),
         )
 

@@ -5,10 +5,6 @@ use Rattle.vyrd_base.specs.declared.header.Header.{Header}
 use Rattle.vyrd_base.specs.declared.subject.Method.{Method}
 use Rattle.vyrd_base.specs.declared.subject.Args.{Args}
 use Rattle.vyrd_base.specs.Subjects.{is_observer}
-use Rattle.vyrd_base.specs.Amounts.{Amounts}
-use Rattle.vyrd_base.specs.Specification.{answer_in}
-use Rattle.vyrd_spec.specs.declared.touched.Touched.{Touched}
-use Rattle.vyrd_spec.specs.Touching.{is_touched}
 use Rattle.vyrd_observers.specs.declared.watch.Watch.{Watch}
 use Rattle.vyrd_base.specs.Entries.{has_method}
 use Rattle.vyrd_observers.specs.Watching.{Seen, unwatched}
@@ -27,10 +23,11 @@ abbrev pub with_answer : ℕ → Asked → Asked
 with_answer answer t =
     cond (answer == t.latest) t (record t { latest = answer; others = t.others ++ t.latest ∷ [] })
 
--- the same, after a state that differs from the one before in the touched keys alone
-abbrev pub after_state : Touched → Amounts → Asked → Asked
-after_state touched state t = cond (t.is_asked && is_touched touched t.args.a)
-    (with_answer (answer_in state t.method t.args) t) t
+-- the same, after a state that answers what it is told to, and where answers that aren't affected
+-- are those of the state before
+abbrev pub after_state : (Method → Args → Bool) → (Method → Args → ℕ) → Asked → Asked
+after_state affects told t = cond (t.is_asked && affects t.method t.args)
+    (with_answer (told t.method t.args) t) t
 
 -- what an observer has seen for which the answers count from this one on
 abbrev pub seen_from : ℕ → Option Asked → Seen

@@ -5,8 +5,6 @@ use Rattle.vyrd_base.specs.declared.header.Header.{Header}
 use Rattle.vyrd_base.specs.declared.subject.Method.{Method}
 use Rattle.vyrd_base.specs.declared.subject.Method.TheVariants.{MsLookup}
 use Rattle.vyrd_base.specs.declared.subject.Args.{Args}
-use Rattle.vyrd_base.specs.Amounts.{Amounts}
-use Rattle.vyrd_base.specs.Specification.{answer_in}
 
 -- whether an observer is open, what was called, and what the states since its call answer
 pub record Seen : Type 0 where
@@ -44,20 +42,20 @@ pub record SeesAnswer (answer : ℕ) (old new : Seen) : Type 0 where
       → has_answer new.answers reply ≡ (has_answer old.answers reply || answer == reply)
 
 -- the same watch, which has seen this state too if it is open
-pub record SeesState (state : Amounts) (old new : Seen) : Type 0 where
+pub record SeesState (told : Method → Args → ℕ) (old new : Seen) : Type 0 where
   pub is_open : new.is_open ≡ old.is_open
   pub method : new.method ≡ old.method
   pub args : new.args ≡ old.args
-  pub answers : old.is_open ≡ true → SeesAnswer (answer_in state old.method old.args) old new
+  pub answers : old.is_open ≡ true → SeesAnswer (told old.method old.args) old new
 
 -- every open watch knows the state's answer
-abbrev pub AreCurrent : Amounts → List Seen → Type 0
-AreCurrent state watches =
+abbrev pub AreCurrent : (Method → Args → ℕ) → List Seen → Type 0
+AreCurrent told watches =
     (c : ℕ) (seen : Seen) → slice_get watches c ≡ Some seen → seen.is_open ≡ true
-    → has_answer seen.answers (answer_in state seen.method seen.args) ≡ true
+    → has_answer seen.answers (told seen.method seen.args) ≡ true
 
 -- each open watch has seen the state's answer too
-abbrev pub AllSee : Amounts → List Seen → List Seen → Type 0
-AllSee state old new = (c : ℕ) (seen : Seen) → slice_get old c ≡ Some seen → seen.is_open ≡ true
+abbrev pub AllSee : (Method → Args → ℕ) → List Seen → List Seen → Type 0
+AllSee told old new = (c : ℕ) (seen : Seen) → slice_get old c ≡ Some seen → seen.is_open ≡ true
     → (next : Seen) × (slice_get new c ≡ Some next)
-    × SeesAnswer (answer_in state seen.method seen.args) seen next
+    × SeesAnswer (told seen.method seen.args) seen next

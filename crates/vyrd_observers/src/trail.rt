@@ -3,14 +3,12 @@
 ghost use Rattle.std.specs.Prelude.{◌≡◌, ◌≤◌, ◌<◌, ◌∷◌, ◌==◌, ◌&&◌, [], false, true, length, drop};
 ghost use Rattle.std.specs.Prelude.{OnOk, OnErr};
 ghost use Rattle.std.specs.List.{list_any};
-ghost use Rattle.vyrd_spec.specs.Touching.{is_touched};
 ghost use Rattle.vyrd_observers.specs.Trails.{IsTrailOf, with_answer};
 ghost use Rattle.vyrd_observers.specs.Watching.{has_answer};
 
 use std::alloc::{AllocError, Global};
 use std::marker::Model;
 use vyrd_base::{Args, Method};
-use vyrd_spec::Touched;
 
 /// A question that open observers ask, and what the states since the first of their calls answer.
 /// If none asks it, it is free to be another question.
@@ -98,13 +96,6 @@ impl Trail {
         ensures { result ≡ length self.now.others }
     {
         self.others.len()
-    }
-
-    /// Whether it is asked, and its key is touched.
-    pub fn is_touched(&self, touched: Touched) -> bool
-        ensures { result ≡ (self.now.is_asked && is_touched touched self.now.args.a) }
-    {
-        self.is_asked && touched.has(u64::from(self.args.a))
     }
 
     /// What is called.

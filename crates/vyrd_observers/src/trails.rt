@@ -2,6 +2,7 @@
 
 ghost use Rattle.std.specs.Prelude.{◌≡◌, ◌+◌, ◌<◌, ◌≤◌, ℕ, true, false, List, Option, Some, map};
 ghost use Rattle.std.specs.Prelude.{slice_get, length, IfOk, OnOk, OnErr, IsOk, IfSome, IsSome};
+ghost use Rattle.vyrd_base.specs.Rules.{rules_by};
 ghost use Rattle.vyrd_base.specs.declared.header.Header.{Header};
 ghost use Rattle.vyrd_base.specs.Subjects.{is_observer};
 ghost use Rattle.vyrd_observers.specs.declared.watch.Watch.{Watch};
@@ -101,13 +102,16 @@ pub(crate) fn ask(
 /// the one before in the touched keys alone.
 fn see<S: Spec>(trail: &mut Trail, spec: &S, touched: Touched) -> Result<(), AllocError>
     requires allowed { trail.old.is_asked ≡ true
-        → has_method (S.header_of spec.now) trail.old.method trail.old.args ≡ true }
+        → has_method (rules_by (S.charter spec.now)).header trail.old.method trail.old.args ≡ true }
     requires observer { trail.old.is_asked ≡ true → is_observer trail.old.method ≡ true }
-    requires subject { (S.header_of spec.now).subject ≡ S.subject }
-    ensures saw { OnOk result (trail.new ≡ after_state touched (S.state spec.now) trail.old) }
+    requires subject { (rules_by (S.charter spec.now)).header.subject ≡ S.subject }
+    ensures saw { OnOk result
+        (trail.new
+        ≡ after_state (S.affects touched)
+        ((rules_by (S.charter spec.now)).answer (S.state spec.now)) trail.old) }
     ensures unchanged { OnErr result (trail.new ≡ trail.old) }
 {
-    if trail.is_touched(touched) {
+    if trail.is_asked() && S::affects(touched, trail.method(), trail.args()) {
         trail.see(spec.answer(trail.method(), trail.args()))?;
     }
     Ok(())
@@ -119,12 +123,15 @@ pub(crate) fn see_all<S: Spec>(
     spec: &S,
     touched: Touched,
 ) -> Result<(), AllocError>
-    requires asking { AreAsking (S.header_of spec.now) trails.old.items }
-    requires subject { (S.header_of spec.now).subject ≡ S.subject }
+    requires asking { AreAsking (rules_by (S.charter spec.now)).header trails.old.items }
+    requires subject { (rules_by (S.charter spec.now)).header.subject ≡ S.subject }
     ensures len { length trails.new.items ≡ length trails.old.items }
     ensures saw { OnOk result
-        (trails.new.items ≡ map (after_state touched (S.state spec.now)) trails.old.items) }
-    ensures asking { AreAsking (S.header_of spec.now) trails.new.items }
+        (trails.new.items
+        ≡ map
+        (after_state (S.affects touched)
+        ((rules_by (S.charter spec.now)).answer (S.state spec.now))) trails.old.items) }
+    ensures asking { AreAsking (rules_by (S.charter spec.now)).header trails.new.items }
     ensures on { (watches : List (Option Watch)) → AreOn trails.old.items watches
         → AreOn trails.new.items watches }
 {

@@ -2,12 +2,11 @@
 
 ghost use Rattle.std.specs.Prelude.{◌≡◌, ◌+◌, ◌<◌, ◌≤◌, ◌∷◌, ℕ, List, [], true, false, Some, None};
 ghost use Rattle.std.specs.Prelude.{IfOk, OnOk, length, replicate, slice_get, slice_set};
-ghost use Rattle.vyrd_base.specs.Specification.{answer_in};
+ghost use Rattle.vyrd_base.specs.Rules.{rules_by};
 ghost use Rattle.vyrd_base.specs.Subjects.{is_observer};
 ghost use Rattle.vyrd_base.specs.Entries.{has_method};
 ghost use Rattle.vyrd_observers.specs.Watching.{AreCurrent, AllSee};
 ghost use Rattle.vyrd_observers.specs.Watching.{Seen, unwatched, has_answer};
-ghost use Rattle.vyrd_spec.specs.Touching.{is_touched};
 
 use crate::leaving::let_go;
 use crate::trail::Trail;
@@ -124,14 +123,20 @@ impl Watches {
     /// the touched keys alone. It takes time in proportion to the different questions that are
     /// asked.
     pub fn see_all<S: Spec>(&mut self, spec: &S, touched: Touched) -> Result<(), AllocError>
-        requires header { S.header_of spec.now ≡ self.old.header }
+        requires header { (rules_by (S.charter spec.now)).header ≡ self.old.header }
         requires subject { self.old.header.subject ≡ S.subject }
         requires current { (c : ℕ) (seen : Seen) → slice_get self.old.by_caller c ≡ Some seen
-            → seen.is_open ≡ true → is_touched touched seen.args.a ≡ false
-            → has_answer seen.answers (answer_in (S.state spec.now) seen.method seen.args) ≡ true }
+            → seen.is_open ≡ true → S.affects touched seen.method seen.args ≡ false
+            → has_answer seen.answers
+            ((rules_by (S.charter spec.now)).answer (S.state spec.now) seen.method seen.args)
+            ≡ true }
         ensures seen { OnOk result
-            (AllSee (S.state spec.now) self.old.by_caller self.new.by_caller) }
-        ensures current { OnOk result (AreCurrent (S.state spec.now) self.new.by_caller) }
+            (AllSee
+            ((rules_by (S.charter spec.now)).answer (S.state spec.now)) self.old.by_caller
+            self.new.by_caller) }
+        ensures current { OnOk result
+            (AreCurrent
+            ((rules_by (S.charter spec.now)).answer (S.state spec.now)) self.new.by_caller) }
         ensures header { self.new.header ≡ self.old.header }
         ensures len { length self.new.by_caller ≡ length self.old.by_caller }
         ensures trails { self.new.trails ≡ self.old.trails }

@@ -3,7 +3,6 @@ use Rattle.std.proofs.Common.{◌≡◌, ℕ, ◌||◌, List, [], ◌∷◌, ◌
 use Rattle.std.specs.List.{list_any}
 use Rattle.std.proofs.lemmas.List.Folds.{list_any-append}
 use Rattle.std.proofs.Math.Bool.{or-false}
-use Rattle.vyrd_base.specs.declared.header.Header.{Header}
 use Rattle.vyrd_base.specs.declared.log.Entry.{Entry}
 use Rattle.vyrd_base.specs.Callers.{open_call}
 use Rattle.vyrd_base.specs.Amounts.{Amounts}
@@ -11,32 +10,33 @@ use Rattle.vyrd_base.specs.Commits.{next_reply}
 use Rattle.vyrd_base.specs.Faults.{states_since_call}
 use Rattle.vyrd_plain.specs.declared.execution.Execution.{Execution}
 use Rattle.vyrd_plain.specs.Executions.{answers, seeing, IsOpen}
+use Rattle.vyrd_base.specs.Rules.{Rules}
 
 -- what is kept stays where the entry changes none of it
-pub execution_stays : (h : Header) (states : List Amounts) (c : ℕ) (e : Entry) (earlier later : List Entry) (o : Option Execution)
+pub execution_stays : (r : Rules) (states : List Amounts) (c : ℕ) (e : Entry) (earlier later : List Entry) (o : Option Execution)
     → open_call c (e ∷ earlier) ≡ open_call c earlier → next_reply c (e ∷ later) ≡ next_reply c later
     → states_since_call states c (e ∷ earlier) ≡ states_since_call states c earlier
-    → IsOpen h states c earlier (e ∷ later) o → IsOpen h states c (e ∷ earlier) later o
-execution_stays h states c e earlier later None called reply window is = called ∙ is
-execution_stays h states c e earlier later (Some x) called reply window is = record {
+    → IsOpen r states c earlier (e ∷ later) o → IsOpen r states c (e ∷ earlier) later o
+execution_stays r states c e earlier later None called reply window is = called ∙ is
+execution_stays r states c e earlier later (Some x) called reply window is = record {
   called = called ∙ is.called;
   allowed = is.allowed;
   reply = is.reply ∙ reply;
-  answered = is.answered ∙ ap (list_any (answers x)) (sym window);
+  answered = is.answered ∙ ap (list_any (answers r x)) (sym window);
 }
 
 -- what is kept sees the state after a commit
-pub execution_sees : (h : Header) (states : List Amounts) (c : ℕ) (e : Entry) (earlier later : List Entry) (next : Amounts) (o : Option Execution)
+pub execution_sees : (r : Rules) (states : List Amounts) (c : ℕ) (e : Entry) (earlier later : List Entry) (next : Amounts) (o : Option Execution)
     → open_call c (e ∷ earlier) ≡ open_call c earlier → next_reply c (e ∷ later) ≡ next_reply c later
     → states_since_call states c (e ∷ earlier) ≡ states_since_call states c earlier ++ next ∷ []
-    → IsOpen h states c earlier (e ∷ later) o → IsOpen h states c (e ∷ earlier) later (seeing next o)
-execution_sees h states c e earlier later next None called reply window is = called ∙ is
-execution_sees h states c e earlier later next (Some x) called reply window is = record {
+    → IsOpen r states c earlier (e ∷ later) o → IsOpen r states c (e ∷ earlier) later (seeing r next o)
+execution_sees r states c e earlier later next None called reply window is = called ∙ is
+execution_sees r states c e earlier later next (Some x) called reply window is = record {
   called = called ∙ is.called;
   allowed = is.allowed;
   reply = is.reply ∙ reply;
-  answered = ap (λ b. b || answers x next) is.answered
-      ∙ ap (λ b. list_any (answers x) (states_since_call states c earlier) || b) (sym (or-false (answers x next)))
-      ∙ sym (list_any-append (answers x) (states_since_call states c earlier) (next ∷ []))
-      ∙ ap (list_any (answers x)) (sym window);
+  answered = ap (λ b. b || answers r x next) is.answered
+      ∙ ap (λ b. list_any (answers r x) (states_since_call states c earlier) || b) (sym (or-false (answers r x next)))
+      ∙ sym (list_any-append (answers r x) (states_since_call states c earlier) (next ∷ []))
+      ∙ ap (list_any (answers r x)) (sym window);
 }

@@ -4,7 +4,6 @@ use Rattle.std.specs.Prelude.{◌==◌, option_map, option_and_then}
 use Rattle.std.specs.Option.{option_and}
 use Rattle.std.specs.List.{list_any}
 use Rattle.std.specs.Result.{IfOk}
-use Rattle.vyrd_base.specs.declared.header.Header.{Header}
 use Rattle.vyrd_base.specs.declared.subject.Method.{Method}
 use Rattle.vyrd_base.specs.declared.subject.Args.{Args}
 use Rattle.vyrd_base.specs.declared.log.Kind.{Kind}
@@ -17,9 +16,7 @@ use Rattle.vyrd_base.specs.Places.{Place, newest_first}
 use Rattle.vyrd_base.specs.Callers.{Called, open_call}
 use Rattle.vyrd_base.specs.Subjects.{is_observer}
 use Rattle.vyrd_base.specs.Amounts.{Amounts, first_difference}
-use Rattle.vyrd_base.specs.Specification.{next_state, answer_in}
 use Rattle.vyrd_base.specs.Words.{words_at}
-use Rattle.vyrd_base.specs.Views.{view_of_words}
 use Rattle.vyrd_base.specs.Commits.{returned, next_reply, committed_at, commits_after, once_returned, state_after}
 use Rattle.vyrd_base.specs.Faults.{step_fault, commit_fault, fault_of_commit, states_since_call, observer_fault, fault_at}
 use Rattle.vyrd_base.specs.Verdicts.{states_along}
@@ -37,6 +34,7 @@ use Rattle.vyrd_base.proofs.KeptLaws.{commit_kept, block_commit_runs}
 use Rattle.vyrd_plain.proofs.StepLaws.{IsAt, Leads, call_allowed, called_is, leads_for}
 use Rattle.std.proofs.lemmas.Result.{IfOk-weaker}
 use Rattle.vyrd_plain.proofs.TrackingLaws.{tracks_inside, tracks_call, tracks_return, tracks_commit}
+use Rattle.vyrd_base.specs.Rules.{Rules}
 
 -- what is called in the execution
 abbrev pub called_in : Execution → Called
@@ -44,65 +42,65 @@ called_in x = record { method = x.method; args = x.args }
 
 -- what a commit of a kept execution gives, once it has returned
 once_kept : {B : Type 0} (f : Called → ℕ
-    → Option B) (h : Header) (states : List Amounts) (c : ℕ) (kind : Kind) (earlier later : List Entry) (x : Execution)
-    → returned kind ≡ None → IsExecution h states c earlier (entry c kind ∷ later) x
+    → Option B) (r : Rules) (states : List Amounts) (c : ℕ) (kind : Kind) (earlier later : List Entry) (x : Execution)
+    → returned kind ≡ None → IsExecution r states c earlier (entry c kind ∷ later) x
     → once_returned f (committed_at (place_of (entry c kind) earlier later)) ≡ option_and_then (f (called_in x)) x.reply
-once_kept f h states c kind earlier later x unreturned is =
+once_kept f r states c kind earlier later x unreturned is =
     ap (λ o. option_and_then (λ called. option_and_then (f called) (next_reply c later)) o) is.called
     ∙ ap (option_and_then (f (called_in x))) (sym (is.reply ∙ next_reply-quiet c c kind later unreturned))
 
 -- the fault of a commit where the state before it is known
-commit_fault_here : (h : Header) (starting : List StartWord) (states : List Amounts) (c : ℕ) (kind : Kind) (earlier later : List Entry) (state : Amounts)
+commit_fault_here : (r : Rules) (starting : List StartWord) (states : List Amounts) (c : ℕ) (kind : Kind) (earlier later : List Entry) (state : Amounts)
     (executions : List (Option Execution)) (x : Execution) → returned kind ≡ None
-    → Tracks h states earlier (entry c kind ∷ later) state executions → IsExecution h states c earlier (entry c kind ∷ later) x
-    → fault_of_commit h starting states (place_of (entry c kind) earlier later)
-    ≡ option_and_then (λ reply. step_fault (view_of_words h (words_at h starting (place_of (entry c kind) earlier later))) (called_in x) reply state) x.reply
-commit_fault_here h starting states c kind earlier later state executions x unreturned s is =
-    let shown = view_of_words h (words_at h starting (place_of (entry c kind) earlier later)) in
-    ap (option_and_then (commit_fault shown (committed_at (place_of (entry c kind) earlier later))))
-    (state_here states earlier state (commits_after earlier (entry c kind ∷ later)) s.going)
-    ∙ once_kept (λ called reply. step_fault shown called reply state) h states c kind earlier later x unreturned is
+    → Tracks r states earlier (entry c kind ∷ later) state executions → IsExecution r states c earlier (entry c kind ∷ later) x
+    → fault_of_commit r starting states (place_of (entry c kind) earlier later)
+    ≡ option_and_then (λ reply. step_fault r (r.view (words_at r.header starting (place_of (entry c kind) earlier later))) (called_in x) reply state) x.reply
+commit_fault_here r starting states c kind earlier later state executions x unreturned s is =
+    let shown = r.view (words_at r.header starting (place_of (entry c kind) earlier later)) in
+    ap (option_and_then (commit_fault r shown (committed_at (place_of (entry c kind) earlier later))))
+    (state_here r states earlier state (commits_after earlier (entry c kind ∷ later)) s.going)
+    ∙ once_kept (λ called reply. step_fault r shown called reply state) r states c kind earlier later x unreturned is
 
 -- what a commit leads to, by what its execution and the words show
-commit_gives : (h : Header) (starting : List StartWord) (states : List Amounts) (c : ℕ) (kind : Kind) (earlier later : List Entry) (state next : Amounts)
+commit_gives : (r : Rules) (starting : List StartWord) (states : List Amounts) (c : ℕ) (kind : Kind) (earlier later : List Entry) (state next : Amounts)
     (executions new : List (Option Execution)) (x : Execution) (shown : Amounts) (o : Outcome)
-    → Commits kind → Tracks h states earlier (entry c kind ∷ later) state executions → IsExecution h states c earlier (entry c kind ∷ later) x
-    → shown ≡ view_of_words h (words_at h starting (place_of (entry c kind) earlier later)) → CommitGives shown x state next executions new o
-    → PlaceGives h starting states (place_of (entry c kind) earlier later) next new o
-commit_gives h starting states c kind earlier later state next executions new x shown o commits s is shows gives = by_outcome o gives
+    → Commits kind → Tracks r states earlier (entry c kind ∷ later) state executions → IsExecution r states c earlier (entry c kind ∷ later) x
+    → shown ≡ r.view (words_at r.header starting (place_of (entry c kind) earlier later)) → CommitGives r shown x state next executions new o
+    → PlaceGives r starting states (place_of (entry c kind) earlier later) next new o
+commit_gives r starting states c kind earlier later state next executions new x shown o commits s is shows gives = by_outcome o gives
   where
     place : Place Entry
     place = place_of (entry c kind) earlier later
 
     fault_by : ℕ → Option Why
-    fault_by reply = step_fault shown (called_in x) reply state
+    fault_by reply = step_fault r shown (called_in x) reply state
 
     next_by : ℕ → Option Amounts
-    next_by reply = next_state x.method x.args reply state
+    next_by reply = r.next x.method x.args reply state
 
-    fault : fault_at h starting states place ≡ option_and_then fault_by x.reply
-    fault = fault_of_commit_kind h starting states c kind earlier later commits
-        ∙ commit_fault_here h starting states c kind earlier later state executions x (commits_unreturned kind commits) s is
-        ∙ ap (λ v. option_and_then (λ reply. step_fault v (called_in x) reply state) x.reply) (sym shows)
+    fault : fault_at r starting states place ≡ option_and_then fault_by x.reply
+    fault = fault_of_commit_kind r starting states c kind earlier later commits
+        ∙ commit_fault_here r starting states c kind earlier later state executions x (commits_unreturned kind commits) s is
+        ∙ ap (λ v. option_and_then (λ reply. step_fault r v (called_in x) reply state) x.reply) (sym shows)
 
-    after : state_after state (committed_at place) ≡ option_and_then next_by x.reply
+    after : state_after r state (committed_at place) ≡ option_and_then next_by x.reply
     after =
-        once_kept (λ called reply. next_state called.method called.args reply state) h states c kind earlier later x
+        once_kept (λ called reply. r.next called.method called.args reply state) r states c kind earlier later x
         (commits_unreturned kind commits) is
 
-    by_outcome : (o' : Outcome) → CommitGives shown x state next executions new o' → PlaceGives h starting states place next new o'
+    by_outcome : (o' : Outcome) → CommitGives r shown x state next executions new o' → PlaceGives r starting states place next new o'
     by_outcome Goes g = (
       fault ∙ ap (option_and_then fault_by) g.returned
-          ∙ ap (λ n. elim n as (λ _. Option Why) [ None ↦ Some (Reply g.reply) | Some a ↦ option_map View (first_difference shown a) ]) g.next
+          ∙ ap (λ n. elim n as (λ _. Option Why) [ None ↦ Some (Reply g.reply) | Some a ↦ option_map View (first_difference shown (r.shown a)) ]) g.next
           ∙ ap (option_map View) g.same,
-      subst (Tracks h states (entry c kind ∷ earlier) later next) (sym g.seen)
-          (tracks_commit h states c kind earlier later state next executions (commits_inside kind commits) (commits_unreturned kind commits)
+      subst (Tracks r states (entry c kind ∷ earlier) later next) (sym g.seen)
+          (tracks_commit r states c kind earlier later state next executions (commits_inside kind commits) (commits_unreturned kind commits)
           (commits_uncalled kind commits) (commits_is kind commits) (after ∙ ap (option_and_then next_by) g.returned ∙ g.next) s),
     )
     by_outcome (Faults why) f = fault ∙ ap (option_and_then fault_by) f.returned ∙ f.fault
     by_outcome Ends none = (
       fault ∙ ap (option_and_then fault_by) none,
-      ending-commit states (entry c kind) earlier later state (commits_is kind commits) (after ∙ ap (option_and_then next_by) none) s.going,
+      ending-commit r states (entry c kind) earlier later state (commits_is kind commits) (after ∙ ap (option_and_then next_by) none) s.going,
     )
 
 -- an observer's test of a state is whether it answers the reply
@@ -111,33 +109,33 @@ same_any p q [] same = refl
 same_any p q (x ∷ xs) same = ap (λ b. b || list_any p xs) (same x) ∙ ap (λ b. q x || b) (same_any p q xs same)
 
 -- what a return leads to
-return_gives : (h : Header) (starting : List StartWord) (states : List Amounts) (c reply : ℕ) (earlier later : List Entry) (state : Amounts)
+return_gives : (r : Rules) (starting : List StartWord) (states : List Amounts) (c reply : ℕ) (earlier later : List Entry) (state : Amounts)
     (executions : List (Option Execution)) (x : Execution)
-    → Tracks h states earlier (entry c (Return reply) ∷ later) state executions
-    → IsExecution h states c earlier (entry c (Return reply) ∷ later) x
-    → PlaceGives h starting states (place_of (entry c (Return reply)) earlier later) state (set executions c None) (return_outcome x reply)
+    → Tracks r states earlier (entry c (Return reply) ∷ later) state executions
+    → IsExecution r states c earlier (entry c (Return reply) ∷ later) x
+    → PlaceGives r starting states (place_of (entry c (Return reply)) earlier later) state (set executions c None) (return_outcome x reply)
 unfolding fault_at
-return_gives h starting states c reply earlier later state executions x s is = by_test (is_observer x.method && not x.is_answered) fault
+return_gives r starting states c reply earlier later state executions x s is = by_test (is_observer x.method && not x.is_answered) fault
   where
     place : Place Entry
     place = place_of (entry c (Return reply)) earlier later
 
     replies : Amounts → Bool
-    replies st = answer_in st x.method x.args == reply
+    replies st = r.answer st x.method x.args == reply
 
     window : List Amounts
     window = states_since_call states c earlier
 
-    by_window : fault_at h starting states place ≡ observer_fault window reply (called_in x)
+    by_window : fault_at r starting states place ≡ observer_fault r window reply (called_in x)
     by_window =
-        ap (λ o. option_and o (option_and_then (observer_fault window reply) (open_call c earlier)))
-        (state_here states earlier state (commits_after earlier (entry c (Return reply) ∷ later)) s.going)
-        ∙ ap (option_and_then (observer_fault window reply)) is.called
+        ap (λ o. option_and o (option_and_then (observer_fault r window reply) (open_call c earlier)))
+        (state_here r states earlier state (commits_after earlier (entry c (Return reply) ∷ later)) s.going)
+        ∙ ap (option_and_then (observer_fault r window reply)) is.called
 
     answered : is_observer x.method ≡ true → list_any replies window ≡ x.is_answered
-    answered observes = same_any replies (answers x) window (λ st.
-        sym (ap (λ b. b && is_reply x.reply (answer_in st x.method x.args)) observes
-        ∙ ap (λ o. is_reply o (answer_in st x.method x.args)) (is.reply ∙ own_answer c returned (Return reply) later))) ∙ sym is.answered
+    answered observes = same_any replies (answers r x) window (λ st.
+        sym (ap (λ b. b && is_reply x.reply (r.answer st x.method x.args)) observes
+        ∙ ap (λ o. is_reply o (r.answer st x.method x.args)) (is.reply ∙ own_answer c returned (Return reply) later))) ∙ sym is.answered
 
     turned : (b : Bool) → cond b None (Some (Observer reply)) ≡ cond (not b) (Some (Observer reply)) None
     turned true = refl
@@ -149,33 +147,33 @@ return_gives h starting states c reply earlier later state executions x s is = b
     by_method false mutates = refl
     by_method true observes = ap (λ a. cond a None (Some (Observer reply))) (answered observes) ∙ turned x.is_answered
 
-    fault : fault_at h starting states place ≡ cond (is_observer x.method && not x.is_answered) (Some (Observer reply)) None
+    fault : fault_at r starting states place ≡ cond (is_observer x.method && not x.is_answered) (Some (Observer reply)) None
     fault = by_window ∙ by_method (is_observer x.method) refl
 
-    by_test : (b : Bool) → fault_at h starting states place ≡ cond b (Some (Observer reply)) None
-        → PlaceGives h starting states place state (set executions c None) (cond b (Faults (Observer reply)) Goes)
+    by_test : (b : Bool) → fault_at r starting states place ≡ cond b (Some (Observer reply)) None
+        → PlaceGives r starting states place state (set executions c None) (cond b (Faults (Observer reply)) Goes)
     by_test true faulty = faulty
-    by_test false faultless = (faultless, tracks_return h states c reply earlier later state executions s)
+    by_test false faultless = (faultless, tracks_return r states c reply earlier later state executions s)
 
 -- What the entry at a place leads to, kind by kind.
-pub return_leads : {h : Header} {front : List Entry} {at c reply : ℕ} {state : Amounts} {executions : List (Option Execution)} {x : Execution}
-    → IsAt h front at (entry c (Return reply)) state executions
-    → IsExecution h (states_along h [] front) c (newest_first (take at front)) (entry c (Return reply) ∷ drop (at + 1) front) x
-    → Leads h front at (entry c (Return reply)) state (set executions c None) (return_outcome x reply)
-return_leads {h} {front} {at} {c} {reply} {state} {executions} {x} here is = record {
-  to = return_gives h [] (states_along h [] front) c reply (newest_first (take at front)) (drop (at + 1) front) state executions x here.tracks is;
+pub return_leads : {r : Rules} {front : List Entry} {at c reply : ℕ} {state : Amounts} {executions : List (Option Execution)} {x : Execution}
+    → IsAt r front at (entry c (Return reply)) state executions
+    → IsExecution r (states_along r [] front) c (newest_first (take at front)) (entry c (Return reply) ∷ drop (at + 1) front) x
+    → Leads r front at (entry c (Return reply)) state (set executions c None) (return_outcome x reply)
+return_leads {r} {front} {at} {c} {reply} {state} {executions} {x} here is = record {
+  to = return_gives r [] (states_along r [] front) c reply (newest_first (take at front)) (drop (at + 1) front) state executions x here.tracks is;
 }
 
-pub call_leads : {h : Header} {front : List Entry} {at c : ℕ} {method : Method} {args : Args} {reply : Option ℕ} {state : Amounts}
-    {executions : List (Option Execution)} → IsAt h front at (entry c (Call method args)) state executions
+pub call_leads : {r : Rules} {front : List Entry} {at c : ℕ} {method : Method} {args : Args} {reply : Option ℕ} {state : Amounts}
+    {executions : List (Option Execution)} → IsAt r front at (entry c (Call method args)) state executions
     → reply ≡ next_reply c (drop (at + 1) front)
-    → Leads h front at (entry c (Call method args)) state (set executions c (Some (begun method args reply state))) Goes
+    → Leads r front at (entry c (Call method args)) state (set executions c (Some (begun r method args reply state))) Goes
 unfolding fault_at
-call_leads {h} {front} {at} {c} {method} {args} {reply} {state} {executions} here replies = record {
+call_leads {r} {front} {at} {c} {method} {args} {reply} {state} {executions} here replies = record {
   to = (
     refl,
-    tracks_call h (states_along h [] front) c method args (newest_first (take at front)) (drop (at + 1) front) state executions
-        (begun method args reply state) refl refl replies refl (call_allowed here) here.tracks,
+    tracks_call r (states_along r [] front) c method args (newest_first (take at front)) (drop (at + 1) front) state executions
+        (begun r method args reply state) refl refl replies refl (call_allowed here) here.tracks,
   );
 }
 
@@ -190,53 +188,53 @@ quiet_by (inl write) = subst Quiet (sym write.2) (writes write.0 write.1)
 quiet_by (inr (inl is)) = subst Quiet (sym is) opens
 quiet_by (inr (inr is)) = subst Quiet (sym is) closes
 
-quiet_gives : (h : Header) (starting : List StartWord) (states : List Amounts) (c : ℕ) (kind : Kind) (earlier later : List Entry) (state : Amounts)
-    (executions : List (Option Execution)) → Quiet kind → Tracks h states earlier (entry c kind ∷ later) state executions
-    → PlaceGives h starting states (place_of (entry c kind) earlier later) state executions Goes
+quiet_gives : (r : Rules) (starting : List StartWord) (states : List Amounts) (c : ℕ) (kind : Kind) (earlier later : List Entry) (state : Amounts)
+    (executions : List (Option Execution)) → Quiet kind → Tracks r states earlier (entry c kind ∷ later) state executions
+    → PlaceGives r starting states (place_of (entry c kind) earlier later) state executions Goes
 unfolding fault_at
-quiet_gives h starting states c _ earlier later state executions (writes word value) s =
-    (refl, tracks_inside h states c (Write word value) earlier later state executions refl refl refl refl s)
-quiet_gives h starting states c _ earlier later state executions opens s =
-    (refl, tracks_inside h states c BlockOpen earlier later state executions refl refl refl refl s)
-quiet_gives h starting states c _ earlier later state executions closes s =
-    (refl, tracks_inside h states c BlockClose earlier later state executions refl refl refl refl s)
+quiet_gives r starting states c _ earlier later state executions (writes word value) s =
+    (refl, tracks_inside r states c (Write word value) earlier later state executions refl refl refl refl s)
+quiet_gives r starting states c _ earlier later state executions opens s =
+    (refl, tracks_inside r states c BlockOpen earlier later state executions refl refl refl refl s)
+quiet_gives r starting states c _ earlier later state executions closes s =
+    (refl, tracks_inside r states c BlockClose earlier later state executions refl refl refl refl s)
 
-pub quiet_leads : {h : Header} {front : List Entry} {at c : ℕ} {kind : Kind} {state : Amounts} {executions : List (Option Execution)}
-    → Quiet kind → IsAt h front at (entry c kind) state executions → Leads h front at (entry c kind) state executions Goes
-quiet_leads {h} {front} {at} {c} {kind} {state} {executions} quiet here = record {
-  to = quiet_gives h [] (states_along h [] front) c kind (newest_first (take at front)) (drop (at + 1) front) state executions quiet here.tracks;
+pub quiet_leads : {r : Rules} {front : List Entry} {at c : ℕ} {kind : Kind} {state : Amounts} {executions : List (Option Execution)}
+    → Quiet kind → IsAt r front at (entry c kind) state executions → Leads r front at (entry c kind) state executions Goes
+quiet_leads {r} {front} {at} {c} {kind} {state} {executions} quiet here = record {
+  to = quiet_gives r [] (states_along r [] front) c kind (newest_first (take at front)) (drop (at + 1) front) state executions quiet here.tracks;
 }
 
 -- a commit stands in a mutator's execution
-pub commit_called : {h : Header} {front : List Entry} {at c : ℕ} {kind : Kind} {state : Amounts} {executions : List (Option Execution)}
-    → Commits kind → IsAt h front at (entry c kind) state executions
+pub commit_called : {r : Rules} {front : List Entry} {at c : ℕ} {kind : Kind} {state : Amounts} {executions : List (Option Execution)}
+    → Commits kind → IsAt r front at (entry c kind) state executions
     → (called : Called) × (open_call c (newest_first (take at front)) ≡ Some called) × (is_observer called.method ≡ false)
-commit_called {h} {front} {at} {c} alone here = commit_kept h c (newest_first (take at front)) here.kept
-commit_called {h} {front} {at} {c} with_block here = block_commit_runs h c (newest_first (take at front)) here.kept
+commit_called {r} {front} {at} {c} alone here = commit_kept r.header c (newest_first (take at front)) here.kept
+commit_called {r} {front} {at} {c} with_block here = block_commit_runs r.header c (newest_first (take at front)) here.kept
 
-pub commit_mutates : {h : Header} {front : List Entry} {at c : ℕ} {kind : Kind} {state : Amounts} {executions : List (Option Execution)}
-    → Commits kind → IsAt h front at (entry c kind) state executions
+pub commit_mutates : {r : Rules} {front : List Entry} {at c : ℕ} {kind : Kind} {state : Amounts} {executions : List (Option Execution)}
+    → Commits kind → IsAt r front at (entry c kind) state executions
     → (x : Execution) → slice_get executions c ≡ Some (Some x) → is_observer x.method ≡ false
 commit_mutates commits here x is =
     let called = commit_called commits here in ap is_observer (called_is here called.1 x is) ∙ called.2
 
 -- what a commit leads to, by what the judge answered of it
-pub commit_leads : {E : Type 0} {h : Header} {front : List Entry} {at c : ℕ} {kind : Kind} {e : Entry} {state : Amounts}
-    {executions : List (Option Execution)} {x : Execution} (r : Result Outcome E) (next : Amounts) (new : List (Option Execution)) → Commits kind
-    → IsAt h front at (entry c kind) state executions
-    → IsExecution h (states_along h [] front) c (newest_first (take at front)) (entry c kind ∷ drop (at + 1) front) x → entry c kind ≡ e
-    → IfOk r (CommitGives (view_of_words h (words_at h [] (place_of (entry c kind) (newest_first (take at front)) (drop (at + 1) front)))) x state next executions new)
-    → IfOk r (PlaceGives h [] (states_along h [] front) (place_of e (newest_first (take at front)) (drop (at + 1) front)) next new)
-commit_leads {E} {h} {front} {at} {c} {kind} {e} {state} {executions} {x} r next new commits here is same gives =
-    IfOk-weaker r (CommitGives shown x state next executions new)
-    (PlaceGives h [] (states_along h [] front) (place_of e (newest_first (take at front)) (drop (at + 1) front)) next new)
+pub commit_leads : {E : Type 0} {r : Rules} {front : List Entry} {at c : ℕ} {kind : Kind} {e : Entry} {state : Amounts}
+    {executions : List (Option Execution)} {x : Execution} (val : Result Outcome E) (next : Amounts) (new : List (Option Execution)) → Commits kind
+    → IsAt r front at (entry c kind) state executions
+    → IsExecution r (states_along r [] front) c (newest_first (take at front)) (entry c kind ∷ drop (at + 1) front) x → entry c kind ≡ e
+    → IfOk val (CommitGives r (r.view (words_at r.header [] (place_of (entry c kind) (newest_first (take at front)) (drop (at + 1) front)))) x state next executions new)
+    → IfOk val (PlaceGives r [] (states_along r [] front) (place_of e (newest_first (take at front)) (drop (at + 1) front)) next new)
+commit_leads {E} {r} {front} {at} {c} {kind} {e} {state} {executions} {x} val next new commits here is same gives =
+    IfOk-weaker val (CommitGives r shown x state next executions new)
+    (PlaceGives r [] (states_along r [] front) (place_of e (newest_first (take at front)) (drop (at + 1) front)) next new)
     (λ o given. (leads o given).to) gives
   where
     shown : Amounts
-    shown = view_of_words h (words_at h [] (place_of (entry c kind) (newest_first (take at front)) (drop (at + 1) front)))
+    shown = r.view (words_at r.header [] (place_of (entry c kind) (newest_first (take at front)) (drop (at + 1) front)))
 
-    leads : (o : Outcome) → CommitGives shown x state next executions new o → Leads h front at e next new o
+    leads : (o : Outcome) → CommitGives r shown x state next executions new o → Leads r front at e next new o
     leads o given = leads_for {d = entry c kind} same (record {
-      to = commit_gives h [] (states_along h [] front) c kind (newest_first (take at front)) (drop (at + 1) front) state next executions new x shown o
+      to = commit_gives r [] (states_along r [] front) c kind (newest_first (take at front)) (drop (at + 1) front) state next executions new x shown o
           commits here.tracks is refl given;
     })

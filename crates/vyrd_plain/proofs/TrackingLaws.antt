@@ -5,7 +5,6 @@ use Rattle.std.specs.Option.{option_flatten}
 use Rattle.std.specs.List.{list_any}
 use Rattle.std.proofs.lemmas.Option.{slice_get_within, slice_get-map}
 use Rattle.std.proofs.Math.Bool.{or-false}
-use Rattle.vyrd_base.specs.declared.header.Header.{Header}
 use Rattle.vyrd_base.specs.declared.subject.Method.{Method}
 use Rattle.vyrd_base.specs.declared.subject.Args.{Args}
 use Rattle.vyrd_base.specs.declared.log.Kind.{Kind}
@@ -24,112 +23,113 @@ use Rattle.vyrd_plain.specs.Tracking.{Tracks}
 use Rattle.vyrd_base.proofs.ListLaws.{slice_get-set_same, slice_get-set_other}
 use Rattle.vyrd_base.proofs.StateLaws.{state_here, going-quiet, going-commit, open_call-other, next_reply-other, before_call-other, next_reply-quiet, before_call-quiet, count-commit, window-quiet, window-commit, window-call}
 use Rattle.vyrd_plain.proofs.ExecutionLaws.{execution_stays, execution_sees}
+use Rattle.vyrd_base.specs.Rules.{Rules}
 
 -- an entry inside its caller's execution that isn't its commit
-pub tracks_inside : (h : Header) (states : List Amounts) (c : ℕ) (kind : Kind) (earlier later : List Entry) (state : Amounts)
+pub tracks_inside : (r : Rules) (states : List Amounts) (c : ℕ) (kind : Kind) (earlier later : List Entry) (state : Amounts)
     (executions : List (Option Execution))
     → call_or_return kind ≡ None → returned kind ≡ None → is_call kind ≡ false → is_commit kind ≡ false
-    → Tracks h states earlier (entry c kind ∷ later) state executions → Tracks h states (entry c kind ∷ earlier) later state executions
-tracks_inside h states c kind earlier later state executions inside unreturned uncalled quiet s = record {
-  going = going-quiet states (entry c kind) earlier later state quiet s.going;
+    → Tracks r states earlier (entry c kind ∷ later) state executions → Tracks r states (entry c kind ∷ earlier) later state executions
+tracks_inside r states c kind earlier later state executions inside unreturned uncalled quiet s = record {
+  going = going-quiet r states (entry c kind) earlier later state quiet s.going;
   open_calls = λ d within. let o = s.open_calls d within in (
     o.0,
     o.1,
-    execution_stays h states d (entry c kind) earlier later o.0 (open_call-quiet d c kind earlier inside) (next_reply-quiet d c kind later unreturned)
+    execution_stays r states d (entry c kind) earlier later o.0 (open_call-quiet d c kind earlier inside) (next_reply-quiet d c kind later unreturned)
         (window-quiet states d (entry c kind) earlier quiet (before_call-quiet d c kind earlier uncalled)) o.2,
   );
 }
 
 -- another caller's execution, beside an entry that isn't a commit
-beside : (h : Header) (states : List Amounts) (c d : ℕ) (kind : Kind) (earlier later : List Entry) (o : Option Execution)
-    → (c == d) ≡ false → is_commit kind ≡ false → IsOpen h states d earlier (entry c kind ∷ later) o
-    → IsOpen h states d (entry c kind ∷ earlier) later o
-beside h states c d kind earlier later o other quiet is =
-    execution_stays h states d (entry c kind) earlier later o (open_call-other d c kind earlier other) (next_reply-other d c kind later other)
+beside : (r : Rules) (states : List Amounts) (c d : ℕ) (kind : Kind) (earlier later : List Entry) (o : Option Execution)
+    → (c == d) ≡ false → is_commit kind ≡ false → IsOpen r states d earlier (entry c kind ∷ later) o
+    → IsOpen r states d (entry c kind ∷ earlier) later o
+beside r states c d kind earlier later o other quiet is =
+    execution_stays r states d (entry c kind) earlier later o (open_call-other d c kind earlier other) (next_reply-other d c kind later other)
     (window-quiet states d (entry c kind) earlier quiet (before_call-other d c kind earlier other)) is
 
 -- the caller's execution alone is another one after its call or return
-tracks_changed : (h : Header) (states : List Amounts) (c : ℕ) (kind : Kind) (earlier later : List Entry) (state : Amounts)
+tracks_changed : (r : Rules) (states : List Amounts) (c : ℕ) (kind : Kind) (earlier later : List Entry) (state : Amounts)
     (executions : List (Option Execution)) (o : Option Execution)
-    → is_commit kind ≡ false → IsOpen h states c (entry c kind ∷ earlier) later o
-    → Tracks h states earlier (entry c kind ∷ later) state executions → Tracks h states (entry c kind ∷ earlier) later state (set executions c o)
-tracks_changed h states c kind earlier later state executions o quiet own s = record {
-  going = going-quiet states (entry c kind) earlier later state quiet s.going;
+    → is_commit kind ≡ false → IsOpen r states c (entry c kind ∷ earlier) later o
+    → Tracks r states earlier (entry c kind ∷ later) state executions → Tracks r states (entry c kind ∷ earlier) later state (set executions c o)
+tracks_changed r states c kind earlier later state executions o quiet own s = record {
+  going = going-quiet r states (entry c kind) earlier later state quiet s.going;
   open_calls = λ d within. let old = s.open_calls d within in by_same c d
       (λ same. subst (λ k. (n : Option Execution) × (slice_get (set executions c o) k ≡ Some n)
-      × IsOpen h states k (entry c kind ∷ earlier) later n) same
+      × IsOpen r states k (entry c kind ∷ earlier) later n) same
       (o, slice_get-set_same executions c o (slice_get_within executions c old.0 (ap (slice_get executions) same ∙ old.1)), own))
       (λ other. (
         old.0,
         slice_get-set_other executions c d o (apart_of c d other) ∙ old.1,
-        beside h states c d kind earlier later old.0 other quiet old.2,
+        beside r states c d kind earlier later old.0 other quiet old.2,
       ));
 }
 
 -- a call begins an execution, which sees the state there
-pub tracks_call : (h : Header) (states : List Amounts) (c : ℕ) (method : Method) (args : Args) (earlier later : List Entry) (state : Amounts)
+pub tracks_call : (r : Rules) (states : List Amounts) (c : ℕ) (method : Method) (args : Args) (earlier later : List Entry) (state : Amounts)
     (executions : List (Option Execution)) (x : Execution)
-    → x.method ≡ method → x.args ≡ args → x.reply ≡ next_reply c later → x.is_answered ≡ answers x state → has_method h method args ≡ true
-    → Tracks h states earlier (entry c (Call method args) ∷ later) state executions
-    → Tracks h states (entry c (Call method args) ∷ earlier) later state (set executions c (Some x))
-tracks_call h states c method args earlier later state executions x has_its_method has_its_args reply answered allowed s =
-    tracks_changed h states c (Call method args) earlier later state executions (Some x) refl own s
+    → x.method ≡ method → x.args ≡ args → x.reply ≡ next_reply c later → x.is_answered ≡ answers r x state → has_method r.header method args ≡ true
+    → Tracks r states earlier (entry c (Call method args) ∷ later) state executions
+    → Tracks r states (entry c (Call method args) ∷ earlier) later state (set executions c (Some x))
+tracks_call r states c method args earlier later state executions x has_its_method has_its_args reply answered allowed s =
+    tracks_changed r states c (Call method args) earlier later state executions (Some x) refl own s
   where
     e : Entry
     e = entry c (Call method args)
 
     window : states_since_call states c (e ∷ earlier) ≡ state ∷ []
-    window = window-call states c e earlier state (drop 1 (states_from state (commits_after earlier (e ∷ later)))) refl
+    window = window-call states c e earlier state (drop 1 (states_from r state (commits_after earlier (e ∷ later)))) refl
         (ap (λ b. cond (b && true) earlier (entries_before_call c earlier)) (same_number c))
         (s.going ∙ first_of (commits_after earlier (e ∷ later)))
       where
-        first_of : (xs : List Committed) → states_from state xs ≡ state ∷ drop 1 (states_from state xs)
+        first_of : (xs : List Committed) → states_from r state xs ≡ state ∷ drop 1 (states_from r state xs)
         first_of [] = refl
         first_of (y ∷ ys) = refl
 
-    own : IsExecution h states c (e ∷ earlier) later x
+    own : IsExecution r states c (e ∷ earlier) later x
     own = record {
       called = ap option_flatten_of (own_answer c call_or_return (Call method args) earlier)
           ∙ ap (λ m. Some (record { method = m; args = args })) (sym has_its_method)
           ∙ ap (λ a. Some (record { method = x.method; args = a })) (sym has_its_args);
-      allowed = ap (λ m. has_method h m x.args) has_its_method ∙ ap (has_method h method) has_its_args ∙ allowed;
+      allowed = ap (λ m. has_method r.header m x.args) has_its_method ∙ ap (has_method r.header method) has_its_args ∙ allowed;
       reply = reply;
-      answered = answered ∙ sym (or-false (answers x state)) ∙ ap (list_any (answers x)) (sym window);
+      answered = answered ∙ sym (or-false (answers r x state)) ∙ ap (list_any (answers r x)) (sym window);
     }
       where
         option_flatten_of : Option (Option Called) → Option Called
         option_flatten_of o = option_flatten o
 
 -- a return ends one
-pub tracks_return : (h : Header) (states : List Amounts) (c reply : ℕ) (earlier later : List Entry) (state : Amounts)
+pub tracks_return : (r : Rules) (states : List Amounts) (c reply : ℕ) (earlier later : List Entry) (state : Amounts)
     (executions : List (Option Execution))
-    → Tracks h states earlier (entry c (Return reply) ∷ later) state executions
-    → Tracks h states (entry c (Return reply) ∷ earlier) later state (set executions c None)
-tracks_return h states c reply earlier later state executions s =
-    tracks_changed h states c (Return reply) earlier later state executions None refl
+    → Tracks r states earlier (entry c (Return reply) ∷ later) state executions
+    → Tracks r states (entry c (Return reply) ∷ earlier) later state (set executions c None)
+tracks_return r states c reply earlier later state executions s =
+    tracks_changed r states c (Return reply) earlier later state executions None refl
     (ap option_flatten_of (own_answer c call_or_return (Return reply) earlier)) s
   where
     option_flatten_of : Option (Option Called) → Option Called
     option_flatten_of o = option_flatten o
 
 -- a commit leads to the next state, which all executions see
-pub tracks_commit : (h : Header) (states : List Amounts) (c : ℕ) (kind : Kind) (earlier later : List Entry) (state next : Amounts)
+pub tracks_commit : (r : Rules) (states : List Amounts) (c : ℕ) (kind : Kind) (earlier later : List Entry) (state next : Amounts)
     (executions : List (Option Execution))
     → call_or_return kind ≡ None → returned kind ≡ None → is_call kind ≡ false → is_commit kind ≡ true
-    → state_after state (committed_at (record { earlier = earlier; here = entry c kind; later = later })) ≡ Some next
-    → Tracks h states earlier (entry c kind ∷ later) state executions
-    → Tracks h states (entry c kind ∷ earlier) later next (map (seeing next) executions)
-tracks_commit h states c kind earlier later state next executions inside unreturned uncalled commits after s =
-    let going = going-commit states (entry c kind) earlier later state next commits after s.going in
+    → state_after r state (committed_at (record { earlier = earlier; here = entry c kind; later = later })) ≡ Some next
+    → Tracks r states earlier (entry c kind ∷ later) state executions
+    → Tracks r states (entry c kind ∷ earlier) later next (map (seeing r next) executions)
+tracks_commit r states c kind earlier later state next executions inside unreturned uncalled commits after s =
+    let going = going-commit r states (entry c kind) earlier later state next commits after s.going in
     let here : slice_get states (commit_count earlier + 1) ≡ Some next =
     ap (slice_get states) (sym (count-commit (entry c kind) earlier commits))
-    ∙ state_here states (entry c kind ∷ earlier) next (commits_after (entry c kind ∷ earlier) later) going in
+    ∙ state_here r states (entry c kind ∷ earlier) next (commits_after (entry c kind ∷ earlier) later) going in
     record {
       going = going;
       open_calls = λ d within. let o = s.open_calls d within in (
-        seeing next o.0,
-        slice_get-map (seeing next) executions d ∙ ap (option_map (seeing next)) o.1,
-        execution_sees h states d (entry c kind) earlier later next o.0 (open_call-quiet d c kind earlier inside)
+        seeing r next o.0,
+        slice_get-map (seeing r next) executions d ∙ ap (option_map (seeing r next)) o.1,
+        execution_sees r states d (entry c kind) earlier later next o.0 (open_call-quiet d c kind earlier inside)
             (next_reply-quiet d c kind later unreturned)
             (window-commit states d (entry c kind) earlier next commits (before_call-quiet d c kind earlier uncalled) here) o.2,
       );

@@ -9,11 +9,11 @@ use Rattle.vyrd_base.specs.declared.log.Entry.{Entry}
 use Rattle.vyrd_base.specs.Subjects.{is_observer}
 use Rattle.vyrd_base.specs.Callers.{open_call}
 use Rattle.vyrd_base.specs.Amounts.{Amounts}
-use Rattle.vyrd_base.specs.Specification.{answer_in}
 use Rattle.vyrd_base.specs.Commits.{next_reply}
 use Rattle.vyrd_base.specs.Faults.{states_since_call}
 use Rattle.vyrd_plain.specs.declared.execution.Execution.{Execution}
 use Rattle.vyrd_base.specs.Entries.{has_method}
+use Rattle.vyrd_base.specs.Rules.{Rules}
 
 -- whether a reply, if there is one, is this number
 abbrev pub is_reply : Option ℕ → ℕ → Bool
@@ -21,35 +21,35 @@ is_reply None answer = false
 is_reply (Some reply) answer = answer == reply
 
 -- whether the execution is an observer's, whose reply this state answers
-abbrev pub answers : Execution → Amounts → Bool
-answers x state = is_observer x.method && is_reply x.reply (answer_in state x.method x.args)
+abbrev pub answers : (r : Rules) → Execution → Amounts → Bool
+answers r x state = is_observer x.method && is_reply x.reply (r.answer state x.method x.args)
 
 -- an execution that sees one more state
-abbrev pub seeing : Amounts → Option Execution → Option Execution
-seeing state None = None
-seeing state (Some x) = Some (record x { is_answered = x.is_answered || answers x state })
+abbrev pub seeing : (r : Rules) → Amounts → Option Execution → Option Execution
+seeing r state None = None
+seeing r state (Some x) = Some (record x { is_answered = x.is_answered || answers r x state })
 
 -- What is kept of the caller's execution, by the entries before a place, given the newest first,
 -- and those from it on: what was called, its next reply, and whether some state since the call
 -- answers that reply.
-pub record IsExecution (h : Header) (states : List Amounts) (c : ℕ) (earlier later : List Entry)
+pub record IsExecution (r : Rules) (states : List Amounts) (c : ℕ) (earlier later : List Entry)
     (x : Execution) : Type 0 where
   pub called : open_call c earlier ≡ Some (record { method = x.method; args = x.args })
-  pub allowed : has_method h x.method x.args ≡ true
+  pub allowed : has_method r.header x.method x.args ≡ true
   pub reply : x.reply ≡ next_reply c later
-  pub answered : x.is_answered ≡ list_any (answers x) (states_since_call states c earlier)
+  pub answered : x.is_answered ≡ list_any (answers r x) (states_since_call states c earlier)
 
 -- the same for a caller that may be in no execution
-abbrev pub IsOpen : Header → List Amounts → ℕ → List Entry → List Entry → Option Execution → Type 0
-IsOpen h states c earlier later None = open_call c earlier ≡ None
-IsOpen h states c earlier later (Some x) = IsExecution h states c earlier later x
+abbrev pub IsOpen : Rules → List Amounts → ℕ → List Entry → List Entry → Option Execution → Type 0
+IsOpen r states c earlier later None = open_call c earlier ≡ None
+IsOpen r states c earlier later (Some x) = IsExecution r states c earlier later x
 
 -- an execution that begins in a state
-abbrev pub begun : Method → Args → Option ℕ → Amounts → Execution
-begun method args reply state =
+abbrev pub begun : (r : Rules) → Method → Args → Option ℕ → Amounts → Execution
+begun r method args reply state =
     let x : Execution =
     record { method = method; args = args; reply = reply; is_answered = false } in
-    record x { is_answered = answers x state }
+    record x { is_answered = answers r x state }
 
 -- every kept execution is of a method that the header's specification has
 abbrev pub AreAllowed : Header → List (Option Execution) → Type 0

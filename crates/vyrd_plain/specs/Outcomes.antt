@@ -1,7 +1,6 @@
 -- What a commit and an entry lead to.
 use Rattle.std.specs.Prelude.{◌≡◌, ◌≤◌, ℕ, List, ◌∷◌, ◌&&◌, not, map, length, Option, Some, None}
 use Rattle.std.specs.Prelude.{if◌then◌else◌}
-use Rattle.vyrd_base.specs.declared.header.Header.{Header}
 use Rattle.vyrd_base.specs.declared.log.Entry.{Entry}
 use Rattle.vyrd_base.specs.declared.log.StartWord.{StartWord}
 use Rattle.vyrd_base.specs.declared.verdict.Why.{Why}
@@ -9,7 +8,6 @@ use Rattle.vyrd_base.specs.declared.verdict.Why.TheVariants.{Observer}
 use Rattle.vyrd_base.specs.Places.{Place}
 use Rattle.vyrd_base.specs.Subjects.{is_observer}
 use Rattle.vyrd_base.specs.Amounts.{Amounts, first_difference}
-use Rattle.vyrd_base.specs.Specification.{next_state}
 use Rattle.vyrd_base.specs.Commits.{commit_count}
 use Rattle.vyrd_base.specs.Faults.{step_fault, fault_at}
 use Rattle.vyrd_plain.specs.declared.execution.Execution.{Execution}
@@ -17,43 +15,46 @@ use Rattle.vyrd_plain.specs.declared.outcome.Outcome.{Outcome}
 use Rattle.vyrd_plain.specs.declared.outcome.Outcome.TheVariants.{Goes, Faults, Ends}
 use Rattle.vyrd_plain.specs.Executions.{seeing}
 use Rattle.vyrd_plain.specs.Tracking.{Tracks}
+use Rattle.vyrd_base.specs.Rules.{Rules}
 
 -- the commit's execution has returned, its reply is allowed, and the state after it is what the
 -- words show
-pub record CommitGoes (shown : Amounts) (x : Execution) (before after : Amounts)
+pub record CommitGoes (r : Rules) (shown : Amounts) (x : Execution) (before after : Amounts)
     (old new : List (Option Execution)) : Type 0 where
   pub reply : ℕ
   pub returned : x.reply ≡ Some reply
-  pub next : next_state x.method x.args reply before ≡ Some after
-  pub same : first_difference shown after ≡ None
-  pub seen : new ≡ map (seeing after) old
+  pub next : r.next x.method x.args reply before ≡ Some after
+  pub same : first_difference shown (r.shown after) ≡ None
+  pub seen : new ≡ map (seeing r after) old
 
 -- the commit's execution has returned, and this is wrong with it
-pub record CommitFaults (shown : Amounts) (x : Execution) (before : Amounts)
+pub record CommitFaults (r : Rules) (shown : Amounts) (x : Execution) (before : Amounts)
     (why : Why) : Type 0 where
   pub reply : ℕ
   pub returned : x.reply ≡ Some reply
-  pub fault : step_fault shown (record { method = x.method; args = x.args }) reply before ≡ Some why
+  pub fault : step_fault r shown (record { method = x.method; args = x.args }) reply before
+      ≡ Some why
 
 -- what a commit of the execution leads to, if the words show this
-abbrev pub CommitGives : Amounts → Execution → Amounts → Amounts → List (Option Execution)
+abbrev pub CommitGives : (r : Rules) → Amounts → Execution → Amounts → Amounts
+    → List (Option Execution)
     → List (Option Execution) → Outcome → Type 0
-CommitGives shown x before after old new Goes = CommitGoes shown x before after old new
-CommitGives shown x before after old new (Faults why) = CommitFaults shown x before why
-CommitGives shown x before after old new Ends = x.reply ≡ None
+CommitGives r shown x before after old new Goes = CommitGoes r shown x before after old new
+CommitGives r shown x before after old new (Faults why) = CommitFaults r shown x before why
+CommitGives r shown x before after old new Ends = x.reply ≡ None
 
 -- What the entry at a place leads to: it isn't a fault, and what is kept tracks the front up to the
 -- next place; or this is its fault; or no later state is known, so that nothing later is a fault
 -- either.
-abbrev pub PlaceGives : Header → List StartWord → List Amounts → Place Entry → Amounts
+abbrev pub PlaceGives : Rules → List StartWord → List Amounts → Place Entry → Amounts
     → List (Option Execution) → Outcome → Type 0
-PlaceGives h starting states place state executions Goes =
-    (fault_at h starting states place ≡ None)
-    × Tracks h states (place.here ∷ place.earlier) place.later state executions
-PlaceGives h starting states place state executions (Faults why) =
-    fault_at h starting states place ≡ Some why
-PlaceGives h starting states place state executions Ends =
-    (fault_at h starting states place ≡ None)
+PlaceGives r starting states place state executions Goes =
+    (fault_at r starting states place ≡ None)
+    × Tracks r states (place.here ∷ place.earlier) place.later state executions
+PlaceGives r starting states place state executions (Faults why) =
+    fault_at r starting states place ≡ Some why
+PlaceGives r starting states place state executions Ends =
+    (fault_at r starting states place ≡ None)
     × (length states ≤ commit_count (place.here ∷ place.earlier))
 
 -- what a return leads to: it is a fault if no state since the call answers an observer's reply

@@ -1,6 +1,7 @@
 //! The open execution of a caller, and how it sees the states of the specification.
 
 ghost use Rattle.std.specs.Prelude.{◌≡◌, true, Option, Some, None, map, vec_len};
+ghost use Rattle.vyrd_base.specs.Rules.{rules_by};
 ghost use Rattle.vyrd_base.specs.Commits.{next_reply};
 ghost use Rattle.vyrd_plain.specs.declared.execution.Execution.{Execution};
 ghost use Rattle.vyrd_base.specs.Entries.{has_method};
@@ -43,9 +44,10 @@ impl Execution {
 
     /// Whether it is an observer's, whose reply this state answers.
     pub fn is_answered_by<S: Spec>(&self, spec: &S) -> bool
-        requires allowed { has_method (S.header_of spec.now) self.now.method self.now.args ≡ true }
-        requires subject { (S.header_of spec.now).subject ≡ S.subject }
-        ensures { result ≡ answers self.now (S.state spec.now) }
+        requires allowed { has_method
+            (rules_by (S.charter spec.now)).header self.now.method self.now.args ≡ true }
+        requires subject { (rules_by (S.charter spec.now)).header.subject ≡ S.subject }
+        ensures { result ≡ answers (rules_by (S.charter spec.now)) self.now (S.state spec.now) }
     {
         match self.reply {
             Some(reply) if self.method.is_observer() => {
@@ -59,9 +61,9 @@ impl Execution {
 /// An execution that sees the specification's state too.
 fn seeing<S: Spec>(execution: Option<Execution>, spec: &S) -> Option<Execution>
     requires allowed { (x : Execution) → execution ≡ Some x
-        → has_method (S.header_of spec.now) x.method x.args ≡ true }
-    requires subject { (S.header_of spec.now).subject ≡ S.subject }
-    ensures { result ≡ seeing (S.state spec.now) execution }
+        → has_method (rules_by (S.charter spec.now)).header x.method x.args ≡ true }
+    requires subject { (rules_by (S.charter spec.now)).header.subject ≡ S.subject }
+    ensures { result ≡ seeing (rules_by (S.charter spec.now)) (S.state spec.now) execution }
 {
     let mut x = execution?;
     x.is_answered = x.is_answered || x.is_answered_by(spec);
@@ -70,10 +72,11 @@ fn seeing<S: Spec>(execution: Option<Execution>, spec: &S) -> Option<Execution>
 
 /// Lets every caller's execution see the specification's state.
 pub(crate) fn see<S: Spec>(executions: &mut Vec<Option<Execution>>, spec: &S)
-    requires allowed { AreAllowed (S.header_of spec.now) executions.old.items }
-    requires all { vec_len executions.old ≡ (S.header_of spec.now).callers }
-    requires subject { (S.header_of spec.now).subject ≡ S.subject }
-    ensures seen { executions.new.items ≡ map (seeing (S.state spec.now)) executions.old.items }
+    requires allowed { AreAllowed (rules_by (S.charter spec.now)).header executions.old.items }
+    requires all { vec_len executions.old ≡ (rules_by (S.charter spec.now)).header.callers }
+    requires subject { (rules_by (S.charter spec.now)).header.subject ≡ S.subject }
+    ensures seen { executions.new.items
+        ≡ map (seeing (rules_by (S.charter spec.now)) (S.state spec.now)) executions.old.items }
     ensures len { vec_len executions.new ≡ vec_len executions.old }
 {
     for execution in executions.iter_mut() {

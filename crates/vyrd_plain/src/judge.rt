@@ -3,6 +3,7 @@
 ghost use Rattle.std.specs.Prelude.{◌≡◌, ◌<◌, ◌^◌, [], length, None, IfOk};
 ghost use Rattle.vyrd_base.specs.Front.{first_break};
 ghost use Rattle.vyrd_base.specs.Places.{newest_first};
+ghost use Rattle.vyrd_base.specs.Rules.{rules_of};
 ghost use Rattle.vyrd_base.specs.Verdicts.{verdict_so_far, verdict_at, is_call_open};
 
 use crate::counts::accepted;
@@ -10,7 +11,7 @@ use crate::front::front_of;
 use crate::violation::first_violation;
 use std::alloc::{AllocError, Global};
 use vyrd_base::{Entry, Header, Rule, Stop, Verdict};
-use vyrd_spec::Spec;
+use vyrd_spec::BuiltIn;
 
 /// The verdict about the entries of a log without starting words, whose text stops in this way. `S`
 /// is the specification of the header's subject.
@@ -30,7 +31,7 @@ use vyrd_spec::Spec;
 /// Besides, a commit takes both views whole, and shows the new state to each caller's execution.
 /// Memory: in proportion to the words of the header and to the keys of the specification's state,
 /// and one execution and one block for each caller. Nothing is kept of the entries.
-pub fn judge_log<S: Spec>(
+pub fn judge_log<S: BuiltIn>(
     alloc: Global,
     header: Header,
     entries: &[Entry],
@@ -38,7 +39,7 @@ pub fn judge_log<S: Spec>(
 ) -> Result<Verdict, AllocError>
     requires subject { header.subject ≡ S.subject }
     requires few { length entries.now < 2 ^ 62 }
-    ensures { IfOk result (λ verdict. verdict ≡ verdict_at header [] entries.now stop) }
+    ensures { IfOk result (λ verdict. verdict ≡ verdict_at (rules_of header) [] entries.now stop) }
 {
     let front = front_of(alloc, header, entries)?;
     let (kept, _) = entries.split_at(front.len);
@@ -64,9 +65,9 @@ fn at_stop(
 ) -> Result<Verdict, AllocError>
     requires few { length entries.now < 2 ^ 62 }
     requires kept { first_break header entries.now ≡ None }
-    requires faultless { verdict_so_far header [] entries.now ≡ None }
+    requires faultless { verdict_so_far (rules_of header) [] entries.now ≡ None }
     requires is_open { is_open ≡ is_call_open header (newest_first entries.now) }
-    ensures { IfOk result (λ verdict. verdict ≡ verdict_at header [] entries.now stop) }
+    ensures { IfOk result (λ verdict. verdict ≡ verdict_at (rules_of header) [] entries.now stop) }
 {
     let after = entries.len() as u64 + 2;
     match stop {

@@ -8,7 +8,7 @@ ghost use Rattle.vyrd_base.specs.Subjects.{is_observer};
 ghost use Rattle.vyrd_base.specs.Places.{newest_first};
 ghost use Rattle.vyrd_base.specs.Front.{first_break};
 ghost use Rattle.vyrd_base.specs.Layout.{plain_words};
-ghost use Rattle.vyrd_base.specs.Views.{view_of_words};
+ghost use Rattle.vyrd_base.specs.Rules.{built_in, rules_by};
 ghost use Rattle.vyrd_base.specs.Specification.{start};
 ghost use Rattle.vyrd_base.specs.Verdicts.{states_along};
 ghost use Rattle.vyrd_plain.specs.declared.execution.Execution.{Execution};
@@ -26,7 +26,7 @@ use crate::front::entry_at;
 use crate::outcome::Outcome;
 use std::alloc::{AllocError, Global};
 use vyrd_base::{Args, Entry, Header, Kind, Method, Why};
-use vyrd_spec::Spec;
+use vyrd_spec::{BuiltIn, Spec};
 use vyrd_view::{first_difference, view_of};
 
 /// What is known at a place of a front: the state of the specification after the commits before it,
@@ -34,22 +34,20 @@ use vyrd_view::{first_difference, view_of};
 #[derive(Drop)]
 pub(crate) struct Scan<S: Spec> {
     pub alloc: Global,
-    pub header: Header,
     pub spec: S,
     pub effects: Effects,
     /// By caller. `None` if a caller is in no execution.
     pub executions: Vec<Option<Execution>>,
-    ghost subject: { header.subject ≡ S.subject },
-    ghost spec_header: { S.header_of spec ≡ header },
-    ghost effects_header: { effects.header ≡ header },
-    ghost callers: { vec_len executions ≡ header.callers },
+    ghost subject: { (rules_by (S.charter spec)).header.subject ≡ S.subject },
+    ghost effects_header: { effects.header ≡ (rules_by (S.charter spec)).header },
+    ghost callers: { vec_len executions ≡ (rules_by (S.charter spec)).header.callers },
 }
 
-impl<S: Spec> Scan<S> {
+impl<S: BuiltIn> Scan<S> {
     /// The place before the first entry.
     pub fn new(alloc: Global, header: Header) -> Result<Scan<S>, AllocError>
         requires subject { header.subject ≡ S.subject }
-        ensures header { IfOk result (λ s. s.header ≡ header) }
+        ensures charter { IfOk result (λ s. S.charter s.spec ≡ built_in header) }
         ensures state { IfOk result (λ s. S.state s.spec ≡ start) }
         ensures made { IfOk result (λ s. S.made s.spec ≡ 0) }
         ensures words { IfOk result
@@ -60,16 +58,17 @@ impl<S: Spec> Scan<S> {
     {
         Ok(Scan {
             alloc,
-            header,
             spec: S::start(alloc, header)?,
             effects: Effects::new(alloc, header)?,
             executions: vec![in alloc; None; header.callers() as usize]?,
         })
     }
+}
 
+impl<S: Spec> Scan<S> {
     /// The caller's execution, if it is in one.
     fn execution_of(&self, caller: u32) -> Option<Execution>
-        requires { caller < self.now.header.callers }
+        requires { caller < (rules_by (S.charter self.now.spec)).header.callers }
         ensures { slice_get self.now.executions.items caller ≡ Some result }
     {
         self.executions
@@ -81,11 +80,13 @@ impl<S: Spec> Scan<S> {
 
     /// A call begins an execution, whose first state is the one where the call stands.
     fn begin(&mut self, caller: u32, method: Method, args: Args, reply: Option<u64>)
-        requires caller { caller < self.old.header.callers }
-        requires allowed { has_method self.old.header method args ≡ true }
+        requires caller { caller < (rules_by (S.charter self.old.spec)).header.callers }
+        requires allowed { has_method (rules_by (S.charter self.old.spec)).header method args
+            ≡ true }
         ensures executions { self.new.executions.items ≡ slice_set self.old.executions.items caller
-            (Some (begun method args reply (S.state self.old.spec))) }
-        ensures header { self.new.header ≡ self.old.header }
+            (Some
+            (begun (rules_by (S.charter self.old.spec)) method args reply
+            (S.state self.old.spec))) }
         ensures spec { self.new.spec ≡ self.old.spec }
         ensures effects { self.new.effects ≡ self.old.effects }
     {
@@ -102,13 +103,12 @@ impl<S: Spec> Scan<S> {
     /// A return ends its caller's execution. It is a fault if no state since the call answered an
     /// observer's reply.
     fn finish(&mut self, caller: u32, reply: u64) -> Outcome
-        requires caller { caller < self.old.header.callers }
+        requires caller { caller < (rules_by (S.charter self.old.spec)).header.callers }
         ensures outcome { (x : Execution)
             → slice_get self.old.executions.items caller ≡ Some (Some x)
             → result ≡ return_outcome x reply }
         ensures executions { self.new.executions.items
             ≡ slice_set self.old.executions.items caller None }
-        ensures header { self.new.header ≡ self.old.header }
         ensures spec { self.new.spec ≡ self.old.spec }
         ensures effects { self.new.effects ≡ self.old.effects }
     {
@@ -126,17 +126,19 @@ impl<S: Spec> Scan<S> {
     /// and compares the views. The executions that are open, its own too, then see the state after
     /// it. If the execution doesn't return, the step can't be known.
     fn commit(&mut self, caller: u32) -> Result<Outcome, AllocError>
-        requires caller { caller < self.old.header.callers }
+        requires caller { caller < (rules_by (S.charter self.old.spec)).header.callers }
         requires few { S.made self.old.spec < 2 ^ 62 }
-        requires allowed { AreAllowed self.old.header self.old.executions.items }
+        requires allowed { AreAllowed
+            (rules_by (S.charter self.old.spec)).header self.old.executions.items }
         requires mutates { (x : Execution)
             → slice_get self.old.executions.items caller ≡ Some (Some x)
             → is_observer x.method ≡ false }
         ensures gives { (x : Execution) → slice_get self.old.executions.items caller ≡ Some (Some x)
-            → IfOk result (CommitGives (view_of_words self.old.header self.old.effects.words.items)
+            → IfOk result (CommitGives (rules_by (S.charter self.old.spec))
+            ((rules_by (S.charter self.old.spec)).view self.old.effects.words.items)
             x (S.state self.old.spec) (S.state self.new.spec) self.old.executions.items
             self.new.executions.items) }
-        ensures header { self.new.header ≡ self.old.header }
+        ensures charter { S.charter self.new.spec ≡ S.charter self.old.spec }
         ensures made { S.made self.new.spec ≤ S.made self.old.spec + 1 }
         ensures effects { self.new.effects ≡ self.old.effects }
     {
@@ -149,7 +151,7 @@ impl<S: Spec> Scan<S> {
         if !self.spec.step(execution.method, execution.args, reply)? {
             return Ok(Outcome::Faults(Why::Reply(reply)));
         }
-        let shown = view_of(self.alloc, self.header, self.effects.words())?;
+        let shown = view_of(self.alloc, self.spec.header(), self.effects.words())?;
         let after = self.spec.view(self.alloc)?;
         if let Some(key) = first_difference(&shown, &after) {
             return Ok(Outcome::Faults(Why::View(key)));
@@ -163,22 +165,26 @@ impl<S: Spec> Scan<S> {
     /// be dropped.
     pub fn step(&mut self, front: &[Entry], at: usize) -> Result<Outcome, AllocError>
         requires within { at < length front.now }
-        requires kept { first_break self.old.header front.now ≡ None }
-        requires tracks { Tracks self.old.header (states_along self.old.header [] front.now)
+        requires kept { first_break (rules_by (S.charter self.old.spec)).header front.now ≡ None }
+        requires tracks { Tracks (rules_by (S.charter self.old.spec))
+            (states_along (rules_by (S.charter self.old.spec)) [] front.now)
             (newest_first (take at front.now)) (drop at front.now) (S.state self.old.spec)
             self.old.executions.items }
-        requires words { HasEffects self.old.header self.old.effects.words.items
+        requires words { HasEffects
+            (rules_by (S.charter self.old.spec)).header self.old.effects.words.items
             self.old.effects.open_blocks.items (take at front.now) (drop at front.now) }
         requires few { S.made self.old.spec < 2 ^ 62 }
         ensures gives { (e : Entry) → slice_get front.now at ≡ Some e
-            → IfOk result (PlaceGives self.old.header [] (states_along self.old.header [] front.now)
+            → IfOk result
+            (PlaceGives (rules_by (S.charter self.old.spec)) []
+            (states_along (rules_by (S.charter self.old.spec)) [] front.now)
             (place_of e (newest_first (take at front.now)) (drop (at + 1) front.now))
             (S.state self.new.spec) self.new.executions.items) }
         ensures words { result ≡ Ok Goes
-            → HasEffects self.old.header self.new.effects.words.items
+            → HasEffects (rules_by (S.charter self.old.spec)).header self.new.effects.words.items
             self.new.effects.open_blocks.items (take (at + 1) front.now) (drop (at + 1) front.now) }
         ensures made { S.made self.new.spec ≤ S.made self.old.spec + 1 }
-        ensures header { self.new.header ≡ self.old.header }
+        ensures charter { S.charter self.new.spec ≡ S.charter self.old.spec }
     {
         // A commit's view is that of the words after all effects up to it, so the entry's own take
         // place first.

@@ -12,6 +12,7 @@ use Rattle.vyrd_base.specs.declared.verdict.Why.{Why}
 use Rattle.vyrd_base.specs.declared.verdict.Verdict.{Verdict}
 use Rattle.vyrd_base.specs.declared.verdict.Verdict.TheVariants.{Accepted, Violation, Malformed}
 use Rattle.vyrd_base.specs.Places.{places, newest_first, first_answer}
+use Rattle.vyrd_base.specs.Rules.{Rules, rules_of}
 use Rattle.vyrd_base.specs.Starts.{state_at_start}
 use Rattle.vyrd_base.specs.Faults.{fault_at}
 use Rattle.vyrd_base.specs.Front.{front, first_break}
@@ -56,32 +57,32 @@ fault_bad : (o : Option TextFault) → IsBad (option_map (λ fault. Malformed fa
 fault_bad None = tt
 fault_bad (Some fault) = tt
 
-front_bad : (h : Header) (starting : List StartWord) (well_formed : List Entry) → IsBad (first_fault h starting well_formed)
+front_bad : (r : Rules) (starting : List StartWord) (well_formed : List Entry) → IsBad (first_fault r starting well_formed)
 unfolding first_fault
-front_bad h starting well_formed =
-    let states = states_along h starting well_formed in
-    first_bad (violation_at h starting states) (λ place. violation_bad (line_of starting _) (fault_at h starting states place)) (places well_formed)
+front_bad r starting well_formed =
+    let states = states_along r starting well_formed in
+    first_bad (violation_at r starting states) (λ place. violation_bad (line_of starting _) (fault_at r starting states place)) (places well_formed)
 
-begun_bad : (h : Header) (starting : List StartWord) (entries : List Entry) → IsBad (begun_verdict h starting entries)
-begun_bad h starting [] = tt
-begun_bad h starting (e ∷ entries) = start_bad (is_none (state_at_start h starting))
+begun_bad : (r : Rules) (starting : List StartWord) (entries : List Entry) → IsBad (begun_verdict r starting entries)
+begun_bad r starting [] = tt
+begun_bad r starting (e ∷ entries) = start_bad (is_none (state_at_start r starting))
 
-log_bad : (h : Header) (starting : List StartWord) (entries : List Entry) → IsBad (verdict_so_far h starting entries)
+log_bad : (r : Rules) (starting : List StartWord) (entries : List Entry) → IsBad (verdict_so_far r starting entries)
 unfolding verdict_so_far shape_verdict
-log_bad h starting entries = or_bad (begun_verdict h starting entries) _ (begun_bad h starting entries)
-    (or_bad (first_fault h starting (front h entries)) _ (front_bad h starting (front h entries))
-    (malformed_bad (line_of starting _) (first_break h entries)))
+log_bad r starting entries = or_bad (begun_verdict r starting entries) _ (begun_bad r starting entries)
+    (or_bad (first_fault r starting (front r.header entries)) _ (front_bad r starting (front r.header entries))
+    (malformed_bad (line_of starting _) (first_break r.header entries)))
 
-end_bad : (h : Header) (starting : List StartWord) (entries : List Entry) → IsBad (end_verdict h starting entries)
+end_bad : (r : Rules) (starting : List StartWord) (entries : List Entry) → IsBad (end_verdict r starting entries)
 unfolding end_verdict
-end_bad h starting entries = or_bad (start_verdict h starting) _ (start_bad (is_none (state_at_start h starting)))
-    (open_bad (line_of starting _) (is_call_open h (newest_first entries)))
+end_bad r starting entries = or_bad (start_verdict r starting) _ (start_bad (is_none (state_at_start r starting)))
+    (open_bad (line_of starting _) (is_call_open r.header (newest_first entries)))
 
 entries_bad : (read : Reading) (h : Header) → IsBad (entries_verdict read h)
-entries_bad read h = or_bad (verdict_so_far h read.starting read.entries) _ (log_bad h read.starting read.entries) (by_end read.ended)
+entries_bad read h = or_bad (verdict_so_far (rules_of h) read.starting read.entries) _ (log_bad (rules_of h) read.starting read.entries) (by_end read.ended)
   where
-    by_end : (b : Bool) → IsBad (cond b (end_verdict h read.starting read.entries) None)
-    by_end true = end_bad h read.starting read.entries
+    by_end : (b : Bool) → IsBad (cond b (end_verdict (rules_of h) read.starting read.entries) None)
+    by_end true = end_bad (rules_of h) read.starting read.entries
     by_end false = tt
 
 known_bad : (read : Reading) → IsBad (known_verdict read)

@@ -5,6 +5,7 @@ use Rattle.vyrd_base.specs.declared.history.Stamped.{Stamped}
 use Rattle.vyrd_base.specs.Devices.{IsAtEnd}
 use Rattle.vyrd_base.specs.Histories.{cells_of, is_legal, log_of}
 use Rattle.vyrd_base.specs.declared.verdict.Verdict.{Verdict}
+use Rattle.vyrd_base.specs.Rules.{rules_of}
 use Rattle.vyrd_base.specs.Verdicts.{verdict}
 use Rattle.vyrd_memory.specs.Turns.{RunsTo}
 use Rattle.vyrd_memory.specs.Runs.{PlayToTheEnd}
@@ -34,23 +35,23 @@ turned_plays w history limits runs = run_plays w.header (work_scripts w) w.turns
 
 -- a verdict about a legal history of played scripts names no rule except that of races
 pub names_only_races : (w : Workload) (history : List Stamped) (v : Verdict) → KeepsLimits w → is_legal (cells_of w.header) history ≡ true
-    → PlayToTheEnd (work_scripts w) history → v ≡ verdict w.header [] (log_of history) → NamesOnlyRaces v
+    → PlayToTheEnd (work_scripts w) history → v ≡ verdict (rules_of w.header) [] (log_of history) → NamesOnlyRaces v
 names_only_races w history v limits legal played is = λ line rule e.
     only_races w.header (work_scripts w) history (scripts_sound w limits) legal played line rule (sym is ∙ e)
 
 -- what is known of a run by turns that ends
 pub is_turned : (w : Workload) (history : List Stamped) → KeepsLimits w → RunsTo (work_scripts w) w.turns history
-    → IsTurnedTo w history (verdict w.header [] (log_of history))
+    → IsTurnedTo w history (verdict (rules_of w.header) [] (log_of history))
 is_turned w history limits runs = record {
   runs = runs;
   verdict_is = refl;
-  races = names_only_races w history (verdict w.header [] (log_of history)) limits (turned_is_legal w history limits runs)
+  races = names_only_races w history (verdict (rules_of w.header) [] (log_of history)) limits (turned_is_legal w history limits runs)
       (turned_plays w history limits runs) refl;
 }
 
 -- what is known of a live run that ends
 pub is_live : (w : Workload) (history : List Stamped) (v : Verdict) → KeepsLimits w → is_legal (cells_of w.header) history ≡ true
-    → PlayToTheEnd (work_scripts w) history → AllHadRoom w.header most_events history → v ≡ verdict w.header [] (log_of history)
+    → PlayToTheEnd (work_scripts w) history → AllHadRoom w.header most_events history → v ≡ verdict (rules_of w.header) [] (log_of history)
     → IsLiveRun w history v
 is_live w history v limits legal parts room is = record {
   legal = legal;

@@ -3,6 +3,7 @@ use Rattle.std.specs.Prelude.{◌≡◌, [], ℕ, List, ◌++◌, length, flat_m
 use Rattle.vyrd_base.specs.declared.header.Header.{Header}
 use Rattle.vyrd_base.specs.declared.history.Stamped.{Stamped}
 use Rattle.vyrd_base.specs.Histories.{log_of}
+use Rattle.vyrd_base.specs.Rules.{rules_by}
 use Rattle.vyrd_base.specs.Spelling.{ended_line, header_line, entry_line}
 use Rattle.vyrd_judge.specs.Following.{JudgeView, HasFollowed}
 use Rattle.vyrd_mover.specs.HistoryText.{history_header_line, event_line}
@@ -30,4 +31,4 @@ pub record AccountView : Type 0 where
 pub record HasTaken (a : AccountView) (history : List Stamped) : Type 0 where
   pub followed : HasFollowed a.judge [] (log_of history)
   pub counted : a.count ≡ length history
-  pub text_is : a.text ≡ text_so_far a.show a.judge.kept.header history
+  pub text_is : a.text ≡ text_so_far a.show (rules_by a.judge.kept.charter).header history

@@ -6,6 +6,7 @@ use Rattle.vyrd_base.specs.declared.history.Stamped.{Stamped}
 use Rattle.vyrd_base.specs.declared.verdict.Verdict.{Verdict}
 use Rattle.vyrd_base.specs.Histories.{cells_of, is_legal, log_of}
 use Rattle.vyrd_base.specs.Spelling.{ended_line}
+use Rattle.vyrd_base.specs.Rules.{rules_of}
 use Rattle.vyrd_base.specs.Verdicts.{verdict}
 use Rattle.vyrd_memory.specs.Bounds.{bounds_of}
 use Rattle.vyrd_memory.specs.Runs.{PlayToTheEnd}
@@ -26,7 +27,7 @@ pub record IsLiveRun (w : Workload) (history : List Stamped) (v : Verdict) : Typ
   pub legal : is_legal (cells_of w.header) history ≡ true
   pub parts : PlayToTheEnd (work_scripts w) history
   pub room : AllHadRoom w.header most_events history
-  pub verdict_is : v ≡ verdict w.header [] (log_of history)
+  pub verdict_is : v ≡ verdict (rules_of w.header) [] (log_of history)
   pub races : NamesOnlyRaces v
 
 -- the status and the text of the answer to a workload whose live run ends

@@ -10,6 +10,7 @@ use Rattle.vyrd_base.specs.declared.verdict.Verdict.{Verdict}
 use Rattle.vyrd_base.specs.declared.verdict.Verdict.TheVariants.{Malformed}
 use Rattle.vyrd_base.specs.Histories.{log_of}
 use Rattle.vyrd_base.specs.Spelling.{log_text}
+use Rattle.vyrd_base.specs.Rules.{rules_of}
 use Rattle.vyrd_base.specs.Verdicts.{verdict}
 use Rattle.vyrd_base.specs.VerdictText.{verdict_text}
 use Rattle.vyrd_memory.specs.Turns.{RunsTo, GetsStuck}
@@ -41,7 +42,7 @@ NamesOnlyRaces v = (line : ℕ) (rule : Rule) → v ≡ Malformed line rule → 
 -- If it names a rule, it is that of raced blocks.
 pub record IsTurnedTo (w : Workload) (history : List Stamped) (v : Verdict) : Type 0 where
   pub runs : RunsTo (work_scripts w) w.turns history
-  pub verdict_is : v ≡ verdict w.header [] (log_of history)
+  pub verdict_is : v ≡ verdict (rules_of w.header) [] (log_of history)
   pub races : NamesOnlyRaces v
 
 -- the status and the text of the answer to a workload whose run by turns ends

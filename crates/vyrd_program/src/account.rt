@@ -5,7 +5,9 @@ ghost use Rattle.std.specs.Prelude.{OnOk};
 ghost use Rattle.vyrd_base.specs.declared.header.Header.{Header};
 ghost use Rattle.vyrd_base.specs.declared.history.Stamped.{Stamped};
 ghost use Rattle.vyrd_base.specs.Histories.{log_of};
+ghost use Rattle.vyrd_base.specs.Rules.{Charter, built_in, rules_by};
 ghost use Rattle.vyrd_base.specs.Verdicts.{verdict};
+ghost use Rattle.vyrd_program.specs.declared.show.Show.{Show};
 ghost use Rattle.vyrd_program.specs.Accounts.{HasTaken, text_so_far};
 ghost use Rattle.vyrd_program.specs.Steps.{run_text};
 
@@ -56,7 +58,7 @@ impl Account {
     /// An account of a run in which nothing was done yet.
     pub fn new(alloc: Global, header: Header, show: Show) -> Result<Account, AllocError>
         ensures taken { IfOk result (λ a. HasTaken a []) }
-        ensures header { IfOk result (λ a. a.judge.kept.header ≡ header) }
+        ensures charter { IfOk result (λ a. a.judge.kept.charter ≡ built_in header) }
         ensures show { IfOk result (λ a. a.show ≡ show) }
     {
         let judge = AnyJudge::new(alloc, header)?;
@@ -77,11 +79,12 @@ impl Account {
     /// What is told of the run, if nothing more is done in it.
     pub fn close(self) -> Result<Told, AllocError>
         ensures verdict { (history : List Stamped) → HasTaken self history → IfOk result
-            (λ told. told.verdict ≡ verdict self.judge.kept.header [] (log_of history)) }
+            (λ told. told.verdict
+            ≡ verdict (rules_by self.judge.kept.charter) [] (log_of history)) }
         ensures count { IfOk result (λ told. told.count ≡ self.count) }
         ensures text { (history : List Stamped) → HasTaken self history → IfOk result
             (λ told. told.text.items
-            ≡ run_text self.show self.judge.kept.header history told.verdict) }
+            ≡ run_text self.show (rules_by self.judge.kept.charter).header history told.verdict) }
     {
         let Account {
             judge,
@@ -107,9 +110,9 @@ impl Account {
 }
 
 impl EventSink for Account {
-    type Fixed = (Header, Show);
+    ghost Fixed = { Charter × Show };
 
-    ghost fixed = { λ a. (a.judge.kept.header, a.show) };
+    ghost fixed = { λ a. (a.judge.kept.charter, a.show) };
 
     ghost count = { λ a. a.count };
 

@@ -12,7 +12,7 @@ use std::test::*;
 use std::thread::Threads;
 use vyrd_base::{Header, OpenGate, Subject};
 use vyrd_live::run_live;
-use vyrd_spec::{Spec, TreeSpec};
+use vyrd_spec::{BuiltIn, Spec, TreeSpec};
 use vyrd_work::read_work;
 
 /// The most bytes that a sink takes here. No answer is as long.

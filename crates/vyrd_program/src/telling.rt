@@ -3,6 +3,7 @@
 ghost use Rattle.std.specs.Prelude.{◌≡◌, ◌++◌, [], List, length, IfOk};
 ghost use Rattle.vyrd_base.specs.declared.history.Stamped.{Stamped};
 ghost use Rattle.vyrd_base.specs.Histories.{log_of};
+ghost use Rattle.vyrd_base.specs.Rules.{rules_by};
 ghost use Rattle.vyrd_base.specs.Verdicts.{verdict};
 ghost use Rattle.vyrd_base.specs.VerdictText.{verdict_text};
 ghost use Rattle.vyrd_work.specs.Refusals.{refusal_text};
@@ -65,10 +66,11 @@ pub fn overrun(alloc: Global, caller: u32) -> Result<Answer, AllocError>
 pub fn told_of(account: Account) -> Result<Answer, AllocError>
     ensures status { (history : List Stamped) → HasTaken account history → IfOk result
         (λ answer. answer.status
-        ≡ status_of (verdict account.judge.kept.header [] (log_of history))) }
+        ≡ status_of (verdict (rules_by account.judge.kept.charter) [] (log_of history))) }
     ensures text { (history : List Stamped) → HasTaken account history → IfOk result
-        (λ answer. answer.text.items ≡ run_text account.show account.judge.kept.header history
-        (verdict account.judge.kept.header [] (log_of history))) }
+        (λ answer. answer.text.items
+        ≡ run_text account.show (rules_by account.judge.kept.charter).header history
+        (verdict (rules_by account.judge.kept.charter) [] (log_of history))) }
 {
     let Told { verdict, text, .. } = account.close()?;
     Ok(Answer {
@@ -82,10 +84,10 @@ pub fn told_of(account: Account) -> Result<Answer, AllocError>
 pub fn generated(alloc: Global, count: u32, account: Account) -> Result<Answer, AllocError>
     ensures status { (history : List Stamped) → HasTaken account history → IfOk result
         (λ answer. answer.status
-        ≡ status_of (verdict account.judge.kept.header [] (log_of history))) }
+        ≡ status_of (verdict (rules_by account.judge.kept.charter) [] (log_of history))) }
     ensures text { (history : List Stamped) → HasTaken account history → IfOk result
         (λ answer. answer.text.items ≡ generated_line count (length history)
-        ++ verdict_text (verdict account.judge.kept.header [] (log_of history))) }
+        ++ verdict_text (verdict (rules_by account.judge.kept.charter) [] (log_of history))) }
 {
     let told = account.close()?;
     let mut text = counts(alloc, count, told.count)?;

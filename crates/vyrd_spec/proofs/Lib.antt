@@ -1,6 +1,7 @@
 pub mod AmountSteps
 pub mod StepLaws
 pub mod TouchLaws
+pub mod StepMeets
 pub mod ChangeLaws
 pub mod RowAmounts
 pub mod RowLaws

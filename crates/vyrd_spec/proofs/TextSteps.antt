@@ -1,5 +1,5 @@
 -- The loops over a text and over a buffer's characters, one step at a time.
-use Rattle.std.proofs.Common.{ℕ, ◌+◌, ◌*◌, ◌^◌, ◌<◌, ◌≤◌, arith}
+use Rattle.std.proofs.Common.{ℕ, ◌+◌, ◌*◌, ◌^◌, ◌<◌, ◌≤◌}
 use Rattle.vyrd_base.specs.Buffers.{text_length}
 use Rattle.vyrd_base.proofs.TestLaws.{is_at_most}
 use Rattle.vyrd_base.proofs.TextLaws.{joined_below}

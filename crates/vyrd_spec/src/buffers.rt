@@ -1,8 +1,11 @@
 //! The specification of the string buffers: the text of each buffer.
 
 ghost use Rattle.std.specs.Prelude.{◌≡◌, ◌<◌, ◌≤◌, ◌^◌, true, false, length, Some, None};
+ghost use Rattle.vyrd_base.specs.Rules.{built_in};
 ghost use Rattle.vyrd_base.specs.declared.subject.Subject.TheVariants.{Buffers};
 ghost use Rattle.vyrd_base.specs.Specification.{next_state};
+ghost use Rattle.std.specs.Prelude.{refl};
+ghost use Rattle.vyrd_spec.specs.Touching.{touched_by, is_touched};
 ghost use Rattle.vyrd_base.specs.Subjects.{subject_of, is_observer};
 ghost use Rattle.vyrd_spec.specs.Bounds.{AreTexts, small_texts};
 ghost use Rattle.vyrd_spec.specs.Rows.{row_amounts, row_formed};
@@ -10,7 +13,7 @@ ghost use Rattle.vyrd_spec.specs.Texts.{next_text};
 
 use crate::buffer_words::texts_of;
 use crate::row::{amount_at, empty_row, row_shown, set_amount};
-use crate::spec::Spec;
+use crate::spec::{BuiltIn, Spec};
 use crate::text::{cut_to, joined, text_length};
 use crate::touched::{Touched, touched_by};
 use std::alloc::{AllocError, Global};
@@ -31,39 +34,23 @@ pub struct BufferSpec {
 impl Spec for BufferSpec {
     ghost subject = { Buffers };
 
-    ghost state = { λ s. row_amounts s.texts.items };
+    ghost charter = { λ s. built_in s.header };
 
-    ghost header_of = { λ s. s.header };
+    ghost state = { λ s. row_amounts s.texts.items };
 
     ghost made = { λ s. s.made };
 
-    ghost is_formed = { λ s. row_formed s.texts.items };
+    ghost touched = { λ s. touched_by };
 
-    ghost is_small = { λ s. small_texts (row_amounts s.texts.items) s.small };
+    ghost affects = { λ touched method args. is_touched touched args.a };
 
-    fn start(alloc: Global, header: Header) -> Result<Self, AllocError> {
-        Ok(BufferSpec {
-            header,
-            made: 0,
-            texts: empty_row(alloc, header.size() as usize)?,
-        })
+    ghost shows_words = { λ s words. refl };
+
+    fn header(&self) -> Header {
+        self.header
     }
 
-    fn start_from(
-        alloc: Global,
-        header: Header,
-        words: &[u64],
-    ) -> Result<Option<Self>, AllocError> {
-        match texts_of(alloc, header.size() as usize, words)? {
-            Some(texts) => Ok(Some(BufferSpec {
-                header,
-                made: 0,
-                texts,
-            })),
-            None => Ok(None),
-        }
-    }
-
+    #[tactic(auto, using(crate::proofs::StepMeets::step_laws))]
     fn step(&mut self, method: Method, args: Args, reply: u64) -> Result<bool, AllocError> {
         let allowed = next(&mut self.texts, method, args, reply);
         if allowed {
@@ -89,8 +76,41 @@ impl Spec for BufferSpec {
         touched_by(method, args)
     }
 
+    fn affects(keys: Touched, _method: Method, args: Args) -> bool {
+        keys.has(u64::from(args.a))
+    }
+
     fn view(&self, alloc: Global) -> Result<View, AllocError> {
         row_shown(alloc, &self.texts)
+    }
+}
+
+impl BuiltIn for BufferSpec {
+    ghost is_formed = { λ s. row_formed s.texts.items };
+
+    ghost is_small = { λ s. small_texts (row_amounts s.texts.items) s.small };
+
+    fn start(alloc: Global, header: Header) -> Result<Self, AllocError> {
+        Ok(BufferSpec {
+            header,
+            made: 0,
+            texts: empty_row(alloc, header.size() as usize)?,
+        })
+    }
+
+    fn start_from(
+        alloc: Global,
+        header: Header,
+        words: &[u64],
+    ) -> Result<Option<Self>, AllocError> {
+        match texts_of(alloc, header.size() as usize, words)? {
+            Some(texts) => Ok(Some(BufferSpec {
+                header,
+                made: 0,
+                texts,
+            })),
+            None => Ok(None),
+        }
     }
 }
 

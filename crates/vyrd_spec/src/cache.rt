@@ -1,15 +1,18 @@
 //! The specification of the cache: the pair of each chunk.
 
 ghost use Rattle.std.specs.Prelude.{◌≡◌, ◌+◌, ◌*◌, ◌<◌, ◌≤◌, ◌^◌, true, false, length, Some, None};
+ghost use Rattle.vyrd_base.specs.Rules.{built_in};
 ghost use Rattle.vyrd_base.specs.declared.subject.Subject.TheVariants.{Cache};
 ghost use Rattle.vyrd_base.specs.Specification.{next_state};
+ghost use Rattle.std.specs.Prelude.{refl};
+ghost use Rattle.vyrd_spec.specs.Touching.{touched_by, is_touched};
 ghost use Rattle.vyrd_base.specs.Subjects.{subject_of, is_observer};
 ghost use Rattle.vyrd_spec.specs.Bounds.{AllAmounts, small_chunks};
 ghost use Rattle.vyrd_spec.specs.Rows.{row_amounts, row_formed};
 
 use crate::chunk_words::pairs_of;
 use crate::row::{amount_at, empty_row, row_shown, set_amount};
-use crate::spec::Spec;
+use crate::spec::{BuiltIn, Spec};
 use crate::touched::{Touched, touched_by};
 use std::alloc::{AllocError, Global};
 use vyrd_base::{Args, Header, Method, View};
@@ -31,12 +34,53 @@ pub struct CacheSpec {
 impl Spec for CacheSpec {
     ghost subject = { Cache };
 
-    ghost state = { λ s. row_amounts s.pairs.items };
+    ghost charter = { λ s. built_in s.header };
 
-    ghost header_of = { λ s. s.header };
+    ghost state = { λ s. row_amounts s.pairs.items };
 
     ghost made = { λ s. s.made };
 
+    ghost touched = { λ s. touched_by };
+
+    ghost affects = { λ touched method args. is_touched touched args.a };
+
+    ghost shows_words = { λ s words. refl };
+
+    fn header(&self) -> Header {
+        self.header
+    }
+
+    #[tactic(auto, using(crate::proofs::StepMeets::step_laws))]
+    fn step(&mut self, method: Method, args: Args, reply: u64) -> Result<bool, AllocError> {
+        let allowed = next(&mut self.pairs, method, args, reply);
+        if allowed {
+            self.made += 1;
+        }
+        Ok(allowed)
+    }
+
+    fn answer(&self, _method: Method, args: Args) -> u64 {
+        amount_at(&self.pairs, u64::from(args.a))
+    }
+
+    fn amount(&self, key: u64) -> u64 {
+        amount_at(&self.pairs, key)
+    }
+
+    fn touched(&self, method: Method, args: Args) -> Touched {
+        touched_by(method, args)
+    }
+
+    fn affects(keys: Touched, _method: Method, args: Args) -> bool {
+        keys.has(u64::from(args.a))
+    }
+
+    fn view(&self, alloc: Global) -> Result<View, AllocError> {
+        row_shown(alloc, &self.pairs)
+    }
+}
+
+impl BuiltIn for CacheSpec {
     ghost is_formed = { λ s. row_formed s.pairs.items };
 
     ghost is_small = { λ s. small_chunks (row_amounts s.pairs.items) s.small };
@@ -62,30 +106,6 @@ impl Spec for CacheSpec {
             })),
             None => Ok(None),
         }
-    }
-
-    fn step(&mut self, method: Method, args: Args, reply: u64) -> Result<bool, AllocError> {
-        let allowed = next(&mut self.pairs, method, args, reply);
-        if allowed {
-            self.made += 1;
-        }
-        Ok(allowed)
-    }
-
-    fn answer(&self, _method: Method, args: Args) -> u64 {
-        amount_at(&self.pairs, u64::from(args.a))
-    }
-
-    fn amount(&self, key: u64) -> u64 {
-        amount_at(&self.pairs, key)
-    }
-
-    fn touched(&self, method: Method, args: Args) -> Touched {
-        touched_by(method, args)
-    }
-
-    fn view(&self, alloc: Global) -> Result<View, AllocError> {
-        row_shown(alloc, &self.pairs)
     }
 }
 

@@ -26,6 +26,6 @@ mod tree_words;
 pub use buffers::BufferSpec;
 pub use cache::CacheSpec;
 pub use multiset::MultisetSpec;
-pub use spec::Spec;
+pub use spec::{BuiltIn, Spec};
 pub use touched::Touched;
 pub use tree::TreeSpec;

@@ -3,15 +3,18 @@
 ghost use Rattle.std.specs.Prelude.{◌≡◌, ◌≢◌, ◌+◌, ◌*◌, ◌<◌, ◌≤◌, ◌^◌, ◌-◌, ℕ, true, false, not};
 ghost use Rattle.std.specs.Prelude.{OnOk, OnErr, Some, None, Ok};
 ghost use Rattle.std.specs.Bool.{then_some};
+ghost use Rattle.vyrd_base.specs.Rules.{built_in};
 ghost use Rattle.vyrd_base.specs.declared.subject.Subject.TheVariants.{Multiset};
 ghost use Rattle.vyrd_base.specs.Amounts.{amount_of, with_amount, plus_amount, IsAmounts};
 ghost use Rattle.vyrd_base.specs.Specification.{next_state, by_reply, is_present};
+ghost use Rattle.std.specs.Prelude.{refl};
+ghost use Rattle.vyrd_spec.specs.Touching.{touched_by, is_touched};
 ghost use Rattle.vyrd_base.specs.Subjects.{subject_of, is_observer};
 ghost use Rattle.vyrd_spec.specs.Bounds.{AllAmounts, most_after, small_counts};
 ghost use Rattle.vyrd_base.specs.Formed.{IsAmounts-prop};
 
 use crate::slot_words::{are_sound, counts};
-use crate::spec::Spec;
+use crate::spec::{BuiltIn, Spec};
 use crate::touched::{Touched, touched_by};
 use std::alloc::{AllocError, Global};
 use vyrd_base::{AmountTable, Args, Header, Method, View};
@@ -32,12 +35,53 @@ pub struct MultisetSpec {
 impl Spec for MultisetSpec {
     ghost subject = { Multiset };
 
-    ghost state = { λ s. s.amounts };
+    ghost charter = { λ s. built_in s.header };
 
-    ghost header_of = { λ s. s.header };
+    ghost state = { λ s. s.amounts };
 
     ghost made = { λ s. s.made };
 
+    ghost touched = { λ s. touched_by };
+
+    ghost affects = { λ touched method args. is_touched touched args.a };
+
+    ghost shows_words = { λ s words. refl };
+
+    fn header(&self) -> Header {
+        self.header
+    }
+
+    #[tactic(auto, using(crate::proofs::StepMeets::step_laws))]
+    fn step(&mut self, method: Method, args: Args, reply: u64) -> Result<bool, AllocError> {
+        let allowed = next(&mut self.amounts, method, args, reply)?;
+        if allowed {
+            self.made += 1;
+        }
+        Ok(allowed)
+    }
+
+    fn answer(&self, _method: Method, args: Args) -> u64 {
+        u64::from(self.amounts.amount(u64::from(args.a)) != 0)
+    }
+
+    fn amount(&self, key: u64) -> u64 {
+        self.amounts.amount(key)
+    }
+
+    fn touched(&self, method: Method, args: Args) -> Touched {
+        touched_by(method, args)
+    }
+
+    fn affects(keys: Touched, _method: Method, args: Args) -> bool {
+        keys.has(u64::from(args.a))
+    }
+
+    fn view(&self, alloc: Global) -> Result<View, AllocError> {
+        self.amounts.view(alloc)
+    }
+}
+
+impl BuiltIn for MultisetSpec {
     ghost is_formed = { λ s. s.formed };
 
     ghost is_small = { λ s. small_counts s.made s.amounts s.few s.small };
@@ -64,30 +108,6 @@ impl Spec for MultisetSpec {
             made: 0,
             amounts: counts(alloc, size, words)?,
         }))
-    }
-
-    fn step(&mut self, method: Method, args: Args, reply: u64) -> Result<bool, AllocError> {
-        let allowed = next(&mut self.amounts, method, args, reply)?;
-        if allowed {
-            self.made += 1;
-        }
-        Ok(allowed)
-    }
-
-    fn answer(&self, _method: Method, args: Args) -> u64 {
-        u64::from(self.amounts.amount(u64::from(args.a)) != 0)
-    }
-
-    fn amount(&self, key: u64) -> u64 {
-        self.amounts.amount(key)
-    }
-
-    fn touched(&self, method: Method, args: Args) -> Touched {
-        touched_by(method, args)
-    }
-
-    fn view(&self, alloc: Global) -> Result<View, AllocError> {
-        self.amounts.view(alloc)
     }
 }
 

@@ -2,15 +2,18 @@
 
 ghost use Rattle.std.specs.Prelude.{◌≡◌, ◌≢◌, ◌+◌, ◌<◌, ◌≤◌, ◌^◌, true, false, not, Some, None, Ok};
 ghost use Rattle.std.specs.Bool.{then_some};
+ghost use Rattle.vyrd_base.specs.Rules.{built_in};
 ghost use Rattle.vyrd_base.specs.declared.subject.Subject.TheVariants.{Tree};
 ghost use Rattle.vyrd_base.specs.Amounts.{with_amount, IsAmounts};
 ghost use Rattle.vyrd_base.specs.Specification.{next_state, by_reply, is_present};
+ghost use Rattle.std.specs.Prelude.{refl};
+ghost use Rattle.vyrd_spec.specs.Touching.{touched_by, is_touched};
 ghost use Rattle.vyrd_base.specs.Subjects.{subject_of, is_observer};
 ghost use Rattle.vyrd_spec.specs.Bounds.{AllAmounts, small_values};
 ghost use Rattle.vyrd_base.specs.Formed.{IsAmounts-prop};
 
 use crate::leaves::values;
-use crate::spec::Spec;
+use crate::spec::{BuiltIn, Spec};
 use crate::touched::{Touched, touched_by};
 use crate::tree_words::is_tree;
 use std::alloc::{AllocError, Global};
@@ -34,12 +37,54 @@ pub struct TreeSpec {
 impl Spec for TreeSpec {
     ghost subject = { Tree };
 
-    ghost state = { λ s. s.amounts };
+    ghost charter = { λ s. built_in s.header };
 
-    ghost header_of = { λ s. s.header };
+    ghost state = { λ s. s.amounts };
 
     ghost made = { λ s. s.made };
 
+    ghost touched = { λ s. touched_by };
+
+    ghost affects = { λ touched method args. is_touched touched args.a };
+
+    ghost shows_words = { λ s words. refl };
+
+    fn header(&self) -> Header {
+        self.header
+    }
+
+    #[tactic(auto, using(crate::proofs::StepMeets::step_laws))]
+    fn step(&mut self, method: Method, args: Args, reply: u64) -> Result<bool, AllocError> {
+        let allowed = next(&mut self.amounts, method, args, reply)?;
+        if allowed {
+            self.made += 1;
+        }
+        Ok(allowed)
+    }
+
+    fn answer(&self, _method: Method, args: Args) -> u64 {
+        let amount = self.amounts.amount(u64::from(args.a));
+        if amount == 0 { 0 } else { amount - PRESENT + 1 }
+    }
+
+    fn amount(&self, key: u64) -> u64 {
+        self.amounts.amount(key)
+    }
+
+    fn touched(&self, method: Method, args: Args) -> Touched {
+        touched_by(method, args)
+    }
+
+    fn affects(keys: Touched, _method: Method, args: Args) -> bool {
+        keys.has(u64::from(args.a))
+    }
+
+    fn view(&self, alloc: Global) -> Result<View, AllocError> {
+        self.amounts.view(alloc)
+    }
+}
+
+impl BuiltIn for TreeSpec {
     ghost is_formed = { λ s. s.formed };
 
     ghost is_small = { λ s. small_values s.amounts s.small };
@@ -66,31 +111,6 @@ impl Spec for TreeSpec {
             made: 0,
             amounts: values(alloc, size, words)?,
         }))
-    }
-
-    fn step(&mut self, method: Method, args: Args, reply: u64) -> Result<bool, AllocError> {
-        let allowed = next(&mut self.amounts, method, args, reply)?;
-        if allowed {
-            self.made += 1;
-        }
-        Ok(allowed)
-    }
-
-    fn answer(&self, _method: Method, args: Args) -> u64 {
-        let amount = self.amounts.amount(u64::from(args.a));
-        if amount == 0 { 0 } else { amount - PRESENT + 1 }
-    }
-
-    fn amount(&self, key: u64) -> u64 {
-        self.amounts.amount(key)
-    }
-
-    fn touched(&self, method: Method, args: Args) -> Touched {
-        touched_by(method, args)
-    }
-
-    fn view(&self, alloc: Global) -> Result<View, AllocError> {
-        self.amounts.view(alloc)
     }
 }
 

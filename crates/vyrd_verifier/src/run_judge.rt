@@ -1,10 +1,10 @@
 //! A judge that follows a run.
 
-ghost use Rattle.std.specs.Prelude.{◌≡◌, false, List, [], IfOk};
+ghost use Rattle.std.specs.Prelude.{◌≡◌, Bool, false, List, [], IfOk};
 ghost use Rattle.std.specs.Result.{is_err};
-ghost use Rattle.vyrd_base.specs.declared.header.Header.{Header};
 ghost use Rattle.vyrd_base.specs.declared.history.Stamped.{Stamped};
 ghost use Rattle.vyrd_base.specs.Histories.{log_of};
+ghost use Rattle.vyrd_base.specs.Rules.{Charter, built_in, rules_by};
 ghost use Rattle.vyrd_base.specs.Verdicts.{verdict, verdict_so_far};
 ghost use Rattle.vyrd_verifier.specs.Judging.{HasJudged};
 
@@ -37,7 +37,7 @@ impl RunJudge {
     /// A judge of a run in which nothing was done yet.
     pub fn new(alloc: Global, header: Header) -> Result<RunJudge, AllocError>
         ensures judged { IfOk result (λ j. HasJudged j []) }
-        ensures header { IfOk result (λ j. j.judge.kept.header ≡ header) }
+        ensures charter { IfOk result (λ j. j.judge.kept.charter ≡ built_in header) }
         ensures has_failed { IfOk result (λ j. j.judge.has_failed ≡ false) }
     {
         let judge = AnyJudge::new(alloc, header)?;
@@ -47,7 +47,7 @@ impl RunJudge {
     /// The verdict so far about the log of the run: `None` if nothing stands yet.
     pub fn so_far(&self) -> Option<Verdict>
         ensures { (history : List Stamped) → HasJudged self.now history
-            → result ≡ verdict_so_far self.now.judge.kept.header [] (log_of history) }
+            → result ≡ verdict_so_far (rules_by self.now.judge.kept.charter) [] (log_of history) }
     {
         self.judge.so_far()
     }
@@ -56,7 +56,7 @@ impl RunJudge {
     /// out of memory comes exactly when it came to the judge before.
     pub fn finish(&self) -> Result<Verdict, AllocError>
         ensures verdict { (history : List Stamped) → HasJudged self.now history → IfOk result
-            (λ v. v ≡ verdict self.now.judge.kept.header [] (log_of history)) }
+            (λ v. v ≡ verdict (rules_by self.now.judge.kept.charter) [] (log_of history)) }
         ensures has_failed { is_err result ≡ self.now.judge.has_failed }
     {
         self.judge.finish()
@@ -64,9 +64,9 @@ impl RunJudge {
 }
 
 impl EventSink for RunJudge {
-    type Fixed = (Header, bool);
+    ghost Fixed = { Charter × Bool };
 
-    ghost fixed = { λ j. (j.judge.kept.header, j.judge.has_failed) };
+    ghost fixed = { λ j. (j.judge.kept.charter, j.judge.has_failed) };
 
     ghost count = { λ j. j.count };
 

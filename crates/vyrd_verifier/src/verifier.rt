@@ -5,6 +5,7 @@ ghost use Rattle.std.specs.Prelude.{OnOk, OnErr};
 ghost use Rattle.std.specs.Result.{is_err};
 ghost use Rattle.vyrd_base.specs.declared.history.Stamped.{Stamped};
 ghost use Rattle.vyrd_base.specs.Histories.{log_of};
+ghost use Rattle.vyrd_base.specs.Rules.{built_in, rules_by};
 ghost use Rattle.vyrd_base.specs.Verdicts.{verdict_so_far, verdict};
 ghost use Rattle.vyrd_verifier.specs.Judging.{HasJudged};
 ghost use Rattle.vyrd_verifier.specs.Taken.{numbered, in_order_below, has_failed, has_number};
@@ -47,7 +48,7 @@ impl Verifier {
     /// A verifier that has taken in nothing.
     pub fn new(alloc: Global, header: Header) -> Result<Verifier, AllocError>
         ensures taken { IfOk result (λ v. HasTakenIn HasJudged v []) }
-        ensures header { IfOk result (λ v. v.sink.judge.kept.header ≡ header) }
+        ensures charter { IfOk result (λ v. v.sink.judge.kept.charter ≡ built_in header) }
         ensures has_failed { IfOk result (λ v. has_failed v ≡ false) }
     {
         let judge = RunJudge::new(alloc, header)?;
@@ -64,7 +65,7 @@ impl Verifier {
         requires number { item.number < 2 ^ 62 }
         requires new { has_number self.old item.number ≡ false }
         ensures answer { (taken : List Stamped) → HasTakenIn HasJudged self.old taken
-            → IfOk result (λ v. v ≡ verdict_so_far self.old.sink.judge.kept.header []
+            → IfOk result (λ v. v ≡ verdict_so_far (rules_by self.old.sink.judge.kept.charter) []
             (log_of (in_order_below self.new.kept.next (taken ++ item ∷ [])))) }
         ensures taken { (taken : List Stamped) → HasTakenIn HasJudged self.old taken
             → OnOk result (HasTakenIn HasJudged self.new (taken ++ item ∷ [])) }
@@ -72,8 +73,8 @@ impl Verifier {
             → OnErr result (HasTakenIn HasJudged self.new taken) }
         ensures has_failed { has_failed self.new ≡ is_err result }
         ensures fails_again { has_failed self.old ≡ true → is_err result ≡ true }
-        ensures header { OnOk result
-            (self.new.sink.judge.kept.header ≡ self.old.sink.judge.kept.header) }
+        ensures charter { OnOk result
+            (self.new.sink.judge.kept.charter ≡ self.old.sink.judge.kept.charter) }
     {
         self.sequencer.take_in(item)?;
         Ok(self.sequencer.sink().so_far())
@@ -92,7 +93,7 @@ impl Verifier {
     /// It takes no memory, and out of memory comes exactly when an earlier `take_in` answered it.
     pub fn finish(&self) -> Result<Verdict, AllocError>
         ensures verdict { (taken : List Stamped) → HasTakenIn HasJudged self.now taken
-            → IfOk result (λ v. v ≡ verdict self.now.sink.judge.kept.header []
+            → IfOk result (λ v. v ≡ verdict (rules_by self.now.sink.judge.kept.charter) []
             (log_of (in_order_below self.now.kept.next taken))) }
         ensures has_failed { is_err result ≡ has_failed self.now }
     {

@@ -4,6 +4,7 @@ ghost use Rattle.std.specs.VecDeque.{deque_len, deque_capacity};
 ghost use Rattle.std.specs.Prelude.{◌≡◌, ◌<◌, ◌≤◌, ◌^◌, ◌+◌, ◌++◌, ℕ, false, List, [], ◌∷◌, length};
 ghost use Rattle.std.specs.Prelude.{map, take, drop, sum, insert, replicate, slice_set};
 ghost use Rattle.std.specs.Prelude.{slice_index, Some, IfOk, OnOk, vec_len, vec_capacity, All};
+ghost use Rattle.vyrd_base.specs.Rules.{rules_by};
 ghost use Rattle.vyrd_base.specs.Amounts.{with_amount, first_difference as least_difference};
 ghost use Rattle.std.specs.Result.{is_err};
 ghost use Rattle.vyrd_base.specs.Layout.{plain_words};
@@ -259,9 +260,12 @@ impl Views {
         requires sound { self.old.refused ≡ false }
         ensures difference { (part : List (ℕ × ℕ)) (rest : List (List (ℕ × ℕ)))
             → self.old.since ≡ part ∷ rest
-            → with_touched touched (S.state spec.now) self.old.specified ≡ S.state spec.now
+            → with_touched touched
+            ((rules_by (S.charter spec.now)).shown (S.state spec.now)) self.old.specified
+            ≡ (rules_by (S.charter spec.now)).shown (S.state spec.now)
             → IfOk result (λ found. found
-            ≡ least_difference (view_of_words self.old.header self.old.first) (S.state spec.now)) }
+            ≡ least_difference (view_of_words self.old.header self.old.first)
+            ((rules_by (S.charter spec.now)).shown (S.state spec.now))) }
         ensures first { (part : List (ℕ × ℕ)) (rest : List (List (ℕ × ℕ)))
             → self.old.since ≡ part ∷ rest
             → OnOk result (self.new.first ≡ with_writes self.old.first part) }
@@ -269,7 +273,9 @@ impl Views {
             → self.old.since ≡ part ∷ rest
             → OnOk result (self.new.since ≡ rest) }
         ensures specified { OnOk result
-            (self.new.specified ≡ with_touched touched (S.state spec.now) self.old.specified) }
+            (self.new.specified
+            ≡ with_touched touched
+            ((rules_by (S.charter spec.now)).shown (S.state spec.now)) self.old.specified) }
         ensures sound { OnOk result (self.new.refused ≡ false) }
         ensures header { self.new.header ≡ self.old.header }
     {
@@ -285,7 +291,9 @@ impl Views {
     fn specify<S: Spec>(&mut self, spec: &S, key: Option<u64>) -> Result<(), AllocError>
         requires sound { self.old.refused ≡ false }
         ensures specified { OnOk result
-            (self.new.specified ≡ with_key key (S.state spec.now) self.old.specified) }
+            (self.new.specified
+            ≡ with_key key
+            ((rules_by (S.charter spec.now)).shown (S.state spec.now)) self.old.specified) }
         ensures sound { OnOk result (self.new.refused ≡ false) }
         ensures first { self.new.first ≡ self.old.first }
         ensures since { self.new.since ≡ self.old.since }

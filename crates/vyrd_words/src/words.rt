@@ -2,6 +2,7 @@
 
 ghost use Rattle.std.specs.Prelude.{◌≡◌, ◌<◌, ◌^◌, ◌∷◌, ℕ, false, List, [], length, slice_index};
 ghost use Rattle.std.specs.Prelude.{IfOk, OnOk, replicate, All};
+ghost use Rattle.vyrd_base.specs.Rules.{rules_by};
 ghost use Rattle.vyrd_base.specs.Amounts.{first_difference as least_difference};
 ghost use Rattle.vyrd_base.specs.declared.log.Entry.{Entry};
 ghost use Rattle.vyrd_base.specs.declared.log.StartWord.{StartWord};
@@ -149,9 +150,12 @@ impl Words {
         requires sound { self.old.views.refused ≡ false }
         ensures difference { (part : List (ℕ × ℕ)) (rest : List (List (ℕ × ℕ)))
             → self.old.views.since ≡ part ∷ rest
-            → with_touched touched (S.state spec.now) self.old.views.specified ≡ S.state spec.now
+            → with_touched touched
+            ((rules_by (S.charter spec.now)).shown (S.state spec.now)) self.old.views.specified
+            ≡ (rules_by (S.charter spec.now)).shown (S.state spec.now)
             → IfOk result (λ found. found ≡ least_difference
-            (view_of_words self.old.views.header self.old.views.first) (S.state spec.now)) }
+            (view_of_words self.old.views.header self.old.views.first)
+            ((rules_by (S.charter spec.now)).shown (S.state spec.now))) }
         ensures first { (part : List (ℕ × ℕ)) (rest : List (List (ℕ × ℕ)))
             → self.old.views.since ≡ part ∷ rest
             → OnOk result (self.new.views.first ≡ with_writes self.old.views.first part) }
@@ -159,7 +163,8 @@ impl Words {
             → self.old.views.since ≡ part ∷ rest
             → OnOk result (self.new.views.since ≡ rest) }
         ensures specified { OnOk result (self.new.views.specified
-            ≡ with_touched touched (S.state spec.now) self.old.views.specified) }
+            ≡ with_touched touched
+            ((rules_by (S.charter spec.now)).shown (S.state spec.now)) self.old.views.specified) }
         ensures sound { OnOk result (self.new.views.refused ≡ false) }
         ensures views_header { self.new.views.header ≡ self.old.views.header }
         ensures shadow { self.new.shadow ≡ self.old.shadow }

@@ -14,7 +14,7 @@ returns-in-Ok-clause-every_schedule g c = λ is.
     let run = c.in_ok-finish-in-Ok.field-0 in
     let has_run : HasRun (work_scripts w) w.turns w.header HasRecorded c.show_turns.new.sink c.in-Ok.words.items = search rules in
     turns_accepted w run c.requires.limits is
-    (run_recorded w c.show_turns.new.sink c.in-Ok.words.items run has_run (c.in-Ok.ensures.fixed ∙ c.in_ok-recording.ensures.header)
+    (run_recorded w c.show_turns.new.sink c.in-Ok.words.items run has_run (c.in-Ok.ensures.fixed ∙ c.in_ok-recording.ensures.charter)
     c.in_ok-finish-in-Ok.ensures.history c.in_ok-finish-in-Ok.ensures.words c.in_ok-finish-in-Ok.ensures.verdict)
 
 pub returns-in-Err-Stuck-clause-every_schedule : goal.returns-in-Err-Stuck-clause-every_schedule

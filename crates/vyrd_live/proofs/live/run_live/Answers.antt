@@ -1,6 +1,7 @@
 -- A correct structure is accepted in every schedule, and where its operations have few events its callers have room for them.
 use Rattle.std.proofs.Common.{◌≡◌, ℕ, [], Some, None, ap, ◌∙◌, sym, subst}
 use Rattle.vyrd_base.specs.Histories.{log_of}
+use Rattle.vyrd_base.specs.Rules.{rules_by}
 use Rattle.vyrd_base.specs.Verdicts.{accepted, verdict}
 use Rattle.vyrd_work.specs.Workloads.{workload_of}
 use Rattle.vyrd_work.specs.WorkScripts.{work_scripts}
@@ -23,6 +24,6 @@ returns-in-Ok-finish-clause-every_schedule g c = λ is.
     let run = c.in-Ok.ensures.run in
     let played = subst (λ spent. HavePlayed w.header c.args.limit (work_scripts w) run.history spent) c.in_default-spent.is run.played in
     c.in-Ok-finish.ensures.verdict run.history run.taken
-    ∙ ap (λ h. verdict h [] (log_of run.history)) c.in-Ok.ensures.header
+    ∙ ap (λ k. verdict (rules_by k) [] (log_of run.history)) c.in-Ok.ensures.charter
     ∙ schedule_accepted w run.history c.requires.limits is (record { legal = run.legal; parts = played.0 })
     ∙ ap (λ h. accepted (log_of h)) (sym (c.in-Ok-finish.ensures.history ∙ run.taken.kept))

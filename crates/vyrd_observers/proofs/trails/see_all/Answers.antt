@@ -2,13 +2,14 @@ use Rattle.std.proofs.Common.{◌<◌, ◌≤◌, ap, sym, subst, ◌∙◌, len
 use Rattle.std.proofs.lemmas.List.{set-get_or}
 use Rattle.std.proofs.lemmas.Option.{slice_get-get_or}
 use Rattle.vyrd_observers.specs.Trails.{AreAsking, AreOn, after_state}
+use Rattle.vyrd_base.specs.Rules.{rules_by}
 use Rattle.vyrd_base.proofs.ChangedLists.{changed_next, changed_all}
 use Rattle.vyrd_observers.proofs.TrailLaws.{asking_after, on_after, length-changed}
 use Rattle.vyrd_observers.proofs.trails.see_all.Goals as goal
 
 pub see-requires-clause-allowed : goal.see-requires-clause-allowed
 see-requires-clause-allowed g c = λ is_asked.
-    let f = after_state c.args.touched (g.S.Spec.state c.args.spec.now) in
+    let f = after_state (g.S.Spec.affects c.args.touched) ((rules_by (g.S.Spec.charter c.args.spec.now)).answer (g.S.Spec.state c.args.spec.now)) in
     let old = c.args.trails.now.items in
     let i = c.loop-i.i in
     let within : i < length c.loop-i.trails.items = omega (
@@ -19,14 +20,14 @@ see-requires-clause-allowed g c = λ is_asked.
       ap length c.loop-i.invariant,
       length-changed f i old,
     ) in
-    ((subst (AreAsking (g.S.Spec.header_of c.args.spec.now)) (sym c.loop-i.invariant)
-    (asking_after (g.S.Spec.header_of c.args.spec.now) c.args.touched (g.S.Spec.state c.args.spec.now) i old c.requires.asking))
+    ((subst (AreAsking (rules_by (g.S.Spec.charter c.args.spec.now)).header) (sym c.loop-i.invariant)
+    (asking_after (rules_by (g.S.Spec.charter c.args.spec.now)).header (g.S.Spec.affects c.args.touched) ((rules_by (g.S.Spec.charter c.args.spec.now)).answer (g.S.Spec.state c.args.spec.now)) i old c.requires.asking))
     i c.index_mut.result.now
     (slice_get-get_or c.loop-i.trails.items i c.index_mut.result.now within ∙ ap Some (sym c.index_mut.ensures.value)) is_asked).0
 
 pub see-requires-clause-observer : goal.see-requires-clause-observer
 see-requires-clause-observer g c = λ is_asked.
-    let f = after_state c.args.touched (g.S.Spec.state c.args.spec.now) in
+    let f = after_state (g.S.Spec.affects c.args.touched) ((rules_by (g.S.Spec.charter c.args.spec.now)).answer (g.S.Spec.state c.args.spec.now)) in
     let old = c.args.trails.now.items in
     let i = c.loop-i.i in
     let within : i < length c.loop-i.trails.items = omega (
@@ -37,8 +38,8 @@ see-requires-clause-observer g c = λ is_asked.
       ap length c.loop-i.invariant,
       length-changed f i old,
     ) in
-    ((subst (AreAsking (g.S.Spec.header_of c.args.spec.now)) (sym c.loop-i.invariant)
-    (asking_after (g.S.Spec.header_of c.args.spec.now) c.args.touched (g.S.Spec.state c.args.spec.now) i old c.requires.asking))
+    ((subst (AreAsking (rules_by (g.S.Spec.charter c.args.spec.now)).header) (sym c.loop-i.invariant)
+    (asking_after (rules_by (g.S.Spec.charter c.args.spec.now)).header (g.S.Spec.affects c.args.touched) ((rules_by (g.S.Spec.charter c.args.spec.now)).answer (g.S.Spec.state c.args.spec.now)) i old c.requires.asking))
     i c.index_mut.result.now
     (slice_get-get_or c.loop-i.trails.items i c.index_mut.result.now within ∙ ap Some (sym c.index_mut.ensures.value)) is_asked).1
 
@@ -46,19 +47,19 @@ pub returns-in_err-see-clause-asking : goal.returns-in_err-see-clause-asking
 returns-in_err-see-clause-asking g c =
     let unchanged = ap (set c.loop-i.trails.items c.loop-i.i) (c.in_err-see.ensures.unchanged ∙ c.index_mut.ensures.value)
     ∙ set-get_or c.loop-i.trails.items c.loop-i.i c.index_mut.result.now ∙ c.loop-i.invariant in
-    subst (AreAsking (g.S.Spec.header_of c.args.spec.now)) (sym unchanged)
-    (asking_after (g.S.Spec.header_of c.args.spec.now) c.args.touched (g.S.Spec.state c.args.spec.now) c.loop-i.i c.args.trails.now.items c.requires.asking)
+    subst (AreAsking (rules_by (g.S.Spec.charter c.args.spec.now)).header) (sym unchanged)
+    (asking_after (rules_by (g.S.Spec.charter c.args.spec.now)).header (g.S.Spec.affects c.args.touched) ((rules_by (g.S.Spec.charter c.args.spec.now)).answer (g.S.Spec.state c.args.spec.now)) c.loop-i.i c.args.trails.now.items c.requires.asking)
 
 pub returns-in_err-see-clause-on : goal.returns-in_err-see-clause-on
 returns-in_err-see-clause-on g c = λ watches on.
     let unchanged = ap (set c.loop-i.trails.items c.loop-i.i) (c.in_err-see.ensures.unchanged ∙ c.index_mut.ensures.value)
     ∙ set-get_or c.loop-i.trails.items c.loop-i.i c.index_mut.result.now ∙ c.loop-i.invariant in
     subst (λ ts. AreOn ts watches) (sym unchanged)
-    (on_after c.args.touched (g.S.Spec.state c.args.spec.now) c.loop-i.i c.args.trails.now.items watches on)
+    (on_after (g.S.Spec.affects c.args.touched) ((rules_by (g.S.Spec.charter c.args.spec.now)).answer (g.S.Spec.state c.args.spec.now)) c.loop-i.i c.args.trails.now.items watches on)
 
 pub loop-i-preserved : goal.loop-i-preserved
 loop-i-preserved g c =
-    let f = after_state c.args.touched (g.S.Spec.state c.args.spec.now) in
+    let f = after_state (g.S.Spec.affects c.args.touched) ((rules_by (g.S.Spec.charter c.args.spec.now)).answer (g.S.Spec.state c.args.spec.now)) in
     let within : c.loop-i.i < length c.args.trails.now.items = omega (arith, c.loop-i-test.true, c.len-i-end.ensures, c.args.trails.now.ok.0) in
     changed_next f c.loop-i.i c.args.trails.now.items c.loop-i.trails.items c.index_mut.result.now c.see.new.trail within c.loop-i.invariant
     (c.in_ok-see.ensures.saw ∙ ap f c.index_mut.ensures.value)
@@ -66,12 +67,12 @@ loop-i-preserved g c =
 pub returns-clause-saw : goal.returns-clause-saw
 returns-clause-saw g c =
     let past : length c.args.trails.now.items ≤ c.loop-i.i = omega (arith, c.loop-i-test.false, c.len-i-end.ensures, c.args.trails.now.ok.0) in
-    c.loop-i.invariant ∙ changed_all (after_state c.args.touched (g.S.Spec.state c.args.spec.now)) c.loop-i.i c.args.trails.now.items past
+    c.loop-i.invariant ∙ changed_all (after_state (g.S.Spec.affects c.args.touched) ((rules_by (g.S.Spec.charter c.args.spec.now)).answer (g.S.Spec.state c.args.spec.now))) c.loop-i.i c.args.trails.now.items past
 
 pub returns-clause-asking : goal.returns-clause-asking
-returns-clause-asking g c = subst (AreAsking (g.S.Spec.header_of c.args.spec.now)) (sym c.loop-i.invariant)
-    (asking_after (g.S.Spec.header_of c.args.spec.now) c.args.touched (g.S.Spec.state c.args.spec.now) c.loop-i.i c.args.trails.now.items c.requires.asking)
+returns-clause-asking g c = subst (AreAsking (rules_by (g.S.Spec.charter c.args.spec.now)).header) (sym c.loop-i.invariant)
+    (asking_after (rules_by (g.S.Spec.charter c.args.spec.now)).header (g.S.Spec.affects c.args.touched) ((rules_by (g.S.Spec.charter c.args.spec.now)).answer (g.S.Spec.state c.args.spec.now)) c.loop-i.i c.args.trails.now.items c.requires.asking)
 
 pub returns-clause-on : goal.returns-clause-on
 returns-clause-on g c = λ watches on. subst (λ ts. AreOn ts watches) (sym c.loop-i.invariant)
-    (on_after c.args.touched (g.S.Spec.state c.args.spec.now) c.loop-i.i c.args.trails.now.items watches on)
+    (on_after (g.S.Spec.affects c.args.touched) ((rules_by (g.S.Spec.charter c.args.spec.now)).answer (g.S.Spec.state c.args.spec.now)) c.loop-i.i c.args.trails.now.items watches on)

@@ -20,4 +20,4 @@ returns-in-Some c =
     both_ok c.generated.result (c.generated.ensures.status run.history run.taken) (c.generated.ensures.text run.history run.taken)
     (λ answer status text. inl (subst (λ w. CountsRun c.args.count w answer.status answer.text.items) c.in_ok-work.ensures.work
     (counts_run c.args.count w a c.in-Some.field-0.items answer.status answer.text.items c.in_ok-work.ensures.limits run
-    (ap (λ f. f.0) fixed ∙ c.in_ok-account.ensures.header) status text)))
+    (ap (λ f. f.0) fixed ∙ c.in_ok-account.ensures.charter) status text)))

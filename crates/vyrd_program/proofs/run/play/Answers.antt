@@ -1,7 +1,9 @@
-use Rattle.std.proofs.Common.{◌∙◌, ap, subst, inl}
+use Rattle.std.proofs.Common.{◌∙◌, ◌<◌, ap, subst, inl, inr}
+use Rattle.std.specs.Prelude.{IfSome}
+use Rattle.vyrd_memory.specs.Bounds.{bounds_of}
 use Rattle.vyrd_trace.specs.Hands.{most_events}
 use Rattle.vyrd_work.specs.Workloads.{workload_of}
-use Rattle.vyrd_work.specs.WorkScripts.{work_scripts}
+use Rattle.vyrd_work.specs.WorkScripts.{ops_of, work_scripts}
 use Rattle.vyrd_live.specs.LiveRuns.{LeavesRun}
 use Rattle.vyrd_live.proofs.FreshWorkers.{both_ok}
 use Rattle.vyrd_program.specs.Accounts.{HasTaken}
@@ -17,4 +19,22 @@ returns g c =
     c.in_ok-played.ensures.run in
     both_ok c.told_of.result (c.told_of.ensures.status run.history run.taken) (c.told_of.ensures.text run.history run.taken)
     (λ answer status text. inl (tells_live c.args.show w played.sink played.words.items answer.status answer.text.items c.requires run
-    (ap (λ f. f.0) fixed ∙ c.in_ok-account.ensures.header) (ap (λ f. f.1) fixed ∙ c.in_ok-account.ensures.show) status text))
+    (ap (λ f. f.0) fixed ∙ c.in_ok-account.ensures.charter) (ap (λ f. f.1) fixed ∙ c.in_ok-account.ensures.show) status text))
+
+pub returns-in-Some : goal.returns-in-Some
+returns-in-Some g c =
+    let w = workload_of c.args.work in
+    let played = c.in_ok-played.played in
+    let run = subst (λ spent. LeavesRun w.header most_events (work_scripts w) HasTaken played.sink played.words.items spent) c.in-Some.is
+    c.in_ok-played.ensures.run in
+    let low = subst (λ spent. IfSome spent (λ caller. most_events < bounds_of w.header (ops_of caller w.ops))) c.in-Some.is
+    c.in_ok-played.ensures.too_low in
+    both_ok c.overrun.result c.overrun.ensures.status c.overrun.ensures.text (λ answer status text. inr (record {
+      caller = c.in-Some.caller;
+      history = run.history;
+      legal = run.legal;
+      overrun = run.played;
+      too_low = low;
+      status_is = status;
+      text_is = text;
+    }))

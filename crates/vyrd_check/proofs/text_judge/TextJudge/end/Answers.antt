@@ -1,11 +1,13 @@
 use Rattle.std.proofs.Common.{ap, subst, sym, ◌∙◌}
 use Rattle.std.proofs.Math.Logic.{∥∥₁_elim}
+use Rattle.vyrd_base.specs.Rules.{rules_by}
 use Rattle.vyrd_base.specs.TextVerdicts.{text_verdict}
 use Rattle.vyrd_base.specs.Verdicts.{verdict}
 use Rattle.vyrd_base.specs.declared.verdict.Verdict.TheVariants.{Malformed}
 use Rattle.vyrd_check.specs.LogReadings.{read_so_far}
 use Rattle.vyrd_check.specs.Checking.{Kept, IsJudging, IsUndecided}
 use Rattle.vyrd_check.proofs.ReadingFacts.{whole_faulty, whole_accepted, not_ended}
+use Rattle.vyrd_check.proofs.PieceLaws.{header_of_charter}
 use Rattle.vyrd_check.proofs.EndFacts.{where_same}
 use Rattle.vyrd_check.proofs.text_judge.TextJudge.end.Goals as goal
 
@@ -32,8 +34,10 @@ returns c = λ bytes u.
     let before = subst (λ k. IsUndecided k bytes) (sym c.self.view_is) u in
     let read = read_so_far max bytes in
     let has = subst (λ judge. IsJudging judge read) c.in-Some.is before.judging in
-    let whole = whole_accepted max bytes c.in-Some.judge.kept.header before.nothing
-    (c.in-Ok.ensures.answer bytes before.read) (c.in-Ok.ensures.ended bytes before.read) has.header in
-    where_same (verdict c.in-Some.judge.kept.header read.starting read.entries) (text_verdict c.args.self.now.reader.max_lines bytes)
+    let h = header_of_charter read.header c.in-Some.judge.kept.charter has.charter in
+    let whole = ap (λ l. verdict (rules_by l) read.starting read.entries) (sym h.2)
+    ∙ whole_accepted max bytes h.0 before.nothing
+    (c.in-Ok.ensures.answer bytes before.read) (c.in-Ok.ensures.ended bytes before.read) h.1 in
+    where_same (verdict (rules_by c.in-Some.judge.kept.charter) read.starting read.entries) (text_verdict c.args.self.now.reader.max_lines bytes)
     (whole ∙ ap (λ (k : Kept). text_verdict k.reader.max_lines bytes) c.self.view_is) c.finish-in-Some.result
     (c.finish-in-Some.ensures.verdict read.starting read.entries has.followed)

@@ -6,7 +6,7 @@ use Rattle.vyrd_judge.proofs.follower.Follower.catch_up.Given as goal
 
 abbrev pub invariant-loop-verdict : goal.invariant-loop-verdict
 invariant-loop-verdict g l = record {
-  header : l.self.header ≡ l.initial.self.header;
+  header : l.self.charter ≡ l.initial.self.charter;
   entries : l.self.entries ≡ l.initial.self.entries;
   taken_in : (starting : List StartWord) (log : List Entry) → HasTakenIn l.initial.self starting log → HasTakenIn l.self starting log;
   may : MayCatchUp l.self;

@@ -1,4 +1,5 @@
 use Rattle.std.proofs.Common.{ap, subst, sym, ◌∙◌}
+use Rattle.vyrd_base.specs.Rules.{rules_by}
 use Rattle.vyrd_base.specs.Places.{newest_first}
 use Rattle.vyrd_base.specs.Verdicts.{verdict}
 use Rattle.vyrd_judge.specs.Following.{Kept, IsFaultless}
@@ -10,11 +11,11 @@ returns-then-is_err g c = λ starting log f.
     let was = subst (λ k. IsFaultless k starting log) (sym c.self.view_is) f in
     let opened = open_by _ c.end.result (c.end.ensures (newest_first log) was.taken_in.shape) in
     end_open was (sym opened ∙ sym c.is_err.ensures.value ∙ c.if-is_err.true)
-    ∙ ap (λ (k : Kept). verdict k.header starting log) c.self.view_is
+    ∙ ap (λ (k : Kept). verdict (rules_by k.charter) starting log) c.self.view_is
 
 pub returns : goal.returns
 returns g c = λ starting log f.
     let was = subst (λ k. IsFaultless k starting log) (sym c.self.view_is) f in
     let opened = open_by _ c.end.result (c.end.ensures (newest_first log) was.taken_in.shape) in
     end_accepted was (sym opened ∙ sym c.is_err.ensures.value ∙ c.if-is_err.false)
-    ∙ ap (λ (k : Kept). verdict k.header starting log) c.self.view_is
+    ∙ ap (λ (k : Kept). verdict (rules_by k.charter) starting log) c.self.view_is

@@ -1,4 +1,5 @@
 use Rattle.std.proofs.Common.{◌+◌, ◌∷◌, Some, Ok, refl, ap, subst, sym, ◌∙◌, arith}
+use Rattle.vyrd_base.specs.Rules.{rules_by}
 use Rattle.vyrd_base.specs.declared.verdict.Verdict.TheVariants.{Violation}
 use Rattle.vyrd_base.specs.Places.{newest_first}
 use Rattle.vyrd_base.specs.Verdicts.{first_fault}
@@ -41,14 +42,14 @@ returns-in-Goes-clause-gives g c = λ starting log t.
     let rest = c.first.ensures.some c.in-Some.x c.in-Some.is in
     let was = subst (λ k. HasTakenIn k starting log) (sym c.self.view_is) t in
     let gives = c.in_ok-judge.ensures.gives starting log rest.0 (first_judged c.in-Some.x rest.0 was rest.1) was.specified in
-    let judged = subst (HeadGives i.replay.header starting log (g.S.Spec.state c.judge.new.self.spec) (g.S.Spec.made c.judge.new.self.spec)
+    let judged = subst (HeadGives (rules_by (g.S.Spec.charter i.replay.spec)) starting log (g.S.Spec.state c.judge.new.self.spec) (g.S.Spec.made c.judge.new.self.spec)
     c.judge.new.self.watches.by_caller c.in-Some.x rest.0 c.judge.new.words.views.first c.judge.new.words.views.since) c.in-Goes.is gives in
     let queued = c.leave.ensures.left c.in-Some.x rest.0 (newest_first log) rest.1 (c.in_ok-judge.ensures.leaves (ap Ok c.in-Goes.is))
     (subst (λ h. HasQueued h i.queue.waiting.items i.queue.taken i.queue.callers.items (newest_first log)) (sym c.self.invariant.2) was.queued) in
     taken_on _ _ starting log rest.0 was judged
     (subst (λ h. HasQueued h rest.0 c.leave.new.self.taken c.leave.new.self.callers.items (newest_first log)) c.self.invariant.2 queued)
-    (c.leave.ensures.waiting c.in-Some.x rest.0 rest.1) c.judge.ensures.header refl refl c.judge.ensures.shadow c.judge.ensures.inner c.judge.ensures.views_header
-    (subst (KnowsState c.judge.new.words.views (g.S.Spec.state c.judge.new.self.spec)) c.in-Goes.is (c.in_ok-judge.ensures.known was.specified)) refl refl refl
+    (c.leave.ensures.waiting c.in-Some.x rest.0 rest.1) c.judge.ensures.charter refl refl c.judge.ensures.shadow c.judge.ensures.inner c.judge.ensures.views_header
+    (subst (KnowsState (rules_by (g.S.Spec.charter i.replay.spec)) c.judge.new.words.views (g.S.Spec.state c.judge.new.self.spec)) c.in-Goes.is (c.in_ok-judge.ensures.known was.specified)) refl refl refl
 
 pub returns-in-Faults-clause-gives : goal.returns-in-Faults-clause-gives
 returns-in-Faults-clause-gives g c = λ starting log t.
@@ -56,8 +57,8 @@ returns-in-Faults-clause-gives g c = λ starting log t.
     let rest = c.first.ensures.some c.in-Some.x c.in-Some.is in
     let was = subst (λ k. HasTakenIn k starting log) (sym c.self.view_is) t in
     let gives = c.in_ok-judge.ensures.gives starting log rest.0 (first_judged c.in-Some.x rest.0 was rest.1) was.specified in
-    ap (λ (k : Kept). first_fault k.header starting log) (sym c.self.view_is)
-    ∙ subst (HeadGives i.replay.header starting log (g.S.Spec.state c.judge.new.self.spec) (g.S.Spec.made c.judge.new.self.spec)
+    ap (λ (k : Kept). first_fault (rules_by k.charter) starting log) (sym c.self.view_is)
+    ∙ subst (HeadGives (rules_by (g.S.Spec.charter i.replay.spec)) starting log (g.S.Spec.state c.judge.new.self.spec) (g.S.Spec.made c.judge.new.self.spec)
     c.judge.new.self.watches.by_caller c.in-Some.x rest.0 c.judge.new.words.views.first c.judge.new.words.views.since) c.in-Faults.is gives
     ∙ ap (λ n. Some (Violation (n + c.in-Some.x.position + 2) c.in-Faults.why)) (sym was.started)
     ∙ ap (λ n. Some (Violation (i.started + n + 2) c.in-Faults.why)) (sym c.position.ensures)
@@ -68,11 +69,11 @@ returns-in-Ends-clause-gives g c = λ starting log t.
     let rest = c.first.ensures.some c.in-Some.x c.in-Some.is in
     let was = subst (λ k. HasTakenIn k starting log) (sym c.self.view_is) t in
     let gives = c.in_ok-judge.ensures.gives starting log rest.0 (first_judged c.in-Some.x rest.0 was rest.1) was.specified in
-    let ends = subst (HeadGives i.replay.header starting log (g.S.Spec.state c.judge.new.self.spec) (g.S.Spec.made c.judge.new.self.spec)
+    let ends = subst (HeadGives (rules_by (g.S.Spec.charter i.replay.spec)) starting log (g.S.Spec.state c.judge.new.self.spec) (g.S.Spec.made c.judge.new.self.spec)
     c.judge.new.self.watches.by_caller c.in-Some.x rest.0 c.judge.new.words.views.first c.judge.new.words.views.since) c.in-Ends.is gives in (
-      ap (λ (k : Kept). first_fault k.header starting log) (sym c.self.view_is) ∙ ends.0,
+      ap (λ (k : Kept). first_fault (rules_by k.charter) starting log) (sym c.self.view_is) ∙ ends.0,
       taken_on _ _ starting log (c.in-Some.x ∷ rest.0) was ends.1
-          (subst (λ q. HasQueued i.replay.header q i.queue.taken i.queue.callers.items (newest_first log)) rest.1 was.queued)
-          rest.1 c.judge.ensures.header refl refl c.judge.ensures.shadow c.judge.ensures.inner c.judge.ensures.views_header
-          (subst (KnowsState c.judge.new.words.views (g.S.Spec.state c.judge.new.self.spec)) c.in-Ends.is (c.in_ok-judge.ensures.known was.specified)) refl refl refl,
+          (subst (λ q. HasQueued (rules_by (g.S.Spec.charter i.replay.spec)).header q i.queue.taken i.queue.callers.items (newest_first log)) rest.1 was.queued)
+          rest.1 c.judge.ensures.charter refl refl c.judge.ensures.shadow c.judge.ensures.inner c.judge.ensures.views_header
+          (subst (KnowsState (rules_by (g.S.Spec.charter i.replay.spec)) c.judge.new.words.views (g.S.Spec.state c.judge.new.self.spec)) c.in-Ends.is (c.in_ok-judge.ensures.known was.specified)) refl refl refl,
     )

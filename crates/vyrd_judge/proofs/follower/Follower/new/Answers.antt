@@ -1,6 +1,9 @@
-use Rattle.std.proofs.Common.{◌<◌, ◌^◌, Some, length, map, refl, ap, sym, subst, ◌∙◌, arith}
+use Rattle.std.proofs.Common.{◌<◌, ◌^◌, [], Some, length, map, refl, ap, sym, subst, ◌∙◌, arith}
 use Rattle.std.specs.Prelude.{All, replicate}
+use Rattle.vyrd_base.specs.Rules.{rules_by}
 use Rattle.vyrd_base.specs.Layout.{plain_words}
+use Rattle.vyrd_base.specs.Starts.{words_at_start}
+use Rattle.vyrd_judge.specs.Queued.{HasQueued}
 use Rattle.vyrd_view.specs.Comparing.{AgreeElsewhere}
 use Rattle.vyrd_observers.specs.Watching.{AreCurrent}
 use Rattle.vyrd_base.proofs.HeaderLaws.{few_words}
@@ -27,22 +30,28 @@ new-requires-2-clause-elsewhere g c =
 
 pub returns-clause-taken_in : goal.returns-clause-taken_in
 returns-clause-taken_in g c =
-    first_taken_in _ c.args.header c.args.start.now c.in_ok-new-4.ensures.header refl
+    let r = rules_by (g.S.Spec.charter c.args.spec) in
+    let named = sym c.requires.spec_header in
+    first_taken_in _ r c.args.start.now (ap (λ s. rules_by (g.S.Spec.charter s)) c.in_ok-new-4.ensures.spec) refl
     (c.requires.state ∙ ap (λ s. Some (g.S.Spec.state s)) (sym c.in_ok-new-4.ensures.spec))
-    c.in_ok-new.ensures.followed c.in_ok-new.ensures.header
-    (c.in_ok-new-2.ensures.words c.args.start.now c.requires.words) c.in_ok-new-2.ensures.header
-    c.in_ok-new-2.ensures.views_header c.in_ok-new-3.ensures.queued
+    c.in_ok-new.ensures.followed (c.in_ok-new.ensures.header ∙ named)
+    (c.in_ok-new-2.ensures.words c.args.start.now c.requires.words) (c.in_ok-new-2.ensures.header ∙ named)
+    (c.in_ok-new-2.ensures.views_header ∙ named) (subst (λ h. HasQueued h c.in_ok-new-3.field-0.waiting.items c.in_ok-new-3.field-0.taken c.in_ok-new-3.field-0.callers.items []) named c.in_ok-new-3.ensures.queued)
     (ap g.S.Spec.made c.in_ok-new-4.ensures.spec ∙ c.requires.made)
-    (subst (λ s. AreCurrent (g.S.Spec.state s) c.in_ok-new-4.field-0.watches.by_caller) (sym c.in_ok-new-4.ensures.spec) c.in_ok-new-4.ensures.current)
-    c.in_ok-new-3.ensures.waiting (c.in_ok-new-2.ensures.first ∙ c.requires.words) c.in_ok-new-2.ensures.since refl refl refl
-    (c.in_ok-new-2.ensures.specified ∙ c.in_ok-state.ensures ∙ ap g.S.Spec.state (sym c.in_ok-new-4.ensures.spec), c.in_ok-new-2.ensures.sound)
+    (subst (λ s. AreCurrent (r.answer (g.S.Spec.state s)) c.in_ok-new-4.field-0.watches.by_caller) (sym c.in_ok-new-4.ensures.spec) c.in_ok-new-4.ensures.current)
+    c.in_ok-new-3.ensures.waiting (c.in_ok-new-2.ensures.first ∙ c.requires.words ∙ ap (λ h. words_at_start h c.args.start.now) named) c.in_ok-new-2.ensures.since refl refl refl
+    (c.in_ok-new-2.ensures.specified ∙ c.in_ok-state.ensures ∙ ap (λ s. (rules_by (g.S.Spec.charter s)).shown (g.S.Spec.state s)) (sym c.in_ok-new-4.ensures.spec), c.in_ok-new-2.ensures.sound)
+
+pub returns-clause-charter : goal.returns-clause-charter
+returns-clause-charter g c = ap g.S.Spec.charter c.in_ok-new-4.ensures.spec
 
 pub invariant_of-result : goal.invariant_of-result
-invariant_of-result g c = (
-  c.in_ok-new.ensures.header ∙ sym c.in_ok-new-4.ensures.header,
-  c.in_ok-new-2.ensures.header ∙ sym c.in_ok-new-4.ensures.header,
-  c.in_ok-new-3.ensures.header ∙ sym c.in_ok-new-4.ensures.header,
-  omega (arith, start_few c.args.header c.args.start.now c.requires.may_start, few_words c.args.header),
-  omega arith,
-  c.in_ok-new-2.ensures.views_header ∙ sym c.in_ok-new-4.ensures.header,
-)
+invariant_of-result g c =
+    let named = sym c.requires.spec_header ∙ ap (λ s. (rules_by (g.S.Spec.charter s)).header) (sym c.in_ok-new-4.ensures.spec) in (
+      c.in_ok-new.ensures.header ∙ named,
+      c.in_ok-new-2.ensures.header ∙ named,
+      c.in_ok-new-3.ensures.header ∙ named,
+      omega (arith, start_few c.args.header c.args.start.now c.requires.may_start, few_words c.args.header),
+      omega arith,
+      c.in_ok-new-2.ensures.views_header ∙ named,
+    )

@@ -1,5 +1,6 @@
 use Rattle.std.proofs.Common.{◌≡◌, ◌<◌, ◌^◌, ◌∷◌, ◌++◌, [], refl, ap, subst, sym, ◌∙◌}
 use Rattle.std.specs.Result.{IfOk}
+use Rattle.vyrd_base.specs.Rules.{rules_by}
 use Rattle.vyrd_base.specs.Verdicts.{first_fault, verdict_so_far}
 use Rattle.vyrd_judge.specs.Queued.{MayQueue}
 use Rattle.vyrd_judge.specs.Following.{Kept, IsFaultless, IsSomewhere}
@@ -11,12 +12,12 @@ pub returns-in-Err-clause-answer : goal.returns-in-Err-clause-answer
 returns-in-Err-clause-answer g c = λ starting log f.
     let was = subst (λ k. IsFaultless k starting log) (sym c.self.view_is) f in
     broken_so_far c.args.entry c.in-Err.fault.rule was (c.in-Err.ensures.fault _ was.taken_in.shape)
-    ∙ ap (λ (k : Kept). verdict_so_far k.header starting (log ++ c.args.entry ∷ [])) c.self.view_is
+    ∙ ap (λ (k : Kept). verdict_so_far (rules_by k.charter) starting (log ++ c.args.entry ∷ [])) c.self.view_is
 
 pub observer_returns-observes-requires : goal.observer_returns-observes-requires
 observer_returns-observes-requires g c =
     rw c.self.invariant.2 (low_caller_of c.args.entry (subst IsSomewhere (sym c.self.view_is) c.requires.somewhere)
-    (keeps_by c.args.entry c.self.inside.replay.header c.self.invariant.0 refl c.in_default.ensures.ok))
+    (keeps_by c.args.entry (rules_by (g.S.Spec.charter c.self.inside.replay.spec)).header c.self.invariant.0 refl c.in_default.ensures.ok))
 
 pub follow-requires-clause-sound : goal.follow-requires-clause-sound
 follow-requires-clause-sound g c = sound_of (subst IsSomewhere (sym c.self.view_is) c.requires.somewhere)
@@ -35,7 +36,7 @@ follow-requires-2-clause-may g c =
     let i = c.self.inside in
     subst (λ h. MayQueue h i.queue.waiting.items i.queue.taken i.queue.callers.items c.args.entry i.entries) (sym c.self.invariant.2)
     (may_queue c.args.entry (subst IsSomewhere (sym c.self.view_is) c.requires.somewhere)
-    (keeps_by c.args.entry c.self.inside.replay.header c.self.invariant.0 refl c.in_default.ensures.ok))
+    (keeps_by c.args.entry (rules_by (g.S.Spec.charter c.self.inside.replay.spec)).header c.self.invariant.0 refl c.in_default.ensures.ok))
 
 pub counted-self-inside-requires : goal.counted-self-inside-requires
 counted-self-inside-requires g c =
@@ -58,11 +59,11 @@ catch_up-requires g c =
 
 pub returns-clause-answer : goal.returns-clause-answer
 returns-clause-answer g c = λ starting log f.
-    let h = c.self.inside.replay.header in
+    let h = rules_by (g.S.Spec.charter c.self.inside.replay.spec) in
     let was = subst (λ k. IsFaultless k starting log) (sym c.self.view_is) f in
     let more = log ++ c.args.entry ∷ [] in
-    let same = ap (λ (k : Kept). verdict_so_far k.header starting more) c.self.view_is in
-    IfOk-weaker c.catch_up.result (λ v. v ≡ first_fault h starting more) (λ v. v ≡ verdict_so_far c.args.self.now.header starting more)
+    let same = ap (λ (k : Kept). verdict_so_far (rules_by k.charter) starting more) c.self.view_is in
+    IfOk-weaker c.catch_up.result (λ v. v ≡ first_fault h starting more) (λ v. v ≡ verdict_so_far (rules_by c.args.self.now.charter) starting more)
     (λ v is. answer_with v (taken_all _ _ c.args.entry c.self.inside.queue.header c.is_commit.result c.observer_returns-observes.result
     c.self.invariant.0 c.self.invariant.1 c.self.invariant.2 c.in_default.ensures.ok c.step.ensures.header c.in_ok-follow.ensures.taken c.follow.ensures.header c.follow.ensures.views_header
     c.in_ok-follow-2.ensures.taken_up refl refl refl refl refl c.is_commit.ensures c.counted-self-inside.ensures c.observer_returns-observes.ensures
@@ -74,7 +75,7 @@ returns-clause-answer g c = λ starting log f.
 
 pub returns-clause-follows : goal.returns-clause-follows
 returns-clause-follows g c = λ starting log f is.
-    let h = c.self.inside.replay.header in
+    let h = rules_by (g.S.Spec.charter c.self.inside.replay.spec) in
     let was = subst (λ k. IsFaultless k starting log) (sym c.self.view_is) f in
     let more = log ++ c.args.entry ∷ [] in
     record {
@@ -82,7 +83,7 @@ returns-clause-follows g c = λ starting log f is.
           c.self.invariant.0 c.self.invariant.1 c.self.invariant.2 c.in_default.ensures.ok c.step.ensures.header c.in_ok-follow.ensures.taken c.follow.ensures.header c.follow.ensures.views_header
           c.in_ok-follow-2.ensures.taken_up refl refl refl refl refl c.is_commit.ensures c.counted-self-inside.ensures c.observer_returns-observes.ensures
           c.counted-self-inside-2.ensures refl (c.in_ok-follow.ensures.specified, c.in_ok-follow.ensures.sound) starting log was.taken_in) is;
-      faultless = ap (λ g'. first_fault g' starting more) c.catch_up.ensures.header
+      faultless = ap (λ l. first_fault (rules_by l) starting more) c.catch_up.ensures.charter
           ∙ sym (subst (λ r. IfOk r (λ v. v ≡ first_fault h starting more)) is (c.catch_up.ensures.answer starting more (taken_all _ _ c.args.entry c.self.inside.queue.header c.is_commit.result c.observer_returns-observes.result
           c.self.invariant.0 c.self.invariant.1 c.self.invariant.2 c.in_default.ensures.ok c.step.ensures.header c.in_ok-follow.ensures.taken c.follow.ensures.header c.follow.ensures.views_header
           c.in_ok-follow-2.ensures.taken_up refl refl refl refl refl c.is_commit.ensures c.counted-self-inside.ensures c.observer_returns-observes.ensures

@@ -1,5 +1,6 @@
 use Rattle.std.proofs.Common.{◌++◌, take, ap, sym, subst, ◌∙◌, arith, append_assoc}
 use Rattle.std.proofs.lemmas.List.{take_more}
+use Rattle.vyrd_base.specs.Rules.{rules_by}
 use Rattle.vyrd_base.specs.Verdicts.{verdict_so_far}
 use Rattle.vyrd_judge.specs.Following.{JudgeView, HasFollowed}
 use Rattle.vyrd_base.proofs.FrontLaws.{take_past}
@@ -14,7 +15,7 @@ loop-entry-preserved g c =
       followed = λ starting log f. subst (HasFollowed c.feed.new.self starting)
           (append_assoc log (take i es) _ ∙ ap (λ xs. log ++ xs) (sym (take_more es i _ c.loop-entry-test.true)))
           (c.in_ok-feed.ensures.followed starting (log ++ take i es) (c.loop-entry.invariant.followed starting log f));
-      header = c.feed.ensures.header ∙ c.loop-entry.invariant.header;
+      header = c.feed.ensures.charter ∙ c.loop-entry.invariant.header;
       counted = omega (arith, c.feed.ensures.counted, c.loop-entry.invariant.counted);
       so_far = still_known c.args.self.now c.loop-entry.self c.feed.new.self c.in_ok-feed.field-0 c.loop-entry.invariant.so_far c.in_ok-feed.ensures.fails_again
           c.in_ok-feed.ensures.stands c.in_ok-feed.ensures.so_far c.in_ok-feed.ensures.has_failed;
@@ -29,7 +30,7 @@ pub returns-clause-answer : goal.returns-clause-answer
 returns-clause-answer g c = λ starting log f.
     ap (λ (j : JudgeView). j.so_far) c.self.view_is
     ∙ so_far_is_known (returns-clause-followed g c starting log f)
-    ∙ ap (λ h. verdict_so_far h starting (log ++ c.args.entries.now)) c.loop-entry.invariant.header
+    ∙ ap (λ g. verdict_so_far (rules_by g) starting (log ++ c.args.entries.now)) c.loop-entry.invariant.header
 
 pub returns-in_err-feed-clause-stays : goal.returns-in_err-feed-clause-stays
 returns-in_err-feed-clause-stays g c = on_error c.from_residual.result

@@ -8,7 +8,7 @@ use Rattle.vyrd_judge.proofs.online.Judge.follow.Given as goal
 abbrev pub invariant-loop-entry : goal.invariant-loop-entry
 invariant-loop-entry g l = record {
   followed : (starting : List StartWord) (log : List Entry) → HasFollowed l.initial.self starting log → HasFollowed l.self starting (log ++ take l.entry-index l.fn.entries);
-  header : l.self.kept.header ≡ l.initial.self.kept.header;
+  header : l.self.kept.charter ≡ l.initial.self.kept.charter;
   counted : l.self.kept.entries ≤ l.initial.self.kept.entries + l.entry-index;
   so_far : StaysOrStands l.initial.self l.self;
 }

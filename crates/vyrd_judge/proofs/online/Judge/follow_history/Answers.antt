@@ -1,6 +1,7 @@
 use Rattle.std.proofs.Common.{inl, ◌∷◌, ◌++◌, [], take, ap, sym, subst, ◌∙◌, refl, arith, append_assoc, append-nil}
 use Rattle.std.specs.List.{cons_option}
 use Rattle.std.proofs.lemmas.List.{take_all}
+use Rattle.vyrd_base.specs.Rules.{rules_by}
 use Rattle.vyrd_base.specs.Verdicts.{verdict_so_far}
 use Rattle.vyrd_base.specs.Histories.{log_of}
 use Rattle.vyrd_judge.specs.Following.{JudgeView, HasFollowed}
@@ -30,7 +31,7 @@ loop-event-preserved g c =
             ∙ ap (λ xs. log ++ xs) (sym (log_more es i c.loop-event-test.true)))
             (subst (λ j. HasFollowed j starting ((log ++ log_before) ++ w.in-Some.entry ∷ [])) (sym w.self-is)
             (w.in_ok-feed.ensures.followed starting (log ++ log_before) (c.loop-event.invariant.followed starting log f)));
-        header = ap (λ (j : JudgeView). j.kept.header) w.self-is ∙ w.feed.ensures.header ∙ c.loop-event.invariant.header;
+        header = ap (λ (j : JudgeView). j.kept.charter) w.self-is ∙ w.feed.ensures.charter ∙ c.loop-event.invariant.header;
         counted = omega (arith, ap (λ (j : JudgeView). j.kept.entries) w.self-is, w.feed.ensures.counted, c.loop-event.invariant.counted);
         so_far = subst (StaysOrStands c.args.self.now) (sym w.self-is)
             (still_known c.args.self.now c.loop-event.self w.feed.new.self w.in_ok-feed.field-0 c.loop-event.invariant.so_far
@@ -42,7 +43,7 @@ loop-event-preserved g c =
             ∙ ap (λ o. log_before ++ cons_option o []) (sym w.in_default.is ∙ c.entry_of.ensures)
             ∙ sym (log_more es i c.loop-event-test.true)))
             (subst (λ j. HasFollowed j starting (log ++ log_before)) (sym w.self-is) (c.loop-event.invariant.followed starting log f));
-        header = ap (λ (j : JudgeView). j.kept.header) w.self-is ∙ c.loop-event.invariant.header;
+        header = ap (λ (j : JudgeView). j.kept.charter) w.self-is ∙ c.loop-event.invariant.header;
         counted = omega (arith, ap (λ (j : JudgeView). j.kept.entries) w.self-is, c.loop-event.invariant.counted);
         so_far = subst (StaysOrStands c.args.self.now) (sym w.self-is) c.loop-event.invariant.so_far;
       }
@@ -57,7 +58,7 @@ pub returns-clause-answer : goal.returns-clause-answer
 returns-clause-answer g c = λ starting log f.
     ap (λ (j : JudgeView). j.so_far) c.self.view_is
     ∙ so_far_is_known (returns-clause-followed g c starting log f)
-    ∙ ap (λ h. verdict_so_far h starting (log ++ log_of c.args.history.now)) c.loop-event.invariant.header
+    ∙ ap (λ g. verdict_so_far (rules_by g) starting (log ++ log_of c.args.history.now)) c.loop-event.invariant.header
 
 pub returns-in_err-feed-clause-stays : goal.returns-in_err-feed-clause-stays
 returns-in_err-feed-clause-stays g c = on_error c.from_residual.result

@@ -9,7 +9,7 @@ use Rattle.vyrd_judge.proofs.online.Judge.follow_history.Given as goal
 abbrev pub invariant-loop-event : goal.invariant-loop-event
 invariant-loop-event g l = record {
   followed : (starting : List StartWord) (log : List Entry) → HasFollowed l.initial.self starting log → HasFollowed l.self starting (log ++ log_of (take l.event-index l.fn.history));
-  header : l.self.kept.header ≡ l.initial.self.kept.header;
+  header : l.self.kept.charter ≡ l.initial.self.kept.charter;
   counted : l.self.kept.entries ≤ l.initial.self.kept.entries + l.event-index;
   so_far : StaysOrStands l.initial.self l.self;
 }

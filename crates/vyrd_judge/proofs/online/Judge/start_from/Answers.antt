@@ -6,6 +6,7 @@ use Rattle.vyrd_base.specs.declared.log.StartWord.{StartWord}
 use Rattle.vyrd_base.specs.Amounts.{Amounts}
 use Rattle.vyrd_base.specs.Layout.{lock_words}
 use Rattle.vyrd_base.specs.Represented.{state_of_words}
+use Rattle.vyrd_base.specs.Rules.{rules_of, rules_by}
 use Rattle.vyrd_base.specs.Starts.{words_at_start, state_at_start}
 use Rattle.vyrd_words.proofs.StartWords.{length-words_at_start, small_at_start}
 use Rattle.vyrd_judge.proofs.online.Judge.start_from.Goals as goal
@@ -13,7 +14,7 @@ use Rattle.vyrd_judge.proofs.online.Judge.start_from.Goals as goal
 -- the state at the start is that of the specification that was found
 state_found : (h : Header) (starting : List StartWord) (words : List ℕ) (o : Option Amounts)
     → words ≡ words_at_start h starting → o ≡ state_of_words h (words ++ replicate (lock_words h) 0)
-    → state_at_start h starting ≡ o
+    → state_at_start (rules_of h) starting ≡ o
 unfolding state_at_start
 state_found h starting words o same found =
     ap (λ ws. state_of_words h (ws ++ replicate (lock_words h) 0)) (sym same) ∙ sym found
@@ -32,12 +33,19 @@ returns-in_default-clause-none g c =
     sym (ap is_none (state_found c.args.header c.args.start.now c.deref.result.now _ (c.deref.ensures.value ∙ c.in_ok-words.ensures)
     c.in_ok-spec.ensures.state ∙ ap (option_map g.S.Spec.state) c.in_default.is))
 
+pub begin-requires-clause-spec_header : goal.begin-requires-clause-spec_header
+begin-requires-clause-spec_header g c = ap (λ l. (rules_by l).header) (rw c.in-Some.is at c.in_ok-spec.ensures.charter)
+
 pub begin-requires-clause-state : goal.begin-requires-clause-state
 begin-requires-clause-state g c =
-    state_found c.args.header c.args.start.now c.deref.result.now _ (c.deref.ensures.value ∙ c.in_ok-words.ensures)
+    ap (λ l. state_at_start (rules_by l) c.args.start.now) (rw c.in-Some.is at c.in_ok-spec.ensures.charter)
+    ∙ state_found c.args.header c.args.start.now c.deref.result.now _ (c.deref.ensures.value ∙ c.in_ok-words.ensures)
     c.in_ok-spec.ensures.state ∙ ap (option_map g.S.Spec.state) c.in-Some.is
 
 pub returns-clause-none : goal.returns-clause-none
 returns-clause-none g c =
     sym (ap is_none (state_found c.args.header c.args.start.now c.deref.result.now _ (c.deref.ensures.value ∙ c.in_ok-words.ensures)
     c.in_ok-spec.ensures.state ∙ ap (option_map g.S.Spec.state) c.in-Some.is))
+
+pub returns-clause-charter : goal.returns-clause-charter
+returns-clause-charter g c = c.in_ok-begin.ensures.charter ∙ (rw c.in-Some.is at c.in_ok-spec.ensures.charter)

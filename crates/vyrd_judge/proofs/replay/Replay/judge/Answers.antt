@@ -1,3 +1,4 @@
+use Rattle.vyrd_base.specs.Rules.{rules_by}
 use Rattle.std.proofs.Common.{ap, sym, subst, ◌∙◌}
 use Rattle.vyrd_judge.specs.declared.waiting.Event.TheVariants.{Commits}
 use Rattle.vyrd_judge.specs.Judged.{Judged}
@@ -30,7 +31,7 @@ end-requires g c = record { caller = rw c.caller-in-Returns.ensures.is (returns_
 
 pub returns-in_ok-begin-in-Begins-clause-gives : goal.returns-in_ok-begin-in-Begins-clause-gives
 returns-in_ok-begin-in-Begins-clause-gives g c = λ starting log xs j known.
-    let h = c.args.self.now.header in
+    let h = rules_by (g.S.Spec.charter c.args.self.now.spec) in
     let old = c.args.self.now in
     let done = judged_begins (sym c.event.ensures ∙ c.in-Begins.is) old.callers j in
     let same_spec = c.begin.ensures.spec in
@@ -49,7 +50,7 @@ returns-in-Some-clause-gives g c = λ starting log xs j known.
 
 pub returns-then-end-clause-gives : goal.returns-then-end-clause-gives
 returns-then-end-clause-gives g c = λ starting log xs j known.
-    let h = c.args.self.now.header in
+    let h = rules_by (g.S.Spec.charter c.args.self.now.spec) in
     let old = c.args.self.now in
     let seen = watch_there (sym c.event.ensures ∙ c.in-Returns.is) old.callers j in
     let done = judged_answered seen.0 (sym c.event.ensures ∙ c.in-Returns.is) seen.1 (sym (c.end.ensures.answered seen.0 (rw c.caller-in-Returns.ensures.is seen.1)) ∙ c.if-end.true) j in

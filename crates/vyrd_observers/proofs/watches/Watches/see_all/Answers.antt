@@ -1,3 +1,4 @@
+use Rattle.vyrd_base.specs.Rules.{rules_by}
 use Rattle.std.proofs.Common.{length, map, slice_get, subst, ap, sym, ◌∙◌, arith}
 use Rattle.std.proofs.lemmas.List.{length-map}
 use Rattle.vyrd_observers.specs.Watching.{Watched}
@@ -25,26 +26,26 @@ invariant_of-self-2 g c = (
 
 pub returns-clause-seen : goal.returns-clause-seen
 returns-clause-seen g c =
-    let state = g.S.Spec.state c.args.spec.now in
+    let told = (rules_by (g.S.Spec.charter c.args.spec.now)).answer (g.S.Spec.state c.args.spec.now) in
     let watches = c.self.inside.by_caller.items in
     let old = map (seen_by c.self.inside.trails.items) watches in
-    let see = callers_see c.args.touched state c.self.inside.trails.items watches c.self.invariant.0
+    let see = callers_see (g.S.Spec.affects c.args.touched) told c.self.inside.trails.items watches c.self.invariant.0
     (λ d seen here is_open untouched. c.requires.current d seen (ap (λ (k : Watched). slice_get k.by_caller d) (sym c.self.view_is) ∙ here) is_open untouched) in
-    subst (λ (k : Watched). AllSee state k.by_caller (map (seen_by c.see_all.new.trails.items) watches)) c.self.view_is
-    (subst (λ ts. AllSee state old (map (seen_by ts) watches)) (sym c.in_ok-see_all.ensures.saw)
-    (seen_all state (length watches) old (map (seen_by (map (after_state c.args.touched state) c.self.inside.trails.items)) watches)
+    subst (λ (k : Watched). AllSee told k.by_caller (map (seen_by c.see_all.new.trails.items) watches)) c.self.view_is
+    (subst (λ ts. AllSee told old (map (seen_by ts) watches)) (sym c.in_ok-see_all.ensures.saw)
+    (seen_all told (length watches) old (map (seen_by (map (after_state (g.S.Spec.affects c.args.touched) told) c.self.inside.trails.items)) watches)
     (omega (arith, length-map watches (seen_by c.self.inside.trails.items))) see))
 
 pub returns-clause-current : goal.returns-clause-current
 returns-clause-current g c =
-    let state = g.S.Spec.state c.args.spec.now in
+    let told = (rules_by (g.S.Spec.charter c.args.spec.now)).answer (g.S.Spec.state c.args.spec.now) in
     let watches = c.self.inside.by_caller.items in
     let trails = c.self.inside.trails.items in
     let old = map (seen_by trails) watches in
-    let new = map (seen_by (map (after_state c.args.touched state) trails)) watches in
-    let see = callers_see c.args.touched state trails watches c.self.invariant.0
+    let new = map (seen_by (map (after_state (g.S.Spec.affects c.args.touched) told) trails)) watches in
+    let see = callers_see (g.S.Spec.affects c.args.touched) told trails watches c.self.invariant.0
     (λ d seen here is_open untouched. c.requires.current d seen (ap (λ (k : Watched). slice_get k.by_caller d) (sym c.self.view_is) ∙ here) is_open untouched) in
-    subst (λ ts. AreCurrent state (map (seen_by ts) watches)) (sym c.in_ok-see_all.ensures.saw)
-    (seen_current state (length watches) old new
+    subst (λ ts. AreCurrent told (map (seen_by ts) watches)) (sym c.in_ok-see_all.ensures.saw)
+    (seen_current told (length watches) old new
     (omega (arith, length-map watches (seen_by trails)))
-    (length-map watches (seen_by (map (after_state c.args.touched state) trails)) ∙ sym (length-map watches (seen_by trails))) see)
+    (length-map watches (seen_by (map (after_state (g.S.Spec.affects c.args.touched) told) trails)) ∙ sym (length-map watches (seen_by trails))) see)

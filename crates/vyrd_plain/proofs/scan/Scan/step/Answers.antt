@@ -1,6 +1,6 @@
 use Rattle.std.proofs.Common.{◌+◌, take, drop, refl, ap, subst, ◌∙◌}
 use Rattle.std.specs.Result.{IfOk}
-use Rattle.vyrd_base.specs.Views.{view_of_words}
+use Rattle.vyrd_base.specs.Rules.{rules_by}
 use Rattle.vyrd_base.specs.Commits.{next_reply}
 use Rattle.vyrd_plain.specs.OpenBlocks.{HasEffects}
 use Rattle.vyrd_plain.specs.Outcomes.{CommitGives}
@@ -56,16 +56,16 @@ returns-in-Return-clause-gives g c = λ e is.
 
 pub returns-in-Commit-clause-gives : goal.returns-in-Commit-clause-gives
 returns-in-Commit-clause-gives g c = λ e is.
-    let h = c.args.self.now.header in
+    let rules = rules_by (g.S.Spec.charter c.args.self.now.spec) in
     let r = c.entry_at-entry.result in
     let commits = commits_by c.in-Commit.is in
     let here = known_at c.entry_at-entry.ensures refl c.requires.kept c.requires.tracks in
     let ran = running here (commit_called commits here).1 in
-    let words = words_here h c.args.front.now c.args.at r c.step.new.self.words.items c.step.new.self.open_blocks.items c.entry_at-entry.ensures
+    let words = words_here rules.header c.args.front.now c.args.at r c.step.new.self.words.items c.step.new.self.open_blocks.items c.entry_at-entry.ensures
     (subst (λ k. HasEffects k c.step.new.self.words.items c.step.new.self.open_blocks.items
     (take (c.args.at + 1) c.args.front.now) (drop (c.args.at + 1) c.args.front.now)) c.args.self.now.effects_header c.step.ensures.next) in
     commit_leads c.commit.result _ _ commits here ran.2 (same_entry c.entry_at-entry.ensures refl is)
-    (subst (λ ws. IfOk c.commit.result (CommitGives (view_of_words h ws) ran.0 (g.S.Spec.state c.args.self.now.spec)
+    (subst (λ ws. IfOk c.commit.result (CommitGives rules (rules.view ws) ran.0 (g.S.Spec.state c.args.self.now.spec)
     (g.S.Spec.state c.commit.new.self.spec) c.args.self.now.executions.items c.commit.new.self.executions.items)) words
     (c.commit.ensures.gives ran.0 ran.1))
 

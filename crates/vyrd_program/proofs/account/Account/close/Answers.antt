@@ -1,11 +1,12 @@
 use Rattle.std.proofs.Common.{◌∙◌, sym, ap}
+use Rattle.vyrd_base.specs.Rules.{rules_by}
 use Rattle.vyrd_program.proofs.AccountLaws.{verdict_told, log_told, history_told}
 use Rattle.vyrd_program.proofs.account.Account.close.Goals.{in-Verdict+in_ok-write_verdict-in-Verdict, in-Log+in_ok-extend_from_slice-in-Log+in_ok-write_verdict-in-Log, in-History+in_ok-extend_from_slice-in-History}
 use Rattle.vyrd_program.proofs.account.Account.close.Goals as goal
 
 pub returns-clause-text : goal.returns-clause-text
 returns-clause-text c = λ history taken.
-    let h = c.args.self.judge.kept.header in
+    let h = (rules_by c.args.self.judge.kept.charter).header in
     let v = c.in_ok-verdict.verdict in
     let before = ap (λ a. a.text) c.self.view_is ∙ taken.text_is in
     let show = sym (ap (λ a. a.show) c.self.view_is) in

@@ -1,5 +1,6 @@
 use Rattle.std.proofs.Common.{◌∙◌, sym, subst, ap, ◌++◌, [], ◌∷◌, ◌+◌, length-append, arith}
 use Rattle.std.proofs.lemmas.Result.{on_ok_weaker}
+use Rattle.vyrd_base.specs.Rules.{rules_by}
 use Rattle.vyrd_base.specs.Histories.{log_of}
 use Rattle.vyrd_judge.specs.Following.{HasFollowed}
 use Rattle.vyrd_program.specs.Accounts.{HasTaken, text_so_far}
@@ -29,13 +30,13 @@ returns-clause-taken c = λ history taken.
         | in_default w ↦ ap (λ i. i.count) w.self-inside-is ∙ ap (λ n. n + 1) before.counted ∙ sym (length-append history (e ∷ []))
       ];
       text_is = text;
-    }) (c.show_event.ensures c.match-entry_of.self-inside.judge.kept.header history (elim c.match-entry_of.branch [
+    }) (c.show_event.ensures (rules_by c.match-entry_of.self-inside.judge.kept.charter).header history (elim c.match-entry_of.branch [
       | in-Some+in_ok-feed w ↦
           ap (λ i. i.text.items) w.self-inside-is ∙ before.text_is
-          ∙ ap (λ h. text_so_far c.self.inside.show h history) (sym (ap (λ i. i.judge.kept.header) w.self-inside-is ∙ w.feed.ensures.header))
-          ∙ ap (λ show. text_so_far show c.match-entry_of.self-inside.judge.kept.header history) (sym (ap (λ i. i.show) w.self-inside-is))
+          ∙ ap (λ k. text_so_far c.self.inside.show (rules_by k).header history) (sym (ap (λ i. i.judge.kept.charter) w.self-inside-is ∙ w.feed.ensures.charter))
+          ∙ ap (λ show. text_so_far show (rules_by c.match-entry_of.self-inside.judge.kept.charter).header history) (sym (ap (λ i. i.show) w.self-inside-is))
       | in_default w ↦
           ap (λ i. i.text.items) w.self-inside-is ∙ before.text_is
-          ∙ ap (λ h. text_so_far c.self.inside.show h history) (sym (ap (λ i. i.judge.kept.header) w.self-inside-is))
-          ∙ ap (λ show. text_so_far show c.match-entry_of.self-inside.judge.kept.header history) (sym (ap (λ i. i.show) w.self-inside-is))
+          ∙ ap (λ k. text_so_far c.self.inside.show (rules_by k).header history) (sym (ap (λ i. i.judge.kept.charter) w.self-inside-is))
+          ∙ ap (λ show. text_so_far show (rules_by c.match-entry_of.self-inside.judge.kept.charter).header history) (sym (ap (λ i. i.show) w.self-inside-is))
     ]))

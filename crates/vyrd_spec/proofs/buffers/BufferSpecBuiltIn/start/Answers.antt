@@ -2,7 +2,7 @@ use Rattle.std.proofs.Common.{ap, ◌∙◌}
 use Rattle.vyrd_base.specs.Amounts.{amount_of}
 use Rattle.vyrd_spec.specs.Rows.{row_amounts}
 use Rattle.vyrd_spec.proofs.RowAmounts.{nothing_in_row}
-use Rattle.vyrd_spec.proofs.buffers.BufferSpecSpec.start.Goals as goal
+use Rattle.vyrd_spec.proofs.buffers.BufferSpecBuiltIn.start.Goals as goal
 
 pub invariant_of-result-clause-small : goal.invariant_of-result-clause-small
 invariant_of-result-clause-small c = λ key some. absurd (some (ap (λ s. amount_of s key)

@@ -6,7 +6,7 @@ use Rattle.vyrd_base.specs.Views.{parts_of}
 use Rattle.vyrd_base.proofs.SumLaws.{IsAmounts-collected}
 use Rattle.vyrd_spec.proofs.SlotLaws.{first_counts}
 use Rattle.vyrd_spec.proofs.StartFromLaws.{no_state, a_state, few_parts}
-use Rattle.vyrd_spec.proofs.multiset.MultisetSpecSpec.start_from.Goals as goal
+use Rattle.vyrd_spec.proofs.multiset.MultisetSpecBuiltIn.start_from.Goals as goal
 
 pub returns-then-not-are_sound-clause-state : goal.returns-then-not-are_sound-clause-state
 returns-then-not-are_sound-clause-state c =

@@ -8,7 +8,7 @@ use Rattle.vyrd_spec.specs.Chunks.{sound_pairs}
 use Rattle.vyrd_spec.proofs.ChunkWordLaws.{is_sound_at, pair_shown, given_pair, small_pair}
 use Rattle.vyrd_spec.proofs.SoundRows.{first_row, many_in, row_shows, sound_where, unsound_where}
 use Rattle.vyrd_spec.proofs.StartFromLaws.{no_state, a_state, few_parts}
-use Rattle.vyrd_spec.proofs.cache.CacheSpecSpec.start_from.Goals as goal
+use Rattle.vyrd_spec.proofs.cache.CacheSpecBuiltIn.start_from.Goals as goal
 
 pub invariant_of-result : goal.invariant_of-result
 invariant_of-result c =

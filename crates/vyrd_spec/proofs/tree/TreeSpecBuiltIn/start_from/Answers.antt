@@ -5,7 +5,7 @@ use Rattle.vyrd_base.specs.Represented.{is_sound}
 use Rattle.vyrd_base.specs.Views.{parts_of}
 use Rattle.vyrd_base.proofs.SumLaws.{IsAmounts-collected}
 use Rattle.vyrd_spec.proofs.StartFromLaws.{no_state, a_state}
-use Rattle.vyrd_spec.proofs.tree.TreeSpecSpec.start_from.Goals as goal
+use Rattle.vyrd_spec.proofs.tree.TreeSpecBuiltIn.start_from.Goals as goal
 
 pub invariant_of-result-clause-formed : goal.invariant_of-result-clause-formed
 invariant_of-result-clause-formed c =

@@ -9,7 +9,7 @@ use Rattle.vyrd_spec.specs.Texts.{sound_texts}
 use Rattle.vyrd_spec.proofs.BufferWordLaws.{is_buffer_at, text_shown, given_text, small_text}
 use Rattle.vyrd_spec.proofs.SoundRows.{first_row, many_in, row_shows, sound_where, unsound_where}
 use Rattle.vyrd_spec.proofs.StartFromLaws.{no_state, a_state, few_parts}
-use Rattle.vyrd_spec.proofs.buffers.BufferSpecSpec.start_from.Goals as goal
+use Rattle.vyrd_spec.proofs.buffers.BufferSpecBuiltIn.start_from.Goals as goal
 
 pub invariant_of-result : goal.invariant_of-result
 invariant_of-result c =
