@@ -1,12 +1,14 @@
 //! A source and a sink over std's reader and writer. As devices they tell no bytes; each passes on
-//! what its stream says.
+//! what its stream says. A call that a signal broke off is made again.
 
 ghost use Rattle.std.specs.Prelude.{◌≡◌, ◌≤◌, false, None, IfOk, OnErr};
+ghost use Rattle.std.specs.Io.{ReadsAtMost, WritesAtMost};
 ghost use Rattle.std.specs.Io.KnownBytes.{ReadConsumes, WriteAppends};
 ghost use Rattle.vyrd_base.specs.Devices.{HasRisen, Gives, Takes};
 
 use crate::device::{Failed, Sink, Source};
-use std::io::{Read, Write};
+use std::io;
+use std::io::{ErrorKind, Read, Write};
 
 /// A source over a reader. Its bytes are those that the reader tells.
 #[derive(Debug, Drop)]
@@ -44,7 +46,7 @@ impl<R: Read> Source for StdSource<R> {
         ensures passed { ReadConsumes (R.remaining self.old.inner) (R.remaining self.new.inner)
             result buf.new }
     {
-        match self.inner.read(buf) {
+        match read_again(&mut self.inner, buf) {
             Ok(n) => Ok(n),
             Err(_) => {
                 self.faults = self.faults.saturating_add(1);
@@ -91,7 +93,7 @@ impl<W: Write> Sink for StdSink<W> {
         ensures passed { WriteAppends (W.contents self.old.inner) (W.contents self.new.inner) result
             piece.now }
     {
-        match self.inner.write(piece) {
+        match write_again(&mut self.inner, piece) {
             Ok(n) if n > 0 => Ok(n),
             _ => {
                 self.faults = self.faults.saturating_add(1);
@@ -99,4 +101,41 @@ impl<W: Write> Sink for StdSink<W> {
             }
         }
     }
+}
+
+/// Reads once, and again each time that a signal broke the read off: such a read has taken nothing.
+fn read_again<R: Read>(reader: &mut R, buf: &mut [u8]) -> io::Result<usize>
+    ensures bound { ReadsAtMost result buf.new }
+    ensures bytes { ReadConsumes (R.remaining reader.old) (R.remaining reader.new) result buf.new }
+{
+    for _ in 0..u64::MAX {
+        match reader.read(buf) {
+            Ok(n) => return Ok(n),
+            Err(error) => {
+                if error.kind() != ErrorKind::Interrupted {
+                    return Err(error);
+                }
+            }
+        }
+    }
+    reader.read(buf)
+}
+
+/// Writes once, and again each time that a signal broke the write off: such a write has passed
+/// nothing on.
+fn write_again<W: Write>(writer: &mut W, piece: &[u8]) -> io::Result<usize>
+    ensures bound { WritesAtMost result piece.now }
+    ensures bytes { WriteAppends (W.contents writer.old) (W.contents writer.new) result piece.now }
+{
+    for _ in 0..u64::MAX {
+        match writer.write(piece) {
+            Ok(n) => return Ok(n),
+            Err(error) => {
+                if error.kind() != ErrorKind::Interrupted {
+                    return Err(error);
+                }
+            }
+        }
+    }
+    writer.write(piece)
 }

@@ -176,25 +176,26 @@ fn readers_and_writers(rt: HostRuntime) -> Result<(), Fail> {
     Ok(())
 }
 
-/// A stream whose first call is interrupted, and whose later calls take or give a byte.
+/// A stream whose first call ends with this kind of error, and whose later calls take or give a byte.
 #[derive(Drop)]
-struct InterruptedOnce {
+struct FirstFails {
+    kind: io::ErrorKind,
     calls: usize,
 }
 
-impl InterruptedOnce {
+impl FirstFails {
     fn answer(&mut self) -> io::Result<usize>
         ensures { IfOk result (λ n. n ≡ 1) }
     {
         self.calls = self.calls.saturating_add(1);
         if self.calls == 1 {
-            return Err(io::Error::from(io::ErrorKind::Interrupted));
+            return Err(io::Error::from(self.kind));
         }
         Ok(1)
     }
 }
 
-impl io::Read for InterruptedOnce {
+impl io::Read for FirstFails {
     fn read(&mut self, buf: &mut [u8]) -> io::Result<usize> {
         if buf.is_empty() {
             return Ok(0);
@@ -203,7 +204,7 @@ impl io::Read for InterruptedOnce {
     }
 }
 
-impl io::Write for InterruptedOnce {
+impl io::Write for FirstFails {
     fn write(&mut self, piece: &[u8]) -> io::Result<usize> {
         if piece.is_empty() {
             return Ok(0);
@@ -219,15 +220,30 @@ impl io::Write for InterruptedOnce {
 /// A stream's failed call is the device's, and isn't made again.
 #[test]
 fn first_call_that_fails(rt: HostRuntime) -> Result<(), Fail> {
-    let mut source = StdSource::new(InterruptedOnce { calls: 0 });
+    let kind = io::ErrorKind::BrokenPipe;
+    let mut source = StdSource::new(FirstFails { kind, calls: 0 });
     assert_eq!(rt; source.read(&mut [0; 4]), Err(Failed));
     assert_eq!(rt; source.inner.calls, 1);
     assert_eq!(rt; source.read(&mut [0; 4]), Ok(1));
 
-    let mut sink = StdSink::new(InterruptedOnce { calls: 0 });
+    let mut sink = StdSink::new(FirstFails { kind, calls: 0 });
     assert_eq!(rt; sink.write(&[1, 2]), Err(Failed));
     assert_eq!(rt; sink.inner.calls, 1);
     assert_eq!(rt; sink.write(&[1, 2]), Ok(1));
+    Ok(())
+}
+
+/// A call that a signal broke off is no failure: it is made again.
+#[test]
+fn first_call_that_a_signal_breaks_off(rt: HostRuntime) -> Result<(), Fail> {
+    let kind = io::ErrorKind::Interrupted;
+    let mut source = StdSource::new(FirstFails { kind, calls: 0 });
+    assert_eq!(rt; source.read(&mut [0; 4]), Ok(1));
+    assert_eq!(rt; source.inner.calls, 2);
+
+    let mut sink = StdSink::new(FirstFails { kind, calls: 0 });
+    assert_eq!(rt; sink.write(&[1, 2]), Ok(1));
+    assert_eq!(rt; sink.inner.calls, 2);
     Ok(())
 }
 

@@ -1,0 +1,8 @@
+-- Reads that were broken off have taken nothing, and the buffer keeps its length.
+use Rattle.std.specs.Prelude.{◌≡◌, length}
+use Rattle.std.specs.Io.KnownBytes.{Keeps}
+use Rattle.vyrd_base.proofs.streams.read_again.Given as goal
+
+abbrev pub invariant-loop : goal.invariant-loop
+invariant-loop g l = (length l.buf ≡ length l.initial.buf)
+    × Keeps (g.R.Read.remaining l.initial.reader) (g.R.Read.remaining l.reader)

@@ -1,0 +1,6 @@
+-- Writes that were broken off have passed nothing on.
+use Rattle.std.specs.Io.KnownBytes.{Keeps}
+use Rattle.vyrd_base.proofs.streams.write_again.Given as goal
+
+abbrev pub invariant-loop : goal.invariant-loop
+invariant-loop g l = Keeps (g.W.Write.contents l.initial.writer) (g.W.Write.contents l.writer)
