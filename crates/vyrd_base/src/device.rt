@@ -96,6 +96,10 @@ pub trait Sink {
 pub trait Gate: Sync {
     /// Whether the caller's next event may start. `place` is the number of events that the caller
     /// has so far.
+    ///
+    /// While the callers run, the sink of their events is asked for too, as if it were one caller
+    /// more: `caller` is then the number of callers, and `place` how many events it has taken in.
+    /// Callers wait for the sink, so that a gate which holds it for ever holds them too.
     fn may_start(&self, caller: u32, place: u64) -> bool;
 }
 

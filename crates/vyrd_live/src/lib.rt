@@ -13,7 +13,8 @@
 //!
 //! What a run promises stands in `specs/`: `LiveRuns` and `TurnRuns` say what it leaves, and
 //! `Rooms` when a limit leaves room for an operation. No promise says that two threads ran at one
-//! time, or that the sink took anything before the workers ended; tests with gates speak of that.
+//! time, or that the sink took anything before the workers ended. Tests with gates speak of that,
+//! for [`run_live`] alone; it plays by the same private function as [`show_live`].
 #![tactic(auto)]
 
 mod acting;

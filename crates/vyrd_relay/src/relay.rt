@@ -80,7 +80,8 @@ impl Relay {
     /// thread that is in the middle of a push or a pop, but never for room, and it takes no memory.
     ///
     /// `Full` comes only if the queue held its capacity at a step of this call. Nothing was sent
-    /// then.
+    /// then. The clause `cause` says so for one sender alone: what is queued of others may be
+    /// anything to it.
     pub fn push_next<R: Wait>(&self, rt: &R, sender: &mut Sender, item: Stamped) -> Result<(), Full>
         requires sender { sender.old.queue ≡ self.now.queue }
         requires caller { item.caller ≡ sender.old.caller }
@@ -101,7 +102,8 @@ impl Relay {
     /// The next event, the oldest in the queue. It is one pop of the queue. It may wait as
     /// `push_next` may, but never for an event to come, and it takes no memory.
     ///
-    /// `None` comes only if the queue was empty at a step of this call.
+    /// `None` comes only if the queue was empty at a step of this call. The clause `all` says what
+    /// follows for each sender that was taken in: all that it sent was had.
     pub fn pop<R: Wait>(&self, rt: &R, receiver: &mut Receiver) -> Option<Stamped>
         requires receiver { receiver.old.queue ≡ self.now.queue }
         ensures item { IfSome result (λ item. receiver.new ≡ with_popped receiver.old item) }
