@@ -21,9 +21,9 @@ use vyrd_base::{Header, Stamped};
 /// lock is held by every caller that uses it. A block that doesn't end isn't judged and isn't
 /// counted.
 ///
-/// If the answer is `Reducible`, each block can be gathered: in some legal history each caller does
-/// the same, and all that the block's caller does from its open to its end stands side by side.
-/// That a block isn't reducible says nothing of whether it is atomic.
+/// If the answer is `Reducible`, each block that ends can be gathered: in some legal history each
+/// caller does the same, and all that the block's caller does from its open to its end stands side
+/// by side. That a block isn't reducible says nothing of whether it is atomic.
 ///
 /// The only error is that memory ran out. Then nothing is known of the blocks.
 ///

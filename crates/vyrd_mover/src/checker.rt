@@ -94,9 +94,9 @@ impl BlockChecker {
     /// Whether each block that ends in the history that was taken in is reducible, or which of
     /// those that aren't is opened first.
     ///
-    /// If the answer is `Reducible`, each block can be gathered: in some legal history each caller
-    /// does the same, and all that the block's caller does from its open to its end stands side by
-    /// side. That a block isn't reducible says nothing of whether it is atomic.
+    /// If the answer is `Reducible`, each block that ends can be gathered: in some legal history
+    /// each caller does the same, and all that the block's caller does from its open to its end
+    /// stands side by side. That a block isn't reducible says nothing of whether it is atomic.
     ///
     /// The only error is out of memory. The events are gone through once more, from the last to the
     /// first, each in constant time.

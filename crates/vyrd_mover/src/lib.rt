@@ -5,15 +5,17 @@
 //! reducible, or names the first that isn't, and the event at which that shows. A block is
 //! reducible if its caller's events in it are takes and accesses of race-free cells, then any one
 //! event, then gives and accesses of race-free cells. If it answers that all are, its contract says
-//! that each block can be gathered: in some legal history each caller does the same in the same
-//! order, and all that the block's caller does from its open to its end stands side by side.
+//! that each block that ends can be gathered: in some legal history each caller does the same in
+//! the same order, and all that the block's caller does from its open to its end stands side by
+//! side.
 //!
 //! A block that isn't reducible may still be atomic. Nothing is said of that.
 //!
 //! A [`BlockChecker`] takes the history in event by event, and keeps 4 bytes of each. A
 //! [`HistoryReader`] reads the text of a history, in pieces of any size, and says the same of its
 //! blocks, or names the first bad line and the rule that it breaks. `write_history` writes that
-//! text. What is written of a legal history within the limits is read back as that history.
+//! text. That the text of a history within the limits says that history is a law of the definitions
+//! (`history_is_read`): no call gives a history back.
 #![tactic(auto)]
 
 mod ahead;

@@ -13,10 +13,11 @@ use vyrd_text::{LineBuffer, name_of_subject, write_entry};
 
 /// Appends the text of the history. A refusal leaves `out` unchanged.
 ///
-/// Arguments that the method of a call doesn't have are 0. The text is read as this history again
-/// if the history is legal, its marks are of the header's subject, its blocks are opened and ended
-/// in turn, and it has at most 3,999,998 events. That is the law `history_is_read`. The time and
-/// the memory grow with the number of events.
+/// Arguments that the method of a call doesn't have are 0. By the definition of reading the text
+/// says this history again if the history is legal, its marks are of the header's subject, its
+/// blocks are opened and ended in turn, and it has at most 3,999,998 events. That is the law
+/// `history_is_read`. No call reads the text back as a history: a `HistoryReader` answers what is
+/// said of its blocks. The time and the memory grow with the number of events.
 pub fn write_history(
     header: Header,
     history: &[Stamped],
