@@ -5,8 +5,8 @@
 //! took effect. A log is a `Header`, in version 2 words that aren't 0 at the start, and a list of
 //! entries, and the central type is `Entry`: one caller and what it did. The answer about a log is
 //! a `Verdict`. The crate decides nothing itself. It says, once and for all other crates, which
-//! verdict a log has, and its own calls meet the same definitions: a header's numbers, amounts by
-//! key, and what devices give and take.
+//! verdict a log has by given rules, a header with a specification. Its own calls meet the same
+//! definitions: a header's numbers, amounts by key, and what devices give and take.
 //!
 //! What stands in `src/`:
 //!
@@ -23,18 +23,20 @@
 //! What stands in `specs/`, one file for each notion: the limits of a header (`Limits`, `Subjects`,
 //! `Layout`), the places of a list (`Places`), what a caller is in the middle of (`Callers`), the
 //! rules of shape and the well-formed front (`Shape`, `Front`), the words (`Words`), what they show
-//! (`Views`, `TreeView`, `Amounts`), amounts in a table (`Tables`), the specification
-//! (`Specification`), the words and the state at the start (`Starts`), commit order and its states
+//! (`Views`, `TreeView`, `Buffers`, `Amounts`), amounts in a table (`Tables`), the specification of
+//! the four subjects (`Specification`), rules, which are a specification as a value, and those of a
+//! header (`Rules`), the words and the state at the start (`Starts`), commit order and its states
 //! (`Commits`), the faults (`Faults`), the verdict (`Verdicts`), the verdict as it was while
 //! version 1 was the only one (`FirstVersion`), the text of a log and what its bytes say
 //! (`Spelling`, `Lines`, `Reading`), the verdict about bytes and its line (`TextVerdicts`,
 //! `VerdictText`), histories (`Histories`), words that represent a state (`Represented`, `Trees`),
-//! and devices (`Devices`).
+//! and devices (`Devices`). States, faults and the verdict are those of any rules, and name no
+//! subject.
 //!
 //! A definition alone claims nothing. So each law of the definitions is a clause of an empty
-//! function in `laws`, and small cases are worked out in `worked`, as lists of entries, and in
-//! `worked_text`, and for version 2 in `worked_second`, from the bytes of a log to the bytes of the
-//! answer.
+//! function in `laws`, and small cases are worked out: in `worked`, as lists of entries; in
+//! `worked_own`, by rules of no built-in subject; and in `worked_text`, and for version 2 in
+//! `worked_second`, from the bytes of a log to the bytes of the answer.
 #![tactic(auto)]
 
 mod amount_map;

@@ -14,7 +14,7 @@
 //! answers of `vyrd_observers`.
 //!
 //! [`judge_log`] is the plain judge of `vyrd_plain`, which has all entries before it begins. It is
-//! what this one is compared with, and shares no code with it.
+//! what this one is compared with. The two share the crates below them, and no code of their own.
 #![tactic(auto)]
 
 mod any;

@@ -1,9 +1,10 @@
-//! The four specifications: what a call with its reply may do to a state, and what an observer
+//! Specifications that run: what a call with its reply may do to a state, and what an observer
 //! answers in it.
 //!
-//! The central type is the trait `Spec`. A step answers `true` exactly when the table of next
-//! states allows the reply, and the state is then the table's; after `false`, and when memory runs
-//! out, it is as it was.
+//! The central type is the trait `Spec`. A step answers `true` exactly when the rules allow the
+//! reply in this state, and the state is then the next one by the rules; after `false`, and when
+//! memory runs out, it is as it was. `BuiltIn` are the specifications of the four subjects, by the
+//! rules of a header.
 #![tactic(auto)]
 
 mod buffer_words;
