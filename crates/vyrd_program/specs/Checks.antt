@@ -15,8 +15,8 @@ pub record IsJudged (max : ℕ) (input : Option (List ℕ)) (status : ℕ) (text
   pub status_is : status ≡ status_of verdict
   pub text_is : text ≡ verdict_text verdict
 
--- Enough was taken of an input: all, which the source has said, or enough that it has the whole
--- input's verdict already.
+-- Enough was taken of an input: all, so that no byte is left if they are told, or enough that it
+-- has the whole input's verdict already.
 pub record IsSettled (max : ℕ) (before after : Option (List ℕ)) : Type 0 where
   pub taken : List ℕ
   pub told : IsTaken before taken after

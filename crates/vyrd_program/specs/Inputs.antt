@@ -21,8 +21,8 @@ UnlessFailed (Err Failed) P = ⊤
 abbrev pub IsTaken : Option (List ℕ) → List ℕ → Option (List ℕ) → Type 0
 IsTaken before taken after = before ≡ option_map (λ left. taken ++ left) after
 
--- These bytes were read of an input: all that there were, which the source has said, or as many as
--- are read at most.
+-- These bytes were read of an input: all that there were, so that none is left if they are told, or
+-- as many as are read at most.
 pub record IsInputRead (most : ℕ) (before after : Option (List ℕ)) (bytes : List ℕ) : Type 0 where
   pub told : IsTaken before bytes after
   pub enough : IsAtEnd after ⊎ (length bytes ≡ most)
@@ -38,8 +38,7 @@ pub record IsMoreRead (most : ℕ) (before after : Option (List ℕ)) (old new :
   pub many : length piece ≡ n
   pub few : n ≤ most
 
--- The source has said its end, or as many bytes were taken of the input as are read at most, if
--- they are told.
+-- If the bytes of an input are told, none is left, or as many were taken as are read at most.
 abbrev pub IsInputTaken : ℕ → Option (List ℕ) → Option (List ℕ) → Type 0
 IsInputTaken most before after =
     IsAtEnd after ⊎ ((taken : List ℕ) × IsTaken before taken after × (length taken ≡ most))
