@@ -1,0 +1,90 @@
+"""Tests of batch_of. What a batch looks like is said in docs/LOG-FORMAT.md."""
+
+import os
+import shutil
+import unittest
+
+from scripts import ScriptTest
+
+
+class BatchOf(ScriptTest):
+    def batch_of(self, *words, **others):
+        return self.run_script("batch_of", *words, **others)
+
+    def test_files_in_their_order(self):
+        self.file("a", b"x\n")
+        self.file("b", b"")
+        self.file("c", bytes(range(256)))
+        batch = b"batch\nlog 256\n" + bytes(range(256)) + b"log 0\nlog 2\nx\nend\n"
+        self.assert_ended(self.batch_of("c", "b", "a"), 0, batch, [])
+
+    def test_names_from_a_list(self):
+        self.file("a log", b"x\n")
+        self.file("b", b"y")
+        batch = b"batch\nlog 2\nx\nlog 1\nyend\n"
+        self.assert_ended(self.batch_of(stdin=b"a log\nb\n"), 0, batch, [])
+        self.assert_ended(self.batch_of(stdin=b"a log\nb"), 0, batch, [])
+        self.assert_ended(self.batch_of(stdin=b""), 0, b"batch\nend\n", [])
+
+    def test_names_that_begin_with_a_dash(self):
+        for name in ("-", "-n", "--", "--help"):
+            self.file(name, b"x\n")
+        one = b"batch\nlog 2\nx\nend\n"
+        for words in (["-"], ["-n"], ["--", "--"], ["--", "--help"]):
+            self.assert_ended(self.batch_of(*words, stdin=b"not this"), 0, one, [])
+        self.assert_ended(self.batch_of(stdin=b"-\n-n\n--\n--help\n"), 0, b"batch\n" + 4 * b"log 2\nx\n" + b"end\n", [])
+
+    def test_pipes(self):
+        self.assert_ended(self.run_shell('"$examples"/batch_of <(printf abc)'), 0, b"batch\nlog 3\nabcend\n", [])
+        slowly = '"$examples"/batch_of <(printf ab; sleep 0.3; printf cd)'
+        self.assert_ended(self.run_shell(slowly), 0, b"batch\nlog 4\nabcdend\n", [])
+
+    def test_file_that_grows_while_it_is_copied(self):
+        """Each program that the script calls finds the file longer by one byte."""
+        self.file("log", b"x")
+        for name in ("cat", "head", "wc"):
+            self.program(f"tools/{name}", f'printf x >>"{self.folder}/log"', f'exec {shutil.which(name)} "$@"')
+        ran = self.batch_of("log", PATH=f"{self.folder}/tools:{os.environ['PATH']}")
+        size, log = ran.stdout.removeprefix(b"batch\nlog ").split(b"\n", 1)
+        self.assertEqual((ran.returncode, ran.stderr, log), (0, b"", int(size) * b"x" + b"end\n"))
+        self.assertGreater(len((self.folder / "log").read_bytes()), int(size))
+
+    def test_unreadable_files_leave_nothing(self):
+        self.file("a", b"x\n")
+        (self.folder / "folder").mkdir()
+        self.assert_ended(self.batch_of("a", "missing"), 64, b"", ["'missing' can't be read"])
+        self.assert_ended(self.batch_of("a", "folder"), 64, b"", ["'folder' can't be read"])
+        self.assert_ended(self.batch_of("a", "-missing"), 64, b"", ["'-missing' can't be read"])
+        self.assert_ended(self.batch_of(stdin=b"a\n\na\n"), 64, b"", ["'' can't be read"])
+
+    def test_unreadable_list(self):
+        self.assert_ended(self.run_shell('"$examples"/batch_of < .'), 64, b"", ["with the names, can't be read"])
+        self.assert_ended(self.run_shell('"$examples"/batch_of <&-'), 64, b"", ["with the names, can't be read"])
+
+    def test_longest_log(self):
+        self.file("most", bytes(16_777_216))
+        self.assertEqual(self.batch_of("most").stdout, b"batch\nlog 16777216\n" + bytes(16_777_216) + b"end\n")
+        self.file("more", bytes(16_777_217))
+        self.file("a", b"x\n")
+        for name in ("more", "/dev/zero"):
+            self.assert_ended(self.batch_of("a", name, "a"), 64, b"batch\nlog 2\nx\n", [f"'{name}' has more than"])
+
+    def test_output_that_takes_nothing(self):
+        self.file("a", b"x\n")
+        self.assert_ended(self.run_shell('"$examples"/batch_of a > /dev/full'), 5, b"", ["can't be written to"])
+        self.assert_ended(self.run_shell('"$examples"/batch_of a >&-'), 5, b"", ["can't be written to"])
+
+    def test_no_temporary_folder(self):
+        self.file("a", b"x\n")
+        self.assert_ended(self.batch_of("a", TMPDIR="/missing"), 70, b"", ["mktemp"])
+
+    def test_nothing_is_left_behind(self):
+        self.file("a", b"x\n")
+        (self.folder / "kept").mkdir()
+        for words in (["a"], ["a", "missing"], ["a", "/dev/zero"]):
+            self.batch_of(*words, TMPDIR=str(self.folder / "kept"))
+        self.assertEqual(list((self.folder / "kept").iterdir()), [])
+
+
+if __name__ == "__main__":
+    unittest.main()
