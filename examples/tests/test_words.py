@@ -1,0 +1,115 @@
+"""Tests of what all scripts here do with their words, and of those that compare, with checkers that answer right and wrong."""
+
+import shutil
+import unittest
+
+from scripts import EXAMPLES, ScriptTest
+
+WITHOUT_WORDS = ["all", "compare", "caught", "own/check", "no_memory/try"]
+ASKING = ["compare", "caught", "own/check", "no_memory/try", "documents", "measure"]
+USAGE = "usage: vyrd check | step [--log|--history] | run [--log|--history] | gen N | movers | batch"
+VIOLATION = "violation at line 7: reply 1 not allowed"
+
+
+class Words(ScriptTest):
+    def test_help(self):
+        for script in [*WITHOUT_WORDS, "documents", "measure", "batch_of", "rows_of"]:
+            ran = self.run_script(script, "--help")
+            self.assert_ended(ran, 0, ran.stdout, [])
+            self.assertIn(script.split("/")[-1].encode(), ran.stdout)
+            self.assertNotIn(b"set -", ran.stdout)
+
+    def test_misuse(self):
+        for script in WITHOUT_WORDS:
+            self.assert_ended(self.run_script(script, "-x"), 64, b"", ["'-x'"])
+        self.assert_ended(self.run_script("measure", "tree", "queue"), 64, b"", ["'queue' is no structure"])
+        self.assert_ended(self.run_script("documents", "missing.md"), 64, b"", ["missing.md"])
+
+    def test_program_that_isnt_there(self):
+        for script in ASKING:
+            self.assert_ended(self.run_script(script, vyrd="/missing"), 70, b"", ["can't be run: /missing"])
+
+
+class Compare(ScriptTest):
+    def compare(self, table, *answer):
+        """Runs a copy of compare, with a table of its own and a checker that answers `check` so."""
+        for name in ("compare", "common.sh"):
+            shutil.copy(EXAMPLES / name, self.folder)
+        self.file("table.tsv", table)
+        self.file("a.log", "")
+        checker = self.program("checker", f"[ \"$*\" = check ] || {{ echo '{USAGE}'; exit 3; }}", *answer)
+        return self.run_script(self.folder / "compare", vyrd=checker)
+
+    def test_output_and_status_are_compared(self):
+        table = f"a.log\tcheck\t1\t{VIOLATION}\n"
+        right = self.compare(table, f"echo '{VIOLATION}'", "exit 1")
+        self.assert_ended(right, 0, b"examples: 20 passed, 0 failed\n", [])
+        for wrong in (f"echo '{VIOLATION}'; exit 0", f"printf '{VIOLATION}'; exit 1", "echo accepted; exit 1", "exit 70"):
+            ran = self.compare(table, wrong)
+            self.assertEqual(ran.returncode, 1)
+            self.assertIn(b"examples: 19 passed, 1 failed\n", ran.stdout)
+
+
+class Caught(ScriptTest):
+    def caught(self, hunt, check):
+        """Runs a copy of caught, with a hunt and a checker of its own."""
+        for name in ("caught", "common.sh"):
+            self.file(f"examples/{name}", (EXAMPLES / name).read_bytes()).chmod(0o755)
+        self.program("tools/hunt", *hunt)
+        return self.run_script(self.folder / "examples/caught", vyrd=self.program("checker", "cat >judged", *check))
+
+    def test_answer_is_judged_again(self):
+        hunt = ["echo 'a log'", f"echo '{VIOLATION}'"]
+        again = [f"echo '{VIOLATION}'", "exit 1"]
+        self.assert_ended(self.caught(hunt, again), 0, f"caught: {VIOLATION}\n".encode(), [])
+        self.assertEqual((self.folder / "judged").read_text(), "a log\n")
+        for wrong in (["echo accepted", "exit 0"], [f"echo '{VIOLATION}'"], ["exit 1"]):
+            self.assertEqual(self.caught(hunt, wrong).returncode, 1)
+
+    def test_hunt_without_an_answer(self):
+        again = ["exit 1"]
+        for hunt in ([], ["echo 'a log'"], ["exit 70"], ["exit 3"]):
+            self.assertEqual(self.caught(hunt, again).returncode, 1)
+
+
+class OwnStructures(ScriptTest):
+    def test_answer_of_every_run_counts(self):
+        """A checker that accepts all: the runs of the broken variants are those that fail."""
+        accepts = self.program("checker", "cat >/dev/null", "echo 'accepted: 0 entries, 0 commits, 0 observers'")
+        # Without compilers the Python one is left, with five runs of each variant.
+        tools = "bash dirname mktemp rm cat python3 env sed"
+        (self.folder / "tools").mkdir()
+        for tool in tools.split():
+            (self.folder / "tools" / tool).symlink_to(shutil.which(tool))
+        ran = self.run_script("own/check", vyrd=accepts, PATH=str(self.folder / "tools"))
+        self.assertEqual(ran.returncode, 1)
+        self.assertIn(b"own structures: 5 passed, 5 failed, 2 skipped\n", ran.stdout)
+
+
+@unittest.skipUnless(shutil.which("/usr/bin/time"), "GNU time isn't here")
+class Measure(ScriptTest):
+    def test_run_that_isnt_accepted(self):
+        ran = self.run_script("measure", vyrd=self.program("checker", "exit 6"))
+        self.assertEqual(ran.returncode, 1)
+        self.assertEqual(ran.stderr, b"measure: 'gen 200000' of none ended with the status 6, and isn't accepted\n")
+
+
+class All(ScriptTest):
+    def test_it_runs_the_rest_after_a_failure(self):
+        """A copy in which each script notes that it ran, and one of them fails."""
+        for name in ("all", "common.sh"):
+            self.file(f"examples/{name}", (EXAMPLES / name).read_bytes()).chmod(0o755)
+        scripts = ["examples/compare", "examples/own/check", "tools/check", "examples/caught", "examples/documents"]
+        for script in scripts:
+            self.program(script, f'echo {script} >>"{self.folder}/ran"', "exit 0")
+        (self.folder / "examples/tests").mkdir()
+        for failing, status in ((None, 0), (scripts[0], 1), (scripts[-1], 1)):
+            if failing:
+                self.program(failing, f'echo {failing} >>"{self.folder}/ran"', "exit 3")
+            (self.folder / "ran").write_text("")
+            self.assertEqual(self.run_script(self.folder / "examples/all").returncode, status)
+            self.assertEqual((self.folder / "ran").read_text().split(), scripts)
+
+
+if __name__ == "__main__":
+    unittest.main()
