@@ -1,13 +1,23 @@
 """What the tests of scripts share: a folder of their own for each test, and the scripts run in it."""
 
+import importlib.util
 import os
 import subprocess
 import tempfile
 import unittest
+from importlib.machinery import SourceFileLoader
 from pathlib import Path
 
 EXAMPLES = Path(__file__).resolve().parent.parent
 SECONDS = 60
+
+
+def module_of(script):
+    """A script in Python as a module."""
+    loader = SourceFileLoader(script.name, str(script))
+    module = importlib.util.module_from_spec(importlib.util.spec_from_loader(script.name, loader))
+    loader.exec_module(module)
+    return module
 
 
 class ScriptTest(unittest.TestCase):
