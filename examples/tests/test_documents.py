@@ -1,17 +1,8 @@
 """Tests of documents, over documents of their own."""
 
-import importlib.util
 import unittest
-from importlib.machinery import SourceFileLoader
 
-from scripts import EXAMPLES, ScriptTest
-
-
-def documents_module():
-    loader = SourceFileLoader("documents", str(EXAMPLES / "documents"))
-    module = importlib.util.module_from_spec(importlib.util.spec_from_loader("documents", loader))
-    loader.exec_module(module)
-    return module
+from scripts import EXAMPLES, ScriptTest, module_of
 
 
 class Documents(ScriptTest):
@@ -61,8 +52,12 @@ class Documents(ScriptTest):
         self.assert_ended(self.run_script("documents", "page.md"), 64, b"", ["a document can't be read"])
         self.assert_counts(self.documents("$ printf '\\377'", "\N{REPLACEMENT CHARACTER}"), 1, 0)
 
+    def test_output_that_takes_nothing(self):
+        self.file("page.md", "    $ true\n")
+        self.assert_ended(self.run_shell('"$examples"/documents page.md > /dev/full'), 5, b"", ["can't be written to"])
+
     def test_command_that_doesnt_end(self):
-        module = documents_module()
+        module = module_of(EXAMPLES / "documents")
         module.SECONDS = 0.5
         self.assertEqual(module.run([("echo a", "a"), ("sleep 600 | cat", "")], self.folder), ["a"])
 
