@@ -1,7 +1,6 @@
 pub mod EndingLaws
 pub mod AlikeLaws
 pub mod PartLaws
-pub mod AnyLaws
 pub mod HistoryLaws
 pub mod OnlineLaws
 pub mod FollowerLaws

@@ -4,4 +4,3 @@ pub mod Reached
 pub mod Judged
 pub mod Queued
 pub mod Following
-pub mod AnyJudges

@@ -81,7 +81,6 @@ impl<S: Spec> Follower<S> {
         words: &[u64],
         spec: S,
     ) -> Result<Follower<S>, AllocError>
-        requires subject { header.subject ≡ S.subject }
         requires spec_header { (rules_by (S.charter spec)).header ≡ header }
         requires made { S.made spec ≡ 0 }
         requires may_start { may_start header start.now ≡ true }

@@ -77,7 +77,7 @@ impl<S: BuiltIn> Judge<S> {
     /// A judge that has followed no entry. It takes memory in proportion to the header's words and
     /// callers.
     pub fn new(alloc: Global, header: Header) -> Result<Judge<S>, AllocError>
-        requires subject { header.subject ≡ S.subject }
+        requires serves { S.serves header.subject }
         ensures followed { IfOk result (λ j. HasFollowed j [] []) }
         ensures charter { IfOk result (λ j. j.kept.charter ≡ built_in header) }
         ensures entries { IfOk result (λ j. j.kept.entries ≡ 0) }
@@ -97,7 +97,7 @@ impl<S: BuiltIn> Judge<S> {
         header: Header,
         start: &[StartWord],
     ) -> Result<Option<Judge<S>>, AllocError>
-        requires subject { header.subject ≡ S.subject }
+        requires serves { S.serves header.subject }
         requires may_start { may_start header start.now ≡ true }
         ensures none { IfOk result
             (λ j. is_none j ≡ is_none (state_at_start (rules_of header) start.now)) }
@@ -125,7 +125,6 @@ impl<S: Spec> Judge<S> {
         words: &[u64],
         spec: S,
     ) -> Result<Judge<S>, AllocError>
-        requires subject { header.subject ≡ S.subject }
         requires spec_header { (rules_by (S.charter spec)).header ≡ header }
         requires made { S.made spec ≡ 0 }
         requires may_start { may_start header start.now ≡ true }

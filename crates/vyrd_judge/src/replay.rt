@@ -28,7 +28,6 @@ use vyrd_words::Words;
 pub(crate) struct Replay<S: Spec> {
     pub spec: S,
     pub watches: Watches,
-    ghost subject: { (rules_by (S.charter spec)).header.subject ≡ S.subject },
     ghost watching: { watches.header ≡ (rules_by (S.charter spec)).header },
     ghost callers: { length watches.by_caller ≡ (rules_by (S.charter spec)).header.callers },
 }
@@ -36,7 +35,6 @@ pub(crate) struct Replay<S: Spec> {
 impl<S: Spec> Replay<S> {
     /// The place before the first entry, with the specification in its state at the start.
     pub fn new(alloc: Global, header: Header, spec: S) -> Result<Replay<S>, AllocError>
-        requires subject { header.subject ≡ S.subject }
         requires spec_header { (rules_by (S.charter spec)).header ≡ header }
         ensures spec { IfOk result (λ r. r.spec ≡ spec) }
         ensures current { IfOk result

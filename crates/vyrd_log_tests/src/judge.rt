@@ -109,7 +109,7 @@ fn judges_agree<S: BuiltIn>(
     header: Header,
     entries: &[Entry],
 ) -> Result<bool, AllocError>
-    requires subject { header.subject ≡ S.subject }
+    requires serves { S.serves header.subject }
     requires few { length entries.now ≤ 20 }
 {
     let (line, rule) = (1, Rule::BadHeader);

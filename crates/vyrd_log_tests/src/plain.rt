@@ -35,7 +35,7 @@ fn judged<S: BuiltIn>(
     subject: Subject,
     entries: &[Entry],
 ) -> Result<Option<Verdict>, AllocError>
-    requires subject { subject ≡ S.subject }
+    requires serves { S.serves subject }
     requires few { length entries.now ≤ 20 }
 {
     let Some(header) = Header::new(1, subject, 1, 2) else {

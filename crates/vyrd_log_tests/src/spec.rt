@@ -228,7 +228,7 @@ const BUFFERS: &[Case] = &[
 
 /// Asserts each of these cases.
 fn assert_cases<S: BuiltIn>(rt: &impl Abort, alloc: Global, subject: Subject, cases: &[Case])
-    requires { subject ≡ S.subject }
+    requires { S.serves subject }
 {
     for (row, case) in cases.iter().enumerate() {
         assert!(rt; holds::<S>(alloc, subject, case), "row {row}");
@@ -237,7 +237,7 @@ fn assert_cases<S: BuiltIn>(rt: &impl Abort, alloc: Global, subject: Subject, ca
 
 /// Whether the state answers what the case says, and shows its pairs then.
 fn holds<S: BuiltIn>(alloc: Global, subject: Subject, case: &Case) -> bool
-    requires { subject ≡ S.subject }
+    requires { S.serves subject }
 {
     let Some(header) = Header::new(1, subject, case.size, 1) else {
         return false;
@@ -252,7 +252,7 @@ fn holds<S: BuiltIn>(alloc: Global, subject: Subject, case: &Case) -> bool
 
 /// The state for which the words stand, or the empty state if there are no words.
 fn begun<S: BuiltIn>(alloc: Global, header: Header, words: &[u64]) -> Option<S>
-    requires { header.subject ≡ S.subject }
+    requires { S.serves header.subject }
     ensures header { IfSome result (λ spec. (rules_by (S.charter spec)).header ≡ header) }
     ensures made { IfSome result (λ spec. S.made spec ≡ 0) }
 {
@@ -265,7 +265,7 @@ fn begun<S: BuiltIn>(alloc: Global, header: Header, words: &[u64]) -> Option<S>
 
 /// The state for which the words stand, if they stand for one.
 fn started<S: BuiltIn>(alloc: Global, header: Header, words: &[u64]) -> Option<S>
-    requires { header.subject ≡ S.subject }
+    requires { S.serves header.subject }
     ensures header { IfSome result (λ spec. (rules_by (S.charter spec)).header ≡ header) }
     ensures made { IfSome result (λ spec. S.made spec ≡ 0) }
 {
@@ -289,7 +289,6 @@ fn are_words(words: &[u64]) -> bool
 
 /// Whether the state, after no step, answers all of this as it says. It makes the steps.
 fn all_answered<S: Spec>(spec: &mut S, header: Header, asked: &[Asked]) -> bool
-    requires subject { header.subject ≡ S.subject }
     requires header { (rules_by (S.charter spec.old)).header ≡ header }
     requires made { S.made spec.old ≡ 0 }
 {
@@ -303,7 +302,6 @@ fn all_answered<S: Spec>(spec: &mut S, header: Header, asked: &[Asked]) -> bool
 
 /// Whether the state answers this as it says. If it is a step, it makes it.
 fn is_answered<S: Spec>(spec: &mut S, header: Header, asked: &Asked) -> bool
-    requires subject { header.subject ≡ S.subject }
     requires header { (rules_by (S.charter spec.old)).header ≡ header }
     requires few { S.made spec.old < 2 ^ 62 }
     ensures header { (rules_by (S.charter spec.new)).header ≡ header }
@@ -328,7 +326,6 @@ fn step<S: Spec>(
     args: Args,
     reply: u64,
 ) -> Option<bool>
-    requires subject { header.subject ≡ S.subject }
     requires header { (rules_by (S.charter spec.old)).header ≡ header }
     requires few { S.made spec.old < 2 ^ 62 }
     ensures header { (rules_by (S.charter spec.new)).header ≡ header }
@@ -342,7 +339,6 @@ fn step<S: Spec>(
 
 /// The answer, if this is an observer's call.
 fn answered<S: Spec>(spec: &S, header: Header, method: Method, args: Args) -> Option<u64>
-    requires subject { header.subject ≡ S.subject }
     requires header { (rules_by (S.charter spec.now)).header ≡ header }
 {
     if !header.fits(method, args) || !method.is_observer() {
@@ -367,8 +363,8 @@ fn first_step<S: BuiltIn>(
     args: Args,
     reply: u64,
 ) -> Result<Option<View>, AllocError>
-    requires header { header.subject ≡ S.subject }
-    requires subject { subject_of method ≡ S.subject }
+    requires serves { S.serves header.subject }
+    requires subject { subject_of method ≡ header.subject }
     requires args { are_args header.size method args ≡ true }
     requires mutator { is_observer method ≡ false }
     ensures { IfOk result (λ shown. shown ≡ next_state method args reply []) }
@@ -398,8 +394,8 @@ fn touched<S: BuiltIn>(
     args: Args,
     key: u64,
 ) -> Option<(Option<u64>, Option<u64>, bool)>
-    requires header { header.subject ≡ S.subject }
-    requires subject { subject_of method ≡ S.subject }
+    requires serves { S.serves header.subject }
+    requires subject { subject_of method ≡ header.subject }
     requires args { are_args header.size method args ≡ true }
 {
     let touched = S::start(alloc, header).ok()?.touched(method, args);
@@ -464,7 +460,7 @@ fn other_words_are_no_start(rt: HostRuntime) {
 
 /// Asserts of each of these words that they stand for no state.
 fn assert_no_starts<S: BuiltIn>(rt: &impl Abort, alloc: Global, subject: Subject, words: &[NoStart])
-    requires { subject ≡ S.subject }
+    requires { S.serves subject }
 {
     for (row, (size, words)) in words.iter().enumerate() {
         assert!(rt;
@@ -476,7 +472,7 @@ fn assert_no_starts<S: BuiltIn>(rt: &impl Abort, alloc: Global, subject: Subject
 
 /// Whether the words stand for a state, if they are words of the subject of this size.
 fn is_start<S: BuiltIn>(alloc: Global, subject: Subject, size: u32, words: &[u64]) -> Option<bool>
-    requires { subject ≡ S.subject }
+    requires { S.serves subject }
 {
     let header = Header::new(1, subject, size, 1)?;
     if words.len() != header.plain_words() as usize || !are_words(words) {

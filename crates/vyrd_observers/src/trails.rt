@@ -104,7 +104,6 @@ fn see<S: Spec>(trail: &mut Trail, spec: &S, touched: Touched) -> Result<(), All
     requires allowed { trail.old.is_asked ≡ true
         → has_method (rules_by (S.charter spec.now)).header trail.old.method trail.old.args ≡ true }
     requires observer { trail.old.is_asked ≡ true → is_observer trail.old.method ≡ true }
-    requires subject { (rules_by (S.charter spec.now)).header.subject ≡ S.subject }
     ensures saw { OnOk result
         (trail.new
         ≡ after_state (S.affects touched)
@@ -124,7 +123,6 @@ pub(crate) fn see_all<S: Spec>(
     touched: Touched,
 ) -> Result<(), AllocError>
     requires asking { AreAsking (rules_by (S.charter spec.now)).header trails.old.items }
-    requires subject { (rules_by (S.charter spec.now)).header.subject ≡ S.subject }
     ensures len { length trails.new.items ≡ length trails.old.items }
     ensures saw { OnOk result
         (trails.new.items

@@ -124,7 +124,6 @@ impl Watches {
     /// asked.
     pub fn see_all<S: Spec>(&mut self, spec: &S, touched: Touched) -> Result<(), AllocError>
         requires header { (rules_by (S.charter spec.now)).header ≡ self.old.header }
-        requires subject { self.old.header.subject ≡ S.subject }
         requires current { (c : ℕ) (seen : Seen) → slice_get self.old.by_caller c ≡ Some seen
             → seen.is_open ≡ true → S.affects touched seen.method seen.args ≡ false
             → has_answer seen.answers

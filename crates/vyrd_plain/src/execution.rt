@@ -46,7 +46,6 @@ impl Execution {
     pub fn is_answered_by<S: Spec>(&self, spec: &S) -> bool
         requires allowed { has_method
             (rules_by (S.charter spec.now)).header self.now.method self.now.args ≡ true }
-        requires subject { (rules_by (S.charter spec.now)).header.subject ≡ S.subject }
         ensures { result ≡ answers (rules_by (S.charter spec.now)) self.now (S.state spec.now) }
     {
         match self.reply {
@@ -62,7 +61,6 @@ impl Execution {
 fn seeing<S: Spec>(execution: Option<Execution>, spec: &S) -> Option<Execution>
     requires allowed { (x : Execution) → execution ≡ Some x
         → has_method (rules_by (S.charter spec.now)).header x.method x.args ≡ true }
-    requires subject { (rules_by (S.charter spec.now)).header.subject ≡ S.subject }
     ensures { result ≡ seeing (rules_by (S.charter spec.now)) (S.state spec.now) execution }
 {
     let mut x = execution?;
@@ -74,7 +72,6 @@ fn seeing<S: Spec>(execution: Option<Execution>, spec: &S) -> Option<Execution>
 pub(crate) fn see<S: Spec>(executions: &mut Vec<Option<Execution>>, spec: &S)
     requires allowed { AreAllowed (rules_by (S.charter spec.now)).header executions.old.items }
     requires all { vec_len executions.old ≡ (rules_by (S.charter spec.now)).header.callers }
-    requires subject { (rules_by (S.charter spec.now)).header.subject ≡ S.subject }
     ensures seen { executions.new.items
         ≡ map (seeing (rules_by (S.charter spec.now)) (S.state spec.now)) executions.old.items }
     ensures len { vec_len executions.new ≡ vec_len executions.old }

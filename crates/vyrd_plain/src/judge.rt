@@ -37,7 +37,7 @@ pub fn judge_log<S: BuiltIn>(
     entries: &[Entry],
     stop: Stop,
 ) -> Result<Verdict, AllocError>
-    requires subject { header.subject ≡ S.subject }
+    requires serves { S.serves header.subject }
     requires few { length entries.now < 2 ^ 62 }
     ensures { IfOk result (λ verdict. verdict ≡ verdict_at (rules_of header) [] entries.now stop) }
 {

@@ -38,7 +38,6 @@ pub(crate) struct Scan<S: Spec> {
     pub effects: Effects,
     /// By caller. `None` if a caller is in no execution.
     pub executions: Vec<Option<Execution>>,
-    ghost subject: { (rules_by (S.charter spec)).header.subject ≡ S.subject },
     ghost effects_header: { effects.header ≡ (rules_by (S.charter spec)).header },
     ghost callers: { vec_len executions ≡ (rules_by (S.charter spec)).header.callers },
 }
@@ -46,7 +45,7 @@ pub(crate) struct Scan<S: Spec> {
 impl<S: BuiltIn> Scan<S> {
     /// The place before the first entry.
     pub fn new(alloc: Global, header: Header) -> Result<Scan<S>, AllocError>
-        requires subject { header.subject ≡ S.subject }
+        requires serves { S.serves header.subject }
         ensures charter { IfOk result (λ s. S.charter s.spec ≡ built_in header) }
         ensures state { IfOk result (λ s. S.state s.spec ≡ start) }
         ensures made { IfOk result (λ s. S.made s.spec ≡ 0) }

@@ -18,7 +18,7 @@ pub(crate) fn first_violation<S: BuiltIn>(
     header: Header,
     front: &[Entry],
 ) -> Result<Option<Verdict>, AllocError>
-    requires subject { header.subject ≡ S.subject }
+    requires serves { S.serves header.subject }
     requires kept { first_break header front.now ≡ None }
     requires few { length front.now < 2 ^ 62 }
     ensures { IfOk result (λ found. found ≡ first_fault (rules_of header) [] front.now) }

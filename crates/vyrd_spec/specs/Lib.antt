@@ -5,3 +5,4 @@ pub mod Chunks
 pub mod Texts
 pub mod Neighbours
 pub mod NodeKeys
+pub mod AnySpecs

@@ -1,10 +1,9 @@
 //! The specification of the string buffers: the text of each buffer.
 
-ghost use Rattle.std.specs.Prelude.{◌≡◌, ◌<◌, ◌≤◌, ◌^◌, true, false, length, Some, None};
+ghost use Rattle.std.specs.Prelude.{◌≡◌, ◌<◌, ◌≤◌, ◌^◌, true, false, length, Some, None, refl};
 ghost use Rattle.vyrd_base.specs.Rules.{built_in};
 ghost use Rattle.vyrd_base.specs.declared.subject.Subject.TheVariants.{Buffers};
 ghost use Rattle.vyrd_base.specs.Specification.{next_state};
-ghost use Rattle.std.specs.Prelude.{refl};
 ghost use Rattle.vyrd_spec.specs.Touching.{touched_by, is_touched};
 ghost use Rattle.vyrd_base.specs.Subjects.{subject_of, is_observer};
 ghost use Rattle.vyrd_spec.specs.Bounds.{AreTexts, small_texts};
@@ -26,14 +25,13 @@ pub struct BufferSpec {
     header: Header,
     made: u64,
     texts: Vec<u64>,
+    ghost subject: { header.subject ≡ Buffers },
     ghost few: { made ≤ 2 ^ 62 },
     ghost count: { length texts.items ≡ header.size },
     ghost small: { AreTexts (row_amounts texts.items) },
 }
 
 impl Spec for BufferSpec {
-    ghost subject = { Buffers };
-
     ghost charter = { λ s. built_in s.header };
 
     ghost state = { λ s. row_amounts s.texts.items };
@@ -86,6 +84,8 @@ impl Spec for BufferSpec {
 }
 
 impl BuiltIn for BufferSpec {
+    ghost serves = { λ subject. subject ≡ Buffers };
+
     ghost is_formed = { λ s. row_formed s.texts.items };
 
     ghost is_small = { λ s. small_texts (row_amounts s.texts.items) s.small };

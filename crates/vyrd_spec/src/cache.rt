@@ -1,10 +1,9 @@
 //! The specification of the cache: the pair of each chunk.
 
-ghost use Rattle.std.specs.Prelude.{◌≡◌, ◌+◌, ◌*◌, ◌<◌, ◌≤◌, ◌^◌, true, false, length, Some, None};
+ghost use Rattle.std.specs.Prelude.{◌≡◌, ◌+◌, ◌*◌, ◌<◌, ◌≤◌, ◌^◌, true, false, length, Some, None, refl};
 ghost use Rattle.vyrd_base.specs.Rules.{built_in};
 ghost use Rattle.vyrd_base.specs.declared.subject.Subject.TheVariants.{Cache};
 ghost use Rattle.vyrd_base.specs.Specification.{next_state};
-ghost use Rattle.std.specs.Prelude.{refl};
 ghost use Rattle.vyrd_spec.specs.Touching.{touched_by, is_touched};
 ghost use Rattle.vyrd_base.specs.Subjects.{subject_of, is_observer};
 ghost use Rattle.vyrd_spec.specs.Bounds.{AllAmounts, small_chunks};
@@ -25,6 +24,7 @@ pub struct CacheSpec {
     header: Header,
     made: u64,
     pairs: Vec<u64>,
+    ghost subject: { header.subject ≡ Cache },
     ghost few: { made ≤ 2 ^ 62 },
     ghost count: { length pairs.items ≡ header.size },
     ghost small: { AllAmounts (λ chunk pair. (chunk < 2 ^ 32) × (pair < 2 ^ 64))
@@ -32,8 +32,6 @@ pub struct CacheSpec {
 }
 
 impl Spec for CacheSpec {
-    ghost subject = { Cache };
-
     ghost charter = { λ s. built_in s.header };
 
     ghost state = { λ s. row_amounts s.pairs.items };
@@ -81,6 +79,8 @@ impl Spec for CacheSpec {
 }
 
 impl BuiltIn for CacheSpec {
+    ghost serves = { λ subject. subject ≡ Cache };
+
     ghost is_formed = { λ s. row_formed s.pairs.items };
 
     ghost is_small = { λ s. small_chunks (row_amounts s.pairs.items) s.small };

@@ -4,9 +4,10 @@
 //! The central type is the trait `Spec`. A step answers `true` exactly when the rules allow the
 //! reply in this state, and the state is then the next one by the rules; after `false`, and when
 //! memory runs out, it is as it was. `BuiltIn` are the specifications of the four subjects, by the
-//! rules of a header.
+//! rules of a header, and [`AnySpec`] is that of the subject which the header names.
 #![tactic(auto)]
 
+mod any;
 mod buffer_words;
 mod buffers;
 mod cache;
@@ -24,6 +25,7 @@ mod touched;
 mod tree;
 mod tree_words;
 
+pub use any::AnySpec;
 pub use buffers::BufferSpec;
 pub use cache::CacheSpec;
 pub use multiset::MultisetSpec;

@@ -1,13 +1,12 @@
 //! The specification of the multiset: how many there are of each value.
 
-ghost use Rattle.std.specs.Prelude.{◌≡◌, ◌≢◌, ◌+◌, ◌*◌, ◌<◌, ◌≤◌, ◌^◌, ◌-◌, ℕ, true, false, not};
+ghost use Rattle.std.specs.Prelude.{◌≡◌, ◌≢◌, ◌+◌, ◌*◌, ◌<◌, ◌≤◌, ◌^◌, ◌-◌, ℕ, true, false, not, refl};
 ghost use Rattle.std.specs.Prelude.{OnOk, OnErr, Some, None, Ok};
 ghost use Rattle.std.specs.Bool.{then_some};
 ghost use Rattle.vyrd_base.specs.Rules.{built_in};
 ghost use Rattle.vyrd_base.specs.declared.subject.Subject.TheVariants.{Multiset};
 ghost use Rattle.vyrd_base.specs.Amounts.{amount_of, with_amount, plus_amount, IsAmounts};
 ghost use Rattle.vyrd_base.specs.Specification.{next_state, by_reply, is_present};
-ghost use Rattle.std.specs.Prelude.{refl};
 ghost use Rattle.vyrd_spec.specs.Touching.{touched_by, is_touched};
 ghost use Rattle.vyrd_base.specs.Subjects.{subject_of, is_observer};
 ghost use Rattle.vyrd_spec.specs.Bounds.{AllAmounts, most_after, small_counts};
@@ -26,6 +25,7 @@ pub struct MultisetSpec {
     header: Header,
     made: u64,
     amounts: AmountTable,
+    ghost subject: { header.subject ≡ Multiset },
     ghost few: { made ≤ 2 ^ 62 },
     ghost formed: { IsAmounts amounts } by { IsAmounts-prop amounts },
     ghost small: { AllAmounts (λ value count. (value < 2 ^ 63) × (count ≤ most_after made))
@@ -33,8 +33,6 @@ pub struct MultisetSpec {
 }
 
 impl Spec for MultisetSpec {
-    ghost subject = { Multiset };
-
     ghost charter = { λ s. built_in s.header };
 
     ghost state = { λ s. s.amounts };
@@ -82,6 +80,8 @@ impl Spec for MultisetSpec {
 }
 
 impl BuiltIn for MultisetSpec {
+    ghost serves = { λ subject. subject ≡ Multiset };
+
     ghost is_formed = { λ s. s.formed };
 
     ghost is_small = { λ s. small_counts s.made s.amounts s.few s.small };

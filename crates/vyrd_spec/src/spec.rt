@@ -25,9 +25,6 @@ use vyrd_base::{Args, Header, Method, View};
 ///
 /// Arguments are those that a well-formed call has.
 pub trait Spec: Sized + Drop {
-    // The subject whose methods may be called.
-    ghost subject: { Subject };
-
     // What names the rules by which it steps and answers.
     ghost charter: { Self → Charter };
 
@@ -50,7 +47,7 @@ pub trait Spec: Sized + Drop {
     /// Makes a step with a mutator's call and its reply. `false` says that the reply isn't allowed
     /// in this state. After `false`, and when memory runs out, all is as it was.
     fn step(&mut self, method: Method, args: Args, reply: u64) -> Result<bool, AllocError>
-        requires subject { subject_of method ≡ subject }
+        requires subject { subject_of method ≡ (rules_by (charter self.old)).header.subject }
         requires args { are_args (rules_by (charter self.old)).header.size method args ≡ true }
         requires mutator { is_observer method ≡ false }
         requires few { made self.old < 2 ^ 62 }
@@ -75,7 +72,7 @@ pub trait Spec: Sized + Drop {
 
     /// What an observer answers in this state.
     fn answer(&self, method: Method, args: Args) -> u64
-        requires subject { subject_of method ≡ subject }
+        requires subject { subject_of method ≡ (rules_by (charter self.now)).header.subject }
         requires args { are_args (rules_by (charter self.now)).header.size method args ≡ true }
         requires observer { is_observer method ≡ true }
         ensures { result ≡ (rules_by (charter self.now)).answer (state self.now) method args };
@@ -102,12 +99,15 @@ pub trait Spec: Sized + Drop {
         → (rules_by (charter s)).view words ≡ view_of_words (rules_by (charter s)).header words };
 }
 
-/// The specification of a subject that is built in. It is made from a header that names the
-/// subject, and its rules are those of the header.
+/// A specification that is built in. It is made from a header, and its rules are those of the
+/// header.
 pub trait BuiltIn: Spec {
+    // Whether it is the specification of this subject.
+    ghost serves: { Subject → Type 0 };
+
     /// The empty state. It takes memory in proportion to the header's words.
     fn start(alloc: Global, header: Header) -> Result<Self, AllocError>
-        requires subject { header.subject ≡ Self.subject }
+        requires serves { Self.serves header.subject }
         ensures state { IfOk result (λ s. Self.state s ≡ []) }
         ensures charter { IfOk result (λ s. Self.charter s ≡ built_in header) }
         ensures made { IfOk result (λ s. Self.made s ≡ 0) };
@@ -117,7 +117,7 @@ pub trait BuiltIn: Spec {
     /// zeroed words: the law `zeroed_words_are_the_start`. Time and memory are in proportion to the
     /// words, except that a tree takes time in proportion to the square of its nodes in use.
     fn start_from(alloc: Global, header: Header, words: &[u64]) -> Result<Option<Self>, AllocError>
-        requires subject { header.subject ≡ Self.subject }
+        requires serves { Self.serves header.subject }
         requires count { length words.now ≡ plain_words header }
         requires small { All (λ word. word < 2 ^ 63) words.now }
         ensures state { IfOk result (λ found. option_map Self.state found

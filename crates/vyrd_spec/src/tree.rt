@@ -1,12 +1,11 @@
 //! The specification of the tree: the value of each key.
 
-ghost use Rattle.std.specs.Prelude.{◌≡◌, ◌≢◌, ◌+◌, ◌<◌, ◌≤◌, ◌^◌, true, false, not, Some, None, Ok};
+ghost use Rattle.std.specs.Prelude.{◌≡◌, ◌≢◌, ◌+◌, ◌<◌, ◌≤◌, ◌^◌, true, false, not, Some, None, Ok, refl};
 ghost use Rattle.std.specs.Bool.{then_some};
 ghost use Rattle.vyrd_base.specs.Rules.{built_in};
 ghost use Rattle.vyrd_base.specs.declared.subject.Subject.TheVariants.{Tree};
 ghost use Rattle.vyrd_base.specs.Amounts.{with_amount, IsAmounts};
 ghost use Rattle.vyrd_base.specs.Specification.{next_state, by_reply, is_present};
-ghost use Rattle.std.specs.Prelude.{refl};
 ghost use Rattle.vyrd_spec.specs.Touching.{touched_by, is_touched};
 ghost use Rattle.vyrd_base.specs.Subjects.{subject_of, is_observer};
 ghost use Rattle.vyrd_spec.specs.Bounds.{AllAmounts, small_values};
@@ -28,6 +27,7 @@ pub struct TreeSpec {
     header: Header,
     made: u64,
     amounts: AmountTable,
+    ghost subject: { header.subject ≡ Tree },
     ghost few: { made ≤ 2 ^ 62 },
     ghost formed: { IsAmounts amounts } by { IsAmounts-prop amounts },
     ghost small: { AllAmounts (λ key amount. (key < 2 ^ 32) × (2 ^ 32 ≤ amount) × (amount < 2 ^ 64))
@@ -35,8 +35,6 @@ pub struct TreeSpec {
 }
 
 impl Spec for TreeSpec {
-    ghost subject = { Tree };
-
     ghost charter = { λ s. built_in s.header };
 
     ghost state = { λ s. s.amounts };
@@ -85,6 +83,8 @@ impl Spec for TreeSpec {
 }
 
 impl BuiltIn for TreeSpec {
+    ghost serves = { λ subject. subject ≡ Tree };
+
     ghost is_formed = { λ s. s.formed };
 
     ghost is_small = { λ s. small_values s.amounts s.small };

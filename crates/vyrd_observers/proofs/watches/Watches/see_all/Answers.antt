@@ -8,9 +8,10 @@ use Rattle.vyrd_observers.proofs.SeeingLaws.{seen_all, seen_current}
 use Rattle.vyrd_observers.proofs.TrailLaws.{callers_see}
 use Rattle.vyrd_observers.proofs.watches.Watches.see_all.Goals as goal
 
-pub see_all-requires-clause-asking : goal.see_all-requires-clause-asking
-see_all-requires-clause-asking g c =
-    subst (λ h. AreAsking h c.self.inside.trails.items) (ap (λ (k : Watched). k.header) c.self.view_is ∙ sym c.requires.header) c.self.invariant.1
+pub see_all-requires : goal.see_all-requires
+see_all-requires g c = record {
+  asking = subst (λ h. AreAsking h c.self.inside.trails.items) (ap (λ (k : Watched). k.header) c.self.view_is ∙ sym c.requires.header) c.self.invariant.1;
+}
 
 pub invariant_of-self : goal.invariant_of-self
 invariant_of-self g c = (

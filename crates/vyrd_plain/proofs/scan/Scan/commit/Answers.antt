@@ -14,7 +14,7 @@ use Rattle.vyrd_plain.proofs.scan.Scan.commit.Goals as goal
 pub step-requires-clause-subject : goal.step-requires-clause-subject
 step-requires-clause-subject g c =
     method_subject (rules_by (g.S.Spec.charter c.args.self.now.spec)).header c.in-Some.execution.method c.in-Some.execution.args
-    (c.requires.allowed c.args.caller c.in-Some.execution c.requires.caller c.in-Some.ensures) ∙ c.args.self.now.subject
+    (c.requires.allowed c.args.caller c.in-Some.execution c.requires.caller c.in-Some.ensures)
 
 pub step-requires-clause-args : goal.step-requires-clause-args
 step-requires-clause-args g c =

@@ -18,6 +18,7 @@ invariant_of-result c =
     let texts = c.in-Some.texts.items in
     let some : sound_texts size words ≡ Some texts = rw c.in-Some.is at c.in_ok-texts.ensures in
     record {
+      subject = c.requires.serves;
       few = search rules;
       count = many_in (is_buffer_at words) (text_shown words) size texts some ∙ c.size.ensures;
       small = first_row (is_buffer_at words) (text_shown words) (256 ^ 7) (small_text words) size texts
@@ -30,7 +31,7 @@ returns-in-Some-clause-state c =
     let size = c.size.result in
     let texts = c.in-Some.texts.items in
     let some : sound_texts size words ≡ Some texts = rw c.in-Some.is at c.in_ok-texts.ensures in
-    a_state c.args.header Buffers words (row_amounts texts) c.requires.subject c.requires.count
+    a_state c.args.header Buffers words (row_amounts texts) c.requires.serves c.requires.count
     (ap (λ n. is_sound Buffers n words) (sym c.size.ensures) ∙ sound_where (is_buffer_at words) (text_shown words) size texts some)
     (row_shows (is_buffer_at words) (text_shown words) (λ b. buffer_parts size b (buffer_at words b)) (given_text size words) size texts some
     ∙ ap (λ n. collected (parts_of Buffers n words)) c.size.ensures)
@@ -39,5 +40,5 @@ pub returns-in-None-clause-state : goal.returns-in-None-clause-state
 returns-in-None-clause-state c =
     let words = c.args.words.now in
     let none : sound_texts c.size.result words ≡ None = rw c.in-None.is at c.in_ok-texts.ensures in
-    no_state c.args.header Buffers words c.requires.subject c.requires.count
+    no_state c.args.header Buffers words c.requires.serves c.requires.count
     (ap (λ n. is_sound Buffers n words) (sym c.size.ensures) ∙ unsound_where (is_buffer_at words) (text_shown words) c.size.result none)

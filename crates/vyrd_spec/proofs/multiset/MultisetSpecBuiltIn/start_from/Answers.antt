@@ -10,7 +10,7 @@ use Rattle.vyrd_spec.proofs.multiset.MultisetSpecBuiltIn.start_from.Goals as goa
 
 pub returns-then-not-are_sound-clause-state : goal.returns-then-not-are_sound-clause-state
 returns-then-not-are_sound-clause-state c =
-    no_state c.args.header Multiset c.args.words.now c.requires.subject c.requires.count
+    no_state c.args.header Multiset c.args.words.now c.requires.serves c.requires.count
     (ap (λ n. is_sound Multiset n c.args.words.now) (sym c.size-size.ensures) ∙ sym c.are_sound.ensures ∙ c.if-not-are_sound.true)
 
 pub invariant_of-result-clause-formed : goal.invariant_of-result-clause-formed
@@ -24,6 +24,6 @@ invariant_of-result-clause-small c =
 
 pub returns-clause-state : goal.returns-clause-state
 returns-clause-state c =
-    a_state c.args.header Multiset c.args.words.now c.in_ok-counts.field-0 c.requires.subject c.requires.count
+    a_state c.args.header Multiset c.args.words.now c.in_ok-counts.field-0 c.requires.serves c.requires.count
     (ap (λ n. is_sound Multiset n c.args.words.now) (sym c.size-size.ensures) ∙ sym c.are_sound.ensures ∙ c.if-not-are_sound.false)
     (c.in_ok-counts.ensures ∙ ap (λ n. collected (parts_of Multiset n c.args.words.now)) c.size-size.ensures)

@@ -1,4 +1,4 @@
-use Rattle.std.proofs.Common.{Ok, ap, arith, ◌+◌}
+use Rattle.std.proofs.Common.{Ok, ap, arith, ◌+◌, ◌∙◌}
 use Rattle.vyrd_spec.specs.Bounds.{most_after}
 use Rattle.vyrd_spec.proofs.StepLaws.{next_state-formed, next_state-counts, weaker_counts}
 use Rattle.vyrd_spec.proofs.multiset.MultisetSpecSpec.step.Goals as goal
@@ -16,5 +16,5 @@ invariant_of-self-then-allowed-clause-small c =
     let numbers = c.in_ok-allowed.ensures.numbers in
     let most = most_after c.args.self.now.made in
     weaker_counts (most + 2) (most_after (c.args.self.now.made + 1)) c.next.new.counts (omega arith)
-    (next_state-counts most c.args.method c.args.args c.args.reply c.args.self.now.amounts c.next.new.counts c.requires.subject numbers.0 numbers.1
+    (next_state-counts most c.args.method c.args.args c.args.reply c.args.self.now.amounts c.next.new.counts (c.requires.subject ∙ c.args.self.now.subject) numbers.0 numbers.1
     c.args.self.now.small (c.in_ok-allowed.ensures.allowed (ap Ok c.if-allowed.true)))

@@ -13,11 +13,11 @@ invariant_of-result-clause-formed c =
 
 pub returns-then-not-branch-clause-state : goal.returns-then-not-branch-clause-state
 returns-then-not-branch-clause-state c =
-    no_state c.args.header Tree c.args.words.now c.requires.subject c.requires.count
+    no_state c.args.header Tree c.args.words.now c.requires.serves c.requires.count
     (ap (λ n. is_sound Tree n c.args.words.now) (sym c.size-size.ensures) ∙ sym c.in_ok-is_tree.ensures ∙ c.if-not-branch.true)
 
 pub returns-clause-state : goal.returns-clause-state
 returns-clause-state c =
-    a_state c.args.header Tree c.args.words.now c.in_ok-values.field-0 c.requires.subject c.requires.count
+    a_state c.args.header Tree c.args.words.now c.in_ok-values.field-0 c.requires.serves c.requires.count
     (ap (λ n. is_sound Tree n c.args.words.now) (sym c.size-size.ensures) ∙ sym c.in_ok-is_tree.ensures ∙ c.if-not-branch.false)
     (c.in_ok-values.ensures.values ∙ ap (λ n. collected (parts_of Tree n c.args.words.now)) c.size-size.ensures)

@@ -1,0 +1,42 @@
+-- What the specification of any subject is seen as: the one specification in it.
+use Rattle.std.specs.Prelude.{ℕ, ◌^◌, ◌<◌}
+use Rattle.vyrd_base.specs.declared.header.Header.{Header}
+use Rattle.vyrd_base.specs.Amounts.{Amounts, IsAmounts}
+use Rattle.vyrd_spec.specs.declared.any.AnySpec.{AnySpec}
+use Rattle.vyrd_spec.specs.declared.any.AnySpec.TheVariants.{Multiset, Cache, Tree, Buffers}
+use Rattle.vyrd_spec.specs.Bounds.{AllAmounts, small_counts, small_chunks, small_values}
+use Rattle.vyrd_spec.specs.Bounds.{small_texts}
+use Rattle.vyrd_spec.specs.Rows.{row_amounts, row_formed}
+
+abbrev pub header_in : AnySpec → Header
+header_in (Multiset s) = s.header
+header_in (Cache s) = s.header
+header_in (Tree s) = s.header
+header_in (Buffers s) = s.header
+
+abbrev pub state_in : AnySpec → Amounts
+state_in (Multiset s) = s.amounts
+state_in (Cache s) = row_amounts s.pairs.items
+state_in (Tree s) = s.amounts
+state_in (Buffers s) = row_amounts s.texts.items
+
+abbrev pub made_in : AnySpec → ℕ
+made_in (Multiset s) = s.made
+made_in (Cache s) = s.made
+made_in (Tree s) = s.made
+made_in (Buffers s) = s.made
+
+-- These are amounts.
+pub formed_in : (s : AnySpec) → IsAmounts (state_in s)
+formed_in (Multiset s) = s.formed
+formed_in (Cache s) = row_formed s.pairs.items
+formed_in (Tree s) = s.formed
+formed_in (Buffers s) = row_formed s.texts.items
+
+-- Keys have less than 63 bits, and amounts at most 64.
+pub small_in : (s : AnySpec)
+    → AllAmounts (λ key amount. (key < 2 ^ 63) × (amount < 2 ^ 64)) (state_in s)
+small_in (Multiset s) = small_counts s.made s.amounts s.few s.small
+small_in (Cache s) = small_chunks (row_amounts s.pairs.items) s.small
+small_in (Tree s) = small_values s.amounts s.small
+small_in (Buffers s) = small_texts (row_amounts s.texts.items) s.small
