@@ -1,10 +1,13 @@
-"""What explain, lanes and lint know of a log's text. They read a log and the program's answer, and judge nothing."""
+"""What a log's text is, line by line. Nothing here judges, and a log needs no more memory than one line of it."""
 
 import re
-import signal
-import subprocess
-import sys
-from pathlib import Path
+
+from command import unread
+
+LONGEST = 64  # bytes of a line, without its line feed
+KEPT = 256  # bytes that are read of a longer one; the others are counted
+PIECE = 1 << 20
+MOST_WORD = (1 << 32) - 1  # of callers, words and arguments
 
 # The methods by subject, with the number of their arguments; those of OBSERVERS only look. See docs/LOG-FORMAT.md.
 METHODS = {
@@ -18,20 +21,31 @@ OBSERVERS = {"lookup", "read", "length"}
 # How many words a structure has for each unit of its size, and beside them.
 WORDS = {"multiset": (8, 0), "cache": (5, 0), "tree": (12, 2), "buffers": (8, 0)}
 
-ANSWER = re.compile(
-    r"(?:accepted: \d+ entries, \d+ commits, \d+ observers"
-    r"|violation at line \d+: (?:reply \d+ not allowed|view differs at key \d+|observer reply \d+ in no state)"
-    r"|malformed at line \d+: [a-z ]+|stuck|workload refused at line \d+: [a-z ]+|events spent by caller \d+)$"
+HEADER = re.compile(rf"vyrd ([12]) ({'|'.join(METHODS)}) ([1-9][0-9]{{0,3}}) ([1-9][0-9]?)")
+START = re.compile("start ([0-9]+) ([0-9]+)")
+ENTRY = re.compile(
+    "([0-9]+) (?:(write) ([0-9]+) ([0-9]+)|(return) ([0-9]+)|(call) ([^ ]+)((?: [0-9]+)*)|(commit|open|close(?: commit)?))"
 )
 
 
 class Entry:
     """A line after the header that has the form of an entry: its kind is its word, and `numbers` are those after it."""
 
-    def __init__(self, line, text, kind, method, numbers):
-        self.line, self.kind, self.method, self.numbers = line, kind, method, numbers
-        caller, _, self.text = text.partition(" ")
-        self.caller = int(caller)
+    __slots__ = ("line", "written", "caller", "kind", "method", "numbers")
+
+    def __init__(self, line, written, caller, kind, method, numbers):
+        self.line, self.written, self.caller = line, written, int(caller)
+        self.kind, self.method, self.numbers = kind, method, numbers
+
+    @property
+    def text(self):
+        """The line without its caller."""
+        return self.written.partition(" ")[2]
+
+    @property
+    def judges(self):
+        """Whether a violation may name its line."""
+        return self.kind in ("commit", "close commit", "return")
 
     @property
     def commits(self):
@@ -39,22 +53,13 @@ class Entry:
 
 
 class Log:
-    """The text of a log and the answer about it. `lines` has the lines from 1 on, `starting` the words and values of the
-    starting lines, and `entries` the lines after the header that can be read as one."""
+    """A log in a file that can be read again and again, and the answer about it. `subject` is None without a sound header."""
 
-    def __init__(self, text, answer):
-        self.lines = text.split("\n")
-        self.ends_in_line_feed = self.lines[-1] == ""
-        if self.ends_in_line_feed:
-            self.lines.pop()
-        self.answer = answer
-        header = (self.lines or [""])[0].split(" ")
-        is_whole = len(header) == 5 and header[2] in METHODS and header[3].isdecimal() and header[4].isdecimal()
-        self.subject = header[2] if is_whole else None
-        self.size = int(header[3]) if is_whole else 0
-        self.starting = starting_words(self.lines[1:]) if is_whole and header[1] == "2" else []
-        read = (entry_of(line, text) for line, text in enumerate(self.lines[1:], 2))
-        self.entries = [entry for entry in read if entry]
+    def __init__(self, file, name, answer):
+        self.file, self.name, self.answer = file, name, answer
+        header = HEADER.fullmatch(next((text for _, text, _, _ in self.lines()), ""))
+        is_sound = header and int(header[3]) <= 1024 and int(header[4]) <= 64
+        self.version, self.subject, self.size = (header[1], header[2], int(header[3])) if is_sound else (None, None, 0)
 
     @property
     def marked_line(self):
@@ -62,27 +67,70 @@ class Log:
         named = re.search(r"at line (\d+)", self.answer or "")
         return int(named[1]) if named else None
 
+    def lines(self):
+        """All lines, as lines_of gives them."""
+        self.file.seek(0)
+        return lines_of(open(self.file.fileno(), "rb", closefd=False), self.name)
 
-class Execution:
-    """A call with what follows of it: its writes, the line of its commit, and its reply."""
+    def entries(self):
+        """The lines after the header that can be read as entries."""
+        for line, text, _, _ in self.lines():
+            if line > 1 and (entry := entry_of(line, text)):
+                yield entry
 
-    def __init__(self, call):
-        self.caller, self.method, self.arguments, self.line = call.caller, call.method, call.numbers, call.line
-        self.writes, self.commit_line, self.return_line, self.reply = [], None, None, None
+    def starting(self):
+        """The words and values of the starting lines, of those words that the structure has."""
+        words = {}
+        for line, text, _, _ in self.lines() if self.version == "2" else ():
+            start = START.fullmatch(text)
+            if line > 1 and (not start or len(text) > LONGEST):
+                break
+            if line > 1 and int(start[1]) < words_in(self.subject, self.size):
+                words[int(start[1])] = int(start[2])
+        return words
 
-    def __str__(self):
-        return " ".join([self.method, *map(str, self.arguments)])
+
+def lines_of(file, name):
+    """Each line of a file from where it stands on: its number, its text, its length, and whether a line feed ends it.
+
+    Each byte is one character of the text. A text that is shorter than the length is the line's beginning.
+    """
+    line = 0
+    try:
+        while piece := file.readline(KEPT + 1):
+            line += 1
+            if piece[-1:] == b"\n":
+                yield line, piece[:-1].decode("latin-1"), len(piece) - 1, True
+            else:
+                length, is_ended = rest_of_line(file) if len(piece) > KEPT else (0, False)
+                yield line, piece.decode("latin-1"), len(piece) + length, is_ended
+    except OSError as error:
+        raise unread(name, error) from None
 
 
-def starting_words(lines):
-    """The words and values of the starting lines with which these lines begin."""
-    words = []
-    for text in lines:
-        name, *numbers = text.split(" ")
-        if name != "start" or [number.isdecimal() for number in numbers] != [True, True]:
-            break
-        words.append((int(numbers[0]), int(numbers[1])))
-    return words
+def rest_of_line(file):
+    """How many bytes come up to the end of a line, and whether a line feed ends it."""
+    length = 0
+    while piece := file.readline(PIECE):
+        length += len(piece)
+        if piece[-1:] == b"\n":
+            return length - 1, True
+    return length, False
+
+
+def entry_of(line, text):
+    """The entry on a line, or None where it hasn't the form of one."""
+    found = ENTRY.fullmatch(text)
+    if not found or len(text) > LONGEST:
+        return None
+    caller, write, word, value, returns, reply, call, method, arguments, mark = found.groups()
+    if write:
+        return Entry(line, text, caller, write, None, (int(word), int(value)))
+    if call:
+        return Entry(line, text, caller, call, method, tuple(map(int, arguments.split())))
+    if returns:
+        return Entry(line, text, caller, returns, None, (int(reply),))
+    return Entry(line, text, caller, mark, None, ())
 
 
 def words_in(subject, size):
@@ -91,59 +139,10 @@ def words_in(subject, size):
     return each * size + beside
 
 
-def entry_of(line, text):
-    """The entry on a line, or None where it hasn't the form of one."""
-    fields = text.split(" ")
-    if len(fields) < 2 or not fields[0].isdecimal():
-        return None
-    kind, rest = fields[1], fields[2:]
-    if kind == "close" and rest == ["commit"]:
-        return Entry(line, text, "close commit", None, [])
-    method = rest.pop(0) if kind == "call" and rest else None
-    wanted = {"call": len(rest), "return": 1, "write": 2, "commit": 0, "open": 0, "close": 0}.get(kind)
-    if len(rest) != wanted or not all(field.isdecimal() for field in rest) or (kind == "call" and not method):
-        return None
-    return Entry(line, text, kind, method, [int(field) for field in rest])
-
-
-def executions_of(entries):
-    """The executions in the order of their calls, and the execution of each line."""
-    open_by_caller, executions, by_line = {}, [], {}
-    for entry in entries:
-        if entry.kind == "call":
-            open_by_caller[entry.caller] = Execution(entry)
-            executions.append(open_by_caller[entry.caller])
-        execution = open_by_caller.get(entry.caller)
-        if not execution:
-            continue
-        by_line[entry.line] = execution
-        if entry.kind == "write":
-            execution.writes.append(entry)
-        elif entry.commits:
-            execution.commit_line = entry.line
-        elif entry.kind == "return":
-            execution.return_line, execution.reply = entry.line, entry.numbers[0]
-            del open_by_caller[entry.caller]
-    return executions, by_line
-
-
-def read_input(words, usage):
-    """The log in the file that the words name, judged by the program, or the log with its answer on standard input."""
-    signal.signal(signal.SIGPIPE, signal.SIG_DFL)
-    if len(words) > 1 or any(word.startswith("-") for word in words):
-        sys.exit(usage)
-    if words:
-        data = Path(words[0]).read_bytes()
-        launcher = Path(__file__).resolve().parent.parent / "vyrd"
-        said = subprocess.run([launcher, "check"], input=data, stdout=subprocess.PIPE, check=False).stdout
-        return Log(decoded(data), decoded(said).rstrip("\n") or None)
-    text = decoded(sys.stdin.buffer.read())
-    answer = ANSWER.search(text.rstrip("\n"))
-    if not answer:
-        return Log(text, None)
-    return Log(text[: answer.start()], answer[0])
-
-
-def decoded(data):
-    """Text in which each byte is one character."""
-    return data.decode("latin-1")
+def shown(text, length=0):
+    """A text that is harmless to a terminal: what isn't printable ASCII is shown by its number. More than KEPT is cut off."""
+    if length > KEPT:
+        return f"{shown(text[:KEPT])} .. ({length} bytes)"
+    if text.isascii() and text.isprintable():
+        return text
+    return "".join(letter if " " <= letter <= "~" else f"\\x{ord(letter):02x}" for letter in text)

@@ -5,6 +5,7 @@ NODE = ["level", "count", "bound", "right"]
 DAMAGE = 1 << 33  # the key at which a tree shows damage
 SHOWN = 1 << 32  # what an entry of a tree adds to its value
 ROOM = 7  # the most characters of a string buffer
+PART_WORDS = {"multiset": 2, "cache": 5, "tree": 12, "buffers": 8}  # of a slot, a chunk, a node, a buffer
 NO_CHARACTER = 255  # the least number that is no character
 
 
@@ -54,8 +55,12 @@ class Words:
                 if damage:
                     yield f"{meant(self.subject, self.size, part)}: {told(self.subject, self.size, self.size + part, damage)}"
 
+    def slot_amount(self, slot, key):
+        """How often one slot of a multiset shows an element."""
+        return int(slot < 4 * self.size and self[2 * slot] == 2 and self[2 * slot + 1] == key)
+
     def _elements(self, key):
-        return sum(self[2 * i] == 2 and self[2 * i + 1] == key for i in range(4 * self.size))
+        return sum(self.slot_amount(slot, key) for slot in range(4 * self.size))
 
     def _chunk(self, key):
         state, *halves = (self[5 * (key % self.size) + offset] for offset in range(5))
@@ -75,37 +80,50 @@ class Words:
             return int(broken)
         return 0 if broken else text_of(text)
 
-    def _leaves(self, key):
-        node, seen, amount = 0, set(), 0
+    def leaf_amount(self, node, key):
+        """What one node of a tree shows at a key, where it is one of the chain."""
+        amount = 0
+        for place in range(min(self[12 * node + 1], 4)):
+            entry, value = self[12 * node + 4 + place], self[12 * node + 8 + place]
+            is_sound = entry < SHOWN and value < SHOWN
+            if is_sound and entry == key:
+                amount += SHOWN + value
+            elif not is_sound and key == DAMAGE:
+                amount += 1
+        return amount
+
+    def chain(self):
+        """The nodes of a tree from node 0 along the right words, and whether the last one's leads out of them or back."""
+        nodes, node = {}, 0
         while True:
-            seen.add(node)
-            for place in range(min(self[12 * node + 1], 4)):
-                entry, value = self[12 * node + 4 + place], self[12 * node + 8 + place]
-                is_sound = entry < SHOWN and value < SHOWN
-                if is_sound and entry == key:
-                    amount += SHOWN + value
-                elif not is_sound and key == DAMAGE:
-                    amount += 1
+            nodes[node] = None
             node = self[12 * node + 3]
-            if node == 0:
-                return amount
-            if node >= self.size or node in seen:
-                return amount + (key == DAMAGE)
+            if node == 0 or node >= self.size or node in nodes:
+                return list(nodes), node != 0
+
+    def _leaves(self, key):
+        nodes, is_broken = self.chain()
+        return sum(self.leaf_amount(node, key) for node in nodes) + (is_broken and key == DAMAGE)
 
 
 class State:
-    """The specification's state, from the one that the words show at the start on: the amount at each key."""
+    """The specification's state, from the one that the words show at the start on: the amounts at the keys that are asked for.
 
-    def __init__(self, words):
-        self.words, self.amounts = words, {}
+    The text of a buffer may come from any other one, so of buffers all are kept.
+    """
+
+    def __init__(self, words, keys):
+        self.subject = words.subject
+        others = range(words.size) if self.subject == "buffers" else ()
+        self.amounts = {key: words.amount(key) for key in {*keys, *others}}
 
     def __getitem__(self, key):
-        return self.amounts.get(key, self.words.amount(key))
+        return self.amounts[key]
 
     def take(self, execution):
         """The state after this call, by its reply."""
-        subject = self.words.subject
-        self.amounts.update({key: after(subject, execution, key, self) for key in keys_of(subject, execution)})
+        keys = [key for key in keys_of(execution) if key in self.amounts]
+        self.amounts.update({key: after(self.subject, execution, key, self) for key in keys})
 
 
 def text_of(characters):
@@ -151,7 +169,7 @@ def meant(subject, size, key):
     return "damage of the nodes" if key == DAMAGE else f"the key {key}"
 
 
-def keys_of(subject, execution):
+def keys_of(execution):
     """The keys that a call is about."""
     count = 2 if execution.method in ("insert_pair", "append_from") else 1
     return execution.arguments[:count]
@@ -165,7 +183,7 @@ def source_of(execution):
 def after(subject, execution, key, state):
     """The amount at a key after a call, by its reply, where the state before has the amounts of `state`."""
     method, arguments, reply, amount = execution.method, execution.arguments, execution.reply, state[key]
-    if key not in keys_of(subject, execution) or not reply:
+    if key not in keys_of(execution) or not reply:
         return amount
     if subject == "multiset":
         return amount + {"insert": 1, "insert_pair": arguments.count(key), "delete": -1}.get(method, 0)
@@ -177,11 +195,11 @@ def after(subject, execution, key, state):
 
 
 def text_after(method, arguments, state):
-    """The text of a call's buffer after it, where it did what it says."""
+    """The text of a call's buffer after it, where it did what it says. It shows no more than one character too many."""
     text = characters_of(state[arguments[0]])
     if method == "cut":
         return text_of(text[: arguments[1]])
-    return text_of(text + appended(method, arguments, state))
+    return text_of((text + appended(method, arguments, state))[: ROOM + 1])
 
 
 def appended(method, arguments, state):

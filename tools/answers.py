@@ -1,0 +1,103 @@
+"""The checker, and its answers: what it says of a file, or what stands after a log."""
+
+import os
+import re
+import shutil
+import subprocess
+from pathlib import Path
+
+from command import Ended, kept, temporary
+from logtext import Log
+
+NO_VERDICT = 70  # the checker ended as if there were a verdict, and gave none
+LONGEST_ANSWER = 200
+VERDICTS = {0: "accepted: ", 1: "violation at line ", 2: "malformed at line "}
+
+NUMBER = "[0-9]{1,20}"
+ANSWER = re.compile(
+    f"(?:accepted: {NUMBER} entries, {NUMBER} commits, {NUMBER} observers"
+    f"|violation at line {NUMBER}: (?:reply {NUMBER} not allowed|view differs at key {NUMBER}|observer reply {NUMBER} in no state)"
+    f"|malformed at line {NUMBER}: [a-z ]+|stuck|workload refused at line {NUMBER}: [a-z ]+|events spent by caller {NUMBER})$"
+)
+
+
+def checker():
+    """The program: the one that VYRD names, or else the launcher of this repository."""
+    named = os.environ.get("VYRD") or str(Path(__file__).resolve().parent.parent / "vyrd")
+    found = shutil.which(named)
+    if not found:
+        raise Ended(f"the checker {named} can't be run: there is no such program")
+    return found
+
+
+def check(arguments, source, sink):
+    """Runs the checker from the beginning of a file on, and gives its status."""
+    source.seek(0)
+    program = checker()
+    try:
+        status = subprocess.run([program, *arguments], stdin=source, stdout=sink, check=False).returncode
+    except OSError as error:
+        raise Ended(f"the checker {program} can't be run: {error.strerror}") from None
+    return status if status >= 0 else 128 - status
+
+
+def is_verdict(status, answer):
+    """Whether a status and an answer belong together, as those of a verdict do."""
+    return status in VERDICTS and answer.startswith(VERDICTS[status]) and ANSWER.fullmatch(answer) is not None
+
+
+def without_verdict(status):
+    """What ends a script where the checker ended so. The statuses of a verdict would say what it didn't."""
+    return Ended(f"the checker ended with status {status} and gave no verdict", NO_VERDICT if status in VERDICTS else status)
+
+
+def other_log():
+    """What ends a script where the answer can't be about the log."""
+    return Ended("this log isn't the one that the answer is about")
+
+
+def answered(names):
+    """The log in the one file that is named, judged by the checker, or the log with its answer on standard input."""
+    name = names[0] if names else "-"
+    file = kept(name)
+    if name == "-":
+        return Log(file, name, answer_after(file))
+    with temporary() as said:
+        status = check(["check"], file, said)
+        answer = last_line(said)
+    if not is_verdict(status, answer):
+        raise without_verdict(status)
+    return Log(file, name, answer)
+
+
+def answer_after(log):
+    """Takes the answer off the end of a file. Without one there, it leaves the file as it is and gives None."""
+    end = end_of(log)
+    start = max(0, end - LONGEST_ANSWER)
+    log.seek(start)
+    answer = ANSWER.search(log.read(end - start).decode("latin-1"))
+    if not answer:
+        return None
+    log.truncate(start + answer.start())
+    return answer[0]
+
+
+def last_line(file):
+    """The last line of a file, up to LONGEST_ANSWER bytes of it."""
+    end = end_of(file)
+    start = max(0, end - LONGEST_ANSWER)
+    file.seek(start)
+    return file.read(end - start).rpartition(b"\n")[2].decode("latin-1")
+
+
+def end_of(file):
+    """Where a file ends, without the line feeds at its end."""
+    end = file.seek(0, os.SEEK_END)
+    while end:
+        start = max(0, end - (1 << 16))
+        file.seek(start)
+        text = file.read(end - start).rstrip(b"\n")
+        if text:
+            return start + len(text)
+        end = start
+    return 0
