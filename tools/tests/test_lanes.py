@@ -1,0 +1,184 @@
+"""What lanes draws: the columns, the bars and the arrow, and what it doesn't draw."""
+
+import subprocess
+import time
+import unittest
+from xml.dom import minidom
+
+from support import FAULT, FAULT_ANSWER, LOOK, TOOLS, ScriptTest
+
+RUN = """vyrd 1 multiset 1 2
+0 call insert 5
+1 call lookup 5
+0 commit
+1 return 1
+0 return 1
+end
+"""
+# A column is 14 wide. So 15 spaces are behind the bar on line 4: 13 up to its column's end, and two before the arrow.
+RUN_ANSWER = "violation at line 4: view differs at key 5\n"
+RUN_DRAWN = """       caller 0      caller 1
+    1  vyrd 1 multiset 1 2
+    2  call insert 5
+    3  |             call lookup 5
+    4  commit        |               <-- violation at line 4: view differs at key 5
+    5  |             return 1
+    6  return 1
+    7  end
+"""
+OTHER = "lanes: this log isn't the one that the answer is about"
+
+
+class Drawing(ScriptTest):
+    def assert_drawn(self, given, wanted, *words):
+        said = self.run_script("lanes", *words, given=given)
+        self.assertEqual((said.out, said.error, said.status), (wanted, "", 0))
+
+    def test_a_column_for_each_caller_and_an_arrow(self):
+        self.assert_drawn(RUN + RUN_ANSWER, RUN_DRAWN)
+
+    def test_a_file_is_judged_and_drawn(self):
+        self.checker_says(RUN_ANSWER, 1)
+        self.assert_drawn("", RUN_DRAWN, self.write("run.log", RUN))
+
+    def test_a_log_without_an_answer_is_drawn_without_an_arrow(self):
+        bare = RUN_DRAWN.replace("|               <-- " + RUN_ANSWER, "|\n")
+        self.assert_drawn(RUN, bare)
+
+    def test_an_answer_without_a_line_stands_below(self):
+        accepted = "accepted: 0 entries, 0 commits, 0 observers\n"
+        self.assert_drawn("vyrd 1 multiset 1 1\nend\n" + accepted, "    1  vyrd 1 multiset 1 1\n    2  end\n" + accepted)
+
+    def test_an_input_that_ended_has_a_row_of_its_own(self):
+        answer = "malformed at line 2: no end\n"
+        drawn = "    1  vyrd 1 multiset 1 1\n    2  (the input has ended)  <-- malformed at line 2: no end\n"
+        self.assert_drawn("vyrd 1 multiset 1 1\n" + answer, drawn)
+
+    def test_no_bytes_at_all(self):
+        self.assert_drawn("", "")
+        self.assert_drawn("malformed at line 1: no end\n", "    1  (the input has ended)  <-- malformed at line 1: no end\n")
+
+    def test_an_answer_right_behind_the_last_byte_is_found(self):
+        drawn = "    1  vyrd 1 multiset 1 1\n    2  end  <-- malformed at line 2: no line feed\n"
+        self.assert_drawn("vyrd 1 multiset 1 1\nendmalformed at line 2: no line feed\n", drawn)
+
+    def test_only_the_lines_around_the_one_that_is_named(self):
+        around = RUN_DRAWN.splitlines(keepends=True)
+        self.assert_drawn(RUN + RUN_ANSWER, around[0] + "".join(around[3:6]), "--around", "1")
+        self.assert_drawn(RUN + RUN_ANSWER, around[0] + around[4], "--around", "0")
+        self.assert_drawn(RUN + RUN_ANSWER, RUN_DRAWN, "--around", "999999999")
+
+    def test_around_draws_no_line_where_none_is_named(self):
+        accepted = "accepted: 0 entries, 0 commits, 0 observers\n"
+        self.assert_drawn("vyrd 1 multiset 1 1\nend\n" + accepted, accepted, "--around", "3")
+
+    def test_a_picture_is_sound(self):
+        said = self.run_script("lanes", "--svg", given=RUN + RUN_ANSWER)
+        texts = [node.firstChild.data for node in minidom.parseString(said.out).getElementsByTagName("text")]
+        wanted = ["caller 0", "caller 1", "1", "vyrd 1 multiset 1 2", "2", "call insert 5", "3", "call lookup 5", "4", "commit"]
+        self.assertEqual(texts[:10], wanted)
+        self.assertEqual(texts[10], "\u2190 " + RUN_ANSWER.strip())
+
+
+class Misuse(ScriptTest):
+    def test_around_wants_a_number(self):
+        for words in (["x"], ["²"], [], [""], ["-1"], ["9" * 5000], ["1.5"]):
+            said = self.run_script("lanes", "--around", *words, given=RUN + RUN_ANSWER)
+            self.assert_refused(said, "lanes: --around takes a number of at most 9 digits")
+
+
+class OtherLogs(ScriptTest):
+    def test_an_answer_of_another_log_draws_nothing(self):
+        for answer in (
+            "malformed at line 99999999999: no end",
+            "malformed at line 9: block raced",
+            "malformed at line 7: no end",
+            "malformed at line 0: no end",
+            "violation at line 2: reply 1 not allowed",
+            "violation at line 6: reply 1 not allowed",
+            "violation at line 1: view differs at key 5",
+            "violation at line 99999999999999999999: view differs at key 5",
+        ):
+            for words in ([], ["--svg"], ["--around", "2"]):
+                said = self.run_script("lanes", *words, given=FAULT + f"end\n{answer}\n")
+                self.assert_refused(said, OTHER)
+
+    def test_a_file_whose_answer_is_of_another_log_draws_nothing(self):
+        self.checker_says("malformed at line 99999999999: no end\n", 2)
+        self.assert_refused(self.run_script("lanes", self.write("a.log", FAULT + "end\n")), OTHER)
+
+
+class Checkers(ScriptTest):
+    def test_another_status_is_passed_on_and_nothing_is_drawn(self):
+        path = self.write("a.log", FAULT + "end\n")
+        for status, ends in ((6, 6), (4, 4), (70, 70), (0, 70), (1, 70), (2, 70), (3, 3)):
+            self.checker(f"exit {status}")
+            said = self.run_script("lanes", path)
+            self.assert_refused(said, f"lanes: the checker ended with status {status} and gave no verdict", ends)
+
+    def test_a_verdict_with_the_status_of_another_is_none(self):
+        self.checker_says(FAULT_ANSWER, 0)
+        said = self.run_script("lanes", self.write("a.log", FAULT + "end\n"))
+        self.assert_refused(said, "lanes: the checker ended with status 0 and gave no verdict", 70)
+
+    def test_a_checker_that_is_not_there(self):
+        said = self.run_script("lanes", self.write("a.log", FAULT + "end\n"))
+        self.assert_refused(said, f"lanes: the checker {self.folder}/no_checker can't be run: there is no such program")
+
+
+class Hostile(ScriptTest):
+    def test_control_bytes_do_nothing_to_the_terminal(self):
+        log = b"vyrd 1 multiset 1 1\n0 call \x1b[2J 5\n\x00\x9b31m\xe9\t\rend\n"
+        for words in ([], ["--svg"]):
+            said = self.run_script("lanes", *words, given=log)
+            self.assertEqual((said.error, said.status), ("", 0))
+            self.assertTrue(said.out.replace("\n", "").isprintable() and said.out.isascii())
+            self.assertIn(r"call \x1b[2J 5", said.out)
+            self.assertIn(r"\x00\x9b31m\xe9\x09\x0dend", said.out)
+
+    def test_numbers_of_thousands_of_digits_are_cut_off(self):
+        for line in ("0 return " + "9" * 5000, "9" * 5009, "0 write 1 " + "9" * 4999):
+            said = self.run_script("lanes", given=f"vyrd 1 multiset 1 1\n{line}\nend\n")
+            self.assertEqual((said.error, said.status), ("", 0))
+            self.assertEqual(said.out.splitlines()[1], f"    2  {line[:256]} .. (5009 bytes)")
+
+    def test_a_million_callers_have_no_million_columns(self):
+        log = "vyrd 1 multiset 1 1\n" + "".join(f"{caller} open\n" for caller in range(20_000)) + "end\n"
+        said = self.run_script("lanes", given=log)
+        self.assertEqual(len(said.out.splitlines()[0].split("caller")) - 1, 128)
+        self.assertEqual(said.out.splitlines()[-2], "20001  19999 open")
+
+    def test_a_binary_file_is_drawn(self):
+        said = self.run_script("lanes", given=bytes(range(256)) * 1000)
+        self.assertEqual((said.error, said.status), ("", 0))
+        self.assertTrue(said.out.replace("\n", "").isprintable() and said.out.isascii())
+
+    def test_a_megabyte_behind_an_early_verdict(self):
+        path = self.write("long.log", FAULT + LOOK * 40_000 + "end\n")
+        self.checker_says(FAULT_ANSWER, 1)
+        said = self.run_script("lanes", "--around", "1", path)
+        wanted = "       caller 0\n    2  call insert 5\n    3  commit          <-- "
+        self.assertEqual((said.out, said.status), (f"{wanted}{FAULT_ANSWER}    4  return 1\n", 0))
+        self.assertEqual(len(self.run_script("lanes", path).out.splitlines()), 1 + 4 + 80_000 + 1)
+
+    def test_200000_lines_around_a_late_one_take_seconds_and_little_memory(self):
+        log = "vyrd 1 multiset 1 1\n" + LOOK * 100_000 + FAULT.partition("\n")[2] + "end\n"
+        self.checker_says("violation at line 200003: view differs at key 5\n", 1)
+        path = self.write("late.log", log)
+        begun = time.monotonic()
+        limited = f"ulimit -v 200000; exec '{TOOLS / 'lanes'}' --around 0 '{path}'"
+        ran = subprocess.run(["bash", "-c", limited], env=self.environment, capture_output=True, text=True, check=False)
+        wanted = "        caller 0\n200003  commit          <-- violation at line 200003: view differs at key 5\n"
+        self.assertEqual((ran.stdout, ran.stderr, ran.returncode), (wanted, "", 0))
+        self.assertLess(time.monotonic() - begun, 60)
+
+    def test_a_slow_pipe_is_read_to_its_end(self):
+        self.write("run", RUN + RUN_ANSWER)
+        writer = "(head -c 30 run; sleep 0.3; tail -c +31 run)"
+        command = ["sh", "-c", f"{writer} | '{TOOLS / 'lanes'}'"]
+        ran = subprocess.run(command, cwd=self.folder, env=self.environment, capture_output=True, text=True, check=False)
+        self.assertEqual((ran.stdout, ran.returncode), (RUN_DRAWN, 0))
+
+
+if __name__ == "__main__":
+    unittest.main()
