@@ -71,10 +71,12 @@ def is_sound(log, call):
 
 def marked_in(log):
     """The execution that the named line belongs to. Where the answer can't be about it, the script ends and says so."""
+    if not log.subject:
+        raise other_log()
     caller, call_line, last_commit = place_of_call(log)
-    walk, execution, words = Walk(), None, set()
+    walk, execution, words, begin = Walk(), None, set(), f"{caller} "
     for line, text, _, _ in log.lines():
-        entry = entry_of(line, text) if line >= call_line and text.startswith(f"{caller} ") else None
+        entry = entry_of(line, text) if line >= call_line and text.startswith(begin) else None
         if not entry:
             continue
         if entry.kind == "call" and not is_sound(log, entry):
@@ -117,7 +119,7 @@ def is_in_effect(walk, write, line):
 
 def is_about(log, execution):
     """Whether the answer can be about this execution, by the line, the reply and the key that it names."""
-    if not log.subject or not execution.return_line:
+    if not execution.return_line:
         return False
     number = int(re.search("(?:reply|key) ([0-9]+)", log.answer)[1])
     if "observer" in log.answer:

@@ -106,10 +106,10 @@ class Hostile(ScriptTest):
         wanted += ["line 2: the log ends without the line `end`"]
         self.assertEqual((ran.stdout.splitlines(), ran.stderr, ran.returncode), (wanted, "", 1))
 
-    def test_200000_good_lines_and_as_many_bad_ones_take_seconds(self):
+    def test_100000_good_lines_and_as_many_bad_ones_take_seconds(self):
         for line in ("0 call lookup 5\n", "0 cal lokup 5x -4\n"):
             begun = time.monotonic()
-            self.run_script("lint", given=HEADER + line * 200_000 + "end\n")
+            self.run_script("lint", given=HEADER + line * 100_000 + "end\n")
             self.assertLess(time.monotonic() - begun, 60)
 
     def test_a_slow_pipe_is_read_to_its_end(self):
