@@ -16,7 +16,8 @@ VERDICTS = {0: "accepted: ", 1: "violation at line ", 2: "malformed at line "}
 NUMBER = "[0-9]{1,20}"
 ANSWER = re.compile(
     f"(?:accepted: {NUMBER} entries, {NUMBER} commits, {NUMBER} observers"
-    f"|violation at line {NUMBER}: (?:reply {NUMBER} not allowed|view differs at key {NUMBER}|observer reply {NUMBER} in no state)"
+    f"|violation at line {NUMBER}: "
+    f"(?:reply {NUMBER} not allowed|view differs at key {NUMBER}|observer reply {NUMBER} in no state)"
     f"|malformed at line {NUMBER}: [a-z ]+|stuck|workload refused at line {NUMBER}: [a-z ]+|events spent by caller {NUMBER})$"
 )
 

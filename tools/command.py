@@ -99,6 +99,8 @@ def opened(name):
             raise unread(name, error) from None
     if sys.stdin is None:
         raise Ended("standard input is closed")
+    if sys.stdin.isatty():
+        tell("reading from the terminal, up to Ctrl-D")
     return sys.stdin.buffer
 
 

@@ -1,6 +1,7 @@
 """The command lines of explain, lanes, lint and hunt: help, misuse, inputs that can't be read, outputs that can't be written."""
 
 import os
+import pty
 import subprocess
 import unittest
 
@@ -17,6 +18,12 @@ class Help(ScriptTest):
             self.assertEqual((said.error, said.status), ("", 0), name)
             self.assertIn(f"tools/{name}", said.out)
             self.assertIn("64", said.out)
+
+    def test_help_of_the_scripts_that_compare_and_test(self):
+        for name in ("check", "tests/run"):
+            said = self.run_script(name, "--help")
+            self.assertEqual((said.error, said.status), ("", 0))
+            self.assertIn(f"tools/{name}", said.out)
 
     def test_help_after_the_end_of_options_is_a_name(self):
         for name in SCRIPTS:
@@ -60,6 +67,10 @@ class Misuse(ScriptTest):
             ran = subprocess.run(command, env=self.environment, capture_output=True, text=True, check=False)
             self.assertEqual((ran.stdout, ran.stderr, ran.returncode), ("", f"{name}: standard input is closed\n", 64))
 
+    def test_the_scripts_that_compare_and_test_refuse_words_that_they_do_not_know(self):
+        self.assert_refused(self.run_script("check", "x"), "check: it takes no words; --help says what it does")
+        self.assert_refused(self.run_script("tests/run", "test_x"), f"run: there is no test_x in {TOOLS}/tests")
+
 
 class Names(ScriptTest):
     def test_a_name_may_begin_with_a_minus_after_two_of_them(self):
@@ -83,8 +94,18 @@ class Names(ScriptTest):
         self.assertEqual((ran.stdout, ran.returncode), (wanted, 0))
 
 
+    def test_reading_from_a_terminal_is_said(self):
+        for name in ("explain", "lanes", "lint"):
+            ours, theirs = pty.openpty()
+            os.write(ours, b"\x04")  # Ctrl-D
+            said = self.run_script(name, stdin=theirs)
+            self.assertEqual(said.error.splitlines()[0], f"{name}: reading from the terminal, up to Ctrl-D")
+            os.close(ours)
+            os.close(theirs)
+
+
 class Output(ScriptTest):
-    def test_a_closed_pipe_ends_each_script_quietly(self):
+    def test_what_lanes_draws_may_be_read_in_part(self):
         log = "vyrd 1 multiset 1 1\n" + "0 call lookup 5\n0 return 0\n" * 20000 + "end\n"
         path = self.write("long.log", log)
         self.checker("cat > /dev/null\necho 'accepted: 40000 entries, 0 commits, 20000 observers'")
