@@ -47,7 +47,8 @@ class Lines(unittest.TestCase):
 
     def test_what_has_not_the_form_of_one(self):
         wrong = ["", "end", "0", "0 ", " 0 open", "0  open", "0 open ", "0 open\r", "0 write 1", "0 write 1 2 3", "0 call"]
-        wrong += ["0 call ", "0 return -1", "0 return ²", "² open", "0 close commits", "x open", "0 call insert x", "0 return " + "9" * 60]
+        wrong += ["0 call ", "0 return -1", "0 return ²", "² open"]
+        wrong += [ "0 close commits", "x open", "0 call insert x", "0 return " + "9" * 60]
         self.assertEqual([entry_of(2, text) for text in wrong], [None] * len(wrong))
 
     def test_shown_text_is_printable_ascii(self):
