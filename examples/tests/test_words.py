@@ -99,7 +99,8 @@ class All(ScriptTest):
         """A copy in which each script notes that it ran, and one of them fails."""
         for name in ("all", "common.sh"):
             self.file(f"examples/{name}", (EXAMPLES / name).read_bytes()).chmod(0o755)
-        scripts = ["examples/compare", "examples/own/check", "tools/check", "examples/caught", "examples/documents"]
+        scripts = ["examples/compare", "examples/unproved", "examples/own/check", "tools/check", "examples/caught"]
+        scripts += ["examples/documents", "tools/tests/run"]
         for script in scripts:
             self.program(script, f'echo {script} >>"{self.folder}/ran"', "exit 0")
         (self.folder / "examples/tests").mkdir()
