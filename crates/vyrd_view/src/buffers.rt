@@ -7,9 +7,11 @@ ghost use Rattle.vyrd_base.specs.Buffers.{buffer_at, buffer_parts};
 ghost use Rattle.vyrd_base.specs.Views.{parts_of};
 ghost use Rattle.vyrd_base.specs.Added.{added};
 
-use crate::buffer::pair_at;
 use std::alloc::{AllocError, Global};
-use vyrd_base::AmountMap;
+use vyrd_base::{AmountMap, buffer_text};
+
+/// The amount of the key past the buffers for words that aren't a buffer.
+const DAMAGED: u64 = 1;
 
 /// The text that each buffer shows, and which are damaged, under a key past the buffers.
 pub(crate) fn buffers(alloc: Global, size: usize, words: &[u64]) -> Result<AmountMap, AllocError>
@@ -38,6 +40,8 @@ fn add_buffer(
     ensures { OnOk result
         (sums.new ≡ added sums.old (buffer_parts size number (buffer_at words.now number))) }
 {
-    let (key, amount) = pair_at(words, size, number);
-    sums.add(key, amount)
+    match buffer_text(words, number) {
+        Some(text) => sums.add(number as u64, text),
+        None => sums.add((size + number) as u64, DAMAGED),
+    }
 }

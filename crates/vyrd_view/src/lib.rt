@@ -11,7 +11,6 @@
 //! views.
 #![tactic(auto)]
 
-mod buffer;
 mod buffers;
 mod cache;
 mod chain;

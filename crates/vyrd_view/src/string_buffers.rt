@@ -5,12 +5,14 @@ ghost use Rattle.std.specs.Prelude.{slice_index_or, OnOk, OnErr, true};
 ghost use Rattle.vyrd_base.specs.Places.{numbers_below};
 ghost use Rattle.vyrd_view.specs.Pairs.{is_touched, buffer_pair, HaveBufferKeys};
 
-use crate::buffer::pair_at;
 use crate::parts::Parts;
 use crate::steps::Steps;
 use std::alloc::AllocError;
 use std::sync::ledger::Ledger;
-use vyrd_base::BUFFER_WORDS;
+use vyrd_base::{BUFFER_WORDS, buffer_text};
+
+/// What words that aren't a buffer give to the key past the buffers.
+const DAMAGED: u64 = 1;
 
 /// Each buffer that a changed word is in gives what its words show now. Once memory was refused the
 /// parts may only be dropped.
@@ -36,9 +38,27 @@ pub(crate) fn buffers_changed<L: Ledger>(
 {
     for word in changed {
         let number = *word as usize / BUFFER_WORDS;
-        steps.tick();
-        let pair = pair_at(words, size, number);
+        let pair = decoded_buffer(words, size, number, steps);
         parts.replace(number, pair, steps)?;
     }
     Ok(())
+}
+
+/// The pair that a buffer gives.
+fn decoded_buffer<L: Ledger>(
+    words: &[u64],
+    size: usize,
+    number: usize,
+    steps: &mut Steps<L>,
+) -> (u64, u64)
+    requires within { 8 * number + 7 < length words.now }
+    requires small { size + number ≤ 2048 }
+    ensures pair { result ≡ buffer_pair size words.now number }
+    ensures steps { steps.new ≡ steps.old + 1 }
+{
+    steps.tick();
+    match buffer_text(words, number) {
+        Some(text) => (number as u64, text),
+        None => ((size + number) as u64, DAMAGED),
+    }
 }

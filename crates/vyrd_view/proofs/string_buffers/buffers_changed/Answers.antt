@@ -10,12 +10,12 @@ pub replace-requires-clause-fits : goal.replace-requires-clause-fits
 replace-requires-clause-fits g c =
     let pairs = c.loop-word.parts.pairs in
     let n = get_or c.args.changed.now c.loop-word.word-index 0 / 8 in
-    let pair = c.pair_at-pair.result in
+    let pair = c.decoded_buffer-pair.result in
     let word : get_or c.args.changed.now c.loop-word.word-index 0 < length c.args.words.now =
     c.requires.within c.loop-word.word-index 0 c.loop-word-test.true in
     let low : n < c.args.size = omega (arith, c.requires.count) in
     let within : n < length pairs = omega (arith, c.requires.places, c.loop-word.invariant.count) in
-    let is : pair.0 % c.args.size ≡ n = ap (λ p. p.0 % c.args.size) c.pair_at-pair.ensures ∙ key_of_buffer c.args.size c.args.words.now n low in
+    let is : pair.0 % c.args.size ≡ n = ap (λ p. p.0 % c.args.size) c.decoded_buffer-pair.ensures.pair ∙ key_of_buffer c.args.size c.args.words.now n low in
     omega (arith, buffer_alone_gives c.args.size pairs n pair within is c.loop-word.invariant.keys)
 
 pub loop-word-preserved : goal.loop-word-preserved
@@ -23,8 +23,8 @@ loop-word-preserved g c =
     let pairs = c.loop-word.parts.pairs in
     let n = get_or c.args.changed.now c.loop-word.word-index 0 / 8 in
     let size = c.args.size in
-    let pair = c.pair_at-pair.result in
-    let is : pair ≡ buffer_pair size c.args.words.now n = c.pair_at-pair.ensures in
+    let pair = c.decoded_buffer-pair.result in
+    let is : pair ≡ buffer_pair size c.args.words.now n = c.decoded_buffer-pair.ensures.pair in
     let word : get_or c.args.changed.now c.loop-word.word-index 0 < length c.args.words.now =
     c.requires.within c.loop-word.word-index 0 c.loop-word-test.true in
     let low : n < size = omega (arith, c.requires.count) in
@@ -42,7 +42,7 @@ loop-word-preserved g c =
           ap (λ s. get_or s b (0, 0)) (pairs_now ∙ ap (set pairs n) is)
           ∙ fresh_more 8 (buffer_pair size c.args.words.now) pairs c.args.changed.now c.loop-word.word-index c.loop-word-test.true within
           c.loop-word.invariant.others b (omega (arith, inside, same_length)) rest;
-      counted = omega (arith, c.loop-word.invariant.counted, c.in_ok-replace.ensures.steps, c.tick.ensures);
+      counted = omega (arith, c.loop-word.invariant.counted, c.in_ok-replace.ensures.steps, c.decoded_buffer-pair.ensures.steps);
     }
 
 pub returns-clause-ok : goal.returns-clause-ok
