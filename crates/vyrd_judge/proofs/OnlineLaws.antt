@@ -1,6 +1,6 @@
 -- What the online judge answers, by what it keeps.
-use Rattle.std.proofs.Common.{◌≡◌, inl, inr, Bool, true, false, List, [], ◌++◌, Option, Some, None, Result, Ok, Err, refl, subst, ◌∙◌, sym}
-use Rattle.std.specs.Prelude.{◌⊎◌, OnErr}
+use Rattle.std.proofs.Common.{◌≡◌, false, List, [], ◌++◌, Option, Some, None, Result, Ok, Err, refl, subst, ◌∙◌, sym}
+use Rattle.std.specs.Prelude.{OnErr}
 use Rattle.vyrd_base.specs.Rules.{rules_by}
 use Rattle.vyrd_base.specs.declared.log.Entry.{Entry}
 use Rattle.vyrd_base.specs.declared.log.StartWord.{StartWord}
@@ -65,40 +65,29 @@ so_far_is_known {j} {starting} {log} f = known j.so_far refl
     known None is = is ∙ sym (none_stands is f)
     known (Some v) is = is ∙ sym (standing is f)
 
--- a verdict stands, and no memory was refused
-pub record Stands (j : JudgeView) : Type 0 where
-  pub verdict : Verdict
-  pub is : j.so_far ≡ Some verdict
-  pub works : j.has_failed ≡ false
-
--- what is known after some entries: as before them, or a verdict stands
-abbrev pub StaysOrStands : JudgeView → JudgeView → Type 0
-StaysOrStands before now = (now.so_far ≡ before.so_far) ⊎ Stands now
+-- what stood before stands now
+abbrev pub StandsStill : JudgeView → JudgeView → Type 0
+StandsStill before now = (v : Verdict) → before.so_far ≡ Some v → now.so_far ≡ Some v
 
 -- a verdict that stands is the answer again
 abbrev pub AnswersAgain : {E : Type 0} → JudgeView → Result (Option Verdict) E → Type 0
 AnswersAgain j result = (v : Verdict) → j.so_far ≡ Some v → j.has_failed ≡ false → result ≡ Ok (Some v)
 
-not_so : (b : Bool) → (b ≡ true → false ≡ true) → b ≡ false
-not_so true never = sym (never refl)
-not_so false never = refl
-
--- so after one entry more
-pub still_known : {E : Type 0} (before old new : JudgeView) (v : Option Verdict) → StaysOrStands before old → (old.has_failed ≡ true → false ≡ true)
-    → AnswersAgain {E = E} old (Ok v) → new.so_far ≡ v → new.has_failed ≡ false → StaysOrStands before new
-still_known before old new (Some w) known works again is now = inr (record { verdict = w; is = is; works = now })
-still_known before old new None (inr s) works again is now = let never : Ok None ≡ Ok (Some s.verdict) = again s.verdict s.is s.works in cc
-still_known before old new None (inl same) works again is now = inl (is ∙ nothing old.so_far refl ∙ same)
-  where
-    nothing : (o : Option Verdict) → old.so_far ≡ o → None ≡ old.so_far
-    nothing None e = sym e
-    nothing (Some w) e = let never : Ok None ≡ Ok (Some w) = again w e (not_so old.has_failed works) in cc
+-- so it stands after one entry more
+pub still_stands : {E : Type 0} (before old new : JudgeView) (v : Option Verdict) → StandsStill before old → old.has_failed ≡ false
+    → AnswersAgain {E = E} old (Ok v) → new.so_far ≡ v → StandsStill before new
+still_stands before old new v known works again is = λ w stood. let same : Ok v ≡ Ok (Some w) = again w (known w stood) works in cc
 
 -- and where the entry was refused, nothing has changed
-pub refused_stays : {E : Type 0} (before old new : JudgeView) (e : E) → StaysOrStands before old → AnswersAgain old (Err e)
-    → new.so_far ≡ old.so_far → new.so_far ≡ before.so_far
-refused_stays before old new e (inl same) again stays = stays ∙ same
-refused_stays before old new e (inr s) again stays = let never : Err e ≡ Ok (Some s.verdict) = again s.verdict s.is s.works in cc
+pub refused_stays : {E : Type 0} (before old new : JudgeView) (e : E) → StandsStill before old → old.has_failed ≡ false
+    → AnswersAgain old (Err e) → new.so_far ≡ old.so_far → new.so_far ≡ before.so_far
+refused_stays before old new e known works again stays = stays ∙ nothing before.so_far old.so_far refl refl
+  where
+    nothing : (b o : Option Verdict) → before.so_far ≡ b → old.so_far ≡ o → old.so_far ≡ before.so_far
+    nothing None None was is = is ∙ sym was
+    nothing None (Some w) was is = let never : Err e ≡ Ok (Some w) = again w is works in cc
+    nothing (Some v) None was is = let kept : old.so_far ≡ Some v = known v was in cc
+    nothing (Some v) (Some w) was is = let never : Err e ≡ Ok (Some w) = again w is works in cc
 
 -- what holds anyway holds on an error
 pub on_error : {A E : Type 0} {P : Type 0} (r : Result A E) → P → OnErr r P

@@ -41,7 +41,8 @@ use vyrd_words::words_at_start;
 /// execution stays open; and so do the answers to what open observers ask, which are kept once for
 /// all that ask the same.
 ///
-/// Memory may run out in [`Judge::feed`] alone. From then on `feed`, `finish` and `stop` answer it.
+/// Memory may run out in [`Judge::feed`], [`Judge::follow`] and [`Judge::follow_history`] alone.
+/// From then on these, `finish` and `stop` answer it.
 pub struct Judge<S: Spec> {
     follower: Follower<S>,
     so_far: Option<Verdict>,
@@ -198,10 +199,16 @@ impl<S: Spec> Judge<S> {
             → OnOk result (HasFollowed self.new starting (log ++ entries.now)) }
         ensures so_far { IfOk result (λ v. self.new.so_far ≡ v) }
         ensures stays { OnErr result (self.new.so_far ≡ self.old.so_far) }
-        ensures has_failed { OnErr result (self.new.has_failed ≡ true) }
+        ensures stands { (v : Verdict) → self.old.so_far ≡ Some v → self.old.has_failed ≡ false
+            → result ≡ Ok (Some v) }
+        ensures has_failed { self.new.has_failed ≡ is_err result }
+        ensures fails_again { self.old.has_failed ≡ true → is_err result ≡ true }
         ensures counted { self.new.kept.entries ≤ self.old.kept.entries + length entries.now }
         ensures charter { self.new.kept.charter ≡ self.old.kept.charter }
     {
+        if self.has_failed {
+            return Err(AllocError);
+        }
         for entry in entries {
             self.feed(*entry)?;
         }
@@ -223,10 +230,16 @@ impl<S: Spec> Judge<S> {
             → OnOk result (HasFollowed self.new starting (log ++ log_of history.now)) }
         ensures so_far { IfOk result (λ v. self.new.so_far ≡ v) }
         ensures stays { OnErr result (self.new.so_far ≡ self.old.so_far) }
-        ensures has_failed { OnErr result (self.new.has_failed ≡ true) }
+        ensures stands { (v : Verdict) → self.old.so_far ≡ Some v → self.old.has_failed ≡ false
+            → result ≡ Ok (Some v) }
+        ensures has_failed { self.new.has_failed ≡ is_err result }
+        ensures fails_again { self.old.has_failed ≡ true → is_err result ≡ true }
         ensures counted { self.new.kept.entries ≤ self.old.kept.entries + length history.now }
         ensures charter { self.new.kept.charter ≡ self.old.kept.charter }
     {
+        if self.has_failed {
+            return Err(AllocError);
+        }
         for event in history {
             if let Some(entry) = entry_of(*event) {
                 self.feed(entry)?;
@@ -235,7 +248,7 @@ impl<S: Spec> Judge<S> {
         Ok(self.so_far)
     }
 
-    /// The verdict so far, as the last `feed` that wasn't refused has answered it.
+    /// The verdict so far, as the last call that wasn't refused has answered it.
     pub fn so_far(&self) -> Option<Verdict>
         ensures { result ≡ self.now.so_far }
     {

@@ -4,7 +4,7 @@ use Rattle.vyrd_base.specs.Rules.{rules_by}
 use Rattle.vyrd_base.specs.Verdicts.{verdict_so_far}
 use Rattle.vyrd_judge.specs.Following.{JudgeView, HasFollowed}
 use Rattle.vyrd_base.proofs.FrontLaws.{take_past}
-use Rattle.vyrd_judge.proofs.OnlineLaws.{so_far_is_known, still_known, refused_stays, on_error}
+use Rattle.vyrd_judge.proofs.OnlineLaws.{so_far_is_known, still_stands, refused_stays, on_error}
 use Rattle.vyrd_judge.proofs.online.Judge.follow.Goals as goal
 
 pub loop-entry-preserved : goal.loop-entry-preserved
@@ -17,8 +17,9 @@ loop-entry-preserved g c =
           (c.in_ok-feed.ensures.followed starting (log ++ take i es) (c.loop-entry.invariant.followed starting log f));
       header = c.feed.ensures.charter ∙ c.loop-entry.invariant.header;
       counted = omega (arith, c.feed.ensures.counted, c.loop-entry.invariant.counted);
-      so_far = still_known c.args.self.now c.loop-entry.self c.feed.new.self c.in_ok-feed.field-0 c.loop-entry.invariant.so_far c.in_ok-feed.ensures.fails_again
-          c.in_ok-feed.ensures.stands c.in_ok-feed.ensures.so_far c.in_ok-feed.ensures.has_failed;
+      works = c.in_ok-feed.ensures.has_failed;
+      stands = still_stands c.args.self.now c.loop-entry.self c.feed.new.self c.in_ok-feed.field-0 c.loop-entry.invariant.stands c.loop-entry.invariant.works
+          c.in_ok-feed.ensures.stands c.in_ok-feed.ensures.so_far;
     }
 
 pub returns-clause-followed : goal.returns-clause-followed
@@ -28,11 +29,11 @@ returns-clause-followed g c = λ starting log f. subst (λ xs. HasFollowed c.loo
 
 pub returns-clause-answer : goal.returns-clause-answer
 returns-clause-answer g c = λ starting log f.
-    ap (λ (j : JudgeView). j.so_far) c.self.view_is
+    ap (λ (j : JudgeView). j.so_far) c.self-2.view_is
     ∙ so_far_is_known (returns-clause-followed g c starting log f)
     ∙ ap (λ g. verdict_so_far (rules_by g) starting (log ++ c.args.entries.now)) c.loop-entry.invariant.header
 
 pub returns-in_err-feed-clause-stays : goal.returns-in_err-feed-clause-stays
 returns-in_err-feed-clause-stays g c = on_error c.from_residual.result
-    (refused_stays c.args.self.now c.loop-entry.self c.feed.new.self c.in_err-feed.field-0.0 c.loop-entry.invariant.so_far
+    (refused_stays c.args.self.now c.loop-entry.self c.feed.new.self c.in_err-feed.field-0.0 c.loop-entry.invariant.stands c.loop-entry.invariant.works
     c.in_err-feed.ensures.stands c.in_err-feed.ensures.stays)

@@ -1,8 +1,8 @@
-use Rattle.std.proofs.Common.{◌≡◌, ◌≤◌, ◌+◌, ◌++◌, List, take}
+use Rattle.std.proofs.Common.{◌≡◌, false, ◌≤◌, ◌+◌, ◌++◌, List, take}
 use Rattle.vyrd_base.specs.declared.log.Entry.{Entry}
 use Rattle.vyrd_base.specs.declared.log.StartWord.{StartWord}
 use Rattle.vyrd_judge.specs.Following.{HasFollowed}
-use Rattle.vyrd_judge.proofs.OnlineLaws.{StaysOrStands}
+use Rattle.vyrd_judge.proofs.OnlineLaws.{StandsStill}
 use Rattle.vyrd_judge.proofs.online.Judge.follow.Given as goal
 
 abbrev pub invariant-loop-entry : goal.invariant-loop-entry
@@ -10,5 +10,6 @@ invariant-loop-entry g l = record {
   followed : (starting : List StartWord) (log : List Entry) → HasFollowed l.initial.self starting log → HasFollowed l.self starting (log ++ take l.entry-index l.fn.entries);
   header : l.self.kept.charter ≡ l.initial.self.kept.charter;
   counted : l.self.kept.entries ≤ l.initial.self.kept.entries + l.entry-index;
-  so_far : StaysOrStands l.initial.self l.self;
+  works : l.self.has_failed ≡ false;
+  stands : StandsStill l.initial.self l.self;
 }
