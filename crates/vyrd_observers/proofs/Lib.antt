@@ -1,2 +1,3 @@
 pub mod SeeingLaws
 pub mod TrailLaws
+pub mod TrailCounts

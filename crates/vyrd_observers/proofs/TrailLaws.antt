@@ -1,5 +1,5 @@
 -- Trails of answers that open observers share.
-use Rattle.std.proofs.Common.{◌≡◌, ℕ, zero, suc, ◌+◌, ◌-◌, ◌*◌, ◌<◌, ◌≤◌, Bool, true, false, cond, ◌&&◌, ◌||◌, List, [], ◌∷◌, ◌++◌, length, drop, map, set, get_or, Option, Some, None, slice_get, refl, ap, subst, ◌∙◌, sym, arith, length-drop}
+use Rattle.std.proofs.Common.{◌≡◌, ℕ, zero, suc, ◌+◌, ◌-◌, ◌*◌, ◌<◌, ◌≤◌, Bool, true, false, cond, ◌&&◌, ◌||◌, ◌≢◌, ◌⊎◌, inl, inr, ⊎_elim, List, [], ◌∷◌, ◌++◌, length, drop, map, set, get_or, Option, Some, None, slice_get, refl, ap, subst, ◌∙◌, sym, arith, length-drop}
 use Rattle.std.specs.Prelude.{◌==◌, option_map, unwrap_or, replicate}
 use Rattle.std.specs.List.{list_any}
 use Rattle.std.proofs.lemmas.List.{drop-append-le, drop-drop, length-map, map-set, set-get_or}
@@ -12,10 +12,10 @@ use Rattle.vyrd_base.specs.declared.subject.Method.{Method}
 use Rattle.vyrd_base.specs.declared.subject.Args.{Args}
 use Rattle.vyrd_base.specs.Subjects.{is_observer}
 use Rattle.vyrd_base.proofs.BlockLaws.{by_same}
-use Rattle.vyrd_base.proofs.TestLaws.{same_number, same_of, apart_of}
+use Rattle.vyrd_base.proofs.TestLaws.{same_number, same_of, apart_of, isnt_same}
 use Rattle.vyrd_observers.specs.declared.watch.Watch.{Watch}
 use Rattle.vyrd_base.specs.Entries.{has_method}
-use Rattle.vyrd_observers.specs.Trails.{Asked, with_answer, after_state, seen_from, seen_by, IsOn, AreOn, AreAsking, KeepsAsked, IsTrailOf, IsUsed, moved}
+use Rattle.vyrd_observers.specs.Trails.{Asked, with_answer, after_state, seen_from, seen_by, IsOn, AreOn, AreAsking, KeepsAsked, IsTrailOf, IsUsed, AreUsed, OthersAreUsed, AreOldExcept, AreInOrder, StaysOrEnds, StayOrEnd, moved}
 use Rattle.vyrd_observers.specs.Watching.{Seen, unwatched, has_answer, SeesAnswer, SeesState}
 use Rattle.vyrd_base.proofs.ChangedLists.{changed_below}
 use Rattle.vyrd_observers.proofs.SeeingLaws.{SeenBelow, knows_already}
@@ -24,11 +24,24 @@ use Rattle.vyrd_base.proofs.ListLaws.{slice_get-set_same, slice_get-set_other, s
 false_true : {b : Bool} → b ≡ false → b ≡ true → ⊥
 false_true is_false is_true = cc
 
+none_some : {A : Type 0} {x : A} → None ≡ Some x → ⊥
+none_some e = cc
+
+pub some_some : {A : Type 0} {x y : A} → Some (Some x) ≡ Some (Some y) → x ≡ y
+some_some e = cc
+
 -- one more element at the end
 pub before_pushed : {A : Type 0} (xs : List A) (y : A) (i : ℕ) (x : A) → slice_get xs i ≡ Some x → slice_get (xs ++ y ∷ []) i ≡ Some x
 before_pushed [] y i x is = absurd (none-some _ is)
 before_pushed (z ∷ xs) y zero x is = is
 before_pushed (z ∷ xs) y (suc i) x is = before_pushed xs y i x is
+
+pub pushed_only : {A : Type 0} (xs : List A) (y : A) (i : ℕ) (x : A) → slice_get (xs ++ y ∷ []) i ≡ Some x
+    → (slice_get xs i ≡ Some x) ⊎ (i ≡ length xs)
+pushed_only [] y zero x is = inr refl
+pushed_only [] y (suc i) x is = absurd (none-some _ is)
+pushed_only (z ∷ xs) y zero x is = inl is
+pushed_only (z ∷ xs) y (suc i) x is = ⊎_elim (λ was. inl was) (λ last. inr (ap suc last)) (pushed_only xs y i x is)
 
 pub all_pushed : {A : Type 0} (P : A → Type 0) (xs : List A) (y : A) → P y → ((i : ℕ) (x : A) → slice_get xs i ≡ Some x → P x)
     → (i : ℕ) (x : A) → slice_get (xs ++ y ∷ []) i ≡ Some x → P x
@@ -51,6 +64,13 @@ changed_there Q f stays steps zero xs i x is = (x, is, stays x)
 changed_there Q f stays steps (suc n) [] i x is = absurd (none-some _ is)
 changed_there Q f stays steps (suc n) (z ∷ xs) zero x is = (f x, ap (λ o. option_map f o) is, steps x)
 changed_there Q f stays steps (suc n) (z ∷ xs) (suc i) x is = changed_there Q f stays steps n xs i x is
+
+pub changed_from : {A : Type 0} (Q : A → A → Type 0) (f : A → A) → ((x : A) → Q x x) → ((x : A) → Q x (f x)) → (n : ℕ) (xs : List A) (i : ℕ) (y : A)
+    → slice_get (changed_below f n xs) i ≡ Some y → (x : A) × (slice_get xs i ≡ Some x) × Q x y
+changed_from Q f stays steps zero xs i y is = (y, is, stays y)
+changed_from Q f stays steps (suc n) [] i y is = absurd (none-some _ is)
+changed_from Q f stays steps (suc n) (z ∷ xs) zero y is = (z, refl, subst (Q z) (same_Some _ _ is) (steps z))
+changed_from Q f stays steps (suc n) (z ∷ xs) (suc i) y is = changed_from Q f stays steps n xs i y is
 
 pub map_alike : {A B : Type 0} (f g : A → B) (xs : List A) → ((i : ℕ) (x : A) → slice_get xs i ≡ Some x → f x ≡ g x) → map f xs ≡ map g xs
 map_alike f g [] same = refl
@@ -135,6 +155,23 @@ question_after affects told t = by_touched (t.is_asked && affects t.method t.arg
     by_touched : (b : Bool) → SameQuestion t (cond b (with_answer answer t) t)
     by_touched true = by_answer (answer == t.latest)
     by_touched false = question_stays t
+
+-- a trail that is asked has as many answers or more, and one that isn't has none if it had none
+record UsesAsMany (t new : Asked) : Type 0 where
+  pub is_asked : new.is_asked ≡ t.is_asked
+  pub nothing : new.is_asked ≡ false → t.others ≡ [] → new.others ≡ []
+  pub grown : length t.others ≤ length new.others
+
+as_many : (t : Asked) → UsesAsMany t t
+as_many t = record { is_asked = refl; nothing = λ not_asked empty. empty; grown = omega arith }
+
+as_many_after : (affects : Method → Args → Bool) (told : Method → Args → ℕ) (t : Asked) → UsesAsMany t (after_state affects told t)
+as_many_after affects told t = let same = question_after affects told t in record {
+  is_asked = same.is_asked;
+  nothing = λ not_asked empty.
+      ap (λ b. (cond (b && affects t.method t.args) (with_answer (told t.method t.args) t) t).others) (sym same.is_asked ∙ not_asked) ∙ empty;
+  grown = same.grown;
+}
 
 -- some trails have the next state's answer
 pub asking_after : (h : Header) (affects : Method → Args → Bool) (told : Method → Args → ℕ) (n : ℕ) (trails : List Asked) → AreAsking h trails
@@ -284,23 +321,171 @@ trail_of_seen trails watches c seen before method args answer on here is_open sa
           ),
         )
 
--- a trail after an observer has returned that asked it
-pub unused_freed : (trails : List Asked) (watches : List (Option Watch)) (i : ℕ) (t : Asked) → i < length trails → t.is_asked ≡ false
-    → IsUsed (set trails i t) watches i
-unused_freed trails watches i t within free = λ u there is_asked.
-    let it : t ≡ u = same_Some _ _ (sym (slice_get-set_same trails i t within) ∙ there) in
-    absurd (false_true free (ap (λ v. v.is_asked) it ∙ is_asked))
+-- an observer is closed, and all trails except its own are used by others
+pub used_without : (trails : List Asked) (watches : List (Option Watch)) (c : ℕ) (w : Watch) → slice_get watches c ≡ Some (Some w)
+    → AreUsed trails watches → OthersAreUsed trails (set watches c None) w.trail
+used_without trails watches c w here used = λ i t there other. let was = used i t there in record {
+  nothing = was.nothing;
+  by = λ is_asked. let one = was.by is_asked in (
+    one.0,
+    one.1,
+    slice_get-set_other watches c one.0 None
+        (λ same. other (sym one.3 ∙ ap (λ v. v.trail) (some_some (sym one.2 ∙ ap (slice_get watches) (sym same) ∙ here)))) ∙ one.2,
+    one.3,
+    one.4,
+  );
+}
 
-pub used_moved : (trails : List Asked) (watches : List (Option Watch)) (i n c : ℕ)
-    → slice_get watches c ≡ Some (Some (record { trail = i; since = n })) → IsUsed trails (map (moved i n) watches) i
-used_moved trails watches i n c here = λ t there is_asked. (
-  c,
-  record { trail = i; since = n - n },
-  slice_get-map (moved i n) watches c ∙ ap (option_map (moved i n)) here
-      ∙ ap (λ b. Some (Some (cond b (record { trail = i; since = n - n }) (record { trail = i; since = n })))) (same_number i),
-  refl,
-  omega arith,
+-- one trail is changed, and is used then
+used_except : (old new : List Asked) (watches : List (Option Watch)) (i : ℕ) → AreOldExcept old new i → OthersAreUsed old watches i
+    → ((t : Asked) → slice_get new i ≡ Some t → IsUsed t i watches) → AreUsed new watches
+used_except old new watches i only others own = λ j t there. by_same j i
+    (λ same. subst (λ k. IsUsed t k watches) (sym same) (own t (ap (slice_get new) (sym same) ∙ there)))
+    (λ apart. ⊎_elim
+    (λ was. others j t was (apart_of j i apart))
+    (λ same. absurd (apart_of j i apart same))
+    (only j t there))
+
+pub old_except_set : (trails : List Asked) (i : ℕ) (t : Asked) → AreOldExcept trails (set trails i t) i
+old_except_set trails i t = λ j u there. by_same j i
+    (λ same. inr same)
+    (λ apart. inl (sym (slice_get-set_other trails i j t (λ same. apart_of j i apart (sym same))) ∙ there))
+
+pub old_except_then : (old trails : List Asked) (i : ℕ) → AreOldExcept old trails i → (t : Asked) → AreOldExcept old (set trails i t) i
+old_except_then old trails i only t = λ j u there. ⊎_elim (λ was. only j u was) (λ same. inr same) (old_except_set trails i t j u there)
+
+pub used_freed : (trails : List Asked) (watches : List (Option Watch)) (i : ℕ) (t : Asked) → i < length trails → t.is_asked ≡ false → t.others ≡ []
+    → OthersAreUsed trails watches i → AreUsed (set trails i t) watches
+used_freed trails watches i t within free nothing others =
+    used_except trails (set trails i t) watches i (old_except_set trails i t) others (λ u there.
+    let it : t ≡ u = same_Some _ _ (sym (slice_get-set_same trails i t within) ∙ there) in record {
+      nothing = λ not_asked. ap (λ v. v.others) (sym it) ∙ nothing;
+      by = λ is_asked. absurd (false_true free (ap (λ v. v.is_asked) it ∙ is_asked));
+    })
+
+-- a trail that an observer is on is asked
+asked_on : (trails : List Asked) (watches : List (Option Watch)) (i n c : ℕ) (t : Asked)
+    → slice_get watches c ≡ Some (Some (record { trail = i; since = n })) → AreOn trails watches → slice_get trails i ≡ Some t → t.is_asked ≡ true
+asked_on trails watches i n c t here on there =
+    let was = on c (record { trail = i; since = n }) here in
+    ap (λ u. u.is_asked) (same_Some _ _ (sym there ∙ was.there)) ∙ was.is_asked
+
+moved_other : (i n : ℕ) (w : Watch) → w.trail ≢ i → moved i n (Some w) ≡ Some w
+moved_other i n w other = ap (λ b. Some (cond b (record { trail = w.trail; since = w.since - n }) w)) (isnt_same w.trail i other)
+
+pub used_moved : (old new : List Asked) (watches : List (Option Watch)) (i n c : ℕ)
+    → slice_get watches c ≡ Some (Some (record { trail = i; since = n })) → AreOldExcept old new i → AreOn new (map (moved i n) watches)
+    → OthersAreUsed old watches i → AreUsed new (map (moved i n) watches)
+used_moved old new watches i n c here only on others = used_except old new (map (moved i n) watches) i only
+    (λ j t there other. let was = others j t there other in record {
+      nothing = was.nothing;
+      by = λ is_asked. let one = was.by is_asked in (
+        one.0,
+        one.1,
+        slice_get-map (moved i n) watches one.0 ∙ ap (option_map (moved i n)) one.2 ∙ ap Some (moved_other i n one.1 (λ same. other (sym one.3 ∙ same))),
+        one.3,
+        one.4,
+      );
+    })
+    (λ t there. record {
+      nothing = λ not_asked. absurd (false_true not_asked (asked_on new (map (moved i n) watches) i (n - n) c t now on there));
+      by = λ is_asked. (c, record { trail = i; since = n - n }, now, refl, omega arith);
+    })
+  where
+    now : slice_get (map (moved i n) watches) c ≡ Some (Some (record { trail = i; since = n - n }))
+    now = slice_get-map (moved i n) watches c ∙ ap (option_map (moved i n)) here
+        ∙ ap (λ b. Some (Some (cond b (record { trail = i; since = n - n }) (record { trail = i; since = n })))) (same_number i)
+
+pub used_still : (trails : List Asked) (watches : List (Option Watch)) (i n c : ℕ)
+    → slice_get watches c ≡ Some (Some (record { trail = i; since = n }))
+    → ((t : Asked) → slice_get trails i ≡ Some t → 2 * n ≤ length t.others) → AreOn trails watches → OthersAreUsed trails watches i
+    → AreUsed trails watches
+used_still trails watches i n c here low on others = used_except trails trails watches i (λ j t there. inl there) others (λ t there. record {
+  nothing = λ not_asked. absurd (false_true not_asked (asked_on trails watches i n c t here on there));
+  by = λ is_asked. (c, record { trail = i; since = n }, here, refl, low t there);
+})
+
+-- an observer begins on a trail that is asked already, or that keeps nothing before the latest answer
+pub used_begun : (old new : List Asked) (watches : List (Option Watch)) (c i since : ℕ) (t : Asked) → slice_get watches c ≡ Some None
+    → AreUsed old watches → AreOldExcept old new i → slice_get new i ≡ Some t → t.is_asked ≡ true → since ≡ length t.others
+    → ((u : Asked) → slice_get new i ≡ Some u → (slice_get old i ≡ Some u) ⊎ (u.others ≡ []))
+    → AreUsed new (set watches c (Some (record { trail = i; since = since })))
+used_begun old new watches c i since t closed used only there is_asked at_end begun =
+    used_except old new (set watches c own) i only (λ j u was other. stays j u (used j u was)) (λ u here. ⊎_elim
+    (λ was. stays i u (used i u was))
+    (λ empty. let it : t ≡ u = same_Some _ _ (sym there ∙ here) in record {
+      nothing = λ not_asked. empty;
+      by = λ asked. (
+        c,
+        record { trail = i; since = since },
+        slice_get-set_same watches c own (slice_get_within watches c None closed),
+        refl,
+        omega (arith, at_end, ap (λ v. length v.others) it, ap length empty),
+      );
+    })
+    (begun u here))
+  where
+    own : Option Watch
+    own = Some (record { trail = i; since = since })
+
+    stays : (j : ℕ) (u : Asked) → IsUsed u j watches → IsUsed u j (set watches c own)
+    stays j u was = record {
+      nothing = was.nothing;
+      by = λ asked. let one = was.by asked in (
+        one.0,
+        one.1,
+        slice_get-set_other watches c one.0 own (λ same. none_some (same_Some _ _ (sym closed ∙ ap (slice_get watches) same ∙ one.2))) ∙ one.2,
+        one.3,
+        one.4,
+      );
+    }
+
+-- some trails have the next state's answer
+pub used_after : (affects : Method → Args → Bool) (told : Method → Args → ℕ) (n : ℕ) (trails : List Asked) (watches : List (Option Watch))
+    → AreUsed trails watches → AreUsed (changed_below (after_state affects told) n trails) watches
+used_after affects told n trails watches used = λ i u there.
+    let was = changed_from UsesAsMany (after_state affects told) as_many (as_many_after affects told) n trails i u there in
+    let one = used i was.0 was.1 in record {
+      nothing = λ not_asked. was.2.nothing not_asked (one.nothing (sym was.2.is_asked ∙ not_asked));
+      by = λ is_asked. let by = one.by (sym was.2.is_asked ∙ is_asked) in (by.0, by.1, by.2, by.3, omega (arith, by.4, was.2.grown));
+    }
+
+pub order_after : (h : Header) (affects : Method → Args → Bool) (told : Method → Args → ℕ) (n : ℕ) (trails : List Asked) (watches : List (Option Watch))
+    → AreInOrder h trails watches → AreInOrder h (changed_below (after_state affects told) n trails) watches
+order_after h affects told n trails watches so = record {
+  on = on_after affects told n trails watches so.on;
+  asking = asking_after h affects told n trails so.asking;
+  used = used_after affects told n trails watches so.used;
+  callers = so.callers;
+  few = omega (arith, so.few, length-changed (after_state affects told) n trails);
+}
+
+-- a trail stays as it is, or ends
+pub stay_all : (trails : List Asked) → StayOrEnd trails trails
+stay_all trails = λ i t there. (t, there, λ is_asked. (is_asked, refl, refl, refl))
+
+pub stay_set : (trails : List Asked) (i : ℕ) (t new : Asked) → slice_get trails i ≡ Some t → StaysOrEnds t new → StayOrEnd trails (set trails i new)
+stay_set trails i t new here own = λ j u there. by_same i j
+    (λ same. let it : t ≡ u = same_Some _ _ (sym here ∙ ap (slice_get trails) same ∙ there) in (
+      new,
+      ap (slice_get (set trails i new)) (sym same) ∙ slice_get-set_same trails i new (slice_get_within trails i t here),
+      subst (λ v. StaysOrEnds v new) it own,
+    ))
+    (λ other. (u, slice_get-set_other trails i j new (apart_of i j other) ∙ there, λ is_asked. (is_asked, refl, refl, refl)))
+
+-- a question that stays has its trail, or some trail is free
+pub trail_stays : (old new : List Asked) (i : ℕ) (t : Asked) (method : Method) (args : Args) (answer : ℕ) → StayOrEnd old new → slice_get old i ≡ Some t
+    → IsTrailOf method args answer t
+    → (u : Asked) × (slice_get new i ≡ Some u) × ((u.is_asked ≡ false) ⊎ IsTrailOf method args answer u)
+trail_stays old new i t method args answer stay here is = let now = stay i t here in (
+  now.0,
+  now.1,
+  by_asked now.0 now.0.is_asked refl now.2,
 )
+  where
+    by_asked : (u : Asked) (b : Bool) → u.is_asked ≡ b → StaysOrEnds t u → (u.is_asked ≡ false) ⊎ IsTrailOf method args answer u
+    by_asked u true e same = let more = same e in inr (e, more.1 ∙ is.1, more.2 ∙ is.2, more.3 ∙ is.3)
+    by_asked u false e same = inl e
 
 pub counted_within : (trails : List Asked) (watches : List (Option Watch)) (i n c : ℕ)
     → slice_get watches c ≡ Some (Some (record { trail = i; since = n })) → AreOn trails watches
@@ -309,11 +494,6 @@ counted_within trails watches i n c here on = λ t there.
     let was = on c (record { trail = i; since = n }) here in
     let it : was.asked ≡ t = same_Some _ _ (sym was.there ∙ there) in
     subst (λ (u : Asked). n ≤ length u.others) it was.within
-
-pub used_still : (trails : List Asked) (watches : List (Option Watch)) (i n c : ℕ)
-    → slice_get watches c ≡ Some (Some (record { trail = i; since = n }))
-    → ((t : Asked) → slice_get trails i ≡ Some t → 2 * n ≤ length t.others) → IsUsed trails watches i
-used_still trails watches i n c here low = λ t there is_asked. (c, record { trail = i; since = n }, here, refl, low t there)
 
 -- what the next state makes of what an observer has seen
 or_last : (a b l : Bool) → (a || (b || (l || false))) ≡ ((l || b) || a)

@@ -1,6 +1,7 @@
 -- What open observers ask, and how they share what the states since their calls answer.
-use Rattle.std.specs.Prelude.{◌≡◌, ◌≤◌, ◌-◌, ◌*◌, ℕ, Bool, true, cond, ◌&&◌, ◌==◌, List, [], ◌∷◌}
-use Rattle.std.specs.Prelude.{◌++◌, length, drop, Option, Some, None, slice_get}
+use Rattle.std.specs.Prelude.{◌≡◌, ◌≢◌, ◌≤◌, ◌+◌, ◌-◌, ◌*◌, ◌⊎◌, ℕ, Bool, true, false, cond, ◌&&◌}
+use Rattle.std.specs.Prelude.{◌==◌, List, [], ◌∷◌, ◌++◌, length, drop, map, set, Option, Some, None}
+use Rattle.std.specs.Prelude.{slice_get, count_by, sum_by}
 use Rattle.vyrd_base.specs.declared.header.Header.{Header}
 use Rattle.vyrd_base.specs.declared.subject.Method.{Method}
 use Rattle.vyrd_base.specs.declared.subject.Args.{Args}
@@ -68,13 +69,75 @@ abbrev pub KeepsAsked : List Asked → List Asked → Type 0
 KeepsAsked old new =
     (i : ℕ) (t : Asked) → slice_get old i ≡ Some t → t.is_asked ≡ true → slice_get new i ≡ Some t
 
--- if the trail at this place is asked, some open observer is on it, and at least half of the
--- answers before the latest one count for that observer
-abbrev pub IsUsed : List Asked → List (Option Watch) → ℕ → Type 0
-IsUsed trails watches trail =
-    (t : Asked) → slice_get trails trail ≡ Some t → t.is_asked ≡ true
-    → (c : ℕ) × (w : Watch) × (slice_get watches c ≡ Some (Some w)) × (w.trail ≡ trail)
-    × (2 * w.since ≤ length t.others)
+-- how many trails are asked
+abbrev pub asked_count : List Asked → ℕ
+asked_count trails = count_by (λ t. t.is_asked) trails
+
+-- how many answers a trail keeps: those before the latest, and the latest if it is asked
+abbrev pub kept_by : Asked → ℕ
+kept_by t = length t.others + cond t.is_asked 1 0
+
+-- how many answers all trails keep
+abbrev pub kept_count : List Asked → ℕ
+kept_count trails = sum_by kept_by trails
+
+-- The trail at a place keeps nothing if it isn't asked. If it is, some open observer is on it, and
+-- at least half of the answers before the latest one count for that observer.
+pub record IsUsed (t : Asked) (trail : ℕ) (watches : List (Option Watch)) : Type 0 where
+  pub nothing : t.is_asked ≡ false → t.others ≡ []
+  pub by : t.is_asked ≡ true
+      → (c : ℕ) × (w : Watch) × (slice_get watches c ≡ Some (Some w)) × (w.trail ≡ trail)
+      × (2 * w.since ≤ length t.others)
+
+-- all trails are used
+abbrev pub AreUsed : List Asked → List (Option Watch) → Type 0
+AreUsed trails watches =
+    (i : ℕ) (t : Asked) → slice_get trails i ≡ Some t → IsUsed t i watches
+
+-- all trails except this one are used
+abbrev pub OthersAreUsed : List Asked → List (Option Watch) → ℕ → Type 0
+OthersAreUsed trails watches trail =
+    (i : ℕ) (t : Asked) → slice_get trails i ≡ Some t → i ≢ trail → IsUsed t i watches
+
+-- if it is still asked, it is the same question, and its latest answer is the same
+abbrev pub StaysOrEnds : Asked → Asked → Type 0
+StaysOrEnds old new =
+    new.is_asked ≡ true
+    → (old.is_asked ≡ true) × (new.method ≡ old.method) × (new.args ≡ old.args)
+    × (new.latest ≡ old.latest)
+
+-- so is each trail
+abbrev pub StayOrEnd : List Asked → List Asked → Type 0
+StayOrEnd old new =
+    (i : ℕ) (t : Asked) → slice_get old i ≡ Some t
+    → (u : Asked) × (slice_get new i ≡ Some u) × StaysOrEnds t u
+
+-- each trail was there before, or it is this one
+abbrev pub AreOldExcept : List Asked → List Asked → ℕ → Type 0
+AreOldExcept old new trail =
+    (i : ℕ) (t : Asked) → slice_get new i ≡ Some t → (slice_get old i ≡ Some t) ⊎ (i ≡ trail)
+
+-- A caller's observer is closed. The others have what they had, and trails are given up that nobody
+-- asks any more.
+pub record Closes (caller : ℕ) (old new : List Asked)
+    (watches closed : List (Option Watch)) : Type 0 where
+  pub seen : map (seen_by new) closed ≡ set (map (seen_by old) watches) caller unwatched
+  pub none : slice_get closed caller ≡ Some None
+  pub on : AreOn new closed
+  pub used : AreUsed new closed
+  pub asking : (h : Header) → AreAsking h old → AreAsking h new
+  pub stay : StayOrEnd old new
+  pub trails : length new ≡ length old
+
+-- What is known of all trails and all watches: each open observer is on a trail, what is asked are
+-- the header's observers, each trail is used, and there are no more trails than callers.
+pub record AreInOrder (h : Header) (trails : List Asked)
+    (watches : List (Option Watch)) : Type 0 where
+  pub on : AreOn trails watches
+  pub asking : AreAsking h trails
+  pub used : AreUsed trails watches
+  pub callers : length watches ≡ h.callers
+  pub few : length trails ≤ length watches
 
 -- an observer that counts the answers of a trail, once the first n of them are dropped
 abbrev pub moved : ℕ → ℕ → Option Watch → Option Watch

@@ -1,5 +1,6 @@
 -- What is kept of a caller's open observer.
-use Rattle.std.specs.Prelude.{◌≡◌, ℕ, Bool, true, false, Some, ◌||◌, ◌==◌, List, [], slice_get}
+use Rattle.std.specs.Prelude.{◌≡◌, ◌≤◌, ◌*◌, ℕ, Bool, true, false, Some, ◌||◌, ◌==◌, List, []}
+use Rattle.std.specs.Prelude.{length, slice_get, count_by, sum_by}
 use Rattle.std.specs.List.{list_any}
 use Rattle.vyrd_base.specs.declared.header.Header.{Header}
 use Rattle.vyrd_base.specs.declared.subject.Method.{Method}
@@ -22,12 +23,31 @@ unwatched = record {
   answers = [];
 }
 
--- what is kept of each caller, the header whose methods its observers call, and how many trails of
--- answers there are
+-- What is kept of each caller, and the header whose methods its observers call. Observers that ask
+-- the same share a trail of answers: how many trails there are, how many of them are asked, and how
+-- many answers they keep in all.
 pub record Watched : Type 0 where
   pub header : Header
   pub by_caller : List Seen
   pub trails : ℕ
+  pub asked : ℕ
+  pub kept : ℕ
+
+-- how many callers have an open observer
+abbrev pub open_count : List Seen → ℕ
+open_count watches = count_by (λ seen. seen.is_open) watches
+
+-- how many answers the open observers have, each its own
+abbrev pub answer_count : List Seen → ℕ
+answer_count watches = sum_by (λ seen. length seen.answers) watches
+
+-- Trails are kept for open observers alone. There are no more than callers, no more are asked than
+-- there are open observers, and what they keep is at most twice what these observers have. So they
+-- keep nothing where no observer is open.
+pub record KeepsFew (w : Watched) : Type 0 where
+  pub few : w.trails ≤ w.header.callers
+  pub asked : w.asked ≤ open_count w.by_caller
+  pub kept : w.kept ≤ 2 * answer_count w.by_caller
 
 -- whether one of the answers is this
 abbrev pub has_answer : List ℕ → ℕ → Bool

@@ -1,10 +1,11 @@
 //! What an observer that has returned leaves behind.
 
 ghost use Rattle.std.specs.Prelude.{◌≡◌, ◌≤◌, ◌<◌, ◌⊎◌, ℕ, Option, Some, IfSome, map, length};
-ghost use Rattle.std.specs.Prelude.{slice_get};
+ghost use Rattle.std.specs.Prelude.{None, slice_get};
 ghost use Rattle.vyrd_base.specs.declared.header.Header.{Header};
 ghost use Rattle.vyrd_observers.specs.declared.watch.Watch.{Watch};
-ghost use Rattle.vyrd_observers.specs.Trails.{Asked, AreOn, AreAsking, IsUsed, moved, seen_by};
+ghost use Rattle.vyrd_observers.specs.Trails.{Asked, AreOn, AreAsking, AreUsed, OthersAreUsed};
+ghost use Rattle.vyrd_observers.specs.Trails.{AreOldExcept, StayOrEnd, Closes, moved, seen_by};
 
 use crate::trail::Trail;
 use crate::watch::Watch;
@@ -74,6 +75,8 @@ fn forget(trails: &mut [Trail], watches: &mut Vec<Option<Watch>>, trail: usize, 
     ensures on { AreOn trails.new watches.new.items }
     ensures asking { (h : Header) → AreAsking h trails.old → AreAsking h trails.new }
     ensures moved { watches.new.items ≡ map (moved trail n) watches.old.items }
+    ensures only { AreOldExcept trails.old trails.new trail }
+    ensures stay { StayOrEnd trails.old trails.new }
 {
     trails[trail].forget(n);
     move_all(watches, trail, n);
@@ -82,14 +85,18 @@ fn forget(trails: &mut [Trail], watches: &mut Vec<Option<Watch>>, trail: usize, 
 /// An observer that asked this trail has returned. The trail is free if no other asks it. Otherwise
 /// the answers that count for no other are dropped if they are at least half of all, so that this
 /// takes constant time for each answer.
-pub(crate) fn let_go(trails: &mut [Trail], watches: &mut Vec<Option<Watch>>, trail: usize)
+fn let_go(trails: &mut [Trail], watches: &mut Vec<Option<Watch>>, trail: usize)
     requires trail { trail < length trails.old }
     requires on { AreOn trails.old watches.old.items }
+    requires used { OthersAreUsed trails.old watches.old.items trail }
     ensures seen { map (seen_by trails.new) watches.new.items
         ≡ map (seen_by trails.old) watches.old.items }
     ensures on { AreOn trails.new watches.new.items }
     ensures asking { (h : Header) → AreAsking h trails.old → AreAsking h trails.new }
-    ensures used { IsUsed trails.new watches.new.items trail }
+    ensures used { AreUsed trails.new watches.new.items }
+    ensures stay { StayOrEnd trails.old trails.new }
+    ensures closed { (c : ℕ) → slice_get watches.old.items c ≡ Some None
+        → slice_get watches.new.items c ≡ Some None }
 {
     match first_that_counts(watches, trail) {
         None => trails[trail].end(),
@@ -98,5 +105,18 @@ pub(crate) fn let_go(trails: &mut [Trail], watches: &mut Vec<Option<Watch>>, tra
                 forget(trails, watches, trail, n);
             }
         }
+    }
+}
+
+/// A caller has no open observer any more. The trail that it asked is free if no other asks it.
+pub(crate) fn close(trails: &mut Vec<Trail>, watches: &mut Vec<Option<Watch>>, caller: usize)
+    requires caller { caller < length watches.old.items }
+    requires on { AreOn trails.old.items watches.old.items }
+    requires used { AreUsed trails.old.items watches.old.items }
+    ensures { Closes caller trails.old.items trails.new.items watches.old.items watches.new.items }
+{
+    if let Some(watch) = watches[caller] {
+        watches[caller] = None;
+        let_go(trails, watches, watch.trail);
     }
 }

@@ -40,7 +40,8 @@ impl Model for Trail {
 impl Trail {
     /// No question yet.
     pub fn new(alloc: Global) -> Trail
-        ensures { result.is_asked ≡ false }
+        ensures free { result.is_asked ≡ false }
+        ensures nothing { result.others ≡ [] }
     {
         Trail {
             is_asked: false,
@@ -70,7 +71,8 @@ impl Trail {
 
     /// The last observer that asked it has returned.
     pub fn end(&mut self)
-        ensures { self.new.is_asked ≡ false }
+        ensures free { self.new.is_asked ≡ false }
+        ensures nothing { self.new.others ≡ [] }
     {
         self.is_asked = false;
         self.others.clear();

@@ -1,14 +1,15 @@
 //! The questions that observers ask.
 
-ghost use Rattle.std.specs.Prelude.{◌≡◌, ◌+◌, ◌<◌, ◌≤◌, ℕ, true, false, List, Option, Some, map};
-ghost use Rattle.std.specs.Prelude.{slice_get, length, IfOk, OnOk, OnErr, IsOk, IfSome, IsSome};
+ghost use Rattle.std.specs.Prelude.{◌≡◌, ◌+◌, ◌<◌, ◌≤◌, ◌⊎◌, ℕ, true, false, List, [], Option};
+ghost use Rattle.std.specs.Prelude.{Some, map, slice_get, length, IfOk, OnOk, OnErr, IsOk, IfSome};
+ghost use Rattle.std.specs.Prelude.{IsSome};
 ghost use Rattle.vyrd_base.specs.Rules.{rules_by};
 ghost use Rattle.vyrd_base.specs.declared.header.Header.{Header};
 ghost use Rattle.vyrd_base.specs.Subjects.{is_observer};
 ghost use Rattle.vyrd_observers.specs.declared.watch.Watch.{Watch};
 ghost use Rattle.vyrd_base.specs.Entries.{has_method};
-ghost use Rattle.vyrd_observers.specs.Trails.{Asked, IsTrailOf, AreOn, AreAsking, KeepsAsked};
-ghost use Rattle.vyrd_observers.specs.Trails.{after_state};
+ghost use Rattle.vyrd_observers.specs.Trails.{Asked, IsTrailOf, AreAsking, AreInOrder, KeepsAsked};
+ghost use Rattle.vyrd_observers.specs.Trails.{AreOldExcept, after_state};
 
 use crate::trail::Trail;
 use std::alloc::{AllocError, Global};
@@ -52,10 +53,12 @@ fn free(alloc: Global, trails: &mut Vec<Trail>) -> Result<usize, AllocError>
         (λ i. (t : Asked) × (slice_get trails.new.items i ≡ Some t) × (t.is_asked ≡ false)) }
     ensures kept { KeepsAsked trails.old.items trails.new.items }
     ensures asking { (h : Header) → AreAsking h trails.old.items → AreAsking h trails.new.items }
+    ensures only { IfOk result (λ i. AreOldExcept trails.old.items trails.new.items i) }
     ensures reused { (i : ℕ) (t : Asked) → slice_get trails.old.items i ≡ Some t
         → t.is_asked ≡ false
         → trails.new.items ≡ trails.old.items }
     ensures one { length trails.new.items ≤ length trails.old.items + 1 }
+    ensures unchanged { OnErr result (trails.new.items ≡ trails.old.items) }
 {
     if let Some(i) = find_free(trails) {
         return Ok(i);
@@ -85,10 +88,14 @@ pub(crate) fn ask(
     ensures shared { (i : ℕ) (t : Asked) → slice_get trails.old.items i ≡ Some t
         → IsTrailOf method args answer t
         → IsOk result × (trails.new.items ≡ trails.old.items) }
+    ensures only { IfOk result (λ i. (AreOldExcept trails.old.items trails.new.items i)
+        × ((t : Asked) → slice_get trails.new.items i ≡ Some t
+        → (slice_get trails.old.items i ≡ Some t) ⊎ (t.others ≡ []))) }
     ensures reused { (i : ℕ) (t : Asked) → slice_get trails.old.items i ≡ Some t
         → t.is_asked ≡ false
         → length trails.new.items ≡ length trails.old.items }
     ensures one { length trails.new.items ≤ length trails.old.items + 1 }
+    ensures unchanged { OnErr result (trails.new.items ≡ trails.old.items) }
 {
     if let Some(i) = find(trails, method, args, answer) {
         return Ok(i);
@@ -129,9 +136,9 @@ pub(crate) fn see_all<S: Spec>(
         ≡ map
         (after_state (S.affects touched)
         ((rules_by (S.charter spec.now)).answer (S.state spec.now))) trails.old.items) }
-    ensures asking { AreAsking (rules_by (S.charter spec.now)).header trails.new.items }
-    ensures on { (watches : List (Option Watch)) → AreOn trails.old.items watches
-        → AreOn trails.new.items watches }
+    ensures order { (h : Header) (watches : List (Option Watch))
+        → AreInOrder h trails.old.items watches
+        → AreInOrder h trails.new.items watches }
 {
     for i in 0..trails.len() {
         see(&mut trails[i], spec, touched)?;

@@ -6,9 +6,9 @@ ghost use Rattle.vyrd_base.specs.Rules.{rules_by};
 ghost use Rattle.vyrd_base.specs.Subjects.{is_observer};
 ghost use Rattle.vyrd_base.specs.Entries.{has_method};
 ghost use Rattle.vyrd_observers.specs.Watching.{AreCurrent, AllSee};
-ghost use Rattle.vyrd_observers.specs.Watching.{Seen, unwatched, has_answer};
+ghost use Rattle.vyrd_observers.specs.Watching.{Seen, KeepsFew, unwatched, has_answer, open_count};
 
-use crate::leaving::let_go;
+use crate::leaving::close;
 use crate::trail::Trail;
 use crate::trails::{ask, see_all};
 use crate::watch::Watch;
@@ -18,10 +18,11 @@ use vyrd_base::{Args, Header, Method};
 use vyrd_spec::{Spec, Touched};
 
 /// What is known of each caller's open observer, if it has one. Observers that ask the same share
-/// one trail of answers.
+/// one trail of answers. There are no more trails than the most open observers that there were at
+/// one time, and they keep at most twice the answers that the open observers have.
 ///
 /// The only error of its calls is that memory has run out. After one nothing is known any more but
-/// the header and how many callers there are.
+/// the header, how many callers there are, and that trails are few and keep few answers.
 #[derive(Drop)]
 pub struct Watches {
     alloc: Global,
@@ -32,7 +33,7 @@ pub struct Watches {
 
 impl Model for Watches {
     ghost use Rattle.std.specs.Prelude.{map, length};
-    ghost use Rattle.vyrd_observers.specs.Trails.{AreOn, AreAsking, seen_by};
+    ghost use Rattle.vyrd_observers.specs.Trails.{AreInOrder, seen_by, asked_count, kept_count};
     ghost use Rattle.vyrd_observers.specs.Watching.{Watched};
 
     ghost Value = { Watched };
@@ -42,10 +43,11 @@ impl Model for Watches {
           header = w.header;
           by_caller = map (seen_by w.trails.items) w.by_caller.items;
           trails = length w.trails.items;
+          asked = asked_count w.trails.items;
+          kept = kept_count w.trails.items;
         } };
 
-    ghost invariant = { λ w. AreOn w.trails.items w.by_caller.items
-        × AreAsking w.header w.trails.items };
+    ghost invariant = { λ w. AreInOrder w.header w.trails.items w.by_caller.items };
 }
 
 impl Watches {
@@ -56,6 +58,7 @@ impl Watches {
         ensures closed { IfOk result (λ w. (c : ℕ) (seen : Seen)
             → slice_get w.by_caller c ≡ Some seen → seen.is_open ≡ false) }
         ensures trails { IfOk result (λ w. w.trails ≡ 0) }
+        ensures keeps_few { IfOk result (λ w. KeepsFew w) }
     {
         Ok(Watches {
             alloc,
@@ -65,9 +68,10 @@ impl Watches {
         })
     }
 
-    /// An observer begins in a state that answers this. It takes time in proportion to the
-    /// different questions that are asked. If another open observer asks the same, and the last
-    /// state that it saw answers this too, the two share a trail.
+    /// An observer begins in a state that answers this. It takes time in proportion to the trails,
+    /// and if its caller has an open one, that is given up first, as by `end`. If another open
+    /// observer asks the same, and the last state that it saw answers this too, the two share a
+    /// trail. One more trail is made only if there are more open observers than trails.
     pub fn begin(
         &mut self,
         caller: u32,
@@ -88,7 +92,11 @@ impl Watches {
             → seen.answers ≡ answer ∷ before
             → self.new.trails ≡ self.old.trails }
         ensures trails { self.new.trails ≤ self.old.trails + 1 }
+        ensures reused { open_count self.new.by_caller ≤ self.old.trails
+            → self.new.trails ≡ self.old.trails }
+        ensures keeps_few { KeepsFew self.new }
     {
+        close(&mut self.trails, &mut self.by_caller, caller as usize);
         let trail = ask(self.alloc, &mut self.trails, method, args, answer)?;
         self.by_caller[caller as usize] = Some(Watch {
             trail,
@@ -107,12 +115,12 @@ impl Watches {
         ensures header { self.new.header ≡ self.old.header }
         ensures len { length self.new.by_caller ≡ length self.old.by_caller }
         ensures trails { self.new.trails ≡ self.old.trails }
+        ensures keeps_few { KeepsFew self.new }
     {
         match self.by_caller[caller as usize] {
             Some(watch) => {
                 let answered = self.trails[watch.trail].has_answer(watch.since, reply);
-                self.by_caller[caller as usize] = None;
-                let_go(&mut self.trails, &mut self.by_caller, watch.trail);
+                close(&mut self.trails, &mut self.by_caller, caller as usize);
                 answered
             }
             None => false,
@@ -120,8 +128,7 @@ impl Watches {
     }
 
     /// Every open observer sees the specification's state too, which differs from the one before in
-    /// the touched keys alone. It takes time in proportion to the different questions that are
-    /// asked.
+    /// the touched keys alone. It takes time in proportion to the trails.
     pub fn see_all<S: Spec>(&mut self, spec: &S, touched: Touched) -> Result<(), AllocError>
         requires header { (rules_by (S.charter spec.now)).header ≡ self.old.header }
         requires current { (c : ℕ) (seen : Seen) → slice_get self.old.by_caller c ≡ Some seen
@@ -139,6 +146,7 @@ impl Watches {
         ensures header { self.new.header ≡ self.old.header }
         ensures len { length self.new.by_caller ≡ length self.old.by_caller }
         ensures trails { self.new.trails ≡ self.old.trails }
+        ensures keeps_few { KeepsFew self.new }
     {
         see_all(&mut self.trails, spec, touched)?;
         Ok(())

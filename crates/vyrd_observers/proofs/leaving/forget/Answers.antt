@@ -3,7 +3,7 @@ use Rattle.std.proofs.lemmas.Option.{slice_get-get_or}
 use Rattle.vyrd_base.specs.Subjects.{is_observer}
 use Rattle.vyrd_base.specs.Entries.{has_method}
 use Rattle.vyrd_observers.specs.Trails.{AreOn, seen_by}
-use Rattle.vyrd_observers.proofs.TrailLaws.{seen_moved, on_moved, asking_set}
+use Rattle.vyrd_observers.proofs.TrailLaws.{seen_moved, on_moved, asking_set, old_except_set, stay_set}
 use Rattle.vyrd_observers.proofs.leaving.forget.Goals as goal
 
 pub returns-clause-seen : goal.returns-clause-seen
@@ -35,3 +35,18 @@ returns-clause-asking c = λ h all.
       ap (λ u. is_observer u.method) c.forget.ensures ∙ was.1,
     ))
     all
+
+pub returns-clause-only : goal.returns-clause-only
+returns-clause-only c = old_except_set c.args.trails.now c.args.trail c.forget.new.self
+
+pub returns-clause-stay : goal.returns-clause-stay
+returns-clause-stay c =
+    let trails = c.args.trails.now in
+    let t = get_or trails c.args.trail c.index-trails-trail.result in
+    stay_set trails c.args.trail t c.forget.new.self (slice_get-get_or trails c.args.trail c.index-trails-trail.result c.requires.trail)
+    (λ is. (
+      ap (λ u. u.is_asked) (sym c.forget.ensures) ∙ is,
+      ap (λ u. u.method) c.forget.ensures,
+      ap (λ u. u.args) c.forget.ensures,
+      ap (λ u. u.latest) c.forget.ensures,
+    ))

@@ -1,9 +1,10 @@
-use Rattle.std.proofs.Common.{ap, ◌∙◌, arith}
-use Rattle.std.proofs.lemmas.Option.{slice_get_within}
+use Rattle.std.proofs.Common.{inr, ap, sym, ◌∙◌, arith}
+use Rattle.std.proofs.lemmas.Option.{slice_get_within, same_Some}
 use Rattle.vyrd_base.specs.Entries.{has_method}
 use Rattle.vyrd_base.proofs.ListLaws.{slice_get-set_same}
 use Rattle.vyrd_base.specs.Subjects.{is_observer}
-use Rattle.vyrd_observers.proofs.TrailLaws.{asking_set, keeps_set}
+use Rattle.vyrd_observers.specs.Trails.{Asked}
+use Rattle.vyrd_observers.proofs.TrailLaws.{asking_set, keeps_set, old_except_then}
 use Rattle.vyrd_observers.proofs.trails.ask.Goals as goal
 
 pub returns-in_err-i-clause-asking : goal.returns-in_err-i-clause-asking
@@ -37,3 +38,13 @@ returns-clause-asking c = λ h may observes all. let there = c.in_ok-i.ensures.f
       ap (λ t. is_observer t.method) c.begin.ensures ∙ observes,
     ))
     (c.free.ensures.asking h all)
+
+pub returns-clause-only : goal.returns-clause-only
+returns-clause-only c =
+    let there = c.in_ok-i.ensures.free in
+    let items = c.free.new.trails.items in
+    let i = c.in_ok-i.i in (
+      old_except_then c.args.trails.now.items items i c.in_ok-i.ensures.only c.begin.new.self,
+      λ t here. inr (ap (λ (u : Asked). u.others)
+          (same_Some _ _ (sym here ∙ slice_get-set_same items i c.begin.new.self (slice_get_within items i there.0 there.1)) ∙ c.begin.ensures)),
+    )

@@ -1,7 +1,7 @@
-use Rattle.std.proofs.Common.{◌∷◌, ◌++◌, [], slice_get, subst, ap, sym, ◌∙◌}
+use Rattle.std.proofs.Common.{◌∷◌, ◌++◌, [], ⊎_elim, inl, inr, slice_get, subst, ap, sym, ◌∙◌}
 use Rattle.vyrd_base.proofs.ListLaws.{slice_get-last}
 use Rattle.vyrd_observers.specs.Trails.{AreAsking}
-use Rattle.vyrd_observers.proofs.TrailLaws.{before_pushed, asking_pushed}
+use Rattle.vyrd_observers.proofs.TrailLaws.{before_pushed, pushed_only, asking_pushed}
 use Rattle.vyrd_observers.proofs.trails.free.Goals as goal
 
 pub returns-in_err-push-clause-asking : goal.returns-in_err-push-clause-asking
@@ -13,7 +13,7 @@ returns-clause-free c = (
   ap (λ xs. slice_get xs c.len-i.result) c.in_ok-push.ensures.items
       ∙ ap (slice_get (c.args.trails.now.items ++ c.new.result ∷ [])) (c.len-i.ensures ∙ c.args.trails.now.ok.0)
       ∙ slice_get-last c.args.trails.now.items c.new.result,
-  c.new.ensures,
+  c.new.ensures.free,
 )
 
 pub returns-clause-kept : goal.returns-clause-kept
@@ -22,4 +22,8 @@ returns-clause-kept c = λ i t here is_asked.
 
 pub returns-clause-asking : goal.returns-clause-asking
 returns-clause-asking c = λ h all.
-    subst (AreAsking h) (sym c.in_ok-push.ensures.items) (asking_pushed h c.args.trails.now.items c.new.result c.new.ensures all)
+    subst (AreAsking h) (sym c.in_ok-push.ensures.items) (asking_pushed h c.args.trails.now.items c.new.result c.new.ensures.free all)
+
+pub returns-clause-only : goal.returns-clause-only
+returns-clause-only c = λ i t there. ⊎_elim (λ was. inl was) (λ last. inr (last ∙ sym (c.len-i.ensures ∙ c.args.trails.now.ok.0)))
+    (pushed_only c.args.trails.now.items c.new.result i t (ap (λ xs. slice_get xs i) (sym c.in_ok-push.ensures.items) ∙ there))

@@ -1,10 +1,10 @@
 use Rattle.std.proofs.Common.{◌<◌, ◌≤◌, ap, sym, subst, ◌∙◌, length, set, Some, arith}
 use Rattle.std.proofs.lemmas.List.{set-get_or}
 use Rattle.std.proofs.lemmas.Option.{slice_get-get_or}
-use Rattle.vyrd_observers.specs.Trails.{AreAsking, AreOn, after_state}
+use Rattle.vyrd_observers.specs.Trails.{AreAsking, AreInOrder, after_state}
 use Rattle.vyrd_base.specs.Rules.{rules_by}
 use Rattle.vyrd_base.proofs.ChangedLists.{changed_next, changed_all}
-use Rattle.vyrd_observers.proofs.TrailLaws.{asking_after, on_after, length-changed}
+use Rattle.vyrd_observers.proofs.TrailLaws.{asking_after, order_after, length-changed}
 use Rattle.vyrd_observers.proofs.trails.see_all.Goals as goal
 
 pub see-requires-clause-allowed : goal.see-requires-clause-allowed
@@ -43,19 +43,12 @@ see-requires-clause-observer g c = λ is_asked.
     i c.index_mut.result.now
     (slice_get-get_or c.loop-i.trails.items i c.index_mut.result.now within ∙ ap Some (sym c.index_mut.ensures.value)) is_asked).1
 
-pub returns-in_err-see-clause-asking : goal.returns-in_err-see-clause-asking
-returns-in_err-see-clause-asking g c =
+pub returns-in_err-see-clause-order : goal.returns-in_err-see-clause-order
+returns-in_err-see-clause-order g c = λ h watches order.
     let unchanged = ap (set c.loop-i.trails.items c.loop-i.i) (c.in_err-see.ensures.unchanged ∙ c.index_mut.ensures.value)
     ∙ set-get_or c.loop-i.trails.items c.loop-i.i c.index_mut.result.now ∙ c.loop-i.invariant in
-    subst (AreAsking (rules_by (g.S.Spec.charter c.args.spec.now)).header) (sym unchanged)
-    (asking_after (rules_by (g.S.Spec.charter c.args.spec.now)).header (g.S.Spec.affects c.args.touched) ((rules_by (g.S.Spec.charter c.args.spec.now)).answer (g.S.Spec.state c.args.spec.now)) c.loop-i.i c.args.trails.now.items c.requires.asking)
-
-pub returns-in_err-see-clause-on : goal.returns-in_err-see-clause-on
-returns-in_err-see-clause-on g c = λ watches on.
-    let unchanged = ap (set c.loop-i.trails.items c.loop-i.i) (c.in_err-see.ensures.unchanged ∙ c.index_mut.ensures.value)
-    ∙ set-get_or c.loop-i.trails.items c.loop-i.i c.index_mut.result.now ∙ c.loop-i.invariant in
-    subst (λ ts. AreOn ts watches) (sym unchanged)
-    (on_after (g.S.Spec.affects c.args.touched) ((rules_by (g.S.Spec.charter c.args.spec.now)).answer (g.S.Spec.state c.args.spec.now)) c.loop-i.i c.args.trails.now.items watches on)
+    subst (λ ts. AreInOrder h ts watches) (sym unchanged)
+    (order_after h (g.S.Spec.affects c.args.touched) ((rules_by (g.S.Spec.charter c.args.spec.now)).answer (g.S.Spec.state c.args.spec.now)) c.loop-i.i c.args.trails.now.items watches order)
 
 pub loop-i-preserved : goal.loop-i-preserved
 loop-i-preserved g c =
@@ -69,10 +62,6 @@ returns-clause-saw g c =
     let past : length c.args.trails.now.items ≤ c.loop-i.i = omega (arith, c.loop-i-test.false, c.len-i-end.ensures, c.args.trails.now.ok.0) in
     c.loop-i.invariant ∙ changed_all (after_state (g.S.Spec.affects c.args.touched) ((rules_by (g.S.Spec.charter c.args.spec.now)).answer (g.S.Spec.state c.args.spec.now))) c.loop-i.i c.args.trails.now.items past
 
-pub returns-clause-asking : goal.returns-clause-asking
-returns-clause-asking g c = subst (AreAsking (rules_by (g.S.Spec.charter c.args.spec.now)).header) (sym c.loop-i.invariant)
-    (asking_after (rules_by (g.S.Spec.charter c.args.spec.now)).header (g.S.Spec.affects c.args.touched) ((rules_by (g.S.Spec.charter c.args.spec.now)).answer (g.S.Spec.state c.args.spec.now)) c.loop-i.i c.args.trails.now.items c.requires.asking)
-
-pub returns-clause-on : goal.returns-clause-on
-returns-clause-on g c = λ watches on. subst (λ ts. AreOn ts watches) (sym c.loop-i.invariant)
-    (on_after (g.S.Spec.affects c.args.touched) ((rules_by (g.S.Spec.charter c.args.spec.now)).answer (g.S.Spec.state c.args.spec.now)) c.loop-i.i c.args.trails.now.items watches on)
+pub returns-clause-order : goal.returns-clause-order
+returns-clause-order g c = λ h watches order. subst (λ ts. AreInOrder h ts watches) (sym c.loop-i.invariant)
+    (order_after h (g.S.Spec.affects c.args.touched) ((rules_by (g.S.Spec.charter c.args.spec.now)).answer (g.S.Spec.state c.args.spec.now)) c.loop-i.i c.args.trails.now.items watches order)

@@ -1,66 +1,97 @@
-use Rattle.std.proofs.Common.{◌≡◌, ◌<◌, ◌≤◌, Some, true, [], ◌∷◌, length, set, slice_get, subst, ap, sym, ◌∙◌, arith}
-use Rattle.std.proofs.lemmas.List.{length-map}
+use Rattle.std.proofs.Common.{◌≡◌, ⊎_elim, Some, true, List, [], ◌∷◌, length, map, set, slice_get, refl, subst, ap, sym, ◌∙◌, arith}
+use Rattle.std.proofs.lemmas.List.{set-set}
 use Rattle.std.proofs.lemmas.Option.{slice_get_within}
 use Rattle.vyrd_base.specs.Entries.{has_method}
-use Rattle.vyrd_observers.specs.Watching.{Watched}
-use Rattle.vyrd_observers.specs.Trails.{Asked, IsOn, seen_by}
-use Rattle.vyrd_observers.proofs.TrailLaws.{on_kept, on_set, read_is, begins_seen, trail_of_seen}
+use Rattle.vyrd_observers.specs.Watching.{Watched, Seen, unwatched, open_count}
+use Rattle.vyrd_observers.specs.Trails.{Asked, AreInOrder, seen_by}
+use Rattle.vyrd_observers.proofs.TrailLaws.{read_is, begins_seen, trail_of_seen, trail_stays}
+use Rattle.vyrd_observers.proofs.TrailCounts.{keeps_few, order_closed, order_begun, made_few, few_begun}
 use Rattle.vyrd_observers.proofs.watches.Watches.begin.Goals as goal
-use Rattle.std.proofs.lemmas.Option.{same_Some}
 
 pub invariant_of-self : goal.invariant_of-self
-invariant_of-self c = (
-  on_kept c.self.inside.trails.items c.ask.new.trails.items c.self.inside.by_caller.items c.ask.ensures.kept c.self.invariant.0,
-  c.ask.ensures.asking c.self.inside.header (ap (λ (k : Watched). has_method k.header c.args.method c.args.args) c.self.view_is ∙ c.requires.allowed)
-      c.requires.observer c.self.invariant.1,
-)
+invariant_of-self c = subst (λ (ts : List Asked). AreInOrder c.self.inside.header ts c.close.new.watches.items) (sym c.in_err-trail.ensures.unchanged)
+    (order_closed c.self.inside.header c.args.caller c.self.inside.trails.items c.close.new.trails.items c.self.inside.by_caller.items
+    c.close.new.watches.items c.close.ensures c.self.invariant)
+
+pub returns-in_err-trail-clause-keeps_few : goal.returns-in_err-trail-clause-keeps_few
+returns-in_err-trail-clause-keeps_few c = keeps_few c.self.inside.header c.ask.new.trails.items c.close.new.watches.items
+    (subst (λ (ts : List Asked). AreInOrder c.self.inside.header ts c.close.new.watches.items) (sym c.in_err-trail.ensures.unchanged)
+    (order_closed c.self.inside.header c.args.caller c.self.inside.trails.items c.close.new.trails.items c.self.inside.by_caller.items
+    c.close.new.watches.items c.close.ensures c.self.invariant))
 
 pub index-requires : goal.index-requires
 index-requires c = let there = c.in_ok-trail.ensures.asked in
     omega (arith, slice_get_within c.ask.new.trails.items c.in_ok-trail.trail there.0 there.1, c.ask.new.trails.ok.0)
 
+module _ (c : goal.After-self-1) where
+  order : AreInOrder c.self.inside.header c.close.new.trails.items c.close.new.watches.items
+  order = order_closed c.self.inside.header c.args.caller c.self.inside.trails.items c.close.new.trails.items c.self.inside.by_caller.items
+      c.close.new.watches.items c.close.ensures c.self.invariant
+
+  at_end : c.len.result ≡ length c.in_ok-trail.ensures.asked.0.others
+  at_end =
+      let there = c.in_ok-trail.ensures.asked in
+      let is : there.0 ≡ c.index.result.now = read_is c.ask.new.trails.items c.in_ok-trail.trail there.0 c.index.result.now there.1 c.index.ensures in
+      c.len.ensures ∙ ap (λ (t : Asked). length t.others) (sym is)
+
+  abbrev begun : Seen
+  begun = record { is_open = true; method = c.args.method; args = c.args.args; answers = c.args.answer ∷ [] }
+
+  -- all trails and watches at the end
+  order_now : AreInOrder c.self.inside.header c.ask.new.trails.items
+      (set c.close.new.watches.items c.args.caller (Some (record { trail = c.in_ok-trail.trail; since = c.len.result })))
+  order_now =
+      let there = c.in_ok-trail.ensures.asked in
+      order_begun c.self.inside.header c.close.new.trails.items c.ask.new.trails.items c.close.new.watches.items c.args.caller c.in_ok-trail.trail
+      c.len.result there.0 order c.close.ensures.none c.ask.ensures.kept
+      (c.ask.ensures.asking c.self.inside.header
+      (ap (λ (k : Watched). has_method k.header c.args.method c.args.args) c.self.view_is ∙ c.requires.allowed)
+      c.requires.observer order.asking)
+      c.in_ok-trail.ensures.only.0 there.1 there.2.0 at_end c.in_ok-trail.ensures.only.1
+      (few_begun c.self.inside.header c.close.new.trails.items c.ask.new.trails.items c.close.new.watches.items c.args.caller begun order
+      c.close.ensures.none refl c.ask.ensures.reused c.ask.ensures.one)
+
+  -- what all callers have seen then
+  seen_now : map (seen_by c.ask.new.trails.items)
+      (set c.close.new.watches.items c.args.caller (Some (record { trail = c.in_ok-trail.trail; since = c.len.result })))
+      ≡ set (map (seen_by c.close.new.trails.items) c.close.new.watches.items) c.args.caller begun
+  seen_now =
+      let there = c.in_ok-trail.ensures.asked in
+      begins_seen c.close.new.trails.items c.ask.new.trails.items c.close.new.watches.items c.args.caller c.in_ok-trail.trail c.len.result there.0
+      c.args.method c.args.args c.args.answer c.ask.ensures.kept c.close.ensures.on there.1 there.2.1 there.2.2 there.2.3 at_end
+
 pub invariant_of-self-2 : goal.invariant_of-self-2
-invariant_of-self-2 c =
-    let there = c.in_ok-trail.ensures.asked in
-    let watches = c.self.inside.by_caller.items in
-    let own = on_kept c.self.inside.trails.items c.ask.new.trails.items watches c.ask.ensures.kept c.self.invariant.0 in
-    let is : there.0 ≡ c.index.result.now = read_is c.ask.new.trails.items c.in_ok-trail.trail there.0 c.index.result.now there.1 c.index.ensures in
-    let within : c.args.caller < length watches = omega (
-      arith,
-      c.requires.caller,
-      ap (λ (k : Watched). length k.by_caller) c.self.view_is,
-      length-map watches (seen_by c.self.inside.trails.items),
-    ) in
-    let low : c.len.result ≤ length there.0.others = omega (arith, c.len.ensures, ap (λ (t : Asked). length t.others) is) in
-    let on : IsOn c.ask.new.trails.items (record { trail = c.in_ok-trail.trail; since = c.len.result }) = record {
-      asked = there.0;
-      there = there.1;
-      is_asked = there.2.0;
-      within = low;
-    } in (
-      on_set c.ask.new.trails.items watches c.args.caller (Some (record { trail = c.in_ok-trail.trail; since = c.len.result })) within
-          (λ w same. subst (IsOn c.ask.new.trails.items) (same_Some _ _ same) on) own,
-      c.ask.ensures.asking c.self.inside.header (ap (λ (k : Watched). has_method k.header c.args.method c.args.args) c.self.view_is ∙ c.requires.allowed)
-          c.requires.observer c.self.invariant.1,
-    )
+invariant_of-self-2 c = order_now c
 
 pub returns-clause-watches : goal.returns-clause-watches
 returns-clause-watches c =
-    let there = c.in_ok-trail.ensures.asked in
-    let is : there.0 ≡ c.index.result.now = read_is c.ask.new.trails.items c.in_ok-trail.trail there.0 c.index.result.now there.1 c.index.ensures in
-    begins_seen c.self.inside.trails.items c.ask.new.trails.items c.self.inside.by_caller.items c.args.caller c.in_ok-trail.trail c.len.result there.0
-    c.args.method c.args.args c.args.answer c.ask.ensures.kept c.self.invariant.0 there.1 there.2.1 there.2.2 there.2.3
-    (c.len.ensures ∙ ap (λ (t : Asked). length t.others) (sym is))
-    ∙ ap (λ (k : Watched). set k.by_caller c.args.caller (record { is_open = true; method = c.args.method; args = c.args.args; answers = c.args.answer ∷ [] })) c.self.view_is
-
-pub returns-in_err-trail-clause-shared : goal.returns-in_err-trail-clause-shared
-returns-in_err-trail-clause-shared c = λ d seen before here is_open same_method same_args same_answers.
-    let there = trail_of_seen c.self.inside.trails.items c.self.inside.by_caller.items d seen before c.args.method c.args.args c.args.answer c.self.invariant.0
-    (ap (λ (k : Watched). slice_get k.by_caller d) c.self.view_is ∙ here) is_open same_method same_args same_answers in
-    ap length (c.ask.ensures.shared there.0 there.1 there.2 there.3).1 ∙ ap (λ (k : Watched). k.trails) c.self.view_is
+    seen_now c
+    ∙ ap (λ ws. set ws c.args.caller (begun c)) c.close.ensures.seen
+    ∙ set-set (map (seen_by c.self.inside.trails.items) c.self.inside.by_caller.items) c.args.caller unwatched (begun c)
+    ∙ ap (λ (k : Watched). set k.by_caller c.args.caller (begun c)) c.self.view_is
 
 pub returns-clause-shared : goal.returns-clause-shared
 returns-clause-shared c = λ d seen before here is_open same_method same_args same_answers.
-    let there = trail_of_seen c.self.inside.trails.items c.self.inside.by_caller.items d seen before c.args.method c.args.args c.args.answer c.self.invariant.0
-    (ap (λ (k : Watched). slice_get k.by_caller d) c.self.view_is ∙ here) is_open same_method same_args same_answers in
-    ap length (c.ask.ensures.shared there.0 there.1 there.2 there.3).1 ∙ ap (λ (k : Watched). k.trails) c.self.view_is
+    let there = trail_of_seen c.self.inside.trails.items c.self.inside.by_caller.items d seen before c.args.method c.args.args c.args.answer
+    c.self.invariant.on (ap (λ (k : Watched). slice_get k.by_caller d) c.self.view_is ∙ here) is_open same_method same_args same_answers in
+    let now = trail_stays c.self.inside.trails.items c.close.new.trails.items there.0 there.1 c.args.method c.args.args c.args.answer
+    c.close.ensures.stay there.2 there.3 in
+    ⊎_elim
+    (λ free. c.ask.ensures.reused there.0 now.0 now.1 free)
+    (λ is. ap length (c.ask.ensures.shared there.0 now.0 now.1 is).1)
+    now.2
+    ∙ c.close.ensures.trails ∙ ap (λ (k : Watched). k.trails) c.self.view_is
+
+pub returns-clause-reused : goal.returns-clause-reused
+returns-clause-reused c = λ low.
+    let were : length c.close.new.trails.items ≡ c.args.self.now.trails
+    = c.close.ensures.trails ∙ ap (λ (k : Watched). k.trails) c.self.view_is in
+    ⊎_elim
+    (λ same. same ∙ were)
+    (λ more. absurd (omega (arith, low, more, were, ap open_count (seen_now c))))
+    (made_few c.close.new.trails.items c.ask.new.trails.items c.close.new.watches.items c.args.caller (begun c) c.close.ensures.none refl (order c).used
+    c.ask.ensures.reused c.ask.ensures.one)
+
+pub returns-clause-keeps_few : goal.returns-clause-keeps_few
+returns-clause-keeps_few c = keeps_few c.self.inside.header c.ask.new.trails.items
+    (set c.close.new.watches.items c.args.caller (Some (record { trail = c.in_ok-trail.trail; since = c.len.result }))) (order_now c)

@@ -1,10 +1,9 @@
-use Rattle.std.proofs.Common.{◌≡◌, ◌≤◌, Some, None, ◌∷◌, length, map, set, drop, slice_get, subst, ap, sym, ◌∙◌, arith}
-use Rattle.std.proofs.lemmas.List.{map-set}
-use Rattle.std.proofs.lemmas.Option.{slice_get_within, none-some}
-use Rattle.vyrd_observers.specs.Watching.{Watched, Seen, unwatched, has_answer}
-use Rattle.vyrd_observers.specs.Trails.{Asked, AreOn, AreAsking, seen_by, seen_from}
-use Rattle.vyrd_base.proofs.ChangedLists.{written_back}
-use Rattle.vyrd_observers.proofs.TrailLaws.{on_set, read_is, watch_read, seen_there, closed_stays}
+use Rattle.std.proofs.Common.{◌≡◌, ◌≤◌, Some, None, ◌∷◌, length, set, drop, slice_get, subst, ap, sym, ◌∙◌, arith}
+use Rattle.std.proofs.lemmas.Option.{slice_get_within}
+use Rattle.vyrd_observers.specs.Watching.{Watched, KeepsFew, Seen, unwatched, has_answer}
+use Rattle.vyrd_observers.specs.Trails.{Asked, seen_from}
+use Rattle.vyrd_observers.proofs.TrailLaws.{read_is, watch_read, seen_there, closed_stays}
+use Rattle.vyrd_observers.proofs.TrailCounts.{keeps_few, order_closed}
 use Rattle.vyrd_observers.proofs.watches.Watches.end.Goals as goal
 use Rattle.std.proofs.lemmas.Option.{same_Some}
 
@@ -13,7 +12,7 @@ index-requires-in-Some c =
     let trails = c.self.inside.trails.items in
     let here = watch_read trails c.self.inside.by_caller.items c.args.self.now.by_caller c.args.caller c.index.result.now (Some c.in-Some.watch)
     (ap (λ (k : Watched). k.by_caller) c.self.view_is) c.requires.caller c.index.ensures c.in-Some.is in
-    let was = c.self.invariant.0 c.args.caller c.in-Some.watch here in
+    let was = c.self.invariant.on c.args.caller c.in-Some.watch here in
     omega (arith, slice_get_within trails c.in-Some.watch.trail was.asked was.there, c.self.inside.trails.ok.0)
 
 pub has_answer-answered-requires : goal.has_answer-answered-requires
@@ -21,35 +20,9 @@ has_answer-answered-requires c =
     let trails = c.self.inside.trails.items in
     let here = watch_read trails c.self.inside.by_caller.items c.args.self.now.by_caller c.args.caller c.index.result.now (Some c.in-Some.watch)
     (ap (λ (k : Watched). k.by_caller) c.self.view_is) c.requires.caller c.index.ensures c.in-Some.is in
-    let was = c.self.invariant.0 c.args.caller c.in-Some.watch here in
+    let was = c.self.invariant.on c.args.caller c.in-Some.watch here in
     let is : was.asked ≡ c.index-in-Some.result.now = read_is trails c.in-Some.watch.trail was.asked c.index-in-Some.result.now was.there c.index-in-Some.ensures in
     subst (λ (t : Asked). c.in-Some.watch.since ≤ length t.others) is was.within
-
-pub let_go-requires-clause-trail : goal.let_go-requires-clause-trail
-let_go-requires-clause-trail c =
-    let trails = c.self.inside.trails.items in
-    let here = watch_read trails c.self.inside.by_caller.items c.args.self.now.by_caller c.args.caller c.index.result.now (Some c.in-Some.watch)
-    (ap (λ (k : Watched). k.by_caller) c.self.view_is) c.requires.caller c.index.ensures c.in-Some.is in
-    let was = c.self.invariant.0 c.args.caller c.in-Some.watch here in
-    omega (arith, slice_get_within trails c.in-Some.watch.trail was.asked was.there, ap length c.deref_mut.ensures.value)
-
-pub let_go-requires-clause-on : goal.let_go-requires-clause-on
-let_go-requires-clause-on c =
-    let watches = c.self.inside.by_caller.items in
-    let here = watch_read c.self.inside.trails.items watches c.args.self.now.by_caller c.args.caller c.index.result.now (Some c.in-Some.watch)
-    (ap (λ (k : Watched). k.by_caller) c.self.view_is) c.requires.caller c.index.ensures c.in-Some.is in
-    subst (λ ts. AreOn ts (set watches c.args.caller None)) (sym c.deref_mut.ensures.value)
-    (on_set c.self.inside.trails.items watches c.args.caller None (slice_get_within watches c.args.caller (Some c.in-Some.watch) here)
-    (λ w is. absurd (none-some _ is)) c.self.invariant.0)
-
-pub invariant_of-self : goal.invariant_of-self
-invariant_of-self c =
-    let back = written_back c.self.inside.trails.len c.let_go.new.trails (drop (length c.let_go.new.trails) c.self.inside.trails.items)
-    (c.let_go.auto.trails ∙ c.deref_mut.ensures.len) in
-    let asking = subst (AreAsking c.self.inside.header) (sym c.deref_mut.ensures.value) c.self.invariant.1 in (
-      subst (λ ts. AreOn ts c.let_go.new.watches.items) (sym back) c.let_go.ensures.on,
-      subst (AreAsking c.self.inside.header) (sym back) (c.let_go.ensures.asking c.self.inside.header asking),
-    )
 
 pub returns-in-Some-clause-answered : goal.returns-in-Some-clause-answered
 returns-in-Some-clause-answered c = λ seen there.
@@ -57,7 +30,7 @@ returns-in-Some-clause-answered c = λ seen there.
     let w = c.in-Some.watch in
     let here = watch_read trails c.self.inside.by_caller.items c.args.self.now.by_caller c.args.caller c.index.result.now (Some w)
     (ap (λ (k : Watched). k.by_caller) c.self.view_is) c.requires.caller c.index.ensures c.in-Some.is in
-    let was = c.self.invariant.0 c.args.caller w here in
+    let was = c.self.invariant.on c.args.caller w here in
     let is : was.asked ≡ c.index-in-Some.result.now = read_is trails w.trail was.asked c.index-in-Some.result.now was.there c.index-in-Some.ensures in
     let same : seen_from w.since (slice_get trails w.trail) ≡ seen = same_Some _ _ (sym (seen_there trails c.self.inside.by_caller.items c.args.caller (Some w) here)
     ∙ ap (λ (k : Watched). slice_get k.by_caller c.args.caller) c.self.view_is ∙ there) in
@@ -66,16 +39,18 @@ returns-in-Some-clause-answered c = λ seen there.
     ∙ ap (λ o. has_answer (seen_from w.since o).answers c.args.reply) (sym was.there)
     ∙ ap (λ (s : Seen). has_answer s.answers c.args.reply) same
 
+pub invariant_of-self : goal.invariant_of-self
+invariant_of-self c =
+    order_closed c.self.inside.header c.args.caller c.self.inside.trails.items c.close.new.trails.items c.self.inside.by_caller.items
+    c.close.new.watches.items c.close.ensures c.self.invariant
+
 pub returns-in-Some-clause-watches : goal.returns-in-Some-clause-watches
-returns-in-Some-clause-watches c =
-    let watches = c.self.inside.by_caller.items in
-    let back = written_back c.self.inside.trails.len c.let_go.new.trails (drop (length c.let_go.new.trails) c.self.inside.trails.items)
-    (c.let_go.auto.trails ∙ c.deref_mut.ensures.len) in
-    ap (λ ts. map (seen_by ts) c.let_go.new.watches.items) back
-    ∙ c.let_go.ensures.seen
-    ∙ map-set (seen_by c.deref_mut.result.now) watches c.args.caller None
-    ∙ ap (λ ts. set (map (seen_by ts) watches) c.args.caller unwatched) c.deref_mut.ensures.value
-    ∙ ap (λ (k : Watched). set k.by_caller c.args.caller unwatched) c.self.view_is
+returns-in-Some-clause-watches c = c.close.ensures.seen ∙ ap (λ (k : Watched). set k.by_caller c.args.caller unwatched) c.self.view_is
+
+pub returns-in-Some-clause-keeps_few : goal.returns-in-Some-clause-keeps_few
+returns-in-Some-clause-keeps_few c = keeps_few c.self.inside.header c.close.new.trails.items c.close.new.watches.items
+    (order_closed c.self.inside.header c.args.caller c.self.inside.trails.items c.close.new.trails.items c.self.inside.by_caller.items
+    c.close.new.watches.items c.close.ensures c.self.invariant)
 
 pub returns-in-None-clause-answered : goal.returns-in-None-clause-answered
 returns-in-None-clause-answered c = λ seen there.
@@ -92,3 +67,7 @@ returns-in-None-clause-watches c =
     ap (λ (k : Watched). k.by_caller) (sym c.self.view_is)
     ∙ closed_stays c.self.inside.trails.items c.self.inside.by_caller.items c.args.caller here
     ∙ ap (λ (k : Watched). set k.by_caller c.args.caller unwatched) c.self.view_is
+
+pub returns-in-None-clause-keeps_few : goal.returns-in-None-clause-keeps_few
+returns-in-None-clause-keeps_few c = subst (λ (w : Watched). KeepsFew w) c.self.view_is
+    (keeps_few c.self.inside.header c.self.inside.trails.items c.self.inside.by_caller.items c.self.invariant)

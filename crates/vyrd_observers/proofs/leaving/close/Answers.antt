@@ -1,0 +1,58 @@
+use Rattle.std.proofs.Common.{◌<◌, List, Some, None, length, set, drop, refl, subst, ap, sym, ◌∙◌}
+use Rattle.std.proofs.lemmas.List.{map-set}
+use Rattle.std.proofs.lemmas.Option.{slice_get_within, none-some}
+use Rattle.vyrd_base.proofs.ChangedLists.{written_back}
+use Rattle.vyrd_base.proofs.ListLaws.{slice_get-is, slice_get-set_same, is_none}
+use Rattle.vyrd_observers.specs.Trails.{Asked, AreOn, OthersAreUsed, Closes, seen_by}
+use Rattle.vyrd_observers.proofs.TrailLaws.{on_set, used_without, stay_all, closed_stays}
+use Rattle.vyrd_observers.proofs.leaving.close.Goals as goal
+
+pub let_go-requires-clause-trail : goal.let_go-requires-clause-trail
+let_go-requires-clause-trail c =
+    let here = slice_get-is c.args.watches.now.items c.args.caller c.index.result.now c.requires.caller c.index.ensures ∙ ap Some c.in-Some.is in
+    let was = c.requires.on c.args.caller c.in-Some.watch here in
+    subst (λ (ts : List Asked). c.in-Some.watch.trail < length ts) (sym c.deref_mut.ensures.value)
+    (slice_get_within c.args.trails.now.items c.in-Some.watch.trail was.asked was.there)
+
+pub let_go-requires-clause-on : goal.let_go-requires-clause-on
+let_go-requires-clause-on c =
+    subst (λ (ts : List Asked). AreOn ts (set c.args.watches.now.items c.args.caller None)) (sym c.deref_mut.ensures.value)
+    (on_set c.args.trails.now.items c.args.watches.now.items c.args.caller None c.requires.caller (λ w is. absurd (none-some _ is)) c.requires.on)
+
+pub let_go-requires-clause-used : goal.let_go-requires-clause-used
+let_go-requires-clause-used c =
+    let watches = c.args.watches.now.items in
+    let here = slice_get-is watches c.args.caller c.index.result.now c.requires.caller c.index.ensures ∙ ap Some c.in-Some.is in
+    subst (λ (ts : List Asked). OthersAreUsed ts (set watches c.args.caller None) c.in-Some.watch.trail) (sym c.deref_mut.ensures.value)
+    (used_without c.args.trails.now.items watches c.args.caller c.in-Some.watch here c.requires.used)
+
+pub returns-in-Some : goal.returns-in-Some
+returns-in-Some c =
+    let watches = c.args.watches.now.items in
+    let back = written_back c.args.trails.now.len c.let_go.new.trails (drop (length c.let_go.new.trails) c.args.trails.now.items)
+    (c.let_go.auto.trails ∙ c.deref_mut.ensures.len) in
+    subst (λ (ts : List Asked). Closes c.args.caller c.args.trails.now.items ts watches c.let_go.new.watches.items) (sym back)
+    (subst (λ (ts : List Asked). Closes c.args.caller ts c.let_go.new.trails watches c.let_go.new.watches.items) c.deref_mut.ensures.value (record {
+      seen = c.let_go.ensures.seen ∙ map-set (seen_by c.deref_mut.result.now) watches c.args.caller None;
+      none = c.let_go.ensures.closed c.args.caller (slice_get-set_same watches c.args.caller None c.requires.caller);
+      on = c.let_go.ensures.on;
+      used = c.let_go.ensures.used;
+      asking = c.let_go.ensures.asking;
+      stay = c.let_go.ensures.stay;
+      trails = c.let_go.auto.trails;
+    }))
+
+pub returns-in_default : goal.returns-in_default
+returns-in_default c =
+    let watches = c.args.watches.now.items in
+    let here = slice_get-is watches c.args.caller c.index.result.now c.requires.caller c.index.ensures
+    ∙ ap Some (is_none c.index.result.now (λ w is. c.in_default.not-Some w is)) in
+    record {
+      seen = closed_stays c.args.trails.now.items watches c.args.caller here;
+      none = here;
+      on = c.requires.on;
+      used = c.requires.used;
+      asking = λ h all. all;
+      stay = stay_all c.args.trails.now.items;
+      trails = refl;
+    }
