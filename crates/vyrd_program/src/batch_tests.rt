@@ -1,6 +1,6 @@
 //! What the top call answers to batches.
 
-use crate::case::{Case, Devices};
+use crate::case::{Case, Devices, SHORT_WRITE, failing};
 use crate::program::vyrd;
 use std::alloc::{AllocError, Global};
 use std::test::*;
@@ -21,6 +21,9 @@ const REPLIED_1: &[u8] = b"vyrd 1 multiset 1 1\n0 call delete 5\n0 commit\n0 ret
 
 const REPLIED_0: &[u8] = b"vyrd 1 multiset 1 1\n0 call delete 5\n0 commit\n0 return 0\nend\n";
 
+const THREE_LINES: &[u8] =
+    b"log 0: accepted: 0 entries, 0 commits, 0 observers\nlog 1: violation at line 3: reply 1 not allowed\nlog 2: malformed at line 1: no end\nbatch: 3 logs\n";
+
 /// A log that is accepted, one that is a violation, and an empty one.
 fn three_logs() -> Case<'static> {
     Case {
@@ -28,7 +31,7 @@ fn three_logs() -> Case<'static> {
         words: BATCH,
         input: b"batch\nlog 24\nvyrd 1 multiset 1 1\nend\nlog 60\nvyrd 1 multiset 1 1\n0 call delete 5\n0 commit\n0 return 1\nend\nlog 0\nend\n",
         status: 1,
-        answer: b"log 0: accepted: 0 entries, 0 commits, 0 observers\nlog 1: violation at line 3: reply 1 not allowed\nlog 2: malformed at line 1: no end\nbatch: 3 logs\n",
+        answer: THREE_LINES,
     }
 }
 
@@ -58,6 +61,58 @@ fn batches_over_failing_devices(rt: HostRuntime) -> Result<(), Fail> {
             failing_writes,
         };
         case.assert_over(&rt, rt.alloc(), &devices)?;
+    }
+    Ok(())
+}
+
+/// The batch has 114 bytes, so eight reads, and the ninth says the end. A tenth isn't made.
+#[test]
+fn each_read_of_a_batch_fails_once(rt: HostRuntime) -> Result<(), Fail> {
+    let alloc = rt.alloc();
+    for k in 1..=9_u64 {
+        let name = format!(in alloc; "read {k}")?;
+        let case = Case {
+            name: &name,
+            status: 4,
+            answer: b"",
+            ..three_logs()
+        };
+        case.assert_over(&rt, alloc, &failing(&[k], &[]))?;
+    }
+    three_logs().assert_over(&rt, alloc, &failing(&[10], &[]))
+}
+
+/// The answer has 148 bytes, so thirty writes.
+#[test]
+fn each_write_about_a_batch_fails_once(rt: HostRuntime) -> Result<(), Fail> {
+    let alloc = rt.alloc();
+    for k in 1..=30_u64 {
+        let name = format!(in alloc; "write {k}")?;
+        let case = Case {
+            name: &name,
+            status: 5,
+            answer: &THREE_LINES[..SHORT_WRITE * (k as usize - 1)],
+            ..three_logs()
+        };
+        case.assert_over(&rt, alloc, &failing(&[], &[k]))?;
+    }
+    Ok(())
+}
+
+/// A batch that is refused at its first line is read to its end too, and no further: two reads, and
+/// one that says the end.
+#[test]
+fn no_read_behind_a_refused_batch(rt: HostRuntime) -> Result<(), Fail> {
+    let refused = b"batch refused at log 0\n".as_slice();
+    for (failing_read, status, answer) in [(4, 11, refused), (3, 4, b"")] {
+        let case = Case {
+            name: "another first line",
+            words: BATCH,
+            input: b"many logs\nlog 0\nend\n",
+            status,
+            answer,
+        };
+        case.assert_over(&rt, rt.alloc(), &failing(&[failing_read], &[]))?;
     }
     Ok(())
 }

@@ -42,6 +42,24 @@ pub const BYTE_BY_BYTE: Devices<'static> = Devices {
     failing_writes: &[],
 };
 
+/// How many bytes a read gives at most, and a write takes, of devices that fail.
+const SHORT_READ: usize = 16;
+
+pub const SHORT_WRITE: usize = 5;
+
+/// Reads of 16 bytes and writes of 5, of which these fail.
+pub fn failing<'a>(failing_reads: &'a [u64], failing_writes: &'a [u64]) -> Devices<'a>
+    ensures reads { 0 < result.longest_read }
+    ensures writes { 0 < result.longest_write }
+{
+    Devices {
+        longest_read: SHORT_READ,
+        failing_reads,
+        longest_write: SHORT_WRITE,
+        failing_writes,
+    }
+}
+
 impl Case<'_> {
     /// Asserts that a call over these devices ends with the case's status and has written its
     /// answer.

@@ -1,9 +1,7 @@
 //! Inputs that are meant to do harm, devices that fail at each call, and logs at their limit of
 //! lines.
 
-ghost use Rattle.std.specs.Prelude.{◌<◌};
-
-use crate::case::{Case, Devices};
+use crate::case::{Case, SHORT_WRITE, failing};
 use crate::limited::check_limited;
 use std::test::*;
 use vyrd_base::{MemorySink, MemorySource};
@@ -22,22 +20,6 @@ const DELETED: &[u8] = b"vyrd 1 multiset 1 1\n0 call delete 5\n0 commit\n0 retur
 const DELETED_NOTHING: &[u8] = b"vyrd 1 multiset 1 1\n0 call delete 5\n0 commit\n0 return 1\nend\n";
 
 const NOT_ALLOWED: &[u8] = b"violation at line 3: reply 1 not allowed\n";
-
-/// How many bytes a write takes at most.
-const LONGEST_WRITE: usize = 5;
-
-/// Reads of 16 bytes and writes of 5, of which these fail.
-fn failing<'a>(failing_reads: &'a [u64], failing_writes: &'a [u64]) -> Devices<'a>
-    ensures reads { 0 < result.longest_read }
-    ensures writes { 0 < result.longest_write }
-{
-    Devices {
-        longest_read: 16,
-        failing_reads,
-        longest_write: LONGEST_WRITE,
-        failing_writes,
-    }
-}
 
 /// A log under `check`, and what the program answers to it.
 fn checked<'a>(name: &'a str, input: &'a [u8], status: u8, answer: &'a [u8]) -> Case<'a> {
@@ -68,7 +50,7 @@ fn each_write_fails_once(rt: HostRuntime) -> Result<(), Fail> {
     let alloc = rt.alloc();
     for k in 1..=9_u64 {
         let name = format!(in alloc; "write {k}")?;
-        let written = &VIOLATED[..LONGEST_WRITE * (k as usize - 1)];
+        let written = &VIOLATED[..SHORT_WRITE * (k as usize - 1)];
         checked(&name, UNWRITTEN, 5, written).assert_over(&rt, alloc, &failing(&[], &[k]))?;
     }
     Ok(())
@@ -82,23 +64,18 @@ fn no_read_behind_the_end(rt: HostRuntime) -> Result<(), Fail> {
     let accepted = b"accepted: 3 entries, 1 commits, 0 observers\n";
     let log = checked("log", DELETED, 0, accepted);
     log.assert_over(&rt, alloc, &failing(&[6], &[]))?;
-    let table = [
-        (
-            5,
-            0,
-            b"accepted: 2 entries, 0 commits, 1 observers\n".as_slice(),
-        ),
-        (4, 4, b""),
-    ];
-    for (failing_read, status, answer) in table {
-        let work = Case {
-            name: "workload",
-            words: &["step"],
-            input: b"work multiset 1 1 correct\nop 0 lookup 5\nend\n",
-            status,
-            answer,
-        };
-        work.assert_over(&rt, alloc, &failing(&[failing_read], &[]))?;
+    let looked_up = b"accepted: 2 entries, 0 commits, 1 observers\n".as_slice();
+    for word in ["step", "run"] {
+        for (failing_read, status, answer) in [(5, 0, looked_up), (4, 4, b"")] {
+            let work = Case {
+                name: word,
+                words: &[word],
+                input: b"work multiset 1 1 correct\nop 0 lookup 5\nend\n",
+                status,
+                answer,
+            };
+            work.assert_over(&rt, alloc, &failing(&[failing_read], &[]))?;
+        }
     }
     Ok(())
 }
