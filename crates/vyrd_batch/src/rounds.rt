@@ -197,11 +197,15 @@ fn append(more: &[Verdict], verdicts: &mut Vec<Verdict>) -> Result<(), AllocErro
     verdicts.extend_from_slice(more)
 }
 
-/// Takes the first `n` bytes away.
+/// Takes the first `n` bytes away. The time grows with the bytes that move: with those that stay,
+/// and with none if all stay.
 fn take_away(n: usize, bytes: &mut Vec<u8>)
     requires { n ≤ length bytes.old.items }
     ensures { bytes.new.items ≡ drop n bytes.old.items }
 {
+    if n == 0 {
+        return;
+    }
     let left = bytes.len() - n;
     bytes.copy_within(n.., 0);
     bytes.truncate(left);
