@@ -56,11 +56,16 @@ impl HistoryReader {
     }
 
     /// Takes in the next piece of the text. What is wrong with it is said by `finish`. The time
-    /// grows with the piece.
+    /// grows with the piece. Once the text is refused, or memory has run out, a piece is passed
+    /// over unread, whatever its length.
     pub fn feed(&mut self, piece: &[u8])
         ensures { (bytes : List ℕ) → HasRead self.old bytes
             → HasRead self.new (bytes ++ piece.now) }
     {
+        if self.lines.is_at_fault() {
+            self.unfinished.clear();
+            return;
+        }
         let mut rest = piece;
         while let Some((line, next)) = split_line(rest) {
             self.end_line(line);

@@ -1,5 +1,18 @@
-use Rattle.vyrd_mover.proofs.ReaderLaws.{fed_nothing, fed_line, fed_all}
+use Rattle.std.proofs.Common.{◌∙◌, ◌++◌, sym, subst}
+use Rattle.vyrd_mover.specs.HistoryReaders.{HasRead, ReaderState}
+use Rattle.vyrd_mover.proofs.LinesLaws.{still_at_fault}
+use Rattle.vyrd_mover.proofs.ReaderLaws.{nothing_unfinished, fed_nothing, fed_line, fed_all}
 use Rattle.vyrd_mover.proofs.reader.HistoryReader.feed.Goals as goal
+
+pub returns-then-is_at_fault : goal.returns-then-is_at_fault
+returns-then-is_at_fault c = λ before read.
+    let here = c.self.inside in
+    let piece = c.args.piece.now in
+    let s : ReaderState = record { lines = here.lines; unfinished = here.unfinished } in
+    let had : HasRead s before = subst (λ t. HasRead t before) (sym c.self.view_is) read in
+    subst (λ xs. HasRead (record { lines = here.lines; unfinished = xs }) (before ++ piece)) (sym c.clear.ensures)
+    (nothing_unfinished here.lines s before piece had
+    (still_at_fault here.lines had.whole (here.unfinished ++ piece) (sym c.is_at_fault.ensures ∙ c.if-is_at_fault.true) had.at))
 
 pub loop-line-init : goal.loop-line-init
 loop-line-init c = λ bytes read. fed_nothing c.args.self.now bytes c.args.piece.now read
