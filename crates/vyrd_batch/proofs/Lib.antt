@@ -6,3 +6,4 @@ pub mod SettledLaws
 pub mod Opened
 pub mod TextLaws
 pub mod RoundLaws
+pub mod UnfinishedLaws

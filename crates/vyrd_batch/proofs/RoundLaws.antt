@@ -1,20 +1,20 @@
 -- A batch that is cut after some of its logs: it says these logs, and then what its rest says.
 use Rattle.std.proofs.Common.{◌≡◌, ℕ, zero, suc, ◌+◌, ◌-◌, ◌<◌, ◌≤◌, Bool, true, false, cond, List, [], ◌∷◌, ◌++◌, length, map, take, drop, Option, Some, None, Result, Ok, Err, refl, ap, ◌∙◌, sym, subst, arith, append_assoc, append-nil, length-append, length-take, inl, inr}
-use Rattle.std.specs.Prelude.{◌⊎◌, get_or, is_some}
+use Rattle.std.specs.Prelude.{◌⊎◌, is_some}
 use Rattle.std.specs.Str.{bytes_eq}
-use Rattle.std.proofs.lemmas.List.{take-append-drop, drop-append-le, take-append-le, drop-drop, map-append, length-map}
+use Rattle.std.proofs.lemmas.List.{take-append-drop, drop-drop, map-append, length-map}
+use Rattle.std.proofs.Math.Seq.{take-add, take-append-add, take-append_seam, drop-append_seam}
 use Rattle.std.proofs.lemmas.Slice.Eq.{bytes_eq-Decides}
 use Rattle.vyrd_base.specs.declared.verdict.Verdict.{Verdict}
 use Rattle.vyrd_base.specs.Spelling.{ended_line}
 use Rattle.vyrd_base.specs.TextVerdicts.{text_verdict}
 use Rattle.vyrd_check.specs.Checking.{most_lines}
 use Rattle.vyrd_batch.specs.declared.span.Span.{Span}
-use Rattle.vyrd_batch.specs.Batches.{most_logs, first_word, log_word, last_line, Cut, first_line, log_at, span_before, logs_from, batch_reading, bytes_of, logs_of, batch_logs, LiesWithin}
+use Rattle.vyrd_batch.specs.Batches.{most_logs, most_bytes, logs_end_within, first_word, log_word, log_text, last_line, Cut, first_line, log_at, span_before, logs_from, batch_reading, bytes_of, logs_of, batch_logs, LiesWithin}
 use Rattle.vyrd_batch.specs.BatchAnswers.{verdicts_of}
-use Rattle.vyrd_batch.specs.Rounds.{logs_before, logs_on, IsCut, IsNoLog, AreJudged, AreJudgedTo}
-use Rattle.vyrd_batch.proofs.LineFacts.{size_within, is_log}
+use Rattle.vyrd_batch.specs.Rounds.{logs_before, logs_on, IsCut, IsNoLog, AreJudged, AreJudgedTo, IsRefused, IsJudgedBy, IsNothingMore, IsNothingEver, IsSpentBy}
 use Rattle.vyrd_batch.proofs.LogFacts.{all_more, at_line, logs_end, logs_full, reading_at, behind_first_line}
-use Rattle.vyrd_batch.proofs.TextLaws.{StandsAt, stands_at, log_bytes, next_bytes, one_line_word, cut_is}
+use Rattle.vyrd_batch.proofs.TextLaws.{StandsAt, stands_at, log_bytes, next_bytes, cut_is, log_isnt_end, span_at, text_stands, text_found}
 
 -- a log before those of the rest
 span_first : (input : List ℕ) (span : Span) (r : Result (List Span) ℕ)
@@ -30,63 +30,29 @@ none_first : (r : Result (List (List ℕ)) ℕ) → r ≡ logs_before [] r
 none_first (Ok more) = refl
 none_first (Err log) = refl
 
--- a log stands where it stood, however the bytes go on
-abbrev stands_longer : (place : ℕ) (rest more : List ℕ) (span : Span) → StandsAt place rest span → StandsAt place (rest ++ more) span
-stands_longer place rest more span s = record {
-  size = s.size;
-  rest = s.rest ++ more;
-  is = ap (λ bytes. bytes ++ more) s.is ∙ append_assoc (log_word s.size) (10 ∷ s.rest) more;
-  fits = omega (arith, s.fits, length-append s.rest more);
-  small = s.small;
-  near = s.near;
-  first_is = s.first_is;
-  past_is = s.past_is;
-}
-
-same_place : (span : Span) (first past : ℕ) → first ≡ span.first → past ≡ span.past → record { first = first; past = past } ≡ span
-same_place span first past a b = (λ i. record { first = a i; past = b i })
-
-found_at : (place : ℕ) (bytes : List ℕ) (span : Span) → StandsAt place bytes span → log_at place bytes ≡ Some span
-found_at place bytes span s =
-    let word = log_word s.size in
-    let ends : place + length word + 1 + s.size ≡ span.past = omega (arith, s.first_is, s.past_is) in
-    is_log place s.size bytes word s.rest (one_line_word s.size s.small) s.is
-    (size_within s.size word (omega (arith, s.small)) refl s.small) s.fits (omega (arith, s.near, ends))
-    ∙ ap Some (same_place span (place + length word + 1) (place + length word + 1 + s.size) (sym s.first_is) ends)
-
-log_isnt_last : (place : ℕ) (bytes : List ℕ) (span : Span) → StandsAt place bytes span → bytes ≡ last_line → ⊥
-log_isnt_last place bytes span s e =
-    let head : 108 ≡ 101 = ap (λ bytes. get_or bytes 0 0) (sym s.is ∙ e) in omega (arith, head)
-
--- the logs from a place on, where a log stands
-one_log : (front rest more : List ℕ) (n place : ℕ) (span : Span) (s : StandsAt place rest span) → length front ≡ place → n < most_logs
-    → logs_on (front ++ (rest ++ more)) n place (rest ++ more)
-    ≡ logs_before (take s.size s.rest ∷ []) (logs_on (front ++ (rest ++ more)) (n + 1) span.past (drop s.size s.rest ++ more))
-one_log front rest more n place span s len room =
-    let longer = stands_longer place rest more span s in
-    let whole = front ++ (rest ++ more) in
+-- the logs from a place on, where a log's text stands
+one_log : (front log more : List ℕ) (n place : ℕ) → length front ≡ place → n < most_logs → length log ≤ most_bytes
+    → place + length (log_text log) ≤ logs_end_within
+    → logs_on (front ++ (log_text log ++ more)) n place (log_text log ++ more)
+    ≡ logs_before (log ∷ []) (logs_on (front ++ (log_text log ++ more)) (n + 1) (span_at place log).past more)
+one_log front log more n place len room small near =
+    let bytes = log_text log ++ more in
+    let whole = front ++ bytes in
+    let span = span_at place log in
+    let s = text_stands place log more small near in
     let count : most_logs - n ≡ suc (most_logs - (n + 1)) = omega arith in
-    let past = drop (span.past - place) (rest ++ more) in
-    let next : past ≡ drop s.size s.rest ++ more =
-    next_bytes (rest ++ more) place span longer ∙ drop-append-le s.size s.rest more s.fits in
-    let log : bytes_of whole span ≡ take s.size s.rest =
-    log_bytes front (rest ++ more) place span longer len ∙ take-append-le s.size s.rest more s.fits in
-    ap (λ m. logs_of whole (logs_from m n place (rest ++ more))) count
-    ∙ ap (logs_of whole) (at_line (most_logs - (n + 1)) n place (rest ++ more) (Some span)
-    (log_isnt_last place (rest ++ more) span longer) (found_at place (rest ++ more) span longer))
-    ∙ span_first whole span (logs_from (most_logs - (n + 1)) (n + 1) span.past past)
-    ∙ (λ i. logs_before (log i ∷ []) (logs_on whole (n + 1) span.past (next i)))
+    let behind : drop (span.past - place) bytes ≡ more = next_bytes bytes place span s ∙ drop-append_seam log more in
+    let here : bytes_of whole span ≡ log = log_bytes front bytes place span s len ∙ take-append_seam log more in
+    ap (λ m. logs_of whole (logs_from m n place bytes)) count
+    ∙ ap (logs_of whole) (at_line (most_logs - (n + 1)) n place bytes (Some span) (log_isnt_end log more) (text_found place log more small near))
+    ∙ span_first whole span (logs_from (most_logs - (n + 1)) (n + 1) span.past (drop (span.past - place) bytes))
+    ∙ (λ i. logs_before (here i ∷ []) (logs_on whole (n + 1) span.past (behind i)))
 
 -- a span, counted from a place on
 abbrev pub from_place : ℕ → Span → Span
 from_place place span = record { first = span.first - place; past = span.past - place }
 
--- the bytes of an input, of which some more stand before a place
-moved : (front bytes more : List ℕ) (taken : ℕ) → (front ++ take taken bytes) ++ (drop taken bytes ++ more) ≡ front ++ (bytes ++ more)
-moved front bytes more taken =
-    append_assoc front (take taken bytes) (drop taken bytes ++ more)
-    ∙ ap (λ rest. front ++ rest) (sym (append_assoc (take taken bytes) (drop taken bytes) more) ∙ ap (λ all. all ++ more) (take-append-drop taken bytes))
-
+-- how many bytes stand before a place, with some more
 moved_len : (front bytes : List ℕ) (place taken : ℕ) → length front ≡ place → taken ≤ length bytes → length (front ++ take taken bytes) ≡ place + taken
 moved_len front bytes place taken len within =
     let short : length (take taken bytes) ≡ taken = omega (arith, length-take taken bytes, within) in
@@ -148,30 +114,53 @@ cut_more bytes log place spans new span taken cut room found grown =
         } in
         ap (λ all. bytes_of all here) (sym (take-append-drop taken bytes)) ∙ log_bytes (take taken bytes) rest taken here stands short
 
-    next_is : drop s.size s.rest ≡ drop (span.past - place) bytes
-    next_is =
-        let count : taken + (span.past - (place + taken)) ≡ span.past - place = omega (arith, s.first_is, s.past_is) in
-        sym (next_bytes rest (place + taken) span s) ∙ drop-drop (span.past - (place + taken)) taken bytes
-        ∙ ap (λ n. drop n bytes) count
+    body : List ℕ
+    body = take s.size s.rest
+
+    size : length body ≡ s.size
+    size = omega (arith, length-take s.size s.rest, s.fits)
+
+    -- what is taken grows by the log's text
+    taken_is : take (span.past - place) bytes ≡ take taken bytes ++ log_text body
+    taken_is =
+        let word = log_word s.size in
+        let count : span.past - place ≡ taken + (length word + suc s.size) = omega (arith, s.first_is, s.past_is) in
+        let text : take (length word + suc s.size) rest ≡ log_text body =
+        ap (take (length word + suc s.size)) s.is ∙ take-append-add word (10 ∷ s.rest) (suc s.size)
+        ∙ sym (append_assoc word (10 ∷ []) body) ∙ ap (λ n. (log_word n ++ 10 ∷ []) ++ body) (sym size) in
+        ap (λ n. take n bytes) count ∙ take-add taken (length word + suc s.size) bytes ∙ ap (λ t. take taken bytes ++ t) text
+
+    text_len : length (log_text body) ≡ length (log_word s.size) + 1 + s.size
+    text_len =
+        let word : length (log_word (length body)) ≡ length (log_word s.size) = ap (λ n. length (log_word n)) size in
+        omega (arith, length-append (ended_line (log_word (length body))) body, length-append (log_word (length body)) (10 ∷ []), word, size)
 
     goes_on : (front more : List ℕ) → length front ≡ place
-        → logs_on (front ++ (bytes ++ more)) log place (bytes ++ more)
+        → logs_on (front ++ (take (span.past - place) bytes ++ more)) log place (take (span.past - place) bytes ++ more)
         ≡ logs_before (map (bytes_of bytes) (spans ++ here ∷ []))
-        (logs_on (front ++ (bytes ++ more)) (log + length (spans ++ here ∷ [])) (place + (span.past - place)) (drop (span.past - place) bytes ++ more))
+        (logs_on (front ++ (take (span.past - place) bytes ++ more)) (log + length (spans ++ here ∷ [])) (place + (span.past - place)) more)
     goes_on front more len =
-        let whole = front ++ (bytes ++ more) in
         let logs = map (bytes_of bytes) spans in
         let n = log + length spans in
-        let same : (front ++ take taken bytes) ++ (rest ++ more) ≡ whole = moved front bytes more taken in
+        let next = log_text body ++ more in
+        let whole = front ++ (take taken bytes ++ next) in
+        let all : take (span.past - place) bytes ++ more ≡ take taken bytes ++ next =
+        ap (λ t. t ++ more) taken_is ∙ append_assoc (take taken bytes) (log_text body) more in
+        let parted : (front ++ take taken bytes) ++ next ≡ whole = append_assoc front (take taken bytes) next in
         let count : n + 1 ≡ log + length (spans ++ here ∷ []) = omega (arith, count_more spans here) in
-        let past : span.past ≡ place + (span.past - place) = omega (arith, s.first_is, s.past_is) in
-        let behind = logs_on whole (log + length (spans ++ here ∷ [])) (place + (span.past - place)) (drop (span.past - place) bytes ++ more) in
-        let one : logs_on whole n (place + taken) (rest ++ more) ≡ logs_before (bytes_of bytes here ∷ []) behind =
-        ap (λ w. logs_on w n (place + taken) (rest ++ more)) (sym same)
-        ∙ one_log (front ++ take taken bytes) rest more n (place + taken) span s (moved_len front bytes place taken len cut.within) room
-        ∙ (λ i. logs_before (sym log_is i ∷ []) (logs_on (same i) (count i) (past i) (next_is i ++ more))) in
-        cut.goes_on front more len ∙ ap (logs_before logs) one ∙ logs_joined logs (bytes_of bytes here ∷ []) behind
+        let word : length (log_word (length body)) ≡ length (log_word s.size) = ap (λ n. length (log_word n)) size in
+        let past : (span_at (place + taken) body).past ≡ place + (span.past - place) = omega (arith, word, size, s.first_is, s.past_is) in
+        let behind = logs_on whole (log + length (spans ++ here ∷ [])) (place + (span.past - place)) more in
+        let one : logs_on whole n (place + taken) next ≡ logs_before (bytes_of bytes here ∷ []) behind =
+        ap (λ w. logs_on w n (place + taken) next) (sym parted)
+        ∙ one_log (front ++ take taken bytes) body more n (place + taken) (moved_len front bytes place taken len cut.within) room
+        (omega (arith, size, s.small)) (omega (arith, text_len, s.near, s.first_is, s.past_is))
+        ∙ (λ i. logs_before (sym log_is i ∷ []) (logs_on (parted i) (count i) (past i) more)) in
+        ap (λ xs. logs_on (front ++ xs) log place xs) all ∙ cut.goes_on front next len
+        ∙ ap (logs_before logs) one ∙ logs_joined logs (bytes_of bytes here ∷ []) behind
         ∙ ap (λ logs. logs_before logs behind) (sym (map-append (bytes_of bytes) spans (here ∷ [])))
+        ∙ ap (λ xs. logs_before (map (bytes_of bytes) (spans ++ here ∷ []))
+        (logs_on (front ++ xs) (log + length (spans ++ here ∷ [])) (place + (span.past - place)) more)) (sym all)
 
 -- what comes after the logs
 pub cut_rest : (bytes rest next : List ℕ) (place taken : ℕ) (span : Span) → log_at (place + taken) rest ≡ Some span → rest ≡ drop taken bytes
@@ -182,7 +171,7 @@ cut_rest bytes rest next place taken span found is behind =
     behind ∙ ap (drop (span.past - (place + taken))) is ∙ drop-drop (span.past - (place + taken)) taken bytes ∙ ap (λ n. drop n bytes) count
 
 -- more bytes come
-pub judged_more : (input rest more : List ℕ) (verdicts : List Verdict) (place : Option ℕ) → AreJudgedTo place input verdicts rest
+judged_more : (input rest more : List ℕ) (verdicts : List Verdict) (place : Option ℕ) → AreJudgedTo place input verdicts rest
     → AreJudgedTo place (input ++ more) verdicts (rest ++ more)
 judged_more input rest more verdicts None j = (ap (λ all. all ++ more) j.0, j.1)
 judged_more input rest more verdicts (Some place) j = record {
@@ -191,9 +180,16 @@ judged_more input rest more verdicts (Some place) j = record {
   input_is = ap (λ all. all ++ more) j.input_is ∙ append_assoc j.front rest more;
   place_is = j.place_is;
   verdicts_are = j.verdicts_are;
-  goes_on = λ later.
-      ap (λ bytes. batch_logs (j.front ++ bytes)) (append_assoc rest more later) ∙ j.goes_on (more ++ later)
-      ∙ ap (λ bytes. logs_before j.logs (logs_on (j.front ++ bytes) (length j.logs) place bytes)) (sym (append_assoc rest more later));
+  goes_on = j.goes_on;
+}
+
+pub judged_longer : (refused : Bool) (input rest more : List ℕ) (verdicts : List Verdict) (place : Option ℕ)
+    → IsJudgedBy refused place input verdicts rest → IsJudgedBy refused place (input ++ more) verdicts (rest ++ more)
+judged_longer false input rest more verdicts place j = judged_more input rest more verdicts place j
+judged_longer true input rest more verdicts place r = record {
+  rest = r.rest ++ more;
+  judged = judged_more input r.rest more verdicts place r.judged;
+  lasts = λ later. ap batch_logs (append_assoc input more later) ∙ r.lasts (more ++ later);
 }
 
 -- the first line wasn't read yet
@@ -211,9 +207,9 @@ judged_begun input bytes rest verdicts j is = record {
   place_is = refl;
   verdicts_are = j.1;
   goes_on = λ more.
-      let whole = ended_line first_word ++ (rest ++ more) in
-      let read : batch_reading whole ≡ logs_from most_logs 0 6 (rest ++ more) = behind_first_line whole first_word (rest ++ more) refl refl refl in
-      ap (logs_of whole) read ∙ none_first (logs_on whole 0 6 (rest ++ more));
+      let whole = ended_line first_word ++ more in
+      let read : batch_reading whole ≡ logs_from most_logs 0 6 more = behind_first_line whole first_word more refl refl refl in
+      ap (logs_of whole) read ∙ none_first (logs_on whole 0 6 more);
 }
 
 -- more logs were judged
@@ -229,13 +225,13 @@ judged_logs input bytes old new place taken spans j cut grown = record {
   verdicts_are = grown ∙ ap (λ verdicts. verdicts ++ verdicts_of here) j.verdicts_are
       ∙ sym (map-append (λ log. text_verdict most_lines log) j.logs here);
   goes_on = λ more.
-      let whole = j.front ++ (bytes ++ more) in
-      let same : (j.front ++ take taken bytes) ++ (drop taken bytes ++ more) ≡ whole = moved j.front bytes more taken in
-      let behind = logs_on whole (length old + length spans) (place + taken) (drop taken bytes ++ more) in
-      ap batch_logs same ∙ j.goes_on more
-      ∙ ap (logs_before j.logs) (ap (λ n. logs_on whole n place (bytes ++ more)) (sym count) ∙ cut.goes_on j.front more j.place_is)
-      ∙ logs_joined j.logs here behind
-      ∙ (λ i. logs_before logs (logs_on (sym same i) (all i) (place + taken) (drop taken bytes ++ more)));
+      let next = take taken bytes ++ more in
+      let whole = j.front ++ next in
+      let parted : (j.front ++ take taken bytes) ++ more ≡ whole = append_assoc j.front (take taken bytes) more in
+      ap batch_logs parted ∙ j.goes_on next
+      ∙ ap (logs_before j.logs) (ap (λ n. logs_on whole n place next) (sym count) ∙ cut.goes_on j.front more j.place_is)
+      ∙ logs_joined j.logs here (logs_on whole (length old + length spans) (place + taken) more)
+      ∙ (λ i. logs_before logs (logs_on (sym parted i) (all i) (place + taken) more));
 }
   where
     here : List (List ℕ)
@@ -251,16 +247,12 @@ judged_logs input bytes old new place taken spans j cut grown = record {
     all = omega (arith, count, length-append j.logs here, length-map spans (bytes_of bytes))
 
 -- the input ends here
-whole_is : (input rest : List ℕ) (verdicts : List Verdict) (place : ℕ) (j : AreJudged input verdicts place rest) → input ≡ j.front ++ (rest ++ [])
-whole_is input rest verdicts place j = j.input_is ∙ ap (λ rest. j.front ++ rest) (sym (append-nil rest))
-
 pub judged_all : (input rest : List ℕ) (verdicts : List Verdict) (place : ℕ) → AreJudged input verdicts place rest → rest ≡ last_line
     → (logs : List (List ℕ)) × (batch_logs input ≡ Ok logs) × (verdicts ≡ verdicts_of logs)
 judged_all input rest verdicts place j is = (
   j.logs,
-  ap batch_logs (whole_is input rest verdicts place j) ∙ j.goes_on []
-      ∙ ap (λ r. logs_before j.logs (logs_of (j.front ++ (rest ++ [])) r))
-      (logs_end (most_logs - length j.logs) (length j.logs) place (rest ++ []) (append-nil rest ∙ is))
+  ap batch_logs j.input_is ∙ j.goes_on rest
+      ∙ ap (λ r. logs_before j.logs (logs_of (j.front ++ rest) r)) (logs_end (most_logs - length j.logs) (length j.logs) place rest is)
       ∙ ap Ok (append-nil j.logs),
   j.verdicts_are,
 )
@@ -274,12 +266,9 @@ pub judged_refused : (input rest : List ℕ) (verdicts : List Verdict) (place : 
     → (rest ≡ last_line → ⊥) → IsNoLog (length verdicts) place rest → batch_logs input ≡ Err (length verdicts)
 judged_refused input rest verdicts place j apart why =
     let n = length j.logs in
-    let whole = j.front ++ (rest ++ []) in
-    let same : rest ++ [] ≡ rest = append-nil rest in
     let full : (most_logs - n ≡ zero) ⊎ (log_at place rest ≡ None) = no_more why in
-    ap batch_logs (whole_is input rest verdicts place j) ∙ j.goes_on []
-    ∙ ap (λ bytes. logs_before j.logs (logs_of whole (logs_from (most_logs - n) n place bytes))) same
-    ∙ ap (λ r. logs_before j.logs (logs_of whole r)) (refused_from (most_logs - n) n place rest apart full)
+    ap batch_logs j.input_is ∙ j.goes_on rest
+    ∙ ap (λ r. logs_before j.logs (logs_of (j.front ++ rest) r)) (refused_from (most_logs - n) n place rest apart full)
     ∙ ap Err (sym count)
   where
     count : length verdicts ≡ length j.logs
@@ -305,3 +294,36 @@ judged_unbegun input bytes is apart =
     by_cut : (o : Option Cut) → first_line bytes ≡ o → batch_reading bytes ≡ Err 0
     by_cut None e = reading_at bytes None e
     by_cut (Some cut) e = reading_at bytes (Some cut) e ∙ by_word cut (cut_is bytes cut e) (bytes_eq cut.line first_word) refl
+
+-- however the input goes on, nothing comes after the logs that were judged
+pub judged_never : (place : Option ℕ) (input rest : List ℕ) (verdicts : List Verdict) → AreJudgedTo place input verdicts rest
+    → IsNothingEver place (length verdicts) rest → IsRefused place input verdicts
+judged_never place input rest verdicts j never = record { rest = rest; judged = j; lasts = lasts place j never }
+  where
+    lasts : (place : Option ℕ) → AreJudgedTo place input verdicts rest → IsNothingEver place (length verdicts) rest
+        → (more : List ℕ) → batch_logs (input ++ more) ≡ Err (length verdicts)
+    lasts None j never more =
+        judged_unbegun (input ++ more) (rest ++ more) (ap (λ bytes. bytes ++ more) j.0) (never more) ∙ ap Err (sym (ap length j.1))
+    lasts (Some place) j never more =
+        judged_refused (input ++ more) (rest ++ more) verdicts place (judged_more input rest more verdicts (Some place) j) (never more).0 (never more).1
+
+pub refused_at_end : (place : Option ℕ) (input : List ℕ) (verdicts : List Verdict) → IsRefused place input verdicts
+    → batch_logs input ≡ Err (length verdicts)
+refused_at_end place input verdicts r = ap batch_logs (sym (append-nil input)) ∙ r.lasts []
+
+-- what is judged and left while the batch isn't refused
+pub not_refused : (refused : Bool) (place : Option ℕ) (input rest : List ℕ) (verdicts : List Verdict) → refused ≡ false
+    → IsJudgedBy refused place input verdicts rest → AreJudgedTo place input verdicts rest
+not_refused false place input rest verdicts e j = j
+not_refused true place input rest verdicts e j = cc
+
+pub nothing_more : (refused : Bool) (place : Option ℕ) (log : ℕ) (rest : List ℕ) → refused ≡ false → IsSpentBy refused place log rest
+    → IsNothingMore place log rest
+nothing_more false place log rest e spent = spent.0
+nothing_more true place log rest e spent = cc
+
+-- and once it is
+pub is_refused : (refused : Bool) (place : Option ℕ) (input rest : List ℕ) (verdicts : List Verdict) → refused ≡ true
+    → IsJudgedBy refused place input verdicts rest → IsRefused place input verdicts
+is_refused false place input rest verdicts e j = cc
+is_refused true place input rest verdicts e r = r

@@ -33,7 +33,7 @@ next_byte b bytes more (Some cut) all is = record {
   other = λ e next f. cc;
 }
 
-first_longer : (bytes more : List ℕ) → IsLonger bytes more (first_line bytes) (first_line (bytes ++ more))
+pub first_longer : (bytes more : List ℕ) → IsLonger bytes more (first_line bytes) (first_line (bytes ++ more))
 first_longer [] more = record { same = λ cut e. cc; other = λ e cut f. omega arith }
 first_longer (b ∷ bytes) more = by_test (b == 10) (first_longer bytes more)
   where

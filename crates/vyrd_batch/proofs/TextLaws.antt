@@ -240,18 +240,18 @@ read_batch_is_text bytes logs e =
 pub one_line_word : (n : ℕ) → n ≤ most_bytes → is_one_line (log_word n) ≡ true
 one_line_word n small = lacks-append 10 (codes "log ") (decimal n) refl (decimal_lacks 10 n no_line_feed (omega (arith, small)))
 
-log_isnt_end : (log more : List ℕ) → (log_text log ++ more ≡ last_line → ⊥)
+pub log_isnt_end : (log more : List ℕ) → (log_text log ++ more ≡ last_line → ⊥)
 log_isnt_end log more e = let head : 108 ≡ 101 = ap (λ bytes. get_or bytes 0 0) e in omega (arith, head)
 
 -- a log's text and what stands after it
-text_is : (log next : List ℕ) → log_text log ++ next ≡ log_word (length log) ++ 10 ∷ (log ++ next)
+pub text_is : (log next : List ℕ) → log_text log ++ next ≡ log_word (length log) ++ 10 ∷ (log ++ next)
 text_is log next =
     append_assoc (ended_line (log_word (length log))) log next ∙ append_assoc (log_word (length log)) (10 ∷ []) (log ++ next)
 
-abbrev span_at : ℕ → List ℕ → Span
+abbrev pub span_at : ℕ → List ℕ → Span
 span_at place log = record { first = place + length (log_word (length log)) + 1; past = place + length (log_word (length log)) + 1 + length log }
 
-abbrev text_stands : (place : ℕ) (log next : List ℕ) → length log ≤ most_bytes → place + length (log_text log) ≤ logs_end_within
+abbrev pub text_stands : (place : ℕ) (log next : List ℕ) → length log ≤ most_bytes → place + length (log_text log) ≤ logs_end_within
     → StandsAt place (log_text log ++ next) (span_at place log)
 text_stands place log next small near = record {
   size = length log;
@@ -264,7 +264,7 @@ text_stands place log next small near = record {
   past_is = refl;
 }
 
-text_found : (place : ℕ) (log next : List ℕ) → length log ≤ most_bytes → place + length (log_text log) ≤ logs_end_within
+pub text_found : (place : ℕ) (log next : List ℕ) → length log ≤ most_bytes → place + length (log_text log) ≤ logs_end_within
     → log_at place (log_text log ++ next) ≡ Some (span_at place log)
 text_found place log next small near =
     let s = text_stands place log next small near in

@@ -15,6 +15,7 @@ mod parts;
 mod reader;
 mod rounds;
 mod span;
+mod unfinished;
 pub mod worked;
 
 pub use answer::{status_of, write_refusal, write_verdicts};

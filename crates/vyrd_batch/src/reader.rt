@@ -14,13 +14,13 @@ use std::alloc::{AllocError, Global};
 use vyrd_text::{after, is_word, read_u32, split_line};
 
 /// The most logs.
-const MOST_LOGS: usize = 10_000;
+pub(crate) const MOST_LOGS: usize = 10_000;
 
 /// The most bytes of a log: 16 MiB.
 const MOST_BYTES: usize = 16_777_216;
 
 /// Within how many bytes of the input the logs lie: 64 MiB.
-const LOGS_END_WITHIN: usize = 67_108_864;
+pub(crate) const LOGS_END_WITHIN: usize = 67_108_864;
 
 /// Where the logs stand in the bytes of a batch, in their order.
 ///
@@ -141,7 +141,7 @@ fn log_at(place: usize, bytes: &[u8]) -> Option<(Span, &[u8])>
 }
 
 /// How many bytes the line before a log says, if it is such a line.
-fn size_in(line: &[u8]) -> Option<usize>
+pub(crate) fn size_in(line: &[u8]) -> Option<usize>
     ensures { result ≡ size_in line.now }
 {
     let digits = after(line, b"log ")?;

@@ -115,3 +115,34 @@ fn refused_batches(rt: HostRuntime) -> Result<(), Fail> {
     }
     Ok(())
 }
+
+/// How many bytes are left of these inputs once what is whole in them is judged. None are where
+/// what follows can't make a batch of them.
+#[test]
+fn bytes_that_a_round_leaves(rt: HostRuntime) -> Result<(), Fail> {
+    let alloc = rt.alloc();
+    let table = [
+        (b"".as_slice(), 0),
+        (b"batc", 4),
+        (b"bats", 0),
+        (b"batch\nlog 1", 5),
+        (b"batch\nlog 9\nvyrd", 10),
+        (b"batch\nlog 0\nlog 9\nvyrd", 10),
+        (b"batch\nlog 024\n", 0),
+        (b"batch\nlog 16777216", 12),
+        (b"batch\nlog 16777216\n", 13),
+        (b"batch\nlog 16777217\n", 0),
+        (b"batch\nlog 167772160", 0),
+        (b"batch\nlog 0\nen", 2),
+        (b"batch\nlog 0\nend\n", 4),
+        (b"batch\nlog 0\nend\n\n", 0),
+    ];
+    for (input, left) in table {
+        let mut judge = BatchJudge::new(alloc);
+        let mut bytes = Vec::new(alloc);
+        bytes.extend_from_slice(input)?;
+        judge.judge(&rt, &mut bytes)?;
+        assert_eq!(rt; bytes.len(), left, "{input:?}");
+    }
+    Ok(())
+}

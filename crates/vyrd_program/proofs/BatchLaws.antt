@@ -8,7 +8,7 @@ use Rattle.vyrd_batch.specs.BatchAnswers.{verdicts_of, batch_text, batch_status}
 use Rattle.vyrd_batch.specs.LongBatches.{longest_batch_input}
 use Rattle.vyrd_batch.proofs.SettledLaws.{logs_are_settled}
 use Rattle.vyrd_batch.specs.Rounds.{BatchView, IsJudged}
-use Rattle.vyrd_batch.proofs.RoundLaws.{judged_more}
+use Rattle.vyrd_batch.proofs.RoundLaws.{judged_longer}
 use Rattle.vyrd_program.specs.Inputs.{IsInputRead, IsMoreRead, IsFewTaken}
 use Rattle.vyrd_program.specs.declared.answer.Answer.{Answer}
 use Rattle.vyrd_program.specs.Batches.{IsBatchAnswer, IsReading}
@@ -30,7 +30,7 @@ pub reading_more : (before between after : Option (List ℕ)) (judge : BatchView
 reading_more before between after judge old new count n most r m = record {
   taken = r.taken ++ m.piece;
   told = taken_more before between after r.taken m.piece r.told m.told;
-  judged = subst (IsJudged (r.taken ++ m.piece) judge) (sym m.grown) (judged_more r.taken old m.piece judge.verdicts judge.place r.judged);
+  judged = subst (IsJudged (r.taken ++ m.piece) judge) (sym m.grown) (judged_longer judge.refused r.taken old m.piece judge.verdicts judge.place r.judged);
   many = omega (arith, length-append r.taken m.piece, r.many, m.many);
 }
 

@@ -29,8 +29,8 @@ const ROUND: usize = 524_288;
 /// refused; or nothing after a failed read or out of memory.
 ///
 /// Logs are judged while later ones are still to be read. So the memory is that of a round, of the
-/// longest log, and of the verdicts. Of an input that isn't a batch, all is kept from the log on at
-/// which it is refused.
+/// longest log, and of the verdicts. An input that isn't a batch is read on too, but no more than a
+/// round of it is kept.
 pub fn batch<R: Threads + Sync, S: Source>(rt: &R, alloc: Global, source: &mut S) -> Answer
     ensures statuses { IsBatchStatus result.status ⊎ (result.status ≡ 4) ⊎ (result.status ≡ 6) }
     ensures answers { IsBatchStatus result.status

@@ -117,6 +117,63 @@ fn no_read_behind_a_refused_batch(rt: HostRuntime) -> Result<(), Fail> {
     Ok(())
 }
 
+/// How many bytes take more than two rounds.
+const ROUNDS: usize = 1_200_000;
+
+/// These bytes, then a long line of a letter, then these.
+fn around_a_long_line(alloc: Global, front: &[u8], back: &[u8]) -> Result<Vec<u8>, AllocError> {
+    let mut input = Vec::new(alloc);
+    input.extend_from_slice(front)?;
+    for _ in 0..ROUNDS {
+        input.push(b'x')?;
+    }
+    input.extend_from_slice(back)?;
+    Ok(input)
+}
+
+/// A log that takes several rounds to come, and inputs that are refused before others come.
+#[test]
+fn several_rounds(rt: HostRuntime) -> Result<(), Fail> {
+    let alloc = rt.alloc();
+    let judged = b"log 0: malformed at line 1: bad header\nbatch: 1 logs\n".as_slice();
+    let table: [(&[u8], &[u8], u8, &[u8]); 6] = [
+        (b"batch\nlog 1200000\n", b"end\n", 2, judged),
+        (
+            b"batch\nlog 1200000\n",
+            b"",
+            11,
+            b"batch refused at log 1\n",
+        ),
+        (
+            b"batch\nlog 1200001\n",
+            b"",
+            11,
+            b"batch refused at log 0\n",
+        ),
+        (b"batch\nlog 0\n", b"", 11, b"batch refused at log 1\n"),
+        (b"batch\nlog 0\nend\n", b"", 11, b"batch refused at log 1\n"),
+        (b"", b"\nbatch\nend\n", 11, b"batch refused at log 0\n"),
+    ];
+    for (front, back, status, answer) in table {
+        let input = around_a_long_line(alloc, front, back)?;
+        let case = Case {
+            name: "several rounds",
+            words: BATCH,
+            input: &input,
+            status,
+            answer,
+        };
+        let devices = Devices {
+            longest_read: 65_536,
+            failing_reads: &[],
+            longest_write: 65_536,
+            failing_writes: &[],
+        };
+        case.assert_over(&rt, alloc, &devices)?;
+    }
+    Ok(())
+}
+
 /// The log of this number among many.
 fn log_at(log: u64) -> &'static [u8] {
     if log % 2 == 0 { REPLIED_1 } else { REPLIED_0 }

@@ -1,5 +1,5 @@
 use Rattle.std.proofs.Common.{◌≡◌, ◌∙◌, drop, None, ap, subst, sym}
-use Rattle.vyrd_batch.specs.Rounds.{AreJudged, AreJudgedTo, IsJudged}
+use Rattle.vyrd_batch.specs.Rounds.{AreJudged, AreJudgedTo}
 use Rattle.vyrd_batch.proofs.RoundLaws.{none_there, judged_begun}
 use Rattle.vyrd_batch.proofs.rounds.BatchJudge.begin.Goals as goal
 
@@ -9,6 +9,6 @@ returns-clause-judged c = λ input j.
     let verdicts = s.verdicts.items in
     let bytes = c.args.bytes.now in
     let none : s.place ≡ None = none_there s.place (sym c.is_some.ensures ∙ c.if-is_some.false) in
-    let before : AreJudgedTo s.place input verdicts bytes = subst (λ b. IsJudged input b bytes) (sym c.self.view_is) j in
+    let before : AreJudgedTo s.place input verdicts bytes = subst (λ b. AreJudgedTo b.place input b.verdicts bytes) (sym c.self.view_is) j in
     subst (AreJudged input verdicts 6) (sym (ap (drop 6) c.in-Some.ensures))
     (judged_begun input bytes c.in-Some.field-0.now verdicts (subst (λ place. AreJudgedTo place input verdicts bytes) none before) c.in-Some.ensures)
