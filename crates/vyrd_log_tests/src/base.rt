@@ -176,7 +176,8 @@ fn readers_and_writers(rt: HostRuntime) -> Result<(), Fail> {
     Ok(())
 }
 
-/// A stream whose first call ends with this kind of error, and whose later calls take or give a byte.
+/// A stream whose first call ends with this kind of error, and whose later calls take or give a
+/// byte.
 #[derive(Drop)]
 struct FirstFails {
     kind: io::ErrorKind,

@@ -1,7 +1,7 @@
 //! The specification of the multiset: how many there are of each value.
 
-ghost use Rattle.std.specs.Prelude.{◌≡◌, ◌≢◌, ◌+◌, ◌*◌, ◌<◌, ◌≤◌, ◌^◌, ◌-◌, ℕ, true, false, not, refl};
-ghost use Rattle.std.specs.Prelude.{OnOk, OnErr, Some, None, Ok};
+ghost use Rattle.std.specs.Prelude.{◌≡◌, ◌≢◌, ◌+◌, ◌*◌, ◌<◌, ◌≤◌, ◌^◌, ◌-◌, ℕ, true, false, not};
+ghost use Rattle.std.specs.Prelude.{refl, OnOk, OnErr, Some, None, Ok};
 ghost use Rattle.std.specs.Bool.{then_some};
 ghost use Rattle.vyrd_base.specs.Rules.{built_in};
 ghost use Rattle.vyrd_base.specs.declared.subject.Subject.TheVariants.{Multiset};

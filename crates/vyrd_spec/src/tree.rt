@@ -1,6 +1,7 @@
 //! The specification of the tree: the value of each key.
 
-ghost use Rattle.std.specs.Prelude.{◌≡◌, ◌≢◌, ◌+◌, ◌<◌, ◌≤◌, ◌^◌, true, false, not, Some, None, Ok, refl};
+ghost use Rattle.std.specs.Prelude.{◌≡◌, ◌≢◌, ◌+◌, ◌<◌, ◌≤◌, ◌^◌, true, false, not, Some, None, Ok};
+ghost use Rattle.std.specs.Prelude.{refl};
 ghost use Rattle.std.specs.Bool.{then_some};
 ghost use Rattle.vyrd_base.specs.Rules.{built_in};
 ghost use Rattle.vyrd_base.specs.declared.subject.Subject.TheVariants.{Tree};
