@@ -15,6 +15,9 @@ use std::marker::Model;
 /// longer.
 const FEW: usize = 8;
 
+/// How many times the number of its writes the room of a table is, at which it is given up.
+const WIDE: usize = 16;
+
 /// Writes, each word once in the order of the first writes, with its last value.
 #[derive(Drop)]
 pub(crate) struct Writes {
@@ -95,13 +98,29 @@ impl Writes {
         note_more(changed, &self.more);
     }
 
-    /// Drops all writes.
+    /// Drops all writes. It takes time in proportion to their number, however many a block before
+    /// had.
     #[inline(always)]
     pub fn clear(&mut self)
         ensures { self.new ≡ [] }
     {
+        if self.more.is_empty() {
+            self.few.clear();
+        } else {
+            self.clear_all();
+        }
+    }
+
+    /// Drops all writes, of which some are in the table. To empty a table takes time for all of its
+    /// room, so one with far more room than it has writes is given up.
+    #[inline(never)]
+    fn clear_all(&mut self)
+        ensures { self.new ≡ [] }
+    {
         self.few.clear();
-        if !self.more.is_empty() {
+        if self.more.capacity() / WIDE > self.more.len() {
+            self.more = IndexMap::new(*self.few.allocator());
+        } else {
             self.more.clear();
         }
     }

@@ -41,4 +41,12 @@ impl<L: Ledger> Steps<L> {
         let Steps { book, share } = self;
         book.add(share, 1);
     }
+
+    /// That many steps more, for a call of the library that takes them at once.
+    pub fn add(&mut self, n: usize)
+        ensures { self.new ≡ self.old + n }
+    {
+        let Steps { book, share } = self;
+        book.add(share, n as u64);
+    }
 }

@@ -1,7 +1,7 @@
 -- Counts that are kept in bytes, and the large ones apart.
-use Rattle.std.proofs.Common.{◌≡◌, ◌≢◌, ℕ, zero, suc, ◌+◌, ◌<◌, List, [], ◌∷◌, ◌++◌, length, take, drop, set, get_or, refl, ap, sym, ◌∙◌, arith}
+use Rattle.std.proofs.Common.{◌≡◌, ◌≢◌, ℕ, zero, suc, ◌+◌, ◌<◌, ◌≤◌, List, [], ◌∷◌, ◌++◌, length, take, drop, set, get_or, refl, ap, sym, ◌∙◌, arith}
 use Rattle.std.proofs.lemmas.List.{take-append-drop, drop_more}
-use Rattle.std.specs.Prelude.{◌==◌, true, false, cond, insert}
+use Rattle.std.specs.Prelude.{◌==◌, Bool, true, false, cond, insert, if◌then◌else◌}
 use Rattle.vyrd_base.proofs.TestLaws.{is_same, isnt_same, lower_isnt}
 use Rattle.vyrd_words.specs.Counts.{apart_in, counts_of}
 use Rattle.vyrd_words.proofs.CutLaws.{read_at}
@@ -222,3 +222,12 @@ apart_set_grown (byte ∷ bytes) (suc i) low small =
       | true ↦ ap suc rest
       | false ↦ rest
     ]
+
+-- no more counts are kept apart than there are
+pub apart_few : (bytes : List ℕ) → apart_in bytes ≤ length bytes
+apart_few [] = omega arith
+apart_few (byte ∷ bytes) = by_test (byte == 255) (apart_few bytes)
+  where
+    by_test : (b : Bool) → apart_in bytes ≤ length bytes → (if b then suc (apart_in bytes) else apart_in bytes) ≤ suc (length bytes)
+    by_test true rest = omega (arith, rest)
+    by_test false rest = omega (arith, rest)

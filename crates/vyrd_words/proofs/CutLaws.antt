@@ -1,14 +1,14 @@
 -- Writes that wait, and the words at the commits among them.
 use Rattle.std.proofs.Common.{◌≡◌, ℕ, zero, suc, ◌+◌, ◌<◌, ◌≤◌, ◌^◌, List, [], ◌∷◌, ◌++◌, length, sum, take, drop, set, refl, ap, subst, ◌∙◌, sym, arith, length-drop, length-append}
 use Rattle.std.proofs.lemmas.List.Sums.{sum_by-cons}
-use Rattle.std.proofs.lemmas.List.{take-append-le, drop-append-le, take-append-drop, take_more, length-take-le}
+use Rattle.std.proofs.lemmas.List.{take-append-le, drop-append-le, take-append-drop}
 use Rattle.std.proofs.Math.Seq.{take-length}
 use Rattle.std.proofs.Math.ListN.{length-set}
 use Rattle.std.proofs.Math.Seq.{drop-length}
 use Rattle.vyrd_base.specs.declared.header.Header.{Header}
 use Rattle.vyrd_base.specs.Layout.{plain_words}
 use Rattle.std.specs.Prelude.{◌==◌, true, false, get_or, map, All, Result, Ok, Err, OnOk}
-use Rattle.std.specs.List.{list_any}
+use Rattle.std.specs.List.{list_any, sum_by}
 use Rattle.std.proofs.Common.{append_assoc, get_or-set_other}
 use Rattle.std.proofs.lemmas.List.Folds.{list_any-append}
 use Rattle.std.proofs.lemmas.List.Elements.{All-append, All-head, All-tail}
@@ -17,8 +17,9 @@ use Rattle.vyrd_base.proofs.TestLaws.{same_of, apart_of, is_same, flipped, lower
 use Rattle.vyrd_shadow.proofs.WriteLaws.{with_writes-append}
 use Rattle.vyrd_shadow.specs.Blocks.{with_writes, AreInRange}
 use Rattle.vyrd_shadow.proofs.KeptWrites.{length-with_writes, below_set, below_with, keys_below}
+use Rattle.vyrd_words.specs.Costs.{writes_behind}
 use Rattle.vyrd_words.specs.Cuts.{first_of, split_at, since_of, with_part, first_with, written, AreCuts, AreKnown}
-use Rattle.std.specs.Prelude.{cond, ◌-◌, insert, Some, slice_get}
+use Rattle.std.specs.Prelude.{cond, ◌-◌, Some, slice_get}
 use Rattle.std.proofs.lemmas.Option.{same_Some}
 use Rattle.std.proofs.Math.Seq.{take-append_seam}
 use Rattle.std.proofs.Common.{append-nil, Bool}
@@ -303,32 +304,9 @@ first_far behind new first since far =
 pub since_far : (behind : ℕ) (new : List (ℕ × ℕ)) (since : List (List (ℕ × ℕ))) → length since < behind → since ≡ with_part behind new since
 since_far behind new since far = sym (with_part_none behind new since (omega (arith, far)))
 
--- one more write is put after those that were put there
-pub put_more : (place : ℕ) (new ws : List (ℕ × ℕ)) (x : ℕ × ℕ) → place ≤ length ws
-    → insert (put_at place new ws) (place + length new) x ≡ put_at place (new ++ x ∷ []) ws
-put_more place new ws x within =
-    (λ i. take_put place new ws within i ++ x ∷ drop_put place new ws within i)
-    ∙ sym (append_assoc (take place ws ++ new) (x ∷ []) (drop place ws))
-    ∙ ap (λ ys. ys ++ drop place ws) (append_assoc (take place ws) new (x ∷ []))
-
-pub put_nothing : (place : ℕ) (ws : List (ℕ × ℕ)) → ws ≡ put_at place [] ws
-put_nothing place ws = sym (take-append-drop place ws) ∙ ap (λ ys. ys ++ drop place ws) (sym (append-nil (take place ws)))
-
 pub length-written : (words changed : List ℕ) → length (written words changed) ≡ length changed
 length-written words [] = refl
 length-written words (w ∷ changed) = ap suc (length-written words changed)
-
--- the changed words up to a place
-pub written_next : (place : ℕ) (words changed : List ℕ) (ws : List (ℕ × ℕ)) (i : ℕ) → place ≤ length ws → i < length changed
-    → insert (put_at place (written words (take i changed)) ws) (place + i) (get_or changed i 0, get_or words (get_or changed i 0) 0)
-    ≡ put_at place (written words (take (i + 1) changed)) ws
-written_next place words changed ws i within low =
-    let long : length (written words (take i changed)) ≡ i = length-written words (take i changed) ∙ length-take-le i changed (omega (arith, low)) in
-    let w : ℕ = get_or changed i 0 in
-    ap (λ n. insert (put_at place (written words (take i changed)) ws) (place + n) (w, get_or words w 0)) (sym long)
-    ∙ put_more place (written words (take i changed)) ws (w, get_or words w 0) within
-    ∙ ap (λ ys. put_at place ys ws) (sym (written_more words (take i changed) w))
-    ∙ ap (λ ys. put_at place (written words ys) ws) (sym (take_more changed i 0 low))
 
 -- an element by another default
 pub read_at : (ks : List ℕ) (i d : ℕ) → i < length ks → get_or ks i d ≡ get_or ks i 0
@@ -513,3 +491,33 @@ always (Err x) p = tt
 pub first_taken : (xs new : List ℕ) (n : ℕ) → slice_get xs 0 ≡ Some n → new ≡ drop 1 xs → xs ≡ n ∷ new
 first_taken [] new n is rest = cc
 first_taken (x ∷ xs) new n is rest = (λ j. same_Some x n is j ∷ xs) ∙ ap (λ ys. n ∷ ys) (sym rest)
+
+-- each write stands in one of the lists between the commits
+all_writes : (ks : List ℕ) (ws : List (ℕ × ℕ)) → sum_by (λ part. length part) (split_at ks ws) ≡ length ws
+all_writes [] ws = omega (arith, sum_by-cons (λ part. length part) ws [])
+all_writes (k ∷ ks) ws =
+    let rest = all_writes ks (drop k ws) in
+    omega (arith, sum_by-cons (λ part. length part) (take k ws) (split_at ks (drop k ws)), rest, length-append (take k ws) (drop k ws), ap length (take-append-drop k ws))
+
+after_split : (ks : List ℕ) (i : ℕ) (ws : List (ℕ × ℕ)) → i ≤ length ks → sum (take i ks) ≤ length ws
+    → sum_by (λ part. length part) (drop i (split_at ks ws)) + sum (take i ks) ≡ length ws
+after_split ks zero ws low within = let all = all_writes ks ws in omega (arith, all)
+after_split [] (suc i) ws low within = absurd (omega (arith, low))
+after_split (k ∷ ks) (suc i) ws low within =
+    let cut = sum-cons k (take i ks) in
+    let left = length-drop k ws in
+    let rest = after_split ks i (drop k ws) (omega (arith, low)) (omega (arith, cut, left, within)) in
+    omega (arith, cut, left, rest, within)
+
+-- the writes that a late write is put before
+pub writes_after : (ks : List ℕ) (i : ℕ) (ws : List (ℕ × ℕ)) → i < length ks → place_of_cut ks i ≤ length ws
+    → writes_behind (length ks - i) (since_of ks ws) + place_of_cut ks i ≡ length ws
+writes_after [] i ws low within = absurd (omega (arith, low))
+writes_after (k ∷ ks) i ws low within =
+    let cut = sum-cons k (take i ks) in
+    let left = length-drop k ws in
+    let long = length-split_at ks (drop k ws) in
+    let from : length (split_at ks (drop k ws)) - (suc (length ks) - i) ≡ i = omega (arith, long, low) in
+    let rest = after_split ks i (drop k ws) (omega (arith, low)) (omega (arith, cut, left, within)) in
+    let at = ap (λ n. sum_by (λ part. length part) (drop n (split_at ks (drop k ws)))) from in
+    omega (arith, at, cut, left, rest, within)

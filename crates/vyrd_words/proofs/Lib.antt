@@ -5,4 +5,6 @@ pub mod ShadowFacts
 pub mod ActLaws
 pub mod StartingLaws
 pub mod StartWords
+pub mod CostLaws
 pub mod CountLaws
+pub mod OwedLaws

@@ -1,6 +1,6 @@
 //! How many writes each of the commits has that wait.
 
-ghost use Rattle.std.specs.Prelude.{◌≡◌, ◌<◌, ◌≤◌, ◌^◌, ◌+◌, ◌++◌, ◌==◌, [], ◌∷◌, length, sum};
+ghost use Rattle.std.specs.Prelude.{◌≡◌, ◌<◌, ◌≤◌, ◌^◌, ◌+◌, ◌*◌, ◌++◌, ◌==◌, [], ◌∷◌, length, sum};
 ghost use Rattle.std.specs.Prelude.{take, drop, slice_get, slice_index, slice_set, if◌then◌else◌};
 ghost use Rattle.std.specs.Result.{is_ok};
 ghost use Rattle.vyrd_words.specs.Counts.{apart_in};
@@ -8,6 +8,8 @@ ghost use Rattle.vyrd_words.specs.Counts.{apart_in};
 use std::alloc::{AllocError, Global};
 use std::collections::VecDeque;
 use std::marker::Model;
+use std::sync::ledger::Ledger;
+use vyrd_view::Steps;
 
 /// The byte of a count that is kept apart. Each smaller count is its own byte.
 const APART: u8 = 255;
@@ -107,14 +109,16 @@ impl Counts {
     }
 
     /// What the counts behind the one with this index come to. It takes time for each of them.
-    pub fn sum_behind(&self, index: usize) -> usize
+    pub fn sum_behind<L: Ledger>(&self, index: usize, steps: &mut Steps<L>) -> usize
         requires index { index < length self.now }
         requires fits { sum (drop (index + 1) self.now) < 2 ^ 64 }
-        ensures { result ≡ sum (drop (index + 1) self.now) }
+        ensures sum { result ≡ sum (drop (index + 1) self.now) }
+        ensures steps { steps.new + 2 * (index + 1) ≤ steps.old + 2 * length self.now }
     {
-        let mut place = place_apart(&self.bytes, self.large.len(), index + 1);
+        let mut place = place_apart(&self.bytes, self.large.len(), index + 1, steps);
         let mut total = 0;
         for later in index + 1..self.bytes.len() {
+            steps.tick();
             let byte = self.bytes[later];
             if byte == APART {
                 total += self.large[place];
@@ -128,16 +132,22 @@ impl Counts {
 
     /// The count with this index grows. An error, that memory has run out, leaves the counts as
     /// they were. It takes time for each count from there on.
-    pub fn add(&mut self, index: usize, more: usize) -> Result<(), AllocError>
+    pub fn add<L: Ledger>(
+        &mut self,
+        index: usize,
+        more: usize,
+        steps: &mut Steps<L>,
+    ) -> Result<(), AllocError>
         requires index { index < length self.old }
         requires fits { slice_index self.old index + more < 2 ^ 64 }
-        ensures { self.new ≡ (if is_ok result
+        ensures counts { self.new ≡ (if is_ok result
             then slice_set self.old index (slice_index self.old index + more)
             else self.old) }
+        ensures steps { steps.new + 2 * index ≤ steps.old + 2 * length self.old }
     {
         let byte = self.bytes[index];
         if byte == APART {
-            let place = place_apart(&self.bytes, self.large.len(), index);
+            let place = place_apart(&self.bytes, self.large.len(), index, steps);
             self.large[place] += more;
             return Ok(());
         }
@@ -146,7 +156,9 @@ impl Counts {
             self.bytes[index] = grown as u8;
             return Ok(());
         }
-        let place = place_apart(&self.bytes, self.large.len(), index);
+        let place = place_apart(&self.bytes, self.large.len(), index, steps);
+        // So many of the counts that are kept apart give way.
+        steps.add(self.large.len() - place);
         self.large.insert(place, grown)?;
         self.bytes[index] = APART;
         Ok(())
@@ -154,13 +166,20 @@ impl Counts {
 }
 
 /// How many counts before an index are kept apart, of `all` of them.
-fn place_apart(bytes: &VecDeque<u8>, all: usize, index: usize) -> usize
+fn place_apart<L: Ledger>(
+    bytes: &VecDeque<u8>,
+    all: usize,
+    index: usize,
+    steps: &mut Steps<L>,
+) -> usize
     requires index { index ≤ length bytes.now.items }
     requires all { apart_in bytes.now.items ≡ all }
-    ensures { result ≡ apart_in (take index bytes.now.items) }
+    ensures place { result ≡ apart_in (take index bytes.now.items) }
+    ensures steps { steps.new + index ≡ steps.old + length bytes.now.items }
 {
     let mut place = all;
     for later in index..bytes.len() {
+        steps.tick();
         if bytes[later] == APART {
             place -= 1;
         }

@@ -1,8 +1,8 @@
 //! The words at the commits that wait, and what they show.
 
 ghost use Rattle.std.specs.VecDeque.{deque_len, deque_capacity};
-ghost use Rattle.std.specs.Prelude.{◌≡◌, ◌<◌, ◌≤◌, ◌^◌, ◌+◌, ◌++◌, ℕ, false, List, [], ◌∷◌, length};
-ghost use Rattle.std.specs.Prelude.{map, take, drop, sum, insert, replicate, slice_set};
+ghost use Rattle.std.specs.Prelude.{◌≡◌, ◌<◌, ◌≤◌, ◌^◌, ◌+◌, ◌*◌, ◌++◌, ℕ, false, List, [], ◌∷◌};
+ghost use Rattle.std.specs.Prelude.{length, map, take, drop, sum, insert, replicate, slice_set};
 ghost use Rattle.std.specs.Prelude.{slice_index, Some, IfOk, OnOk, vec_len, vec_capacity, All};
 ghost use Rattle.vyrd_base.specs.Rules.{rules_by};
 ghost use Rattle.vyrd_base.specs.Amounts.{with_amount, first_difference as least_difference};
@@ -10,6 +10,7 @@ ghost use Rattle.std.specs.Result.{is_err};
 ghost use Rattle.vyrd_base.specs.Layout.{plain_words};
 ghost use Rattle.vyrd_base.specs.Views.{view_of_words};
 ghost use Rattle.vyrd_shadow.specs.Blocks.{with_writes, AreInRange};
+ghost use Rattle.vyrd_words.specs.Costs.{writes_behind};
 ghost use Rattle.vyrd_words.specs.Cuts.{first_with, with_part, written};
 ghost use Rattle.vyrd_spec.specs.Touching.{with_touched, with_key};
 ghost use Rattle.vyrd_view.specs.Comparing.{AgreeElsewhere};
@@ -165,7 +166,13 @@ impl Views {
     /// The changed words have these values at a commit already, after which that many lists of
     /// writes stand: their writes take effect there, after all others. If no such commit waits,
     /// nothing happens. It costs time in what took effect since then.
-    pub fn late(&mut self, behind: usize, changed: &[u32], words: &[u64]) -> Result<(), AllocError>
+    pub fn late<L: Ledger>(
+        &mut self,
+        behind: usize,
+        changed: &[u32],
+        words: &[u64],
+        steps: &mut Steps<L>,
+    ) -> Result<(), AllocError>
         requires some { 0 < behind }
         requires changed { All (λ w. w < plain_words self.old.header) changed.now }
         requires all { length words.now ≡ plain_words self.old.header }
@@ -177,15 +184,18 @@ impl Views {
         ensures specified { self.new.specified ≡ self.old.specified }
         ensures sound { self.new.refused ≡ self.old.refused }
         ensures header { self.new.header ≡ self.old.header }
+        ensures steps { steps.new ≤ steps.old + length changed.now
+            + 2 * writes_behind behind self.old.since
+            + 4 * behind }
     {
         if behind > self.counts.len() {
             return Ok(());
         }
         let index = self.counts.len() - behind;
         self.writes.reserve(changed.len())?;
-        let place = place_behind(&self.counts, self.writes.len() - self.tail, index);
-        self.counts.add(index, changed.len())?;
-        put(&mut self.writes, place, changed, words);
+        let place = place_behind(&self.counts, self.writes.len() - self.tail, index, steps);
+        self.counts.add(index, changed.len(), steps)?;
+        put(&mut self.writes, place, changed, words, steps);
         Ok(())
     }
 
@@ -415,38 +425,74 @@ fn write_first(
 
 /// The place after the writes of the commit with this index. `all` is how many writes all commits
 /// have.
-fn place_behind(counts: &Counts, all: usize, index: usize) -> usize
+fn place_behind<L: Ledger>(counts: &Counts, all: usize, index: usize, steps: &mut Steps<L>) -> usize
     requires index { index < length counts.now }
     requires all { sum counts.now ≡ all }
-    ensures { result ≡ sum (take (index + 1) counts.now) }
+    ensures place { result ≡ sum (take (index + 1) counts.now) }
+    ensures steps { steps.new + 2 * (index + 1) ≤ steps.old + 2 * length counts.now }
 {
-    all - counts.sum_behind(index)
+    all - counts.sum_behind(index, steps)
 }
 
-/// The changed words are written from this place on. There is room for that.
-fn put(writes: &mut VecDeque<Write>, place: usize, changed: &[u32], words: &[u64])
+/// The changed words are written from this place on. There is room for that. It takes time for each
+/// of them, and for each write from that place on, or before it if these are fewer: all that stand
+/// there give way once, and not once for each new write.
+fn put<L: Ledger>(
+    writes: &mut VecDeque<Write>,
+    place: usize,
+    changed: &[u32],
+    words: &[u64],
+    steps: &mut Steps<L>,
+)
     requires place { place ≤ length writes.old.items }
     requires room { deque_len writes.old + length changed.now ≤ deque_capacity writes.old }
     requires changed { All (λ w. w < length words.now) changed.now }
     requires few { length words.now < 2 ^ 16 }
     ensures writes { writes.new.items ≡ take place writes.old.items ++ written words.now changed.now
         ++ drop place writes.old.items }
+    ensures steps { steps.new + 2 * place
+        ≤ steps.old + length changed.now + 2 * length writes.old.items }
 {
-    for (i, word) in changed.iter().enumerate() {
-        put_one(writes, place + i, *word, words[*word as usize]);
-    }
+    let behind = writes.len() - place;
+    turn(writes, place, steps);
+    put_last(writes, changed, words, steps);
+    turn(writes, behind, steps);
 }
 
-/// One more write at this place. There is room for it.
-fn put_one(writes: &mut VecDeque<Write>, place: usize, word: u32, value: u64)
-    requires place { place ≤ length writes.old.items }
-    requires room { deque_len writes.old < deque_capacity writes.old }
-    requires word { word < 2 ^ 16 }
-    ensures items { writes.new.items ≡ insert writes.old.items place (word, value) }
-    ensures len { deque_len writes.new ≡ deque_len writes.old + 1 }
-    ensures capacity { deque_capacity writes.old ≤ deque_capacity writes.new }
+/// The first writes come last. It goes by the shorter way round: those writes are moved, or the
+/// others if they are fewer.
+fn turn<L: Ledger>(writes: &mut VecDeque<Write>, count: usize, steps: &mut Steps<L>)
+    requires count { count ≤ length writes.old.items }
+    ensures writes { writes.new.items
+        ≡ drop count writes.old.items ++ take count writes.old.items }
+    ensures len { deque_len writes.new ≡ deque_len writes.old }
+    ensures capacity { deque_capacity writes.new ≡ deque_capacity writes.old }
+    ensures first { steps.new ≤ steps.old + count }
+    ensures others { steps.new + count ≤ steps.old + length writes.old.items }
 {
-    let _ = writes.insert(place, Write::new(word, value));
+    let others = writes.len() - count;
+    steps.add(count.min(others));
+    writes.rotate_left(count);
+}
+
+/// The changed words are written last. There is room for that.
+fn put_last<L: Ledger>(
+    writes: &mut VecDeque<Write>,
+    changed: &[u32],
+    words: &[u64],
+    steps: &mut Steps<L>,
+)
+    requires room { deque_len writes.old + length changed.now ≤ deque_capacity writes.old }
+    requires changed { All (λ w. w < length words.now) changed.now }
+    requires few { length words.now < 2 ^ 16 }
+    ensures writes { writes.new.items ≡ writes.old.items ++ written words.now changed.now }
+    ensures len { deque_len writes.new ≡ deque_len writes.old + length changed.now }
+    ensures steps { steps.new ≡ steps.old + length changed.now }
+{
+    for word in changed {
+        steps.tick();
+        writes.push_back_reserved(Write::new(*word, words[*word as usize]));
+    }
 }
 
 /// One more word has changed. There is room for it.

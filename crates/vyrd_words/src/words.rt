@@ -1,7 +1,7 @@
 //! The words of a log, and what of them waits to be compared.
 
-ghost use Rattle.std.specs.Prelude.{◌≡◌, ◌<◌, ◌^◌, ◌∷◌, ℕ, false, List, [], length, slice_index};
-ghost use Rattle.std.specs.Prelude.{IfOk, OnOk, replicate, All};
+ghost use Rattle.std.specs.Prelude.{◌≡◌, ◌<◌, ◌≤◌, ◌^◌, ◌+◌, ◌*◌, ◌∷◌, ℕ, false, List, [], length};
+ghost use Rattle.std.specs.Prelude.{slice_index, IfOk, OnOk, replicate, All};
 ghost use Rattle.vyrd_base.specs.Rules.{rules_by};
 ghost use Rattle.vyrd_base.specs.Amounts.{first_difference as least_difference};
 ghost use Rattle.vyrd_base.specs.declared.log.Entry.{Entry};
@@ -13,15 +13,19 @@ ghost use Rattle.vyrd_base.specs.Views.{view_of_words};
 ghost use Rattle.vyrd_shadow.specs.Blocks.{with_writes};
 ghost use Rattle.vyrd_spec.specs.Touching.{with_touched};
 ghost use Rattle.vyrd_view.specs.Comparing.{AgreeElsewhere};
+ghost use Rattle.vyrd_words.specs.Costs.{writes_behind, work_held, most_held};
+ghost use Rattle.vyrd_words.specs.Costs.{effect_count, owed};
 ghost use Rattle.vyrd_words.specs.Cuts.{first_with, with_part, written};
 ghost use Rattle.vyrd_words.specs.HasWords.{HasWords, HasTaken, Keeps, MayFollow};
 
 use crate::views::Views;
 use std::alloc::{AllocError, Global};
-use std::marker::Model;
+use std::marker::{Brand, Model};
+use std::sync::ledger::{Blank, Ledger};
 use vyrd_base::{Entry, Header, Kind, View};
 use vyrd_shadow::Shadow;
 use vyrd_spec::{Spec, Touched};
+use vyrd_view::Steps;
 
 /// The words after the entries so far, with what open blocks keep back, and the words at the
 /// commits that wait. It takes memory for each plain word, each write that an open block keeps
@@ -102,13 +106,82 @@ impl Words {
         ensures header { self.new.shadow.header ≡ self.old.shadow.header }
         ensures views_header { self.new.views.header ≡ self.old.views.header }
     {
+        follow_alone::<Brand>(Blank::new(1), self, entry, commits)
+    }
+
+    /// The same, with its steps counted. One step is a write that is passed on to the commits that
+    /// wait, a write that waits and gives way to a late one, or a commit that waits and is looked
+    /// at for that. What the end of a block costs is owed from the entries on that made it dear. So
+    /// each entry pays a constant, by the number of callers, and a log costs no more than that for
+    /// each of its entries.
+    #[inline(always)]
+    pub fn follow_counted<L: Ledger>(
+        &mut self,
+        entry: Entry,
+        commits: u64,
+        steps: &mut Steps<L>,
+    ) -> Result<(), AllocError>
+        requires may { MayFollow self.old.shadow self.old.inner entry commits }
+        requires few { commits < 2 ^ 62 }
+        requires sound { self.old.views.refused ≡ false }
+        ensures taken { (starting : List StartWord) (earlier : List Entry)
+            → HasWords self.old.shadow self.old.inner starting earlier
+            → Keeps self.old.shadow.header earlier entry → commits ≡ commit_count earlier
+            → OnOk result (HasTaken self.new.shadow self.new.inner self.old.views
+            self.new.views starting entry earlier) }
+        ensures specified { OnOk result (self.new.views.specified ≡ self.old.views.specified) }
+        ensures sound { OnOk result (self.new.views.refused ≡ false) }
+        ensures header { self.new.shadow.header ≡ self.old.shadow.header }
+        ensures views_header { self.new.views.header ≡ self.old.views.header }
+        ensures steps { (starting : List StartWord) (earlier : List Entry)
+            → HasWords self.old.shadow self.old.inner starting earlier
+            → Keeps self.old.shadow.header earlier entry → commits ≡ commit_count earlier
+            → OnOk result (steps.new
+            + owed self.old.shadow.header.callers (entry ∷ earlier) self.new.views.since
+            ≤ steps.old + owed self.old.shadow.header.callers earlier self.old.views.since
+            + (1 + 6 * self.old.shadow.header.callers)) }
+    {
+        self.follow_kind(entry, commits, steps)
+    }
+
+    /// The same, with its steps by the effects of the entry, and by the work that open blocks hold.
+    #[inline(always)]
+    fn follow_kind<L: Ledger>(
+        &mut self,
+        entry: Entry,
+        commits: u64,
+        steps: &mut Steps<L>,
+    ) -> Result<(), AllocError>
+        requires may { MayFollow self.old.shadow self.old.inner entry commits }
+        requires few { commits < 2 ^ 62 }
+        requires sound { self.old.views.refused ≡ false }
+        ensures taken { (starting : List StartWord) (earlier : List Entry)
+            → HasWords self.old.shadow self.old.inner starting earlier
+            → Keeps self.old.shadow.header earlier entry → commits ≡ commit_count earlier
+            → OnOk result (HasTaken self.new.shadow self.new.inner self.old.views
+            self.new.views starting entry earlier) }
+        ensures specified { OnOk result (self.new.views.specified ≡ self.old.views.specified) }
+        ensures sound { OnOk result (self.new.views.refused ≡ false) }
+        ensures header { self.new.shadow.header ≡ self.old.shadow.header }
+        ensures views_header { self.new.views.header ≡ self.old.views.header }
+        ensures steps { (starting : List StartWord) (earlier : List Entry)
+            → HasWords self.old.shadow self.old.inner starting earlier
+            → Keeps self.old.shadow.header earlier entry → commits ≡ commit_count earlier
+            → OnOk result
+            (steps.new + work_held self.old.shadow.header.callers (entry ∷ earlier)
+            self.new.views.since
+            ≤ steps.old + work_held self.old.shadow.header.callers earlier self.old.views.since
+            + effect_count self.old.shadow entry.caller entry.kind
+            + most_held self.old.shadow.header.callers
+            (effect_count self.old.shadow entry.caller entry.kind)) }
+    {
         let caller = entry.caller;
         match entry.kind {
             Kind::Call(_, _) => Ok(()),
             Kind::Return(_) => Ok(()),
             Kind::Write(word, value) => {
                 self.shadow.write(caller, word, value)?;
-                pass_on(&mut self.shadow, &mut self.views)
+                pass_on(&mut self.shadow, &mut self.views, steps)
             }
             Kind::BlockOpen => {
                 self.shadow.open_block(caller);
@@ -119,10 +192,10 @@ impl Words {
                 self.shadow.close_block(caller);
                 let number = self.inner[caller as usize];
                 if number == 0 {
-                    pass_on(&mut self.shadow, &mut self.views)
+                    pass_on(&mut self.shadow, &mut self.views, steps)
                 } else {
                     let behind = (commits - number) as usize + 1;
-                    pass_back(&mut self.shadow, &mut self.views, behind)
+                    pass_back(&mut self.shadow, &mut self.views, behind, steps)
                 }
             }
             Kind::Commit => {
@@ -131,7 +204,7 @@ impl Words {
             }
             Kind::BlockCommit => {
                 self.shadow.close_block(caller);
-                pass_on(&mut self.shadow, &mut self.views)?;
+                pass_on(&mut self.shadow, &mut self.views, steps)?;
                 self.views.cut()
             }
         }
@@ -162,6 +235,10 @@ impl Words {
         ensures since { (part : List (ℕ × ℕ)) (rest : List (List (ℕ × ℕ)))
             → self.old.views.since ≡ part ∷ rest
             → OnOk result (self.new.views.since ≡ rest) }
+        ensures owed { (callers : ℕ) (earlier : List Entry) (part : List (ℕ × ℕ))
+            (rest : List (List (ℕ × ℕ))) → self.old.views.since ≡ part ∷ rest
+            → OnOk result (owed callers earlier self.new.views.since
+            ≤ owed callers earlier self.old.views.since) }
         ensures specified { OnOk result (self.new.views.specified
             ≡ with_touched touched
             ((rules_by (S.charter spec.now)).shown (S.state spec.now)) self.old.views.specified) }
@@ -174,9 +251,41 @@ impl Words {
     }
 }
 
+/// Follows an entry with a count of its own.
+#[inline(always)]
+fn follow_alone<L: Ledger>(
+    blank: Blank,
+    words: &mut Words,
+    entry: Entry,
+    commits: u64,
+) -> Result<(), AllocError>
+    requires name { blank.name ≡ L.name }
+    requires parts { blank.parts ≡ L.parts }
+    requires some { 0 < blank.parts }
+    requires may { MayFollow words.old.shadow words.old.inner entry commits }
+    requires few { commits < 2 ^ 62 }
+    requires sound { words.old.views.refused ≡ false }
+    ensures taken { (starting : List StartWord) (earlier : List Entry)
+        → HasWords words.old.shadow words.old.inner starting earlier
+        → Keeps words.old.shadow.header earlier entry → commits ≡ commit_count earlier
+        → OnOk result (HasTaken words.new.shadow words.new.inner words.old.views
+        words.new.views starting entry earlier) }
+    ensures specified { OnOk result (words.new.views.specified ≡ words.old.views.specified) }
+    ensures sound { OnOk result (words.new.views.refused ≡ false) }
+    ensures header { words.new.shadow.header ≡ words.old.shadow.header }
+    ensures views_header { words.new.views.header ≡ words.old.views.header }
+{
+    let mut steps = Steps::<L>::new(blank);
+    words.follow_counted(entry, commits, &mut steps)
+}
+
 /// What effects have changed is known to the views too.
 #[inline(always)]
-fn pass_on(shadow: &mut Shadow, views: &mut Views) -> Result<(), AllocError>
+fn pass_on<L: Ledger>(
+    shadow: &mut Shadow,
+    views: &mut Views,
+    steps: &mut Steps<L>,
+) -> Result<(), AllocError>
     requires header { views.old.header ≡ shadow.old.header }
     requires sound { views.old.refused ≡ false }
     ensures within { All (λ w. w < plain_words shadow.old.header) shadow.old.changed }
@@ -190,15 +299,21 @@ fn pass_on(shadow: &mut Shadow, views: &mut Views) -> Result<(), AllocError>
     ensures shadow { OnOk result (shadow.new ≡ record shadow.old { changed = [] }) }
     ensures shadow_header { shadow.new.header ≡ shadow.old.header }
     ensures views_header { views.new.header ≡ views.old.header }
+    ensures steps { steps.new ≤ steps.old + length shadow.old.changed }
 {
-    give(views, shadow.changed(), shadow.words())?;
+    give(views, shadow.changed(), shadow.words(), steps)?;
     shadow.clear_changed();
     Ok(())
 }
 
 /// What effects have changed was so at a commit already, after which that many lists of writes
 /// stand.
-fn pass_back(shadow: &mut Shadow, views: &mut Views, behind: usize) -> Result<(), AllocError>
+fn pass_back<L: Ledger>(
+    shadow: &mut Shadow,
+    views: &mut Views,
+    behind: usize,
+    steps: &mut Steps<L>,
+) -> Result<(), AllocError>
     requires some { 0 < behind }
     requires header { views.old.header ≡ shadow.old.header }
     requires sound { views.old.refused ≡ false }
@@ -213,15 +328,23 @@ fn pass_back(shadow: &mut Shadow, views: &mut Views, behind: usize) -> Result<()
     ensures shadow { OnOk result (shadow.new ≡ record shadow.old { changed = [] }) }
     ensures shadow_header { shadow.new.header ≡ shadow.old.header }
     ensures views_header { views.new.header ≡ views.old.header }
+    ensures steps { steps.new ≤ steps.old + length shadow.old.changed
+        + 2 * writes_behind behind views.old.since
+        + 4 * behind }
 {
-    views.late(behind, shadow.changed(), shadow.words())?;
+    views.late(behind, shadow.changed(), shadow.words(), steps)?;
     shadow.clear_changed();
     Ok(())
 }
 
 /// The views learn the changed words.
 #[inline(always)]
-fn give(views: &mut Views, changed: &[u32], words: &[u64]) -> Result<(), AllocError>
+fn give<L: Ledger>(
+    views: &mut Views,
+    changed: &[u32],
+    words: &[u64],
+    steps: &mut Steps<L>,
+) -> Result<(), AllocError>
     requires changed { All (λ w. w < plain_words views.old.header) changed.now }
     requires all { length words.now ≡ plain_words views.old.header }
     requires values { (w : ℕ) → slice_index words.now w < 2 ^ 63 }
@@ -233,8 +356,10 @@ fn give(views: &mut Views, changed: &[u32], words: &[u64]) -> Result<(), AllocEr
     ensures specified { OnOk result (views.new.specified ≡ views.old.specified) }
     ensures sound { OnOk result (views.new.refused ≡ false) }
     ensures header { views.new.header ≡ views.old.header }
+    ensures steps { steps.new ≤ steps.old + length changed.now }
 {
     for word in changed {
+        steps.tick();
         views.effect(*word, words[*word as usize])?;
     }
     Ok(())

@@ -1,20 +1,21 @@
-use Rattle.std.proofs.Common.{◌≡◌, ℕ, List, ◌+◌, ◌∷◌, ◌++◌, [], take, get_or, refl, ap, sym, ◌∙◌}
+use Rattle.std.proofs.Common.{◌≡◌, ℕ, List, ◌+◌, ◌∷◌, ◌++◌, [], take, get_or, arith, refl, ap, sym, ◌∙◌}
 use Rattle.std.proofs.lemmas.List.{take_more, take_all}
 use Rattle.vyrd_words.specs.Cuts.{first_with, with_part, written}
 use Rattle.vyrd_words.proofs.CutLaws.{first_with_nothing, with_part_nothing, first_with_twice, with_part_twice, written_more}
 use Rattle.vyrd_words.proofs.words.give.Goals as goal
 
 pub loop-word-init : goal.loop-word-init
-loop-word-init c = record {
+loop-word-init g c = record {
   first = sym (first_with_nothing 0 c.args.views.now.first c.args.views.now.since);
   since = sym (with_part_nothing 0 c.args.views.now.since);
   specified = refl;
   sound = c.requires.sound;
   header = refl;
+  steps = omega arith;
 }
 
 pub loop-word-preserved : goal.loop-word-preserved
-loop-word-preserved c =
+loop-word-preserved g c =
     let i = c.loop-word.word-index in
     let all = c.args.changed.now in
     let words = c.args.words.now in
@@ -36,16 +37,17 @@ loop-word-preserved c =
       specified = c.in_ok-effect.ensures.specified ∙ c.loop-word.invariant.specified;
       sound = c.in_ok-effect.ensures.sound;
       header = c.effect.ensures.header ∙ c.loop-word.invariant.header;
+      steps = omega (arith, c.tick.ensures, c.loop-word.invariant.steps);
     }
 
 pub returns-clause-first : goal.returns-clause-first
-returns-clause-first c =
+returns-clause-first g c =
     c.loop-word.invariant.first
     ∙ ap (λ xs. first_with 0 (written c.args.words.now xs) c.args.views.now.first c.args.views.now.since)
     (take_all c.loop-word.word-index c.args.changed.now c.loop-word-test.false)
 
 pub returns-clause-since : goal.returns-clause-since
-returns-clause-since c =
+returns-clause-since g c =
     c.loop-word.invariant.since
     ∙ ap (λ xs. with_part 0 (written c.args.words.now xs) c.args.views.now.since)
     (take_all c.loop-word.word-index c.args.changed.now c.loop-word-test.false)

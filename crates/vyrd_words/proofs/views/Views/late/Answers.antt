@@ -3,11 +3,13 @@ use Rattle.std.specs.Prelude.{All}
 use Rattle.vyrd_base.specs.Layout.{plain_words}
 use Rattle.vyrd_shadow.specs.Blocks.{AreInRange}
 use Rattle.vyrd_words.specs.Cuts.{Cuts, AreCuts, first_of, since_of, first_with, with_part, written}
-use Rattle.vyrd_words.proofs.CutLaws.{put_at, place_of_cut, first_late, since_late, late_cuts, written_in_range, length-written, length-since_of, first_far, since_far}
+use Rattle.std.proofs.lemmas.List.Sums.{sum_by-take-drop}
+use Rattle.vyrd_words.specs.Costs.{writes_behind}
+use Rattle.vyrd_words.proofs.CutLaws.{writes_after, put_at, place_of_cut, first_late, since_late, late_cuts, written_in_range, length-written, length-since_of, first_far, since_far}
 use Rattle.vyrd_words.proofs.views.Views.late.Goals as goal
 
 pub returns-then-behind-len-clause-first : goal.returns-then-behind-len-clause-first
-returns-then-behind-len-clause-first c =
+returns-then-behind-len-clause-first g c =
     let i = c.self.inside in
     let far : length (since_of i.counts i.writes.items) < c.args.behind =
     omega (arith, length-since_of i.counts i.writes.items, c.len.ensures, c.if-behind-len.true) in
@@ -15,7 +17,7 @@ returns-then-behind-len-clause-first c =
     (subst (λ (v : Cuts). length v.since < c.args.behind) c.self.view_is far)
 
 pub returns-then-behind-len-clause-since : goal.returns-then-behind-len-clause-since
-returns-then-behind-len-clause-since c =
+returns-then-behind-len-clause-since g c =
     let i = c.self.inside in
     let far : length (since_of i.counts i.writes.items) < c.args.behind =
     omega (arith, length-since_of i.counts i.writes.items, c.len.ensures, c.if-behind-len.true) in
@@ -23,18 +25,18 @@ returns-then-behind-len-clause-since c =
     (subst (λ (v : Cuts). length v.since < c.args.behind) c.self.view_is far)
 
 pub invariant_of-self-2 : goal.invariant_of-self-2
-invariant_of-self-2 c =
+invariant_of-self-2 g c =
     let i = c.self.inside in
     let index : ℕ = c.len-2.result - c.args.behind in
     let ks = i.counts in
     let new = written c.args.words.now c.args.changed.now in
     let low : index < length ks = omega (arith, c.len.ensures, c.len-2.ensures, c.if-behind-len.false, c.requires.some) in
     let one : index + 1 ≡ suc index = omega arith in
-    let place : c.place_behind-place.result ≡ place_of_cut ks index = c.place_behind-place.ensures ∙ ap (λ n. sum (take n ks)) one in
+    let place : c.place_behind-place.result ≡ place_of_cut ks index = c.place_behind-place.ensures.place ∙ ap (λ n. sum (take n ks)) one in
     let writes : c.put.new.writes.items ≡ put_at (place_of_cut ks index) new i.writes.items =
     c.put.ensures.writes ∙ (λ j. put_at (place j) new (c.in_ok-reserve.ensures.items j)) in
     let counts : c.add.new.self ≡ set ks index (get_or ks index 0 + length new) =
-    c.in_ok-add.ensures ∙ ap (λ n. set ks index (get_or ks index 0 + n)) (sym (length-written c.args.words.now c.args.changed.now)) in
+    c.in_ok-add.ensures.counts ∙ ap (λ n. set ks index (get_or ks index 0 + n)) (sym (length-written c.args.words.now c.args.changed.now)) in
     let fits : AreInRange (plain_words i.header) new =
     written_in_range (plain_words i.header) c.args.words.now c.args.changed.now
     (subst (λ (v : Cuts). All (λ w. w < plain_words v.header) c.args.changed.now) (sym c.self.view_is) c.requires.changed) c.requires.values in (
@@ -45,18 +47,18 @@ invariant_of-self-2 c =
     )
 
 pub returns-clause-first : goal.returns-clause-first
-returns-clause-first c =
+returns-clause-first g c =
     let i = c.self.inside in
     let index : ℕ = c.len-2.result - c.args.behind in
     let ks = i.counts in
     let new = written c.args.words.now c.args.changed.now in
     let low : index < length ks = omega (arith, c.len.ensures, c.len-2.ensures, c.if-behind-len.false, c.requires.some) in
     let one : index + 1 ≡ suc index = omega arith in
-    let place : c.place_behind-place.result ≡ place_of_cut ks index = c.place_behind-place.ensures ∙ ap (λ n. sum (take n ks)) one in
+    let place : c.place_behind-place.result ≡ place_of_cut ks index = c.place_behind-place.ensures.place ∙ ap (λ n. sum (take n ks)) one in
     let writes : c.put.new.writes.items ≡ put_at (place_of_cut ks index) new i.writes.items =
     c.put.ensures.writes ∙ (λ j. put_at (place j) new (c.in_ok-reserve.ensures.items j)) in
     let counts : c.add.new.self ≡ set ks index (get_or ks index 0 + length new) =
-    c.in_ok-add.ensures ∙ ap (λ n. set ks index (get_or ks index 0 + n)) (sym (length-written c.args.words.now c.args.changed.now)) in
+    c.in_ok-add.ensures.counts ∙ ap (λ n. set ks index (get_or ks index 0 + n)) (sym (length-written c.args.words.now c.args.changed.now)) in
     let within : sum ks ≤ length i.writes.items = omega (arith, c.self.invariant.0.counted) in
     let behind : length ks - index ≡ c.args.behind = omega (arith, c.len.ensures, c.len-2.ensures, c.if-behind-len.false) in
     (λ j. first_of i.words.items (counts j) (writes j))
@@ -65,21 +67,37 @@ returns-clause-first c =
     ∙ ap (λ (v : Cuts). first_with c.args.behind new v.first v.since) c.self.view_is
 
 pub returns-clause-since : goal.returns-clause-since
-returns-clause-since c =
+returns-clause-since g c =
     let i = c.self.inside in
     let index : ℕ = c.len-2.result - c.args.behind in
     let ks = i.counts in
     let new = written c.args.words.now c.args.changed.now in
     let low : index < length ks = omega (arith, c.len.ensures, c.len-2.ensures, c.if-behind-len.false, c.requires.some) in
     let one : index + 1 ≡ suc index = omega arith in
-    let place : c.place_behind-place.result ≡ place_of_cut ks index = c.place_behind-place.ensures ∙ ap (λ n. sum (take n ks)) one in
+    let place : c.place_behind-place.result ≡ place_of_cut ks index = c.place_behind-place.ensures.place ∙ ap (λ n. sum (take n ks)) one in
     let writes : c.put.new.writes.items ≡ put_at (place_of_cut ks index) new i.writes.items =
     c.put.ensures.writes ∙ (λ j. put_at (place j) new (c.in_ok-reserve.ensures.items j)) in
     let counts : c.add.new.self ≡ set ks index (get_or ks index 0 + length new) =
-    c.in_ok-add.ensures ∙ ap (λ n. set ks index (get_or ks index 0 + n)) (sym (length-written c.args.words.now c.args.changed.now)) in
+    c.in_ok-add.ensures.counts ∙ ap (λ n. set ks index (get_or ks index 0 + n)) (sym (length-written c.args.words.now c.args.changed.now)) in
     let within : sum ks ≤ length i.writes.items = omega (arith, c.self.invariant.0.counted) in
     let behind : length ks - index ≡ c.args.behind = omega (arith, c.len.ensures, c.len-2.ensures, c.if-behind-len.false) in
     (λ j. since_of (counts j) (writes j))
     ∙ since_late ks index new i.writes.items low within
     ∙ ap (λ n. with_part n new (since_of ks i.writes.items)) behind
     ∙ ap (λ (v : Cuts). with_part c.args.behind new v.since) c.self.view_is
+
+pub returns-clause-steps : goal.returns-clause-steps
+returns-clause-steps g c =
+    let i = c.self.inside in
+    let ks = i.counts in
+    let index : ℕ = c.len-2.result - c.args.behind in
+    let low : index < length ks = omega (arith, c.len.ensures, c.len-2.ensures, c.if-behind-len.false, c.requires.some) in
+    let one : index + 1 ≡ suc index = omega arith in
+    let place : c.place_behind-place.result ≡ place_of_cut ks index = c.place_behind-place.ensures.place ∙ ap (λ n. sum (take n ks)) one in
+    let behind : length ks - index ≡ c.args.behind = omega (arith, c.len.ensures, c.len-2.ensures, c.if-behind-len.false) in
+    let within : place_of_cut ks index ≤ length i.writes.items = omega (arith, c.self.invariant.0.counted, sum_by-take-drop (λ n. n) ks (suc index)) in
+    let after : writes_behind (length ks - index) (since_of ks i.writes.items) + place_of_cut ks index ≡ length i.writes.items =
+    writes_after ks index i.writes.items low within in
+    let same : writes_behind (length ks - index) (since_of ks i.writes.items) ≡ writes_behind c.args.behind c.args.self.now.since =
+    ap (λ n. writes_behind n (since_of ks i.writes.items)) behind ∙ ap (λ (v : Cuts). writes_behind c.args.behind v.since) c.self.view_is in
+    omega (arith, c.put.ensures.steps, c.in_ok-add.ensures.steps, c.place_behind-place.ensures.steps, place, after, same, behind, low, ap length (c.in_ok-reserve.ensures.items))

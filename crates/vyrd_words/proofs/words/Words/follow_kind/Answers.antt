@@ -1,67 +1,72 @@
-use Rattle.std.proofs.Common.{◌≡◌, ◌<◌, ◌+◌, suc, length, Some, refl, ap, sym, ◌∙◌, arith}
+use Rattle.std.proofs.Common.{[], ◌∷◌, ◌++◌, ◌≡◌, ◌<◌, ◌+◌, suc, length, Some, refl, ap, sym, ◌∙◌, arith}
 use Rattle.std.proofs.lemmas.Option.{slice_get-get_or}
 use Rattle.vyrd_base.specs.declared.log.Kind.TheVariants.{Call, Return}
 use Rattle.vyrd_base.specs.Commits.{commit_count}
 use Rattle.vyrd_words.proofs.ShadowFacts.{call_followed, return_followed, commit_followed}
+use Rattle.vyrd_shadow.specs.Following.{is_open, kept_writes}
+use Rattle.vyrd_words.specs.Cuts.{with_part, written}
+use Rattle.vyrd_words.specs.Costs.{late_cost}
+use Rattle.vyrd_words.proofs.CutLaws.{with_part_nothing, length-written}
+use Rattle.vyrd_words.proofs.CostLaws.{paid_now, paid_closed, one_changed, block_changed}
 use Rattle.vyrd_words.proofs.WordsLaws.{may_opened, has_opened, keeps_opened, taken_closed, may_caller, may_word, may_value, may_open, may_close, may_block_commit, may_number, keeps_as, quiet_taken, open_taken, write_taken, close_taken, commit_taken, block_commit_taken, parts_since_none, parts_since_some, ok_two, ok_three, taken_as, low_caller, closes_block, commits_block}
-use Rattle.vyrd_words.proofs.words.Words.follow.Goals as goal
+use Rattle.vyrd_words.proofs.words.Words.follow_kind.Goals as goal
 
 pub write-requires-clause-caller : goal.write-requires-clause-caller
-write-requires-clause-caller c = may_caller (may_opened c.self.view_is c.requires.may)
+write-requires-clause-caller g c = may_caller (may_opened c.self.view_is c.requires.may)
 
 pub write-requires-clause-word : goal.write-requires-clause-word
-write-requires-clause-word c = may_word c.in-Write.is (may_opened c.self.view_is c.requires.may)
+write-requires-clause-word g c = may_word c.in-Write.is (may_opened c.self.view_is c.requires.may)
 
 pub write-requires-clause-value : goal.write-requires-clause-value
-write-requires-clause-value c = may_value c.in-Write.is (may_opened c.self.view_is c.requires.may)
+write-requires-clause-value g c = may_value c.in-Write.is (may_opened c.self.view_is c.requires.may)
 
 pub open_block-requires-clause-caller : goal.open_block-requires-clause-caller
-open_block-requires-clause-caller c = may_caller (may_opened c.self.view_is c.requires.may)
+open_block-requires-clause-caller g c = may_caller (may_opened c.self.view_is c.requires.may)
 
 pub open_block-requires-clause-closed : goal.open_block-requires-clause-closed
-open_block-requires-clause-closed c = may_open c.in-BlockOpen.is (may_opened c.self.view_is c.requires.may)
+open_block-requires-clause-closed g c = may_open c.in-BlockOpen.is (may_opened c.self.view_is c.requires.may)
 
 pub close_block-requires-clause-caller : goal.close_block-requires-clause-caller
-close_block-requires-clause-caller c = may_caller (may_opened c.self.view_is c.requires.may)
+close_block-requires-clause-caller g c = may_caller (may_opened c.self.view_is c.requires.may)
 
 pub close_block-requires-clause-opened : goal.close_block-requires-clause-opened
-close_block-requires-clause-opened c = may_close c.in-BlockClose.is (may_opened c.self.view_is c.requires.may)
+close_block-requires-clause-opened g c = may_close c.in-BlockClose.is (may_opened c.self.view_is c.requires.may)
 
 pub close_block-requires-in-BlockCommit-clause-caller : goal.close_block-requires-in-BlockCommit-clause-caller
-close_block-requires-in-BlockCommit-clause-caller c = may_caller (may_opened c.self.view_is c.requires.may)
+close_block-requires-in-BlockCommit-clause-caller g c = may_caller (may_opened c.self.view_is c.requires.may)
 
 pub close_block-requires-in-BlockCommit-clause-opened : goal.close_block-requires-in-BlockCommit-clause-opened
-close_block-requires-in-BlockCommit-clause-opened c = may_block_commit c.in-BlockCommit.is (may_opened c.self.view_is c.requires.may)
+close_block-requires-in-BlockCommit-clause-opened g c = may_block_commit c.in-BlockCommit.is (may_opened c.self.view_is c.requires.may)
 
 pub index_mut-requires : goal.index_mut-requires
-index_mut-requires c = omega (arith, may_caller (may_opened c.self.view_is c.requires.may), c.self.invariant.1)
+index_mut-requires g c = omega (arith, may_caller (may_opened c.self.view_is c.requires.may), c.self.invariant.1)
 
 pub index-number-requires : goal.index-number-requires
-index-number-requires c = omega (arith, may_caller (may_opened c.self.view_is c.requires.may), c.self.invariant.1)
+index-number-requires g c = omega (arith, may_caller (may_opened c.self.view_is c.requires.may), c.self.invariant.1)
 
 pub overflow_sub-behind : goal.overflow_sub-behind
-overflow_sub-behind c =
+overflow_sub-behind g c =
     let low : c.args.entry.caller < length c.self.inside.inner.items = omega (arith, may_caller (may_opened c.self.view_is c.requires.may), c.self.invariant.1, c.self.inside.inner.ok.0) in
     may_number c.index-number.result.now
     (slice_get-get_or c.self.inside.inner.items c.args.entry.caller c.index-number.result.now low ∙ ap Some (sym c.index-number.ensures)) (may_opened c.self.view_is c.requires.may)
 
 pub index_mut-requires-in-Commit : goal.index_mut-requires-in-Commit
-index_mut-requires-in-Commit c = omega (arith, may_caller (may_opened c.self.view_is c.requires.may), c.self.invariant.1)
+index_mut-requires-in-Commit g c = omega (arith, may_caller (may_opened c.self.view_is c.requires.may), c.self.invariant.1)
 
 pub returns-in-Call-clause-taken : goal.returns-in-Call-clause-taken
-returns-in-Call-clause-taken c = λ starting earlier has keeps counted.
+returns-in-Call-clause-taken g c = λ starting earlier has keeps counted.
     taken_as c.args.entry c.in-Call.is
     (quiet_taken _ _ _ starting earlier c.args.entry.caller (Call c.in-Call.field-0 c.in-Call.field-1) refl refl (λ commits number. refl) has
     (call_followed _ starting earlier c.args.entry.caller c.in-Call.field-0 c.in-Call.field-1 (keeps_as c.in-Call.is keeps).rules has.followed))
 
 pub returns-in-Return-clause-taken : goal.returns-in-Return-clause-taken
-returns-in-Return-clause-taken c = λ starting earlier has keeps counted.
+returns-in-Return-clause-taken g c = λ starting earlier has keeps counted.
     taken_as c.args.entry c.in-Return.is
     (quiet_taken _ _ _ starting earlier c.args.entry.caller (Return c.in-Return.field-0) refl refl (λ commits number. refl) has
     (return_followed _ starting earlier c.args.entry.caller c.in-Return.field-0 (keeps_as c.in-Return.is keeps).rules has.followed))
 
 pub returns-in-BlockOpen-clause-taken : goal.returns-in-BlockOpen-clause-taken
-returns-in-BlockOpen-clause-taken c = λ starting earlier seen kept counted.
+returns-in-BlockOpen-clause-taken g c = λ starting earlier seen kept counted.
     let before = c.self.inside in
     let has = has_opened c.self.view_is seen in
     let keeps = keeps_opened c.self.view_is kept in
@@ -72,7 +77,7 @@ returns-in-BlockOpen-clause-taken c = λ starting earlier seen kept counted.
     c.open_block.ensures.header c.open_block.ensures.changed low))
 
 pub returns-in_ok-write-in-Write-clause-taken : goal.returns-in_ok-write-in-Write-clause-taken
-returns-in_ok-write-in-Write-clause-taken c = λ starting earlier seen kept counted.
+returns-in_ok-write-in-Write-clause-taken g c = λ starting earlier seen kept counted.
     let before = c.self.inside in
     let has = has_opened c.self.view_is seen in
     let keeps = keeps_opened c.self.view_is kept in
@@ -84,7 +89,7 @@ returns-in_ok-write-in-Write-clause-taken c = λ starting earlier seen kept coun
     c.write.ensures.header c.pass_on.ensures.within c.in_ok-write-in-Write.ensures.changed shadow first since)))
 
 pub returns-then-number-eq0-clause-taken : goal.returns-then-number-eq0-clause-taken
-returns-then-number-eq0-clause-taken c = λ starting earlier seen kept counted.
+returns-then-number-eq0-clause-taken g c = λ starting earlier seen kept counted.
     let before = c.self.inside in
     let has = has_opened c.self.view_is seen in
     let keeps = keeps_opened c.self.view_is kept in
@@ -102,7 +107,7 @@ returns-then-number-eq0-clause-taken c = λ starting earlier seen kept counted.
     first since)))
 
 pub returns-else-number-eq0-clause-taken : goal.returns-else-number-eq0-clause-taken
-returns-else-number-eq0-clause-taken c = λ starting earlier seen kept counted.
+returns-else-number-eq0-clause-taken g c = λ starting earlier seen kept counted.
     let before = c.self.inside in
     let has = has_opened c.self.view_is seen in
     let keeps = keeps_opened c.self.view_is kept in
@@ -119,7 +124,7 @@ returns-else-number-eq0-clause-taken c = λ starting earlier seen kept counted.
     first since)))
 
 pub returns-in-Commit-clause-taken : goal.returns-in-Commit-clause-taken
-returns-in-Commit-clause-taken c = λ starting earlier seen kept counted.
+returns-in-Commit-clause-taken g c = λ starting earlier seen kept counted.
     let before = c.self.inside in
     let has = has_opened c.self.view_is seen in
     let keeps = keeps_opened c.self.view_is kept in
@@ -131,7 +136,7 @@ returns-in-Commit-clause-taken c = λ starting earlier seen kept counted.
     (commit_followed before.shadow starting earlier c.args.entry.caller (keeps_as c.in-Commit.is keeps).rules has.followed) low one first since)))
 
 pub returns-in_ok-pass_on-in-BlockCommit-clause-taken : goal.returns-in_ok-pass_on-in-BlockCommit-clause-taken
-returns-in_ok-pass_on-in-BlockCommit-clause-taken c = λ starting earlier seen kept counted.
+returns-in_ok-pass_on-in-BlockCommit-clause-taken g c = λ starting earlier seen kept counted.
     let before = c.self.inside in
     let has = has_opened c.self.view_is seen in
     let keeps = keeps_opened c.self.view_is kept in
@@ -144,3 +149,84 @@ returns-in_ok-pass_on-in-BlockCommit-clause-taken c = λ starting earlier seen k
     (c.close_block-in-BlockCommit.ensures.committed starting earlier has.followed (keeps_as c.in-BlockCommit.is keeps).rules)
     c.close_block-in-BlockCommit.ensures.header on.ensures.within c.close_block-in-BlockCommit.ensures.changed ok.ensures.shadow
     ok.ensures.first ok.ensures.since first since)))
+
+pub returns-in-BlockOpen-clause-steps : goal.returns-in-BlockOpen-clause-steps
+returns-in-BlockOpen-clause-steps g c = λ starting earlier seen kept counted.
+    let before = c.self.inside in
+    let keeps = keeps_opened c.self.view_is kept in
+    paid_now c.args.entry earlier [] before.views.since c.args.steps.now c.args.steps.now c.self.view_is c.in-BlockOpen.is (low_caller keeps) (λ no. cc) refl
+    (omega arith) (sym (with_part_nothing 0 before.views.since))
+
+pub returns-in-Commit-clause-steps : goal.returns-in-Commit-clause-steps
+returns-in-Commit-clause-steps g c = λ starting earlier seen kept counted.
+    let before = c.self.inside in
+    let keeps = keeps_opened c.self.view_is kept in
+    paid_closed c.cut.result c.args.entry earlier [] c.cut.new.self.since c.args.steps.now c.args.steps.now c.self.view_is c.in-Commit.is (low_caller keeps) (λ no. cc) refl
+    (omega arith) (ok_two c.cut.result c.cut.ensures.since c.cut.ensures.since
+    (λ since twice. since ∙ ap (λ parts. parts ++ [] ∷ []) (sym (with_part_nothing 0 before.views.since))))
+
+pub returns-in_ok-write-in-Write-clause-steps : goal.returns-in_ok-write-in-Write-clause-steps
+returns-in_ok-write-in-Write-clause-steps g c = λ starting earlier seen kept counted.
+    let before = c.self.inside in
+    let has = has_opened c.self.view_is seen in
+    let keeps = keeps_opened c.self.view_is kept in
+    let mid = c.write.new.self in
+    let long = length-written mid.words mid.changed in
+    paid_closed c.pass_on.result c.args.entry earlier (written mid.words mid.changed) c.pass_on.new.views.since c.args.steps.now c.pass_on.new.steps
+    c.self.view_is c.in-Write.is (low_caller keeps) (λ no. cc)
+    (long ∙ one_changed (is_open before.shadow c.args.entry.caller) mid.changed before.shadow.changed c.in-Write.word c.in_ok-write-in-Write.ensures.changed has.unchanged)
+    (omega (arith, long, c.pass_on.ensures.steps)) c.pass_on.ensures.since
+
+pub returns-then-number-eq0-clause-steps : goal.returns-then-number-eq0-clause-steps
+returns-then-number-eq0-clause-steps g c = λ starting earlier seen kept counted.
+    let before = c.self.inside in
+    let has = has_opened c.self.view_is seen in
+    let keeps = keeps_opened c.self.view_is kept in
+    let low : c.args.entry.caller < length before.inner.items = omega (arith, low_caller keeps, c.self.invariant.1, before.inner.ok.0) in
+    let here = slice_get-get_or before.inner.items c.args.entry.caller c.index-number.result.now low ∙ ap Some (sym c.index-number.ensures) in
+    let on = c.pass_on-then-number-eq0 in
+    let mid = c.close_block.new.self in
+    let long = length-written mid.words mid.changed in
+    let none = parts_since_none before.inner.items c.args.entry.caller c.index-number.result.now earlier here (has.numbers c.args.entry.caller (low_caller keeps))
+    c.if-number-eq0.true in
+    paid_closed on.result c.args.entry earlier (written mid.words mid.changed) on.new.views.since c.args.steps.now on.new.steps
+    c.self.view_is c.in-BlockClose.is (low_caller keeps) (λ closes. closes_block c.in-BlockClose.is keeps)
+    (long ∙ block_changed mid.changed before.shadow.changed (kept_writes before.shadow c.args.entry.caller) c.close_block.ensures.changed has.unchanged)
+    (omega (arith, long, on.ensures.steps))
+    (ok_two on.result on.ensures.since on.ensures.since
+    (λ since twice. since ∙ ap (λ b. with_part b (written mid.words mid.changed) before.views.since) none))
+
+pub returns-else-number-eq0-clause-steps : goal.returns-else-number-eq0-clause-steps
+returns-else-number-eq0-clause-steps g c = λ starting earlier seen kept counted.
+    let before = c.self.inside in
+    let has = has_opened c.self.view_is seen in
+    let keeps = keeps_opened c.self.view_is kept in
+    let low : c.args.entry.caller < length before.inner.items = omega (arith, low_caller keeps, c.self.invariant.1, before.inner.ok.0) in
+    let here = slice_get-get_or before.inner.items c.args.entry.caller c.index-number.result.now low ∙ ap Some (sym c.index-number.ensures) in
+    let mid = c.close_block.new.self in
+    let long = length-written mid.words mid.changed in
+    let some = parts_since_some before.inner.items c.args.entry.caller c.index-number.result.now c.args.commits earlier here
+    (has.numbers c.args.entry.caller (low_caller keeps)) c.if-number-eq0.false counted in
+    let cost = ap (λ b. late_cost b before.views.since) some in
+    paid_closed c.pass_back.result c.args.entry earlier (written mid.words mid.changed) c.pass_back.new.views.since c.args.steps.now c.pass_back.new.steps
+    c.self.view_is c.in-BlockClose.is (low_caller keeps) (λ closes. closes_block c.in-BlockClose.is keeps)
+    (long ∙ block_changed mid.changed before.shadow.changed (kept_writes before.shadow c.args.entry.caller) c.close_block.ensures.changed has.unchanged)
+    (omega (arith, long, c.pass_back.ensures.steps, cost))
+    (ok_two c.pass_back.result c.pass_back.ensures.since c.pass_back.ensures.since
+    (λ since twice. since ∙ ap (λ b. with_part b (written mid.words mid.changed) before.views.since) some))
+
+pub returns-in_ok-pass_on-in-BlockCommit-clause-steps : goal.returns-in_ok-pass_on-in-BlockCommit-clause-steps
+returns-in_ok-pass_on-in-BlockCommit-clause-steps g c = λ starting earlier seen kept counted.
+    let before = c.self.inside in
+    let has = has_opened c.self.view_is seen in
+    let keeps = keeps_opened c.self.view_is kept in
+    let on = c.pass_on-in-BlockCommit in
+    let ok = c.in_ok-pass_on-in-BlockCommit in
+    let cut = c.cut-in-BlockCommit in
+    let mid = c.close_block-in-BlockCommit.new.self in
+    let long = length-written mid.words mid.changed in
+    paid_closed cut.result c.args.entry earlier (written mid.words mid.changed) cut.new.self.since c.args.steps.now on.new.steps
+    c.self.view_is c.in-BlockCommit.is (low_caller keeps) (λ no. cc)
+    (long ∙ block_changed mid.changed before.shadow.changed (kept_writes before.shadow c.args.entry.caller) c.close_block-in-BlockCommit.ensures.changed has.unchanged)
+    (omega (arith, long, on.ensures.steps))
+    (ok_two cut.result cut.ensures.since cut.ensures.since (λ since twice. since ∙ ap (λ parts. parts ++ [] ∷ []) ok.ensures.since))

@@ -1,0 +1,264 @@
+-- What late writes cost over a whole log: the work that open blocks hold is a potential.
+use Rattle.std.proofs.Common.{◌≡◌, ◌≢◌, ℕ, zero, suc, ◌+◌, ◌*◌, ◌-◌, ◌<◌, ◌≤◌, List, [], ◌∷◌, ◌++◌, length, drop, refl, ap, subst, ◌∙◌, sym, arith, Bool, true, false, cond, length-append, Option, None}
+use Rattle.std.specs.Prelude.{◌==◌, ◌||◌, unwrap_or}
+use Rattle.std.specs.Option.{option_or}
+use Rattle.std.specs.List.{sum_by, list_any}
+use Rattle.std.proofs.lemmas.List.Sums.{sum_by-cons, sum_by_push}
+use Rattle.std.proofs.lemmas.List.{drop-append-le}
+use Rattle.std.proofs.Math.Seq.{drop-length}
+use Rattle.vyrd_base.specs.declared.log.Kind.{Kind}
+use Rattle.vyrd_base.specs.declared.log.Kind.TheVariants.{Call, Return, Write, Commit, BlockOpen, BlockClose, BlockCommit}
+use Rattle.vyrd_base.specs.declared.log.Entry.{Entry}
+use Rattle.vyrd_base.specs.Callers.{has_block, by_caller, open_or_close}
+use Rattle.vyrd_base.specs.Commits.{is_commit, commit_count}
+use Rattle.vyrd_base.specs.Places.{first_answer, numbers_from, numbers_below}
+use Rattle.vyrd_base.proofs.Lasting.{commit_count-cons}
+use Rattle.vyrd_base.proofs.TestLaws.{same_of, apart_of, same_number}
+use Rattle.vyrd_words.specs.Cuts.{with_part}
+use Rattle.vyrd_words.specs.Effects.{cut_if, inner_number, number_at, parts_since, parts_behind}
+use Rattle.std.specs.Prelude.{Result, Ok, Err, OnOk}
+use Rattle.vyrd_shadow.specs.Following.{words_of}
+use Rattle.vyrd_words.specs.HasWords.{WordsView}
+use Rattle.vyrd_words.specs.Costs.{effect_count, writes_behind, late_cost, held_if, held, work_held, most_held}
+use Rattle.vyrd_words.proofs.CutLaws.{length-with_part}
+use Rattle.vyrd_words.proofs.WordsLaws.{number_low}
+
+-- no writes stand behind the last list
+pub none_behind : (since : List (List (ℕ × ℕ))) → writes_behind 0 since ≡ 0
+none_behind since =
+    let all : length since - 0 ≡ length since = omega arith in
+    ap (λ n. sum_by (λ part. length part) (drop n since)) all ∙ ap (sum_by (λ part. length part)) (drop-length since)
+
+-- after a commit, one list more
+pub behind_cut : (behind : ℕ) (since : List (List (ℕ × ℕ))) → writes_behind (suc behind) (since ++ [] ∷ []) ≡ writes_behind behind since
+behind_cut behind since =
+    let long = length-append since ([] ∷ []) in
+    let n : ℕ = length since - behind in
+    let same : length (since ++ [] ∷ []) - suc behind ≡ n = omega (arith, long) in
+    let cut : drop n (since ++ [] ∷ []) ≡ drop n since ++ [] ∷ [] = drop-append-le n since ([] ∷ []) (omega arith) in
+    let sums = ap (sum_by (λ part. length part)) cut ∙ sum_by_push (λ part. length part) (drop n since) [] in
+    let moved = ap (λ m. sum_by (λ part. length part) (drop m (since ++ [] ∷ []))) same in
+    omega (arith, sums, moved)
+
+-- further writes in some list
+all_more : (k : ℕ) (new : List (ℕ × ℕ)) (since : List (List (ℕ × ℕ)))
+    → sum_by (λ part. length part) (with_part k new since) ≤ sum_by (λ part. length part) since + length new
+all_more k new [] = omega arith
+all_more k new (part ∷ parts) = by_test (length parts == k) (all_more k new parts)
+  where
+    by_test : (b : Bool) → sum_by (λ p. length p) (with_part k new parts) ≤ sum_by (λ p. length p) parts + length new
+        → sum_by (λ p. length p) (cond b ((part ++ new) ∷ parts) (part ∷ with_part k new parts)) ≤ sum_by (λ p. length p) (part ∷ parts) + length new
+    by_test true rest =
+        omega (arith, sum_by-cons (λ p. length p) (part ++ new) parts, sum_by-cons (λ p. length p) part parts, length-append part new)
+    by_test false rest =
+        omega (arith, sum_by-cons (λ p. length p) part (with_part k new parts), sum_by-cons (λ p. length p) part parts, rest)
+
+drop_more_writes : (n k : ℕ) (new : List (ℕ × ℕ)) (since : List (List (ℕ × ℕ)))
+    → sum_by (λ part. length part) (drop n (with_part k new since)) ≤ sum_by (λ part. length part) (drop n since) + length new
+drop_more_writes zero k new since = all_more k new since
+drop_more_writes (suc n) k new [] = omega arith
+drop_more_writes (suc n) k new (part ∷ parts) = by_test (length parts == k) (drop_more_writes n k new parts)
+  where
+    by_test : (b : Bool) → sum_by (λ p. length p) (drop n (with_part k new parts)) ≤ sum_by (λ p. length p) (drop n parts) + length new
+        → sum_by (λ p. length p) (drop (suc n) (cond b ((part ++ new) ∷ parts) (part ∷ with_part k new parts)))
+        ≤ sum_by (λ p. length p) (drop n parts) + length new
+    by_test true rest = omega arith
+    by_test false rest = rest
+
+pub behind_more : (behind k : ℕ) (new : List (ℕ × ℕ)) (since : List (List (ℕ × ℕ)))
+    → writes_behind behind (with_part k new since) ≤ writes_behind behind since + length new
+behind_more behind k new since =
+    let same = ap (λ n. sum_by (λ part. length part) (drop (n - behind) (with_part k new since))) (length-with_part k new since) in
+    let more = drop_more_writes (length since - behind) k new since in
+    omega (arith, same, more)
+
+-- an entry's effects and its commit, seen from an open block
+pub grown : (cuts : Bool) (commits n k : ℕ) (new : List (ℕ × ℕ)) (since : List (List (ℕ × ℕ))) → n ≤ commits
+    → late_cost (parts_since (cond cuts 1 0 + commits) n) (cut_if cuts (with_part k new since))
+    ≤ late_cost (parts_since commits n) since + (2 * length new + 4)
+grown cuts commits zero k new since low =
+    let none = none_behind (cut_if cuts (with_part k new since)) in omega (arith, none)
+grown true commits (suc m) k new since low =
+    let one : 1 + commits - m ≡ suc (commits - m) = omega (arith, low) in
+    let cut = behind_cut (commits - m) (with_part k new since) in
+    let more = behind_more (commits - m) k new since in
+    let same = ap (λ b. writes_behind b (with_part k new since ++ [] ∷ [])) one in
+    omega (arith, one, cut, more, same)
+grown false commits (suc m) k new since low =
+    let none : 0 + commits - m ≡ commits - m = omega arith in
+    let more = behind_more (commits - m) k new since in
+    let same = ap (λ b. writes_behind b (with_part k new since)) none in
+    omega (arith, none, more, same)
+
+-- the same, of a block that may be closed
+seen_by_other : (is_open cuts : Bool) (commits n k : ℕ) (new : List (ℕ × ℕ)) (since : List (List (ℕ × ℕ))) → n ≤ commits
+    → held_if is_open n (cond cuts 1 0 + commits) (cut_if cuts (with_part k new since)) ≤ held_if is_open n commits since + (2 * length new + 4)
+seen_by_other true cuts commits n k new since low = grown cuts commits n k new since low
+seen_by_other false cuts commits n k new since low = omega arith
+
+-- a lone commit holds a commit alone
+new_commit : (is_open : Bool) (commits : ℕ) (since : List (List (ℕ × ℕ)))
+    → held_if is_open (suc commits) (1 + commits) (since ++ [] ∷ []) ≤ 4
+new_commit false commits since = omega arith
+new_commit true commits since =
+    let one : 1 + commits - commits ≡ 1 = omega arith in
+    let same = ap (λ b. writes_behind b (since ++ [] ∷ [])) one in
+    let cut = behind_cut 0 since in
+    let none = none_behind since in
+    omega (arith, one, same, cut, none)
+
+-- a caller's part of what is held, after an entry of this caller or another
+by_same : (same : Bool) (kind : Kind) (commits n : ℕ) (answer : Option Bool) (k : ℕ) (new : List (ℕ × ℕ)) (since : List (List (ℕ × ℕ))) → n ≤ commits
+    → held_if (unwrap_or (option_or (cond same (open_or_close kind) None) answer) false) (cond same (number_at kind commits n) n)
+    (cond (is_commit kind) 1 0 + commits) (cut_if (is_commit kind) (with_part k new since))
+    ≤ held_if (unwrap_or answer false) n commits since + (2 * length new + 4)
+by_same false kind commits n answer k new since low = seen_by_other (unwrap_or answer false) (is_commit kind) commits n k new since low
+by_same true (Call method args) commits n answer k new since low = seen_by_other (unwrap_or answer false) false commits n k new since low
+by_same true (Return reply) commits n answer k new since low = seen_by_other (unwrap_or answer false) false commits n k new since low
+by_same true (Write word value) commits n answer k new since low = seen_by_other (unwrap_or answer false) false commits n k new since low
+by_same true Commit commits n answer k new since low =
+    let one = new_commit (unwrap_or answer false) commits (with_part k new since) in omega (arith, one)
+by_same true BlockOpen commits n answer k new since low =
+    let none = none_behind (with_part k new since) in omega (arith, none)
+by_same true BlockClose commits n answer k new since low = omega arith
+by_same true BlockCommit commits n answer k new since low = omega arith
+
+pub held_more : (c : ℕ) (e : Entry) (earlier : List Entry) (k : ℕ) (writes : List (ℕ × ℕ)) (old new : List (List (ℕ × ℕ)))
+    → new ≡ cut_if (is_commit e.kind) (with_part k writes old)
+    → held (e ∷ earlier) new c ≤ held earlier old c + (2 * length writes + 4)
+held_more c e earlier k writes old new is =
+    let more = by_same (e.caller == c) e.kind (commit_count earlier) (inner_number c earlier) (first_answer (by_caller c open_or_close) earlier)
+    k writes old (number_low c earlier) in
+    let same : held (e ∷ earlier) new c ≡ held_if (has_block c (e ∷ earlier)) (inner_number c (e ∷ earlier)) (cond (is_commit e.kind) 1 0 + commit_count earlier)
+    (cut_if (is_commit e.kind) (with_part k writes old)) =
+    (λ j. held_if (has_block c (e ∷ earlier)) (inner_number c (e ∷ earlier)) (commit_count-cons e earlier j) (is j)) in
+    omega (arith, same, more)
+
+-- sums over callers, each of which may have something more
+sum_more : (f g : ℕ → ℕ) (k : ℕ) (xs : List ℕ) → ((x : ℕ) → f x ≤ g x + k) → sum_by f xs ≤ sum_by g xs + sum_by (λ x. k) xs
+sum_more f g k [] more = omega arith
+sum_more f g k (x ∷ xs) more =
+    let rest = sum_more f g k xs more in
+    let here = more x in
+    omega (arith, sum_by-cons f x xs, sum_by-cons g x xs, sum_by-cons (λ y. k) x xs, rest, here)
+
+-- and one of which has nothing any more
+sum_closed : (f g : ℕ → ℕ) (k c : ℕ) (xs : List ℕ) → list_any (λ x. x == c) xs ≡ true → f c ≡ 0 → ((x : ℕ) → f x ≤ g x + k)
+    → sum_by f xs + g c ≤ sum_by g xs + sum_by (λ x. k) xs
+sum_closed f g k c [] there none more = cc
+sum_closed f g k c (x ∷ xs) there none more =
+    by_test (x == c) refl there (λ rest. sum_closed f g k c xs rest none more)
+  where
+    by_test : (b : Bool) → (x == c) ≡ b → (b || list_any (λ y. y == c) xs) ≡ true
+        → (list_any (λ y. y == c) xs ≡ true → sum_by f xs + g c ≤ sum_by g xs + sum_by (λ y. k) xs)
+        → sum_by f (x ∷ xs) + g c ≤ sum_by g (x ∷ xs) + sum_by (λ y. k) (x ∷ xs)
+    by_test true is there rest =
+        let same = same_of x c is in
+        let left = sum_more f g k xs more in
+        let gone : f x ≡ 0 = ap f same ∙ none in
+        let own = ap g same in
+        omega (arith, sum_by-cons f x xs, sum_by-cons g x xs, sum_by-cons (λ y. k) x xs, left, gone, own)
+    by_test false is there rest =
+        let left = rest there in
+        let here = more x in
+        omega (arith, sum_by-cons f x xs, sum_by-cons g x xs, sum_by-cons (λ y. k) x xs, left, here)
+
+is_among_from : (k n c : ℕ) → k ≤ c → c < k + n → list_any (λ x. x == c) (numbers_from k n) ≡ true
+is_among_from k zero c low high = absurd (omega (arith, low, high))
+is_among_from k (suc n) c low high =
+    by_test (k == c) refl (λ apart. is_among_from (k + 1) n c (omega (arith, low, apart)) (omega (arith, high)))
+  where
+    by_test : (b : Bool) → (k == c) ≡ b → (k ≢ c → list_any (λ x. x == c) (numbers_from (k + 1) n) ≡ true)
+        → (b || list_any (λ x. x == c) (numbers_from (k + 1) n)) ≡ true
+    by_test true is rest = refl
+    by_test false is rest = rest (apart_of k c is)
+
+-- What an end of a block costs is what was held, and what is held grows by the effects alone.
+pub late_paid : (callers : ℕ) (e : Entry) (earlier : List Entry) (writes : List (ℕ × ℕ)) (old new : List (List (ℕ × ℕ)))
+    → e.caller < callers → (e.kind ≡ BlockClose → has_block e.caller earlier ≡ true)
+    → new ≡ cut_if (is_commit e.kind) (with_part (parts_behind earlier e.caller e.kind) writes old)
+    → late_cost (parts_behind earlier e.caller e.kind) old + work_held callers (e ∷ earlier) new
+    ≤ work_held callers earlier old + most_held callers (length writes)
+late_paid callers e earlier writes old new low opened is = by_kind e.kind refl
+  where
+    k : ℕ
+    k = 2 * length writes + 4
+
+    more : (x : ℕ) → held (e ∷ earlier) new x ≤ held earlier old x + k
+    more x = held_more x e earlier (parts_behind earlier e.caller e.kind) writes old new is
+
+    quiet : parts_behind earlier e.caller e.kind ≡ 0
+        → late_cost (parts_behind earlier e.caller e.kind) old + work_held callers (e ∷ earlier) new
+        ≤ work_held callers earlier old + most_held callers (length writes)
+    quiet none =
+        let all = sum_more (held (e ∷ earlier) new) (held earlier old) k (numbers_below callers) more in
+        let free = ap (λ b. late_cost b old) none in
+        let nothing = none_behind old in
+        omega (arith, all, free, nothing)
+
+    by_kind : (kind : Kind) → e.kind ≡ kind
+        → late_cost (parts_behind earlier e.caller e.kind) old + work_held callers (e ∷ earlier) new
+        ≤ work_held callers earlier old + most_held callers (length writes)
+    by_kind (Call method args) at = quiet (ap (parts_behind earlier e.caller) at)
+    by_kind (Return reply) at = quiet (ap (parts_behind earlier e.caller) at)
+    by_kind (Write word value) at = quiet (ap (parts_behind earlier e.caller) at)
+    by_kind Commit at = quiet (ap (parts_behind earlier e.caller) at)
+    by_kind BlockOpen at = quiet (ap (parts_behind earlier e.caller) at)
+    by_kind BlockCommit at = quiet (ap (parts_behind earlier e.caller) at)
+    by_kind BlockClose at =
+        let closed : has_block e.caller (e ∷ earlier) ≡ false =
+        (λ j. unwrap_or (option_or (cond (same_number e.caller j) (open_or_close (at j)) None) (first_answer (by_caller e.caller open_or_close) earlier)) false) in
+        let none : held (e ∷ earlier) new e.caller ≡ 0 =
+        ap (λ b. held_if b (inner_number e.caller (e ∷ earlier)) (commit_count (e ∷ earlier)) new) closed in
+        let there = is_among_from 0 callers e.caller (omega arith) (omega (arith, low)) in
+        let all = sum_closed (held (e ∷ earlier) new) (held earlier old) k e.caller (numbers_below callers) there none more in
+        let own : held earlier old e.caller ≡ late_cost (parts_since (commit_count earlier) (inner_number e.caller earlier)) old =
+        ap (λ b. held_if b (inner_number e.caller earlier) (commit_count earlier) old) (opened at) in
+        let here = ap (λ kind. late_cost (parts_behind earlier e.caller kind) old) at in
+        omega (arith, all, own, here)
+
+-- the same, of what is kept before an entry
+pub paid_now : {v w : WordsView} (e : Entry) {kind : Kind} (earlier : List Entry) (writes : List (ℕ × ℕ)) (new : List (List (ℕ × ℕ))) (s0 s1 : ℕ)
+    → w ≡ v → e.kind ≡ kind → e.caller < w.shadow.header.callers → (kind ≡ BlockClose → has_block e.caller earlier ≡ true)
+    → length writes ≡ effect_count w.shadow e.caller kind
+    → s1 ≤ s0 + length writes + late_cost (parts_behind earlier e.caller kind) w.views.since
+    → new ≡ cut_if (is_commit kind) (with_part (parts_behind earlier e.caller kind) writes w.views.since)
+    → s1 + work_held v.shadow.header.callers (e ∷ earlier) new
+    ≤ s0 + work_held v.shadow.header.callers earlier v.views.since + effect_count v.shadow e.caller e.kind
+    + most_held v.shadow.header.callers (effect_count v.shadow e.caller e.kind)
+paid_now {v} {w} e {kind} earlier writes new s0 s1 is at low opened count cost since =
+    subst (λ (x : WordsView). s1 + work_held x.shadow.header.callers (e ∷ earlier) new
+    ≤ s0 + work_held x.shadow.header.callers earlier x.views.since + effect_count x.shadow e.caller e.kind
+    + most_held x.shadow.header.callers (effect_count x.shadow e.caller e.kind)) is
+    (let n = w.shadow.header.callers in
+    let effects : length writes ≡ effect_count w.shadow e.caller e.kind = count ∙ ap (effect_count w.shadow e.caller) (sym at) in
+    let paid = late_paid n e earlier writes w.views.since new low (λ closes. opened (sym at ∙ closes))
+    (since ∙ ap (λ x. cut_if (is_commit x) (with_part (parts_behind earlier e.caller x) writes w.views.since)) (sym at)) in
+    let here = ap (λ x. late_cost (parts_behind earlier e.caller x) w.views.since) at in
+    let most = ap (most_held n) effects in
+    omega (arith, paid, here, most, effects, cost))
+
+pub paid_closed : {T E : Type 0} {v w : WordsView} (r : Result T E) (e : Entry) {kind : Kind} (earlier : List Entry) (writes : List (ℕ × ℕ)) (new : List (List (ℕ × ℕ))) (s0 s1 : ℕ)
+    → w ≡ v → e.kind ≡ kind → e.caller < w.shadow.header.callers → (kind ≡ BlockClose → has_block e.caller earlier ≡ true)
+    → length writes ≡ effect_count w.shadow e.caller kind
+    → s1 ≤ s0 + length writes + late_cost (parts_behind earlier e.caller kind) w.views.since
+    → OnOk r (new ≡ cut_if (is_commit kind) (with_part (parts_behind earlier e.caller kind) writes w.views.since))
+    → OnOk r (s1 + work_held v.shadow.header.callers (e ∷ earlier) new
+    ≤ s0 + work_held v.shadow.header.callers earlier v.views.since + effect_count v.shadow e.caller e.kind
+    + most_held v.shadow.header.callers (effect_count v.shadow e.caller e.kind))
+paid_closed {v = v} {w = w} (Ok x) e {kind} earlier writes new s0 s1 is at low opened count cost since =
+    paid_now {v = v} {w = w} e {kind = kind} earlier writes new s0 s1 is at low opened count cost since
+paid_closed (Err x) e earlier writes new s0 s1 is at low opened count cost since = tt
+
+-- how many words a write has changed
+pub one_changed : (b : Bool) (changed old : List ℕ) (w : ℕ) → changed ≡ cond b old (old ++ w ∷ []) → old ≡ [] → length changed ≡ cond b 0 1
+one_changed true changed old w is none = ap length (is ∙ none)
+one_changed false changed old w is none = ap length is ∙ ap (λ xs. length (xs ++ w ∷ [])) none
+
+-- and the end of a block
+pub block_changed : (changed old : List ℕ) (kept : List (ℕ × ℕ)) → changed ≡ old ++ words_of kept → old ≡ [] → length changed ≡ length kept
+block_changed changed old kept is none = ap length is ∙ ap (λ xs. length (xs ++ words_of kept)) none ∙ by_list kept
+  where
+    by_list : (xs : List (ℕ × ℕ)) → length (words_of xs) ≡ length xs
+    by_list [] = refl
+    by_list (x ∷ xs) = ap suc (by_list xs)

@@ -1,0 +1,207 @@
+-- An entry's steps are paid by what is owed before it and a constant.
+use Rattle.std.proofs.Common.{◌≡◌, ◌≢◌, ℕ, zero, suc, ◌+◌, ◌*◌, ◌-◌, ◌<◌, ◌≤◌, List, [], ◌∷◌, ◌++◌, length, subst, drop, refl, ap, sym, arith, Bool, true, false, cond, length-append, Option, None}
+use Rattle.std.specs.Prelude.{nat_le, ◌==◌, unwrap_or, Result, Ok, Err, OnOk}
+use Rattle.std.specs.Option.{option_or}
+use Rattle.std.specs.List.{sum_by, list_any}
+use Rattle.std.proofs.lemmas.List.Sums.{sum_by-cons}
+use Rattle.vyrd_base.specs.declared.log.Kind.{Kind}
+use Rattle.vyrd_base.specs.declared.log.Kind.TheVariants.{Call, Return, Write, Commit, BlockOpen, BlockClose, BlockCommit}
+use Rattle.vyrd_base.specs.declared.log.Entry.{Entry}
+use Rattle.vyrd_base.specs.declared.log.StartWord.{StartWord}
+use Rattle.vyrd_base.specs.Callers.{has_block, by_caller, open_or_close}
+use Rattle.vyrd_base.specs.Places.{first_answer, numbers_from, numbers_below}
+use Rattle.vyrd_base.specs.Words.{block_writes, with_write}
+use Rattle.vyrd_base.proofs.TestLaws.{at_most_of, above_of, apart_of, same_of, same_number, isnt_same}
+use Rattle.vyrd_shadow.specs.Blocks.{first_written}
+use Rattle.vyrd_shadow.specs.Following.{Kept, words_of, kept_writes}
+use Rattle.vyrd_base.specs.Commits.{commit_count}
+use Rattle.vyrd_words.specs.Effects.{inner_number, parts_since}
+use Rattle.vyrd_words.specs.HasWords.{HasWords, Keeps}
+use Rattle.vyrd_words.specs.Costs.{writes_behind, held_if, held, work_held, most_held, effect_count, kept_back, all_kept_back, owed}
+use Rattle.vyrd_words.proofs.WordsLaws.{low_caller, closes_block, commits_block}
+
+-- the effects of an entry, by whether the caller's block is open and what it has written
+abbrev own_effects : Kind → Bool → List (ℕ × ℕ) → ℕ
+own_effects (Write word value) b writes = cond b 0 1
+own_effects BlockClose b writes = cond b (length writes) 0
+own_effects BlockCommit b writes = cond b (length writes) 0
+own_effects _ b writes = 0
+
+-- what is kept back, or takes effect, of one caller at its own entry
+own_kept : (kind : Kind) (answer : Option Bool) (writes : List (ℕ × ℕ)) (effects : ℕ)
+    → effects ≤ own_effects kind (unwrap_or answer false) writes
+    → cond (unwrap_or (option_or (open_or_close kind) answer) false) (length (with_write true kind writes)) 0 + effects
+    ≤ cond (unwrap_or answer false) (length writes) 0 + 1
+own_kept (Call method args) answer writes effects few = omega (arith, few)
+own_kept (Return reply) answer writes effects few = omega (arith, few)
+own_kept Commit answer writes effects few = omega (arith, few)
+own_kept BlockOpen answer writes effects few = omega (arith, few)
+own_kept BlockClose answer writes effects few = omega (arith, few)
+own_kept BlockCommit answer writes effects few = omega (arith, few)
+own_kept (Write word value) answer writes effects few = by_test (unwrap_or answer false) few
+  where
+    by_test : (b : Bool) → effects ≤ cond b 0 1 → cond b (suc (length writes)) 0 + effects ≤ cond b (length writes) 0 + 1
+    by_test true few = omega (arith, few)
+    by_test false few = omega (arith, few)
+
+kept_by_caller : (e : Entry) (earlier : List Entry) (effects : ℕ) → effects ≤ own_effects e.kind (has_block e.caller earlier) (block_writes e.caller earlier)
+    → kept_back (e ∷ earlier) e.caller + effects ≤ kept_back earlier e.caller + 1
+kept_by_caller e earlier effects few =
+    let own = own_kept e.kind (first_answer (by_caller e.caller open_or_close) earlier) (block_writes e.caller earlier) effects few in
+    let here : kept_back (e ∷ earlier) e.caller ≡ cond (unwrap_or (option_or (open_or_close e.kind) (first_answer (by_caller e.caller open_or_close) earlier)) false)
+    (length (with_write true e.kind (block_writes e.caller earlier))) 0 =
+    (λ j. cond (unwrap_or (option_or (cond (same_number e.caller j) (open_or_close e.kind) None) (first_answer (by_caller e.caller open_or_close) earlier)) false)
+    (length (with_write (same_number e.caller j) e.kind (block_writes e.caller earlier))) 0) in
+    omega (arith, own, here)
+
+kept_by_other : (c : ℕ) (e : Entry) (earlier : List Entry) → c ≢ e.caller → kept_back (e ∷ earlier) c ≡ kept_back earlier c
+kept_by_other c e earlier apart =
+    let no = isnt_same e.caller c (λ same. apart (sym same)) in
+    (λ j. cond (unwrap_or (option_or (cond (no j) (open_or_close e.kind) None) (first_answer (by_caller c open_or_close) earlier)) false)
+    (length (with_write (no j) e.kind (block_writes c earlier))) 0)
+
+-- sums in which one caller's part changes
+sum_apart : (f g : ℕ → ℕ) (c k n : ℕ) → c < k → ((x : ℕ) → x ≢ c → f x ≡ g x) → sum_by f (numbers_from k n) ≡ sum_by g (numbers_from k n)
+sum_apart f g c k zero low same = refl
+sum_apart f g c k (suc n) low same =
+    let rest = sum_apart f g c (k + 1) n (omega (arith, low)) same in
+    let here = same k (λ e. absurd (omega (arith, low, e))) in
+    omega (arith, sum_by-cons f k (numbers_from (k + 1) n), sum_by-cons g k (numbers_from (k + 1) n), rest, here)
+
+sum_at : (f g : ℕ → ℕ) (c w k n : ℕ) → k ≤ c → c < k + n → ((x : ℕ) → x ≢ c → f x ≡ g x) → f c + w ≤ g c + 1
+    → sum_by f (numbers_from k n) + w ≤ sum_by g (numbers_from k n) + 1
+sum_at f g c w k zero low high same own = absurd (omega (arith, low, high))
+sum_at f g c w k (suc n) low high same own =
+    by_test (k == c) refl (λ apart. sum_at f g c w (k + 1) n (omega (arith, low, apart)) (omega (arith, high)) same own)
+  where
+    by_test : (b : Bool) → (k == c) ≡ b
+        → (k ≢ c → sum_by f (numbers_from (k + 1) n) + w ≤ sum_by g (numbers_from (k + 1) n) + 1)
+        → sum_by f (k ∷ numbers_from (k + 1) n) + w ≤ sum_by g (k ∷ numbers_from (k + 1) n) + 1
+    by_test true is rest =
+        let e = same_of k c is in
+        let fs = ap f e in
+        let gs = ap g e in
+        let others = sum_apart f g c (k + 1) n (omega (arith, e)) same in
+        omega (arith, sum_by-cons f k (numbers_from (k + 1) n), sum_by-cons g k (numbers_from (k + 1) n), others, own, fs, gs)
+    by_test false is rest =
+        let apart = apart_of k c is in
+        let left = rest apart in
+        let here = same k apart in
+        omega (arith, sum_by-cons f k (numbers_from (k + 1) n), sum_by-cons g k (numbers_from (k + 1) n), left, here)
+
+all_kept : (callers : ℕ) (e : Entry) (earlier : List Entry) (effects : ℕ) → e.caller < callers
+    → effects ≤ own_effects e.kind (has_block e.caller earlier) (block_writes e.caller earlier)
+    → all_kept_back callers (e ∷ earlier) + effects ≤ all_kept_back callers earlier + 1
+all_kept callers e earlier effects low few =
+    sum_at (kept_back (e ∷ earlier)) (kept_back earlier) e.caller effects 0 callers (omega arith) (omega (arith, low))
+    (λ x apart. kept_by_other x e earlier apart) (kept_by_caller e earlier effects few)
+
+-- no more words than writes
+first_few : (writes : List (ℕ × ℕ)) → length (first_written writes) ≤ length writes
+first_few [] = omega arith
+first_few ((word, value) ∷ writes) = by_test (list_any (λ other. word == other) (first_written writes)) (first_few writes)
+  where
+    by_test : (b : Bool) → length (first_written writes) ≤ length writes
+        → length (cond b (first_written writes) (first_written writes ++ word ∷ [])) ≤ suc (length writes)
+    by_test true rest = omega (arith, rest)
+    by_test false rest = omega (arith, rest, length-append (first_written writes) (word ∷ []))
+
+length-words_of : (ws : List (ℕ × ℕ)) → length (words_of ws) ≡ length ws
+length-words_of [] = refl
+length-words_of (x ∷ ws) = ap suc (length-words_of ws)
+
+block_few : (kept : Kept) (starting : List StartWord) (inner : List ℕ) (earlier : List Entry) (c : ℕ) → HasWords kept inner starting earlier → c < kept.header.callers
+    → has_block c earlier ≡ true → length (kept_writes kept c) ≤ cond (has_block c earlier) (length (block_writes c earlier)) 0
+block_few kept starting inner earlier c has low inside =
+    let long = length-words_of (kept_writes kept c) in
+    let same = ap length (has.followed.order c low inside) in
+    let few = first_few (block_writes c earlier) in
+    let here = ap (λ b. cond b (length (block_writes c earlier)) 0) inside in
+    omega (arith, long, same, few, here)
+
+-- the effects are those of the caller's own block
+effects_few : (kept : Kept) (starting : List StartWord) (inner : List ℕ) (earlier : List Entry) (e : Entry) → HasWords kept inner starting earlier
+    → Keeps kept.header earlier e → effect_count kept e.caller e.kind ≤ own_effects e.kind (has_block e.caller earlier) (block_writes e.caller earlier)
+effects_few kept starting inner earlier e has keeps = by_kind e.kind refl
+  where
+    by_kind : (kind : Kind) → e.kind ≡ kind → effect_count kept e.caller kind ≤ own_effects kind (has_block e.caller earlier) (block_writes e.caller earlier)
+    by_kind (Call method args) at = omega arith
+    by_kind (Return reply) at = omega arith
+    by_kind Commit at = omega arith
+    by_kind BlockOpen at = omega arith
+    by_kind (Write word value) at =
+        let same = ap {B = ℕ} (λ b. cond b 0 1) (has.followed.blocks e.caller (low_caller keeps)) in omega (arith, same)
+    by_kind BlockClose at = block_few kept starting inner earlier e.caller has (low_caller keeps) (closes_block at keeps)
+    by_kind BlockCommit at = block_few kept starting inner earlier e.caller has (low_caller keeps) (commits_block at keeps)
+
+-- sums of the same for each caller
+each_paid : (effects old new : ℕ) (xs : List ℕ) → new + effects ≤ old + 1
+    → sum_by (λ c. 2 * effects + 4) xs + sum_by (λ c. 2 * new) xs ≤ sum_by (λ c. 2 * old) xs + sum_by (λ c. 6) xs
+each_paid effects old new [] paid = omega arith
+each_paid effects old new (x ∷ xs) paid =
+    let rest = each_paid effects old new xs paid in
+    omega (arith, sum_by-cons (λ c. 2 * effects + 4) x xs, sum_by-cons (λ c. 2 * new) x xs, sum_by-cons (λ c. 2 * old) x xs, sum_by-cons (λ c. 6) x xs, rest, paid)
+
+six_each : (k n : ℕ) → sum_by (λ c. 6) (numbers_from k n) ≡ 6 * n
+six_each k zero = refl
+six_each k (suc n) =
+    let rest = six_each (k + 1) n in omega (arith, sum_by-cons (λ c. 6) k (numbers_from (k + 1) n), rest)
+
+-- what an entry costs, with what is owed after it
+pub owed_paid : {T E : Type 0} (r : Result T E) (kept : Kept) (starting : List StartWord) (inner : List ℕ) (earlier : List Entry) (e : Entry)
+    (old new : List (List (ℕ × ℕ))) (s0 s1 : ℕ) → HasWords kept inner starting earlier → Keeps kept.header earlier e
+    → OnOk r (s1 + work_held kept.header.callers (e ∷ earlier) new
+    ≤ s0 + work_held kept.header.callers earlier old + effect_count kept e.caller e.kind + most_held kept.header.callers (effect_count kept e.caller e.kind))
+    → OnOk r (s1 + owed kept.header.callers (e ∷ earlier) new ≤ s0 + owed kept.header.callers earlier old + (1 + 6 * kept.header.callers))
+owed_paid (Err x) kept starting inner earlier e old new s0 s1 has keeps paid = tt
+owed_paid (Ok x) kept starting inner earlier e old new s0 s1 has keeps paid =
+    let n = kept.header.callers in
+    let w = effect_count kept e.caller e.kind in
+    let all = all_kept n e earlier w (low_caller keeps) (effects_few kept starting inner earlier e has keeps) in
+    let each = each_paid w (all_kept_back n earlier) (all_kept_back n (e ∷ earlier)) (numbers_below n) all in
+    let six = six_each 0 n in
+    omega (arith, paid, all, each, six)
+
+-- A commit that is judged owes nothing more: what is owed doesn't grow.
+behind_less : (behind : ℕ) (part : List (ℕ × ℕ)) (rest : List (List (ℕ × ℕ))) → writes_behind behind rest ≤ writes_behind behind (part ∷ rest)
+behind_less behind part rest = by_test (nat_le behind (length rest)) refl
+  where
+    by_test : (b : Bool) → nat_le behind (length rest) ≡ b → writes_behind behind rest ≤ writes_behind behind (part ∷ rest)
+    by_test true is =
+        let low = at_most_of behind (length rest) is in
+        let more : suc (length rest) - behind ≡ suc (length rest - behind) = omega (arith, low) in
+        let same = ap (λ n. sum_by (λ p. length p) (drop n (part ∷ rest))) more in
+        omega (arith, same)
+    by_test false is =
+        let high = above_of behind (length rest) is in
+        let none : length rest - behind ≡ 0 = omega (arith, high) in
+        let nothing : suc (length rest) - behind ≡ 0 = omega (arith, high) in
+        let left = ap (λ n. sum_by (λ p. length p) (drop n rest)) none in
+        let all = ap (λ n. sum_by (λ p. length p) (drop n (part ∷ rest))) nothing in
+        omega (arith, left, all, sum_by-cons (λ p. length p) part rest)
+
+held_less : (is_open : Bool) (number commits : ℕ) (part : List (ℕ × ℕ)) (rest : List (List (ℕ × ℕ)))
+    → held_if is_open number commits rest ≤ held_if is_open number commits (part ∷ rest)
+held_less true number commits part rest = let less = behind_less (parts_since commits number) part rest in omega (arith, less)
+held_less false number commits part rest = omega arith
+
+sum_less : (f g : ℕ → ℕ) (xs : List ℕ) → ((x : ℕ) → f x ≤ g x) → sum_by f xs ≤ sum_by g xs
+sum_less f g [] less = omega arith
+sum_less f g (x ∷ xs) less =
+    let rest = sum_less f g xs less in
+    let here = less x in
+    omega (arith, sum_by-cons f x xs, sum_by-cons g x xs, rest, here)
+
+owed_less : (callers : ℕ) (earlier : List Entry) (part : List (ℕ × ℕ)) (rest : List (List (ℕ × ℕ)))
+    → owed callers earlier rest ≤ owed callers earlier (part ∷ rest)
+owed_less callers earlier part rest =
+    let less = sum_less (held earlier rest) (held earlier (part ∷ rest)) (numbers_below callers)
+    (λ c. held_less (has_block c earlier) (inner_number c earlier) (commit_count earlier) part rest) in
+    omega (arith, less)
+
+pub owed_judged : {T E : Type 0} (r : Result T E) (callers : ℕ) (earlier : List Entry) (old new : List (List (ℕ × ℕ))) (part : List (ℕ × ℕ)) (rest : List (List (ℕ × ℕ)))
+    → old ≡ part ∷ rest → OnOk r (new ≡ rest) → OnOk r (owed callers earlier new ≤ owed callers earlier old)
+owed_judged (Err x) callers earlier old new part rest is judged = tt
+owed_judged (Ok x) callers earlier old new part rest is judged =
+    subst (λ s. owed callers earlier new ≤ owed callers earlier s) (sym is)
+    (subst (λ s. owed callers earlier s ≤ owed callers earlier (part ∷ rest)) (sym judged) (owed_less callers earlier part rest))

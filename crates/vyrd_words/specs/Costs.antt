@@ -1,0 +1,66 @@
+-- What the work on the words costs, in steps.
+use Rattle.std.specs.Prelude.{ℕ, Bool, true, false, ◌-◌, ◌+◌, ◌*◌, List, length, drop}
+use Rattle.std.specs.Prelude.{if◌then◌else◌}
+use Rattle.std.specs.List.{sum_by}
+use Rattle.vyrd_base.specs.declared.log.Kind.{Kind}
+use Rattle.vyrd_base.specs.declared.log.Kind.TheVariants.{Write, BlockClose, BlockCommit}
+use Rattle.vyrd_base.specs.declared.log.Entry.{Entry}
+use Rattle.vyrd_base.specs.Callers.{has_block}
+use Rattle.vyrd_base.specs.Commits.{commit_count}
+use Rattle.vyrd_base.specs.Places.{numbers_below}
+use Rattle.vyrd_base.specs.Words.{block_writes}
+use Rattle.vyrd_shadow.specs.Following.{Kept, is_open, kept_writes}
+use Rattle.vyrd_words.specs.Effects.{inner_number, parts_since}
+
+-- how many writes stand in the last `behind` of these lists
+abbrev pub writes_behind : ℕ → List (List (ℕ × ℕ)) → ℕ
+writes_behind behind since = sum_by (λ part. length part) (drop (length since - behind) since)
+
+-- what it costs to put late writes before that many lists, besides one step for each of them: two
+-- for each write that gives way, and four for each commit since
+abbrev pub late_cost : ℕ → List (List (ℕ × ℕ)) → ℕ
+late_cost behind since = 2 * writes_behind behind since + 4 * behind
+
+-- the same, if a block is open
+abbrev pub held_if : Bool → ℕ → ℕ → List (List (ℕ × ℕ)) → ℕ
+held_if true number commits since = late_cost (parts_since commits number) since
+held_if false number commits since = 0
+
+-- what the end of the caller's open block would cost here
+abbrev pub held : List Entry → List (List (ℕ × ℕ)) → ℕ → ℕ
+held earlier since c =
+    held_if (has_block c earlier) (inner_number c earlier) (commit_count earlier) since
+
+-- what the ends of all open blocks would cost
+abbrev pub work_held : ℕ → List Entry → List (List (ℕ × ℕ)) → ℕ
+work_held callers earlier since = sum_by (held earlier since) (numbers_below callers)
+
+-- how much the work that is held grows at most with an entry that has that many effects: for each
+-- caller two steps for each of them, and four for a commit
+abbrev pub most_held : ℕ → ℕ → ℕ
+most_held callers effects = sum_by (λ c. 2 * effects + 4) (numbers_below callers)
+
+-- how many effects an entry has
+abbrev pub effect_count : Kept → ℕ → Kind → ℕ
+effect_count kept c (Write word value) = if is_open kept c then 0 else 1
+effect_count kept c BlockClose = length (kept_writes kept c)
+effect_count kept c BlockCommit = length (kept_writes kept c)
+effect_count kept c _ = 0
+
+-- how many writes the caller's open block keeps back
+abbrev pub kept_back : List Entry → ℕ → ℕ
+kept_back earlier c = if has_block c earlier then length (block_writes c earlier) else 0
+
+-- how many all open blocks keep back
+abbrev pub all_kept_back : ℕ → List Entry → ℕ
+all_kept_back callers earlier = sum_by (kept_back earlier) (numbers_below callers)
+
+-- that much for each caller
+abbrev pub for_each : ℕ → ℕ → ℕ
+for_each callers amount = sum_by (λ c. amount) (numbers_below callers)
+
+-- What is owed for the entries so far: what the ends of open blocks would cost, and for each write
+-- that is kept back one step, and two for each caller.
+abbrev pub owed : ℕ → List Entry → List (List (ℕ × ℕ)) → ℕ
+owed callers earlier since = work_held callers earlier since + all_kept_back callers earlier
+    + for_each callers (2 * all_kept_back callers earlier)
