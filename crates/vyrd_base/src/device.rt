@@ -99,7 +99,7 @@ pub trait Gate: Sync {
     ///
     /// While the callers run, the sink of their events is asked for too, as if it were one caller
     /// more: `caller` is then the number of callers, and `place` how many events it has taken in.
-    /// Callers wait for the sink, so that a gate which holds it for ever holds them too.
+    /// While a gate holds the sink, no caller waits for it: their events are kept.
     fn may_start(&self, caller: u32, place: u64) -> bool;
 }
 

@@ -132,7 +132,8 @@ impl<S: Spec> Replay<S> {
 
     /// Judges the entry that waits first, if it can be judged. After `Goes` it no longer waits, and
     /// after `Ends` all is as it was. A commit takes time in proportion to the different questions
-    /// of open observers, besides that of the specification's step and of the comparison.
+    /// of open observers, the most that there were at one time, besides that of the specification's
+    /// step and of the comparison.
     #[inline(always)]
     pub fn judge(&mut self, words: &mut Words, x: Waiting) -> Result<Outcome, AllocError>
         requires header { words.old.views.header ≡ (rules_by (S.charter self.old.spec)).header }

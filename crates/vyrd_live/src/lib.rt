@@ -14,7 +14,7 @@
 //! What a run promises stands in `specs/`: `LiveRuns` and `TurnRuns` say what it leaves, and
 //! `Rooms` when a limit leaves room for an operation. No promise says that two threads ran at one
 //! time, or that the sink took anything before the workers ended. Tests with gates speak of that,
-//! for [`run_live`] alone; it plays by the same private function as [`show_live`].
+//! for [`run_live`] and for [`show_live`].
 #![tactic(auto)]
 
 mod acting;

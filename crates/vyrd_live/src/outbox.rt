@@ -54,7 +54,7 @@ impl Outbox {
 
     /// Sends all events of the lane, and lets the hand forget them. While what is in the relay is
     /// taken in beside the workers, it waits for room, and for the sink to come near to the last of
-    /// them. Otherwise it may leave all as it is.
+    /// them. If that hasn't begun, or a gate holds the sink, it may leave all as it is.
     pub(crate) fn empty<R: Wait>(
         &mut self,
         rt: &R,
@@ -72,7 +72,7 @@ impl Outbox {
                 hand.forget();
                 return;
             }
-            if !signals.has_begun() {
+            if !signals.is_awaited() {
                 return;
             }
             thread::yield_now();

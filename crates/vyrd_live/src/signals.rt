@@ -10,12 +10,13 @@ const AHEAD: u64 = 4096;
 /// more. What is told more often is read more often.
 const TOLD: u64 = 64;
 
-/// Three flags, each of which may be raised once, and how far the sink has come.
+/// Three flags, each of which may be raised once, whether the sink is held, and how far it has come.
 #[derive(Drop)]
 pub(crate) struct Signals {
     begun: AtomicBool,
     left: AtomicBool,
     ended: AtomicBool,
+    held: AtomicBool,
     next: AtomicU64,
 }
 
@@ -26,6 +27,7 @@ impl Signals {
             begun: AtomicBool::new(false),
             left: AtomicBool::new(false),
             ended: AtomicBool::new(false),
+            held: AtomicBool::new(false),
             next: AtomicU64::new(0),
         }
     }
@@ -36,7 +38,7 @@ impl Signals {
     }
 
     /// Whether that has begun. If the thread couldn't be started, it never does.
-    pub(crate) fn has_begun(&self) -> bool {
+    fn has_begun(&self) -> bool {
         self.begun.load(Ordering::SeqCst)
     }
 
@@ -54,6 +56,22 @@ impl Signals {
     /// Whether all workers have ended.
     pub(crate) fn has_ended(&self) -> bool {
         self.ended.load(Ordering::SeqCst)
+    }
+
+    /// The sink waits for its gate.
+    pub(crate) fn hold(&self) {
+        self.held.store(true, Ordering::SeqCst);
+    }
+
+    /// The sink takes events again.
+    pub(crate) fn release(&self) {
+        self.held.store(false, Ordering::SeqCst);
+    }
+
+    /// Whether a worker that the relay has no room for, or that is far ahead, waits for the sink:
+    /// it takes events beside the workers, and no gate holds it.
+    pub(crate) fn is_awaited(&self) -> bool {
+        self.has_begun() && !self.held.load(Ordering::SeqCst)
     }
 
     /// The sink has taken all events with numbers below this one. With none, it takes no more, and

@@ -226,13 +226,24 @@ impl<S: EventSink + Drop> Watch<S> {
     }
 }
 
-/// Asks the gate until it lets an event be taken in, or until the workers have ended.
+/// Asks the gate until it lets an event be taken in, or until the workers have ended. Meanwhile no
+/// worker waits for what comes after that.
 fn await_turn<R: Wait, G: Gate>(rt: &R, gate: &G, callers: u32, taken: u64, signals: &Signals) {
+    if may_take(gate, callers, taken, signals) {
+        return;
+    }
+    signals.hold();
     for _ in rt.forever() {
-        if signals.has_ended() || gate.may_start(callers, taken) {
+        if may_take(gate, callers, taken, signals) {
+            signals.release();
             return;
         }
         thread::yield_now();
     }
     unreachable!()
+}
+
+/// Whether the gate lets an event be taken in, or the workers have ended.
+fn may_take<G: Gate>(gate: &G, callers: u32, taken: u64, signals: &Signals) -> bool {
+    signals.has_ended() || gate.may_start(callers, taken)
 }
