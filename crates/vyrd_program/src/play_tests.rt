@@ -5,9 +5,10 @@ use crate::program::vyrd;
 use crate::run::MOST_EVENTS;
 use std::alloc::{AllocError, Global};
 use std::sync::Wait;
+use std::sync::atomic::{AtomicU64, Ordering};
 use std::test::*;
 use std::thread::Threads;
-use vyrd_base::{Did, MemorySink, MemorySource, OpenGate, Stamped, Verdict};
+use vyrd_base::{Did, Gate, MemorySink, MemorySource, OpenGate, Stamped, Verdict};
 use vyrd_live::{run_by_turns, run_live};
 use vyrd_work::{AnyMachine, generate, read_work};
 
@@ -143,6 +144,96 @@ fn twenty_live_runs(rt: HostRuntime) -> Result<(), Fail> {
         );
     }
     Ok(())
+}
+
+/// How many rounds of five operations each of four callers plays in a long run.
+const ROUNDS: u32 = 1000;
+
+/// Four callers, each of which inserts its own number, looks for it, deletes it and looks for it
+/// twice, again and again. Its counts don't depend on the schedule: a round has 18 entries, 2 of
+/// them commits, and 3 observers.
+fn long_work(alloc: Global) -> Result<Vec<u8>, AllocError> {
+    let rounds = [
+        b"op 0 insert 0\nop 0 lookup 0\nop 0 delete 0\nop 0 lookup 0\nop 0 lookup 0\n",
+        b"op 1 insert 1\nop 1 lookup 1\nop 1 delete 1\nop 1 lookup 1\nop 1 lookup 1\n",
+        b"op 2 insert 2\nop 2 lookup 2\nop 2 delete 2\nop 2 lookup 2\nop 2 lookup 2\n",
+        b"op 3 insert 3\nop 3 lookup 3\nop 3 delete 3\nop 3 lookup 3\nop 3 lookup 3\n",
+    ];
+    let mut work = Vec::new(alloc);
+    work.extend_from_slice(b"work multiset 8 4 correct\n")?;
+    for own in rounds {
+        for _ in 0..ROUNDS {
+            work.extend_from_slice(own)?;
+        }
+    }
+    work.extend_from_slice(b"end\n")?;
+    Ok(work)
+}
+
+const LONG_ANSWER: &[u8] = b"accepted: 72000 entries, 8000 commits, 12000 observers\n";
+
+/// A gate that counts who asks. It lets the callers do what they want, and holds the sink until it
+/// has asked that often.
+#[derive(Drop)]
+struct Counting {
+    held: u64,
+    by_callers: AtomicU64,
+    by_sink: AtomicU64,
+}
+
+impl Gate for Counting {
+    fn may_start(&self, caller: u32, _place: u64) -> bool {
+        if caller < 4 {
+            self.by_callers.fetch_add(1, Ordering::SeqCst);
+            return true;
+        }
+        self.by_sink.fetch_add(1, Ordering::SeqCst) >= self.held
+    }
+}
+
+/// The status and the answer of the long run under a gate that holds the sink so long, and how
+/// often the callers and the sink have asked.
+fn long_run<R: Threads + Wait + Sync>(
+    rt: &R,
+    alloc: Global,
+    held: u64,
+) -> Option<(bool, u64, u64)> {
+    let work = long_work(alloc).ok()?;
+    let mut source = MemorySource::new(alloc, &work, 65_536, &[]).ok()?;
+    let mut sink = MemorySink::new(alloc, ROOM, ROOM, &[]).ok()?;
+    let gate = Counting {
+        held,
+        by_callers: AtomicU64::new(0),
+        by_sink: AtomicU64::new(0),
+    };
+    let ended = vyrd(rt, alloc, &["run"], &mut source, &mut sink, &gate);
+    let is_right = ended.status == 0 && sink.taken() == LONG_ANSWER;
+    let by_callers = gate.by_callers.load(Ordering::SeqCst);
+    Some((is_right, by_callers, gate.by_sink.load(Ordering::SeqCst)))
+}
+
+/// It has more events than the relay has room for, so callers wait for the sink. Each event of
+/// theirs is asked for at the gate, and there are as many as entries at least.
+#[test]
+fn long_live_run(rt: HostRuntime) {
+    let Some((is_right, by_callers, by_sink)) = long_run(&rt, rt.alloc(), 0) else {
+        panic!(rt; "no memory")
+    };
+    assert!(rt; is_right && by_callers >= 72_000 && by_sink > 8192);
+}
+
+/// A gate that holds the sink for long holds no caller: they make more events than the relay has
+/// room for. In the first run the sink goes on then, and in the second it is held to the end.
+#[test]
+fn sink_that_a_gate_holds(rt: HostRuntime) {
+    let Some((is_right, by_callers, by_sink)) = long_run(&rt, rt.alloc(), 20_000) else {
+        panic!(rt; "no memory")
+    };
+    assert!(rt; is_right && by_callers >= 72_000 && by_sink > 0);
+    let Some((is_right, by_callers, by_sink)) = long_run(&rt, rt.alloc(), u64::MAX) else {
+        panic!(rt; "no memory")
+    };
+    assert!(rt; is_right && by_callers >= 72_000 && by_sink > 0);
 }
 
 /// Whether the program accepts a live run of the workload.

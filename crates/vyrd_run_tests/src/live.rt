@@ -1,4 +1,5 @@
-//! Live runs of small workloads, with gates that hold callers in the middle of their work.
+//! Live runs of small workloads, with gates that hold callers in the middle of their work: by
+//! `run_live`, and by `show_live`, as the program does.
 
 ghost use Rattle.std.specs.Prelude.{◌≤◌};
 ghost use Rattle.vyrd_trace.specs.Hands.{most_events};
@@ -9,7 +10,8 @@ use std::sync::atomic::{AtomicBool, AtomicU64, Ordering};
 use std::test::Fail;
 use std::thread::Threads;
 use vyrd_base::{Gate, OpenGate, Verdict, Why};
-use vyrd_live::{LiveFault, Run, run_live};
+use vyrd_judge::judge_history;
+use vyrd_live::{LiveFault, Run, run_live, show_live};
 use vyrd_work::read_work;
 
 /// How often a gate is asked, or looks for another caller, before it gives up.
@@ -29,6 +31,25 @@ fn run_text<R: Threads + Wait + Sync, G: Gate>(
         return None;
     };
     Some(run_live(rt, alloc, &work, limit, gate))
+}
+
+/// The most events of a run here.
+const MOST: usize = 1000;
+
+/// The verdict about a live run of a workload's text, if that is one, whose events a vector takes.
+fn shown<R: Threads + Wait + Sync, G: Gate>(
+    rt: &R,
+    alloc: Global,
+    text: &[u8],
+    gate: &G,
+) -> Option<Verdict> {
+    let work = read_work(alloc, text).ok()?;
+    let header = work.header;
+    let played = show_live(rt, alloc, work, MOST as u64, gate, Vec::new(alloc)).ok()?;
+    if played.sink.len() > MOST || played.spent.is_some() {
+        return None;
+    }
+    judge_history(alloc, header, &played.sink).ok()
 }
 
 /// A gate that lets callers 0 and 1 begin once both want to. It looks for the other one that many
@@ -86,6 +107,10 @@ fn two_callers_at_once(rt: HostRuntime) -> Result<(), Fail> {
         observers: 3,
     };
     assert_eq!(rt; run.verdict, accepted);
+    assert!(rt; !gate.missed.load(Ordering::SeqCst));
+
+    let gate = Meeting::new();
+    assert_eq!(rt; shown(&rt, rt.alloc(), text, &gate), Some(accepted));
     assert!(rt; !gate.missed.load(Ordering::SeqCst));
     Ok(())
 }
@@ -180,6 +205,10 @@ fn schedule_forced_by_the_gate(rt: HostRuntime) -> Result<(), Fail> {
     };
     assert_eq!(rt; run.verdict, differs);
     assert!(rt; !gate.gave_up.load(Ordering::SeqCst));
+
+    let gate = Turnstile::new();
+    assert_eq!(rt; shown(&rt, rt.alloc(), text, &gate), Some(differs));
+    assert!(rt; !gate.gave_up.load(Ordering::SeqCst));
     Ok(())
 }
 
@@ -228,6 +257,16 @@ struct Beside {
     gave_up: AtomicBool,
 }
 
+impl Beside {
+    fn new() -> Beside {
+        Beside {
+            asked: AtomicU64::new(0),
+            seen: AtomicBool::new(false),
+            gave_up: AtomicBool::new(false),
+        }
+    }
+}
+
 impl Gate for Beside {
     fn may_start(&self, caller: u32, place: u64) -> bool {
         if self.asked.fetch_add(1, Ordering::SeqCst) >= PATIENCE {
@@ -245,11 +284,7 @@ impl Gate for Beside {
 #[test]
 fn verifier_beside_the_worker(rt: HostRuntime) -> Result<(), Fail> {
     let text = b"work multiset 1 1 correct\nop 0 lookup 5\nop 0 lookup 5\nend\n";
-    let gate = Beside {
-        asked: AtomicU64::new(0),
-        seen: AtomicBool::new(false),
-        gave_up: AtomicBool::new(false),
-    };
+    let gate = Beside::new();
     let Some(Ok(run)) = run_text(&rt, rt.alloc(), text, 1000, &gate) else {
         panic!(rt; "no run")
     };
@@ -259,6 +294,10 @@ fn verifier_beside_the_worker(rt: HostRuntime) -> Result<(), Fail> {
         observers: 2,
     };
     assert_eq!(rt; run.verdict, accepted);
+    assert!(rt; !gate.gave_up.load(Ordering::SeqCst));
+
+    let gate = Beside::new();
+    assert_eq!(rt; shown(&rt, rt.alloc(), text, &gate), Some(accepted));
     assert!(rt; !gate.gave_up.load(Ordering::SeqCst));
     Ok(())
 }
